@@ -1,0 +1,4 @@
+pub mod IndexLemmas
+mod TakeLemmas
+pub mod TickLemmas
+mod WorkedTicks

@@ -1,0 +1,4 @@
+pub mod Indexes
+pub mod Sources
+pub mod Ticks
+pub mod Timers

@@ -1,0 +1,140 @@
+ghost use Rattle.std.specs.Prelude.{◌≡◌, ◌≤◌, ◌<◌, ◌-◌, ◌↔◌, ℕ, IsSome, IsTrue, IfSome, MatchOption, length, slice_get, slice_index, find, nat_le};
+ghost use Rattle.std.specs.List.Sorted.{IsStrictlyIncreasing};
+ghost use Rattle.zs_agenda.specs.Ticks.{HasNoTickFrom, IsFirstTick, IsTick, IsTickList, every_ms, first_tick, horizon, listed, max_horizon};
+
+use std::marker::Model;
+
+// The latest last tick that a clock may have.
+const MAX_HORIZON: u64 = 999_999_999_999_999;
+
+// The most ticks that a list may have.
+const MAX_TICKS: usize = 1_000_000;
+
+// Where the ticks come from: each millisecond up to a last one, or a rising list.
+#[derive(Drop)]
+enum Source {
+    EveryMs(u64),
+    Listed(Vec<u64>),
+}
+
+/// A tick clock: the moments, in milliseconds, at which something can happen. No call of it takes memory.
+#[derive(Drop)]
+pub struct Clock {
+    source: Source,
+}
+
+impl Model for Clock {
+    ghost use Rattle.zs_agenda.specs.Ticks.{Ticks, IsClock};
+    ghost use Rattle.zs_agenda.specs.Sources.{ticks_of};
+
+    ghost Value = { Ticks };
+
+    ghost view = { λ c. ticks_of c.source };
+
+    ghost invariant = { λ c. IsClock (ticks_of c.source) };
+}
+
+impl Clock {
+    ghost use Rattle.zs_agenda.specs.Ticks.{IsClock};
+
+    /// A clock that ticks at each millisecond from 0 to `horizon`, which may be 999,999,999,999,999 at most.
+    pub fn every_ms(horizon: u64) -> Option<Clock>
+        ensures within { IsSome result ↔ (horizon ≤ max_horizon) }
+        ensures value { IfSome result (λ clock. clock ≡ every_ms horizon) }
+    {
+        if horizon <= MAX_HORIZON {
+            Some(Clock {
+                source: Source::EveryMs(horizon),
+            })
+        } else {
+            None
+        }
+    }
+
+    /// A clock that ticks at 1 to 1,000,000 listed moments, which rise strictly and end by 999,999,999,999,999.
+    pub fn of_ticks(ticks: Vec<u64>) -> Option<Clock>
+        ensures within { IsSome result ↔ IsTickList ticks.items }
+        ensures value { IfSome result (λ clock. clock ≡ listed ticks.items) }
+    {
+        if is_tick_list(&ticks) {
+            Some(Clock {
+                source: Source::Listed(ticks),
+            })
+        } else {
+            None
+        }
+    }
+
+    /// The last tick.
+    pub fn horizon(&self) -> u64
+        ensures value { result ≡ horizon self.now }
+        // In other words: it is a tick, and there is none after it.
+        ensures tick { IsTick self.now result }
+        ensures last { (t : ℕ) → IsTick self.now t → t ≤ result }
+        // What is true of every clock.
+        ensures limit { result ≤ max_horizon }
+        ensures lawful { IsClock self.now }
+    {
+        match &self.source {
+            Source::EveryMs(last) => *last,
+            Source::Listed(ticks) => last_of(ticks),
+        }
+    }
+
+    /// The least tick at or after `due`. Of a list of n ticks it looks at about log2(n).
+    pub fn tick(&self, due: u64) -> Option<u64>
+        ensures value { result ≡ first_tick self.now due }
+        // In other words: None where no tick is left, else the least one that is not too early.
+        ensures first { MatchOption result
+            (HasNoTickFrom self.now due)
+            (IsFirstTick self.now due) }
+        ensures within { IfSome result (λ t. t ≤ horizon self.now) }
+    {
+        match &self.source {
+            Source::EveryMs(last) => if due <= *last { Some(due) } else { None },
+            Source::Listed(ticks) => first_from(ticks, due),
+        }
+    }
+}
+
+// Whether a clock may have these ticks.
+fn is_tick_list(ticks: &[u64]) -> bool
+    ensures value { IsTrue result ↔ IsTickList ticks.now }
+{
+    if ticks.is_empty() || ticks.len() > MAX_TICKS {
+        return false;
+    }
+    last_of(ticks) <= MAX_HORIZON && rises(ticks)
+}
+
+// Whether each tick is later than the one before it.
+fn rises(ticks: &[u64]) -> bool
+    ensures value { IsTrue result ↔ IsStrictlyIncreasing ticks.now }
+{
+    ticks.windows(2).all(|pair| pair[0] < pair[1])
+}
+
+// The last of some ticks.
+fn last_of(ticks: &[u64]) -> u64
+    requires within { 0 < length ticks.now }
+    ensures value { result ≡ slice_index ticks.now (length ticks.now - 1) }
+{
+    ticks[ticks.len() - 1]
+}
+
+// The first of some rising ticks that is not before `due`.
+fn first_from(ticks: &[u64], due: u64) -> Option<u64>
+    requires rising { IsStrictlyIncreasing ticks.now }
+    ensures value { result ≡ find (λ t. nat_le due t) ticks.now }
+{
+    // It halves the list at each look.
+    let place = ticks.partition_point(|tick| *tick < due);
+    tick_at(ticks, place)
+}
+
+// The tick at a place of the list, where it has one.
+fn tick_at(ticks: &[u64], place: usize) -> Option<u64>
+    ensures value { result ≡ slice_get ticks.now place }
+{
+    ticks.get(place).copied()
+}

@@ -1,0 +1,76 @@
+// The steps on the two maps of a timer queue: from each moment to its jobs, and from each job to its moment.
+ghost use Rattle.std.specs.Prelude.{◌≡◌, [], ◌∷◌, nat_lt, OnOk, OnErr};
+ghost use Rattle.std.specs.List.{prefix_len};
+ghost use Rattle.zs_agenda.specs.Indexes.{Adds, Forgets, HasSameJobs, HasSameMoments, Puts, placed};
+
+use std::alloc::{AllocError, Global};
+use std::collections::BTreeMap;
+
+// How many jobs stand before a job that is to come in.
+fn place_of(jobs: &[u64], job: u64) -> usize
+    ensures value { result ≡ prefix_len (λ other. nat_lt other job) jobs.now }
+{
+    jobs.iter().take_while(|other| **other < job).count()
+}
+
+// Puts a job at its place in a rising list.
+fn put_in_order(jobs: &mut Vec<u64>, job: u64) -> Result<(), AllocError>
+    ensures ok { OnOk result (jobs.new.items ≡ placed job jobs.old.items) }
+    ensures err { OnErr result (jobs.new.items ≡ jobs.old.items) }
+{
+    let place = place_of(jobs, job);
+    match jobs.insert(place, job) {
+        Ok(()) => Ok(()),
+        Err(_) => Err(AllocError),
+    }
+}
+
+// Adds a job at a moment.
+pub(crate) fn add(
+    alloc: Global,
+    by_moment: &mut BTreeMap<u64, Vec<u64>>,
+    moment: u64,
+    job: u64,
+) -> Result<(), AllocError>
+    ensures ok { OnOk result (Adds by_moment.old by_moment.new moment job) }
+    ensures err { OnErr result (HasSameJobs by_moment.old by_moment.new) }
+{
+    if let Some(jobs) = by_moment.get_mut(&moment) {
+        return put_in_order(jobs, job);
+    }
+    let mut jobs = Vec::new(alloc);
+    if jobs.push(job).is_err() {
+        return Err(AllocError);
+    }
+    match by_moment.insert(moment, jobs) {
+        Ok(_) => Ok(()),
+        Err(_) => Err(AllocError),
+    }
+}
+
+// Puts the moment of a job that has none.
+pub(crate) fn put(by_job: &mut BTreeMap<u64, u64>, job: u64, moment: u64) -> Result<(), AllocError>
+    ensures ok { OnOk result (Puts by_job.old by_job.new job moment) }
+    ensures err { OnErr result (HasSameMoments by_job.old by_job.new) }
+{
+    match by_job.insert(job, moment) {
+        Ok(_) => Ok(()),
+        Err(_) => Err(AllocError),
+    }
+}
+
+// Takes the growth of `put` back. It takes no memory.
+pub(crate) fn take_back(by_job: &mut BTreeMap<u64, u64>, job: u64)
+    ensures forgets { Forgets by_job.old by_job.new (job ∷ []) }
+{
+    by_job.remove(&job);
+}
+
+// Takes out the moments of these jobs.
+pub(crate) fn forget(by_job: &mut BTreeMap<u64, u64>, jobs: &[u64])
+    ensures forgets { Forgets by_job.old by_job.new jobs.now }
+{
+    for job in jobs {
+        by_job.remove(job);
+    }
+}

@@ -1,0 +1,39 @@
+-- A task as it is made, and as it sees a later moment.
+use Rattle.std.proofs.Common.{ℕ, ◌≤◌, List, [], refl, arith}
+use Rattle.std.specs.Prelude.{Some, None}
+use Rattle.zs_step.specs.declared.compiled.Compiled.{Compiled}
+use Rattle.zs_step.specs.Compiled.{StandsFor}
+use Rattle.zs_drive.specs.Clocks.{RisesFrom, AllBefore}
+use Rattle.zs_drive.specs.Values.{JobRecord, AttemptedValue}
+use Rattle.zs_drive.specs.declared.progress.Phase.{Phase}
+use Rattle.zs_drive.specs.declared.progress.Phase.TheVariants.{Waiting, Running, Over}
+use Rattle.zs_drive.specs.Timeline.{timeline_of, from, poll_moments}
+use Rattle.zs_drive.specs.Recorded.{AllEnded, IsOnTimeline, IsStepped}
+use Rattle.zs_drive.specs.Progress.{IsPhase, IsSteppedIn}
+
+-- no poll was done yet
+pub IsOnTimeline-new : (job : JobRecord) → IsOnTimeline job (record { attempts = []; due = Some job.start; ending = None }) 0
+unfolding timeline_of from poll_moments RisesFrom AllBefore
+IsOnTimeline-new job = record { same = refl; clock = record { rises = tt; bounded = tt }; counted = refl; few = omega arith }
+
+pub IsStepped-new : (compiled : Compiled) (seen : ℕ) → StandsFor compiled [] → IsStepped [] compiled seen
+IsStepped-new compiled seen stands = record { stands = stands; past = let last = stands.last in omega arith }
+
+pub AllEnded-new : AllEnded []
+unfolding AllEnded
+AllEnded-new = tt
+
+IsStepped-later : (attempts : List AttemptedValue) (compiled : Compiled) (seen now : ℕ) → seen ≤ now → IsStepped attempts compiled seen → IsStepped attempts compiled now
+IsStepped-later attempts compiled seen now later kept = record { stands = kept.stands; past = let past = kept.past in omega arith }
+
+pub IsPhase-later : (job : JobRecord) (attempts : List AttemptedValue) (seen now : ℕ) (phase : Phase) → seen ≤ now → IsPhase job attempts seen phase → IsPhase job attempts now phase
+IsPhase-later job attempts seen now (Waiting due) later all = all
+IsPhase-later job attempts seen now (Running attempt) later runs =
+    (runs.0, runs.1, record { last = runs.2.last; ended = runs.2.ended; outcome = runs.2.outcome; saw = let saw = runs.2.saw in omega arith })
+IsPhase-later job attempts seen now (Over ending) later over = tt
+
+pub IsSteppedIn-later : (attempts : List AttemptedValue) (compiled : Compiled) (seen now : ℕ) (phase : Phase) → seen ≤ now
+    → IsSteppedIn attempts compiled seen phase → IsSteppedIn attempts compiled now phase
+IsSteppedIn-later attempts compiled seen now (Waiting due) later kept = IsStepped-later attempts compiled seen now later kept
+IsSteppedIn-later attempts compiled seen now (Running attempt) later kept = IsStepped-later attempts compiled seen now later kept
+IsSteppedIn-later attempts compiled seen now (Over ending) later kept = tt

@@ -1,0 +1,16 @@
+pub mod Rows
+pub mod Ticks
+pub mod Extending
+pub mod Moments
+pub mod Records
+pub mod Steps
+pub mod Advancing
+pub mod Beginning
+pub mod OnClocks
+pub mod Following
+pub mod Ruling
+pub mod Timing
+pub mod Follows
+pub mod Polling
+pub mod Pending
+pub mod Rising

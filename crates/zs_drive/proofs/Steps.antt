@@ -1,0 +1,174 @@
+-- What a due poll makes of the records, by what was waited for and by what the schedule answers.
+use Rattle.std.proofs.Common.{◌≡◌, ℕ, suc, ◌+◌, ◌≤◌, ◌<◌, max, List, [], ◌∷◌, ◌++◌, length, length-append, append_assoc, append-nil, Option, if◌then◌else◌, refl, sym, ◌∙◌, ap, arith}
+use Rattle.std.specs.Prelude.{Some, None, IsSome, map, flat_map, slice_set, slice_index_or}
+use Rattle.std.proofs.lemmas.List.{map-set}
+use Rattle.std.proofs.Math.Seq.{get_or-append_seam}
+use Rattle.std.proofs.Math.ListN.{get_or-map}
+use Rattle.zs_drive.specs.declared.record.Attempted.{Attempted}
+use Rattle.zs_drive.specs.declared.record.Ended.{Ended}
+use Rattle.zs_term.specs.Saturating.{saturated}
+use Rattle.zs_effect.specs.Scripts.{entry_at}
+use Rattle.zs_effect.specs.declared.script.Outcome.{Outcome}
+use Rattle.zs_term.specs.Output.{Output}
+use Rattle.zs_step.specs.History.{History}
+use Rattle.zs_step.specs.Answer.{Answer, answer, answer_of}
+use Rattle.zs_step.specs.declared.decision.Decision.{Decision}
+use Rattle.zs_step.specs.declared.decision.Decision.TheVariants.{Stop, Next}
+use Rattle.zs_drive.specs.declared.record.Ending.{Ending}
+use Rattle.zs_drive.specs.Values.{JobRecord, AttemptedValue, attempted_of, ended_of}
+use Rattle.zs_drive.specs.Timeline.{Timeline, before, waiting, running, number_of, ended_attempt, ending_by_outcome, ending_by_schedule, beat_after, by_answer, by_outcome, moments_of}
+use Rattle.zs_drive.specs.Recorded.{pair_of, longer_by, history_from, history_of, AllEnded}
+use Rattle.zs_drive.proofs.Ticks.{lt_cases}
+use Rattle.zs_drive.proofs.Moments.{fold-append, flat_map-append}
+use Rattle.zs_drive.proofs.Extending.{resume, close, extend, extend_none, extend_last, extended}
+use Rattle.zs_drive.proofs.Records.{after, extend-ended}
+
+-- attempt that began at s and runs
+abbrev pub runs : ℕ → AttemptedValue
+runs s = record { begun = s; ended = None }
+
+length-history_from : (h : History) (attempts : List AttemptedValue) → AllEnded attempts → length (history_from h attempts) ≡ length h + length attempts
+unfolding AllEnded
+length-history_from h [] all = omega arith
+length-history_from h (attempt ∷ attempts) all =
+    elim attempt.ended as (λ o. IsSome o → length (history_from (longer_by h o) attempts) ≡ length h + suc (length attempts))
+    [ None ↦ λ some. cc | Some end ↦ λ some. let rest = length-history_from (pair_of end ∷ h) attempts all.1 in omega arith ] all.0
+
+pub length-history_of : (attempts : List AttemptedValue) → AllEnded attempts → length (history_of attempts) ≡ length attempts
+length-history_of attempts all = length-history_from [] attempts all ∙ omega arith
+
+pub AllEnded-append : (attempts : List AttemptedValue) (s e : ℕ) (outcome : Outcome) (step : Option Answer) → AllEnded attempts
+    → AllEnded (attempts ++ ended_attempt s e outcome step ∷ [])
+unfolding AllEnded
+AllEnded-append [] s e outcome step all = (refl, tt)
+AllEnded-append (attempt ∷ attempts) s e outcome step all = (all.0, AllEnded-append attempts s e outcome step all.1)
+
+pub history_of-ended : (attempts : List AttemptedValue) (s e : ℕ) (outcome : Outcome) (step : Option Answer)
+    → history_of (attempts ++ ended_attempt s e outcome step ∷ []) ≡ (e, number_of outcome) ∷ history_of attempts
+history_of-ended attempts s e outcome step = fold-append _ [] attempts (ended_attempt s e outcome step ∷ [])
+
+-- an element in the middle of a list is written
+pub set-middle : {A : Type 0} (xs : List A) (y z : A) (ys : List A) → slice_set (xs ++ y ∷ ys) (length xs) z ≡ xs ++ z ∷ ys
+set-middle [] y z ys = refl
+set-middle (x ∷ xs) y z ys = ap (◌∷◌ x) (set-middle xs y z ys)
+
+module _ (job : JobRecord) (seen : ℕ) where
+  resume-soon : (h : History) (x : ℕ) → x ≤ seen → resume job seen h x ≡ running seen (saturated (seen + (beat_after job h).ms))
+  unfolding resume
+  resume-soon h x le = lt_cases seen x (λ b. (if b then waiting x else running seen (saturated (seen + (beat_after job h).ms))) ≡ running seen (saturated (seen + (beat_after job h).ms)))
+      (λ l. absurd (omega arith)) (λ _. refl)
+
+  resume-late : (h : History) (x : ℕ) → seen < x → resume job seen h x ≡ waiting x
+  unfolding resume
+  resume-late h x lt = lt_cases seen x (λ b. (if b then waiting x else running seen (saturated (seen + (beat_after job h).ms))) ≡ waiting x)
+      (λ _. refl) (λ l. absurd (omega arith))
+
+  -- the attempt that was waited for begins
+  pub begins : (attempts : List AttemptedValue) (x : ℕ) → AllEnded attempts → x ≤ seen
+      → record { attempts = attempts ++ runs seen ∷ []; due = Some (saturated (seen + (entry_at job.script (length attempts + 1)).ms)); ending = None }
+      ≡ extended job seen [] (record { attempts = attempts; due = Some x; ending = None })
+  unfolding extend extend_none
+  begins attempts x all due =
+      let same : length (history_of attempts) ≡ length attempts = length-history_of attempts all in
+      let whole = rw (append-nil attempts) at (extend-ended job seen [] attempts [] (Some x) None all) in
+      let soon = rw same at (resume-soon (history_of attempts) x due) in
+      sym (whole ∙ ap (after attempts) soon)
+
+  -- the attempt that runs ends
+  closes : (others : List AttemptedValue) (s w : ℕ) → AllEnded others → w ≤ seen
+      → extended job seen [] (record { attempts = others ++ runs s ∷ []; due = Some w; ending = None })
+      ≡ after others (let outcome = (beat_after job (history_of others)).outcome in by_outcome job (resume job seen) (history_of others) s seen outcome (ending_by_outcome job.mode outcome))
+  unfolding extend extend_last close
+  closes others s w all due =
+      extend-ended job seen [] others (runs s ∷ []) (Some w) None all
+      ∙ ap (after others) (lt_cases seen w (λ b. (if b then running s w else (let outcome = (beat_after job (history_of others)).outcome in by_outcome job (resume job seen) (history_of others) s seen outcome (ending_by_outcome job.mode outcome)))
+      ≡ (let outcome = (beat_after job (history_of others)).outcome in by_outcome job (resume job seen) (history_of others) s seen outcome (ending_by_outcome job.mode outcome)))
+      (λ l. absurd (omega arith)) (λ _. refl))
+
+  module _ (others : List AttemptedValue) (s w : ℕ) (outcome : Outcome) (all : AllEnded others) (due : w ≤ seen) (is : outcome ≡ (beat_after job (history_of others)).outcome) where
+    -- the outcome itself ends the job
+    pub ends-by_outcome : (ending : Ending) → ending_by_outcome job.mode outcome ≡ Some ending
+        → record { attempts = others ++ ended_attempt s seen outcome None ∷ []; due = None; ending = Some ending }
+        ≡ extended job seen [] (record { attempts = others ++ runs s ∷ []; due = Some w; ending = None })
+    unfolding by_outcome
+    ends-by_outcome ending by =
+        let whole = rw (← is, by) at (closes others s w all due) in sym whole
+
+    -- the schedule is asked, and answers this
+    module _ (none : ending_by_outcome job.mode outcome ≡ None) where
+      pub ends-by_answer : (output : Output) (decision : Decision) → answer output decision ≡ answer_of job.schedule ((seen, number_of outcome) ∷ history_of others)
+          → extended job seen [] (record { attempts = others ++ runs s ∷ []; due = Some w; ending = None })
+          ≡ after others (by_answer job (resume job seen) ((seen, number_of outcome) ∷ history_of others) s seen outcome output decision)
+      unfolding by_outcome
+      ends-by_answer output decision answered =
+          let whole = rw (← is, none, ← answered) at (closes others s w all due) in whole
+
+  module _ (others : List AttemptedValue) (s w : ℕ) (outcome : Outcome) (all : AllEnded others) (due : w ≤ seen) (is : outcome ≡ (beat_after job (history_of others)).outcome)
+      (none : ending_by_outcome job.mode outcome ≡ None) (output : Output) where
+    -- the schedule is done
+    pub stops : answer output Stop ≡ answer_of job.schedule ((seen, number_of outcome) ∷ history_of others)
+        → record { attempts = others ++ ended_attempt s seen outcome (Some (answer output Stop)) ∷ []; due = None; ending = Some (ending_by_schedule job.mode outcome) }
+        ≡ extended job seen [] (record { attempts = others ++ runs s ∷ []; due = Some w; ending = None })
+    unfolding by_answer
+    stops answered = sym (ends-by_answer others s w outcome all due is none output Stop answered)
+
+    -- the next attempt is later
+    pub waits : (x : ℕ) → answer output (Next x) ≡ answer_of job.schedule ((seen, number_of outcome) ∷ history_of others) → seen < x
+        → record { attempts = others ++ ended_attempt s seen outcome (Some (answer output (Next x))) ∷ []; due = Some x; ending = None }
+        ≡ extended job seen [] (record { attempts = others ++ runs s ∷ []; due = Some w; ending = None })
+    unfolding by_answer
+    waits x answered later =
+        let greater : max x seen ≡ x = omega arith in
+        let whole = rw (greater, resume-late ((seen, number_of outcome) ∷ history_of others) x later)
+        at (ends-by_answer others s w outcome all due is none output (Next x) answered) in
+        sym whole
+
+    -- the next attempt begins in the same poll
+    pub restarts : (x : ℕ) → answer output (Next x) ≡ answer_of job.schedule ((seen, number_of outcome) ∷ history_of others) → x ≤ seen
+        → record {
+          attempts = others ++ ended_attempt s seen outcome (Some (answer output (Next x))) ∷ runs seen ∷ [];
+          due = Some (saturated (seen + (entry_at job.script (length (others ++ runs s ∷ []) + 1)).ms));
+          ending = None;
+        }
+        ≡ extended job seen [] (record { attempts = others ++ runs s ∷ []; due = Some w; ending = None })
+    unfolding by_answer
+    restarts x answered soon =
+        let greater : max x seen ≡ seen = omega arith in
+        let longer = (seen, number_of outcome) ∷ history_of others in
+        let same : length longer ≡ length (others ++ runs s ∷ []) =
+        let n = length-history_of others all in let m = length-append others (runs s ∷ []) in omega arith in
+        let begun = rw same at (resume-soon longer seen (omega arith)) in
+        let whole = rw greater at (ends-by_answer others s w outcome all due is none output (Next x) answered) in
+        sym (whole ∙ ap (λ (timeline : Timeline). after others (before (ended_attempt s seen outcome (Some (answer output (Next x)))) timeline)) begun)
+
+-- the moments of the records, as they grow
+pub moments-begun : (attempts : List AttemptedValue) (c : ℕ) → flat_map moments_of (attempts ++ runs c ∷ []) ≡ flat_map moments_of attempts ++ c ∷ []
+moments-begun attempts c = flat_map-append moments_of attempts (runs c ∷ [])
+
+pub moments-ended : (others : List AttemptedValue) (s c : ℕ) (outcome : Outcome) (step : Option Answer)
+    → flat_map moments_of (others ++ ended_attempt s c outcome step ∷ []) ≡ flat_map moments_of (others ++ runs s ∷ []) ++ c ∷ []
+moments-ended others s c outcome step =
+    flat_map-append moments_of others (ended_attempt s c outcome step ∷ [])
+    ∙ sym (append_assoc (flat_map moments_of others) (s ∷ []) (c ∷ []))
+    ∙ ap (λ (xs : List ℕ). xs ++ c ∷ []) (sym (flat_map-append moments_of others (runs s ∷ [])))
+
+pub moments-restarted : (others : List AttemptedValue) (s c : ℕ) (outcome : Outcome) (step : Option Answer)
+    → flat_map moments_of (others ++ ended_attempt s c outcome step ∷ runs c ∷ []) ≡ flat_map moments_of (others ++ runs s ∷ []) ++ c ∷ c ∷ []
+moments-restarted others s c outcome step =
+    flat_map-append moments_of others (ended_attempt s c outcome step ∷ runs c ∷ [])
+    ∙ sym (append_assoc (flat_map moments_of others) (s ∷ []) (c ∷ c ∷ []))
+    ∙ ap (λ (xs : List ℕ). xs ++ c ∷ c ∷ []) (sym (flat_map-append moments_of others (runs s ∷ [])))
+
+-- the attempt in the middle of the records ends
+pub close-middle : (items : List Attempted) (i : ℕ) (old : Attempted) (ended : Ended) → old ≡ slice_index_or items i old
+    → (others rest : List AttemptedValue) (s : ℕ) → length others ≡ i → map attempted_of items ≡ others ++ runs s ∷ rest
+    → map attempted_of (slice_set items i (record { begun = old.begun; ended = Some ended })) ≡ others ++ record { begun = s; ended = ended_of (Some ended) } ∷ rest
+close-middle items i old ended is others rest s index same =
+    let new : Attempted = record { begun = old.begun; ended = Some ended } in
+    let there : attempted_of old ≡ runs s =
+    ap attempted_of is ∙ sym (get_or-map attempted_of items i old) ∙ ap (λ (xs : List AttemptedValue). slice_index_or xs i (attempted_of old)) same
+    ∙ ap (λ (k : ℕ). slice_index_or (others ++ runs s ∷ rest) k (attempted_of old)) (sym index) ∙ get_or-append_seam others (runs s) rest (attempted_of old) in
+    let begun : old.begun ≡ s = ap (λ (a : AttemptedValue). a.begun) there in
+    map-set attempted_of items i new ∙ ap (λ (xs : List AttemptedValue). slice_set xs i (attempted_of new)) same
+    ∙ ap (λ (k : ℕ). slice_set (others ++ runs s ∷ rest) k (attempted_of new)) (sym index) ∙ set-middle others (runs s) (attempted_of new) rest
+    ∙ ap (λ (k : ℕ). others ++ record { begun = k; ended = ended_of (Some ended) } ∷ rest) begun

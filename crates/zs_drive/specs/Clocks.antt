@@ -1,0 +1,26 @@
+-- A clock is a finite set of ticks, listed as they rise: each millisecond up to a horizon, or listed moments alike.
+use Rattle.std.specs.Prelude.{ℕ, ◌+◌, ◌≤◌, ◌<◌, List, [], ◌∷◌, Option, Some, None, nat_lt, if◌then◌else◌}
+
+-- the greatest moment that a clock may have
+abbrev pub max_tick : ℕ
+max_tick = 999999999999999
+
+-- the least tick at or after x, if there is one
+unfoldable pub first_tick_from : List ℕ → ℕ → Option ℕ
+first_tick_from [] x = None
+first_tick_from (t ∷ ticks) x = if nat_lt t x then first_tick_from ticks x else Some t
+
+-- the ticks rise strictly, and the first is at least b
+unfoldable pub RisesFrom : ℕ → List ℕ → Type 0
+RisesFrom b [] = Unit {0}
+RisesFrom b (t ∷ ticks) = (b ≤ t) × RisesFrom (t + 1) ticks
+
+-- each tick is before c
+unfoldable pub AllBefore : List ℕ → ℕ → Type 0
+AllBefore [] c = Unit {0}
+AllBefore (t ∷ ticks) c = (t < c) × AllBefore ticks c
+
+-- the ticks rise strictly, and none is past the last moment
+pub record AreTicks (ticks : List ℕ) : Type 0 where
+  pub rises : RisesFrom 0 ticks
+  pub bounded : AllBefore ticks (max_tick + 1)

@@ -1,0 +1,12 @@
+pub mod Clocks
+pub mod Values
+pub mod Endings
+pub mod PollMoments
+pub mod Timeline
+pub mod Tasks
+pub mod Recorded
+pub mod Progress
+pub mod Turns
+pub mod Fields
+pub mod DriverRules
+pub mod DriverLaws

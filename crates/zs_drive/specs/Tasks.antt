@@ -1,0 +1,48 @@
+-- What contracts see of a task, and what a poll makes of it.
+use Rattle.std.specs.Prelude.{ℕ, ◌≤◌, Bool, List, [], ◌∷◌, ◌++◌, Option, Some, None, Result, Ok, Err, IsSomeAnd, nat_lt, if◌then◌else◌}
+use Rattle.futures.specs.declared.task.Poll.{Poll}
+use Rattle.futures.specs.declared.task.Poll.TheVariants.{Ready, Pending}
+use Rattle.zs_drive.specs.declared.record.Ending.{Ending}
+use Rattle.zs_drive.specs.declared.fault.DriveFault.{DriveFault}
+use Rattle.zs_drive.specs.Values.{JobValue, JobRecord, record_of}
+use Rattle.zs_drive.specs.Timeline.{Timeline, timeline_of}
+
+-- a job with the moments at which it was polled while it was due
+pub record TaskValue : Type 0 where
+  pub number : ℕ
+  pub job : JobValue
+  pub moments : List ℕ
+  pub seen : ℕ
+  pub broken : Bool
+
+-- where a job stands after polls at these moments: its timeline on the clock that ticks at them
+abbrev pub timeline_at : JobRecord → List ℕ → Timeline
+timeline_at job moments = timeline_of job moments
+
+-- where a task stands
+abbrev pub current_timeline : TaskValue → Timeline
+current_timeline task = timeline_at (record_of task.job) task.moments
+
+-- it waits for a moment that it has seen
+abbrev pub IsDue : TaskValue → Type 0
+IsDue task = IsSomeAnd (current_timeline task).due (λ due. due ≤ task.seen)
+
+-- a poll of a task that waits for this moment, if for any
+abbrev pub polled_when : TaskValue → Option ℕ → TaskValue
+polled_when task None = task
+polled_when task (Some due) = if nat_lt task.seen due then task else record task { moments = task.moments ++ task.seen ∷ [] }
+
+-- A poll at or past the moment waited for adds the moment seen. Another changes nothing.
+abbrev pub polled : TaskValue → TaskValue
+polled task = polled_when task (current_timeline task).due
+
+-- a poll answers the ending, if there is one
+abbrev pub reply_of : Option Ending → Poll (Result Ending DriveFault)
+reply_of None = Pending
+reply_of (Some ending) = Ready (Ok ending)
+
+-- P holds where the poll found no memory, and Q elsewhere
+abbrev pub MatchMemory : Poll (Result Ending DriveFault) → Type 0 → Type 0 → Type 0
+MatchMemory Pending P Q = Q
+MatchMemory (Ready (Ok ending)) P Q = Q
+MatchMemory (Ready (Err fault)) P Q = P

@@ -1,0 +1,73 @@
+-- What one poll makes of the fields of a task.
+use Rattle.std.specs.Prelude.{◌≡◌, ℕ, ◌≤◌, ◌<◌, [], ◌∷◌, ◌++◌, ⊤}
+use Rattle.zs_effect.specs.declared.script.Outcome.{Outcome}
+use Rattle.zs_step.specs.Compiled.{StandsFor}
+use Rattle.zs_drive.specs.declared.progress.Phase.{Phase}
+use Rattle.zs_drive.specs.declared.progress.Phase.TheVariants.{Waiting, Running, Over}
+use Rattle.zs_drive.specs.declared.progress.Progress.{Progress}
+use Rattle.zs_drive.specs.Timeline.{number_of}
+use Rattle.zs_drive.specs.Recorded.{history_of}
+use Rattle.zs_drive.specs.Progress.{due_of, ending_of, job_value_in, attempts_of, moments_in, IsProgress, HasState}
+
+-- one due poll was done at the moment seen
+pub record Advances (old new : Progress) : Type 0 where
+  pub progress : IsProgress new
+  pub state : HasState new
+  pub moments : moments_in new ≡ moments_in old ++ old.seen ∷ []
+  pub job : job_value_in new ≡ job_value_in old
+  pub seen : new.seen ≡ old.seen
+
+-- it waits to begin an attempt, at or before the moment seen
+abbrev pub IsWaitingTo : ℕ → Phase → Type 0
+IsWaitingTo seen (Waiting due) = due ≤ seen
+IsWaitingTo seen (Running attempt) = ⊥
+IsWaitingTo seen (Over ending) = ⊥
+
+-- nothing was done, but the schedule may have been stepped
+pub record Stays (old new : Progress) : Type 0 where
+  pub records : new.records.items ≡ old.records.items
+  pub phase : new.phase ≡ old.phase
+  pub job : job_value_in new ≡ job_value_in old
+  pub seen : new.seen ≡ old.seen
+  pub polls : new.polls ≡ old.polls
+
+-- its attempt ends with this outcome, at or before the moment seen
+abbrev pub HasRunTo : ℕ → Outcome → Phase → Type 0
+HasRunTo seen outcome (Waiting due) = ⊥
+HasRunTo seen outcome (Running attempt) = (attempt.end ≤ seen) × (outcome ≡ attempt.outcome)
+HasRunTo seen outcome (Over ending) = ⊥
+
+-- the schedule's state stands for the records with the outcome of the attempt that has just ended
+abbrev pub WasAsked : Progress → Outcome → Type 0
+WasAsked p outcome = StandsFor p.compiled ((p.seen, number_of outcome) ∷ history_of (attempts_of p))
+
+-- the job is over
+abbrev pub IsOver : Phase → Type 0
+IsOver (Waiting due) = ⊥
+IsOver (Running attempt) = ⊥
+IsOver (Over ending) = ⊤
+
+-- what is waited for comes after the moment seen
+abbrev pub IsEarly : ℕ → Phase → Type 0
+IsEarly seen (Waiting due) = seen < due
+IsEarly seen (Running attempt) = seen < attempt.end
+IsEarly seen (Over ending) = ⊥
+
+-- what is waited for has come by the moment seen
+abbrev pub IsDuePhase : ℕ → Phase → Type 0
+IsDuePhase seen (Waiting due) = due ≤ seen
+IsDuePhase seen (Running attempt) = attempt.end ≤ seen
+IsDuePhase seen (Over ending) = ⊥
+
+-- nothing was done, but a running attempt may have seen a later moment, and the schedule may have been stepped
+pub record IsKept (old new : Progress) : Type 0 where
+  pub progress : IsProgress new
+  pub records : new.records.items ≡ old.records.items
+  pub job : job_value_in new ≡ job_value_in old
+  pub seen : new.seen ≡ old.seen
+  pub due : due_of new.phase ≡ due_of old.phase
+  pub ending : ending_of new.phase ≡ ending_of old.phase
+
+-- nothing was done at all
+abbrev pub IsSame : Progress → Progress → Type 0
+IsSame old new = IsKept old new × HasState new

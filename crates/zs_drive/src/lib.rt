@@ -1,0 +1,30 @@
+//! ZIO's `retry` and `repeat` as futures that are polled by hand.
+//!
+//! A task stands at each moment exactly where its job stands on the clock that ticks at the moments at which it was polled
+//! while it was due. Polls that come too early change nothing, so the due ones alone suffice.
+//!
+//! ```text
+//! let mut task = Task::new(alloc, 0, job)?;
+//! if let Some(due) = task.due() {
+//!     task.see(due);
+//!     let polled = task.poll(&mut context); // begins the first attempt
+//! }
+//! ```
+//!
+//! Start with `specs/Timeline.antt` and `specs/Tasks.antt`.
+#![tactic(auto)]
+
+mod fault;
+mod job;
+mod laws;
+mod progress;
+mod record;
+mod task;
+#[cfg(test)]
+mod tests;
+
+pub use fault::DriveFault;
+pub use job::{Job, Mode};
+pub use laws::{due_polls_suffice, moments_rise, one_timeline, timelines_are_whole};
+pub use record::{Attempted, Ended, Ending};
+pub use task::Task;

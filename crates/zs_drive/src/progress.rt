@@ -1,0 +1,309 @@
+//! The steps of a task, over its fields.
+ghost use Rattle.std.specs.Prelude.{◌≡◌, ℕ, ◌+◌, ◌≤◌, ◌<◌, List, [], ◌∷◌, ◌++◌, map, length, OnOk, OnErr, IfOk, vec_len};
+ghost use Rattle.futures.specs.Poll.{IfReady, OnPending};
+ghost use Rattle.futures.specs.Task.{IsArmed, Keeps};
+ghost use Rattle.zs_term.specs.Saturating.{saturated};
+ghost use Rattle.zs_effect.specs.Scripts.{IsScript, entry_at};
+ghost use Rattle.zs_drive.specs.Timeline.{ended_attempt, ending_by_outcome, ending_by_schedule, number_of};
+ghost use Rattle.zs_term.specs.Output.{output_of};
+ghost use Rattle.zs_step.specs.History.{History};
+ghost use Rattle.zs_step.specs.Answer.{answer, answer_of};
+ghost use Rattle.zs_step.specs.Compiled.{StandsFor, last_seen, compiled_term, compiled_schedule};
+ghost use Rattle.zs_drive.specs.Values.{AttemptedValue, attempted_of, ended_of, step_of};
+ghost use Rattle.zs_drive.specs.Recorded.{history_of};
+ghost use Rattle.zs_drive.specs.Progress.{IsProgress, HasState, attempts_of, due_of, ending_of};
+ghost use Rattle.zs_drive.specs.Turns.{Advances, Stays, IsWaitingTo, HasRunTo, WasAsked, IsOver, IsEarly, IsDuePhase, IsKept, IsSame};
+
+use crate::fault::DriveFault;
+use crate::job::Mode;
+use crate::record::{Attempted, Ended, Ending};
+use futures::task::{Context, Poll};
+use futures::{Future, ready};
+use zs_effect::{Attempt, Beat, Outcome, Script};
+use zs_step::{Compiled, Decision, StepFault};
+use zs_term::Out;
+
+/// What a task waits for.
+#[derive(Drop)]
+pub enum Phase {
+    /// An attempt begins at this moment.
+    Waiting(u64),
+    /// The last attempt ends.
+    Running(Attempt),
+    /// Nothing more.
+    Over(Ending),
+}
+
+/// How far a job is. It keeps the state of its schedule, and no history.
+#[derive(Drop)]
+pub struct Progress {
+    /// The job's name.
+    pub name: String,
+    /// The job's mode.
+    pub mode: Mode,
+    /// The job's start, in milliseconds.
+    pub start: u64,
+    /// The job's script.
+    pub script: Script,
+    /// The state of its schedule.
+    pub compiled: Compiled,
+    /// The attempts so far.
+    pub records: Vec<Attempted>,
+    /// What is waited for.
+    pub phase: Phase,
+    /// The number of polls that were due.
+    pub polls: u64,
+    /// The last moment seen, in milliseconds.
+    pub seen: u64,
+}
+
+impl Phase {
+    /// The moment waited for.
+    pub fn due(&self) -> Option<u64>
+        ensures value { result ≡ due_of self.now }
+    {
+        match self {
+            Phase::Waiting(due) => Some(*due),
+            Phase::Running(attempt) => Some(attempt.end()),
+            Phase::Over(_) => None,
+        }
+    }
+
+    /// How the job ended, if it has.
+    pub fn ending(&self) -> Option<Ending>
+        ensures value { result ≡ ending_of self.now }
+    {
+        match self {
+            Phase::Waiting(_) | Phase::Running(_) => None,
+            Phase::Over(ending) => Some(*ending),
+        }
+    }
+}
+
+// The input that an outcome is to a schedule.
+fn number(outcome: Outcome) -> u64
+    ensures value { result ≡ number_of outcome }
+{
+    match outcome {
+        Outcome::Good(value) => value,
+        Outcome::Bad(code) => code,
+    }
+}
+
+// How the outcome itself ends the job.
+fn end_by_outcome(mode: Mode, outcome: Outcome) -> Option<Ending>
+    ensures value { result ≡ ending_by_outcome mode outcome }
+{
+    match (mode, outcome) {
+        (Mode::Retry, Outcome::Good(value)) => Some(Ending::Succeeded(value)),
+        (Mode::Repeat, Outcome::Bad(code)) => Some(Ending::Failed(code)),
+        (Mode::Retry, Outcome::Bad(_)) | (Mode::Repeat, Outcome::Good(_)) => None,
+    }
+}
+
+// How the job ends where its schedule is done.
+fn end_by_schedule(mode: Mode, outcome: Outcome) -> Ending
+    ensures value { result ≡ ending_by_schedule mode outcome }
+{
+    match mode {
+        Mode::Retry => Ending::Failed(number(outcome)),
+        Mode::Repeat => Ending::Finished,
+    }
+}
+
+// Of a refusal the list is as it was.
+fn add<T: Drop>(list: &mut Vec<T>, item: T) -> Result<(), DriveFault>
+    ensures ok { OnOk result (list.new.items ≡ list.old.items ++ item ∷ []) }
+    ensures err { OnErr result (list.new.items ≡ list.old.items) }
+{
+    match list.push(item) {
+        Ok(()) => Ok(()),
+        Err(_) => Err(DriveFault::Memory),
+    }
+}
+
+// The attempt at `index` ended.
+fn close_at(records: &mut Vec<Attempted>, index: usize, ended: Ended)
+    requires within { index < vec_len records.old }
+    ensures value { (others rest : List AttemptedValue) (s : ℕ) → length others ≡ index
+        → map attempted_of records.old.items ≡ others ++ record { begun = s; ended = None } ∷ rest
+        → map attempted_of records.new.items ≡ others ++ record { begun = s; ended = ended_of (Some ended) } ∷ rest }
+{
+    let attempted = &mut records[index];
+    attempted.ended = Some(ended);
+}
+
+impl Progress {
+    // Begins the attempt that was waited for.
+    fn begin(&mut self, beat: Beat) -> Result<(), DriveFault>
+        requires progress { IsProgress self.old }
+        requires state { HasState self.old }
+        requires waits { IsWaitingTo self.old.seen self.old.phase }
+        requires beat { beat ≡ entry_at self.old.script (length self.old.records.items + 1) }
+        requires script { IsScript self.old.script }
+        ensures ok { OnOk result (Advances self.old self.new) }
+        ensures err { OnErr result (Stays self.old self.new) }
+    {
+        let begun = self.seen;
+        let attempted = Attempted { begun, ended: None };
+        add(&mut self.records, attempted)?;
+        self.phase = Phase::Running(Attempt::start(beat, begun));
+        self.polls += 1;
+        Ok(())
+    }
+
+    // Asks the schedule after an outcome. Of a refusal only the schedule's state may be lost.
+    fn ask(&mut self, outcome: Outcome) -> Result<(Out, Decision), DriveFault>
+        requires past { last_seen self.old.compiled ≤ self.old.seen }
+        ensures rest { self.new ≡ record self.old { compiled = self.new.compiled } }
+        ensures term { compiled_term self.new.compiled ≡ compiled_term self.old.compiled }
+        ensures stands { OnOk result ((h : History) → StandsFor self.old.compiled h → StandsFor self.new.compiled ((self.old.seen, number_of outcome) ∷ h)) }
+        ensures answered { IfOk result (λ step. (h : History) → StandsFor self.old.compiled h
+            → answer (output_of step.0) step.1 ≡ answer_of (compiled_schedule self.old.compiled) ((self.old.seen, number_of outcome) ∷ h)) }
+    {
+        match self.compiled.step(self.seen, number(outcome)) {
+            Ok(stepped) => Ok((stepped.out, stepped.decision)),
+            Err(StepFault::Memory) => Err(DriveFault::Memory),
+        }
+    }
+
+    // The attempt that ran has ended, with this outcome.
+    fn finish(&mut self, outcome: Outcome, next: Beat) -> Result<(), DriveFault>
+        requires progress { IsProgress self.old }
+        requires state { HasState self.old }
+        requires running { HasRunTo self.old.seen outcome self.old.phase }
+        requires beat { next ≡ entry_at self.old.script (length self.old.records.items + 1) }
+        requires script { IsScript self.old.script }
+        ensures ok { OnOk result (Advances self.old self.new) }
+        ensures err { OnErr result (Stays self.old self.new) }
+    {
+        match end_by_outcome(self.mode, outcome) {
+            Some(ending) => {
+                self.stop(outcome, ending);
+                Ok(())
+            }
+            None => {
+                let (out, decision) = self.ask(outcome)?;
+                self.follow(outcome, out, decision, next)
+            }
+        }
+    }
+
+    // The outcome itself ends the job.
+    fn stop(&mut self, outcome: Outcome, ending: Ending)
+        requires progress { IsProgress self.old }
+        requires running { HasRunTo self.old.seen outcome self.old.phase }
+        requires ending { ending_by_outcome self.old.mode outcome ≡ Some ending }
+        requires script { IsScript self.old.script }
+        ensures value { Advances self.old self.new }
+    {
+        self.settle(outcome, None, Phase::Over(ending));
+    }
+
+    // The schedule has answered this.
+    fn follow(
+        &mut self,
+        outcome: Outcome,
+        out: Out,
+        decision: Decision,
+        next: Beat,
+    ) -> Result<(), DriveFault>
+        requires progress { IsProgress self.old }
+        requires state { WasAsked self.old outcome }
+        requires running { HasRunTo self.old.seen outcome self.old.phase }
+        requires goes_on { ending_by_outcome self.old.mode outcome ≡ None }
+        requires answer { answer (output_of out) decision ≡ answer_of (compiled_schedule self.old.compiled) ((self.old.seen, number_of outcome) ∷ history_of (attempts_of self.old)) }
+        requires beat { next ≡ entry_at self.old.script (length self.old.records.items + 1) }
+        requires script { IsScript self.old.script }
+        ensures ok { OnOk result (Advances self.old self.new) }
+        ensures err { OnErr result (Stays self.old self.new) }
+    {
+        match decision {
+            Decision::Stop => {
+                let ending = end_by_schedule(self.mode, outcome);
+                self.settle(outcome, Some((out, decision)), Phase::Over(ending));
+                Ok(())
+            }
+            Decision::Next(due) if due > self.seen => {
+                self.settle(outcome, Some((out, decision)), Phase::Waiting(due));
+                Ok(())
+            }
+            Decision::Next(_) => self.restart(outcome, (out, decision), next),
+        }
+    }
+
+    // The last attempt ends, and none begins.
+    fn settle(&mut self, outcome: Outcome, step: Option<(Out, Decision)>, phase: Phase)
+        requires progress { IsProgress self.old }
+        requires running { HasRunTo self.old.seen outcome self.old.phase }
+        ensures rest { self.new ≡ record self.old { records = self.new.records; phase = phase; polls = self.old.polls + 1 } }
+        ensures ended { (others : List AttemptedValue) (s : ℕ)
+            → attempts_of self.old ≡ others ++ record { begun = s; ended = None } ∷ []
+            → attempts_of self.new ≡ others ++ ended_attempt s self.old.seen outcome (step_of step) ∷ [] }
+    {
+        let at = self.seen;
+        let index = self.records.len() - 1;
+        close_at(&mut self.records, index, Ended { at, outcome, step });
+        self.phase = phase;
+        self.polls += 1;
+    }
+
+    // The last attempt ends, and the next begins.
+    fn restart(
+        &mut self,
+        outcome: Outcome,
+        step: (Out, Decision),
+        next: Beat,
+    ) -> Result<(), DriveFault>
+        requires progress { IsProgress self.old }
+        requires running { HasRunTo self.old.seen outcome self.old.phase }
+        ensures rest { OnOk result (self.new ≡ record self.old {
+          records = self.new.records;
+          phase = Phase.Running (record { outcome = next.outcome; end = saturated (self.old.seen + next.ms); seen = self.old.seen });
+          polls = self.old.polls + 1;
+        }) }
+        ensures ended { OnOk result ((others : List AttemptedValue) (s : ℕ)
+            → attempts_of self.old ≡ others ++ record { begun = s; ended = None } ∷ []
+            → attempts_of self.new ≡ others ++ ended_attempt s self.old.seen outcome (step_of (Some step)) ∷ record { begun = self.old.seen; ended = None } ∷ []) }
+        ensures err { OnErr result (Stays self.old self.new) }
+    {
+        let at = self.seen;
+        let index = self.records.len() - 1;
+        let attempted = Attempted {
+            begun: at,
+            ended: None,
+        };
+        add(&mut self.records, attempted)?;
+        let step = Some(step);
+        close_at(&mut self.records, index, Ended { at, outcome, step });
+        self.phase = Phase::Running(Attempt::start(next, at));
+        self.polls += 1;
+        Ok(())
+    }
+
+    /// Does the due poll, if there is one. It is ready where it was done, or where the job is over.
+    pub fn advance(&mut self, cx: &mut Context<'_>) -> Poll<Result<(), DriveFault>>
+        requires progress { IsProgress self.old }
+        requires state { HasState self.old }
+        ensures over { IsOver self.old.phase → (result ≡ Poll.Ready (Ok tt)) × IsSame self.old self.new }
+        ensures early { IsEarly self.old.seen self.old.phase → (result ≡ Poll.Pending) × IsSame self.old self.new }
+        ensures due { IsDuePhase self.old.seen self.old.phase
+            → IfReady result (λ done. OnOk done (Advances self.old self.new) × OnErr done (IsKept self.old self.new)) }
+        ensures answers { IsDuePhase self.old.seen self.old.phase → OnPending result ⊥ }
+        ensures armed { OnPending result (IsArmed cx.new) }
+        ensures kept { Keeps cx.old cx.new }
+    {
+        let seen = self.seen;
+        let next = self.script.beat(self.records.len() as u64 + 1);
+        match &mut self.phase {
+            Phase::Over(_) => Poll::Ready(Ok(())),
+            Phase::Waiting(due) if seen < *due => cx.yield_now(),
+            Phase::Waiting(_) => Poll::Ready(self.begin(next)),
+            Phase::Running(attempt) => {
+                attempt.see(seen);
+                let outcome = ready!(attempt.poll(cx));
+                Poll::Ready(self.finish(outcome, next))
+            }
+        }
+    }
+}

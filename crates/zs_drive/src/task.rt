@@ -1,0 +1,182 @@
+//! A job as a future that its caller polls at moments of its own choice.
+ghost use Rattle.std.specs.Prelude.{◌≡◌, ◌+◌, ◌≤◌, ◌<◌, [], ◌∷◌, map, length, string_bytes, false, true, Ok, IfOk, IfErr, IfSome, IsSomeAnd, ◌⊎◌, ⊤};
+ghost use Rattle.futures.specs.Poll.{OnPending};
+ghost use Rattle.futures.specs.Task.{IsArmed, Keeps};
+ghost use Rattle.zs_effect.specs.Scripts.{IsScript};
+ghost use Rattle.zs_drive.specs.Clocks.{AreTicks, max_tick};
+ghost use Rattle.zs_drive.specs.Values.{job_of, attempted_of};
+ghost use Rattle.zs_drive.specs.Timeline.{poll_moments};
+ghost use Rattle.zs_drive.specs.Tasks.{current_timeline, timeline_at, polled, reply_of, MatchMemory, IsDue};
+
+use crate::fault::DriveFault;
+use crate::job::{Job, Mode};
+use crate::progress::{Phase, Progress};
+use crate::record::{Attempted, Ending};
+use futures::task::{Context, Poll};
+use futures::{Future, ready};
+use std::alloc::Global;
+use std::marker::Model;
+use zs_step::{Compiled, StepFault};
+
+/// A numbered job with the attempts that were made so far. A poll that found no memory breaks it.
+#[derive(Drop)]
+pub struct Task {
+    number: u64,
+    progress: Progress,
+    broken: bool,
+}
+
+impl Model for Task {
+    ghost use Rattle.zs_drive.specs.Tasks.{TaskValue};
+    ghost use Rattle.zs_term.specs.contracts.term.Term as e;
+    ghost use Rattle.std.specs.Coded.{codes};
+
+    ghost Value = { TaskValue };
+
+    ghost coded = { Prim.hlevel (codes, e.the_row.coded) };
+
+    ghost use Rattle.zs_drive.specs.Fields.{task_of, IsTask};
+
+    ghost view = { task_of };
+
+    ghost invariant = { IsTask };
+}
+
+impl Task {
+    /// The task of a job, which has seen moment 0. A refused growth gives up the job.
+    pub fn new(alloc: Global, number: u64, job: Job) -> Result<Task, DriveFault>
+        ensures made { IfOk result (λ task. task ≡ record { number = number; job = job_of job; moments = []; seen = 0; broken = false }) }
+        ensures script { IfOk result (λ task. IsScript task.job.script) }
+        ensures memory { IfErr result (λ fault. fault ≡ DriveFault.Memory) }
+    {
+        let Job {
+            name,
+            mode,
+            schedule,
+            start,
+            script,
+        } = job;
+        let compiled = match Compiled::new(alloc, schedule) {
+            Ok(compiled) => compiled,
+            Err(StepFault::Memory) => return Err(DriveFault::Memory),
+        };
+        let progress = Progress {
+            name,
+            mode,
+            start,
+            script,
+            compiled,
+            records: Vec::new(alloc),
+            phase: Phase::Waiting(start),
+            polls: 0,
+            seen: 0,
+        };
+        Ok(Task {
+            number,
+            progress,
+            broken: false,
+        })
+    }
+
+    /// The number that it was made with.
+    pub fn number(&self) -> u64
+        ensures value { result ≡ self.now.number }
+    {
+        self.number
+    }
+
+    /// The name of its job.
+    pub fn name(&self) -> &str
+        ensures value { result.now ≡ self.now.job.name }
+    {
+        self.progress.name.as_str()
+    }
+
+    /// What ends its job besides the schedule.
+    pub fn mode(&self) -> Mode
+        ensures value { result ≡ self.now.job.mode }
+    {
+        self.progress.mode
+    }
+
+    /// The number of moments at which it was polled while it was due.
+    pub fn polls(&self) -> u64
+        ensures value { result ≡ length self.now.moments }
+        ensures moments { self.now.moments ≡ poll_moments (current_timeline self.now).attempts }
+    {
+        self.progress.polls
+    }
+
+    /// Its attempts so far, in order.
+    pub fn records(&self) -> &[Attempted]
+        ensures attempts { map attempted_of result.now ≡ (current_timeline self.now).attempts }
+        ensures moments { self.now.moments ≡ poll_moments (current_timeline self.now).attempts }
+        ensures clock { AreTicks self.now.moments }
+        ensures script { IsScript self.now.job.script }
+    {
+        self.progress.records.as_slice()
+    }
+
+    /// How the job ended, if it has.
+    pub fn ending(&self) -> Option<Ending>
+        ensures value { result ≡ (current_timeline self.now).ending }
+    {
+        self.progress.phase.ending()
+    }
+
+    /// Whether a poll of it found no memory. Each later poll then answers `Memory`.
+    pub fn broken(&self) -> bool
+        ensures value { result ≡ self.now.broken }
+    {
+        self.broken
+    }
+
+    /// The moment that it waits for, in milliseconds: its start, the end of its attempt, or what its schedule says.
+    pub fn due(&self) -> Option<u64>
+        ensures value { result ≡ (current_timeline self.now).due }
+    {
+        self.progress.phase.due()
+    }
+
+    /// Tells it the moment at which the next poll comes, in milliseconds.
+    pub fn see(&mut self, now: u64)
+        requires later { self.old.seen ≤ now }
+        requires bounded { now ≤ max_tick }
+        ensures value { self.new ≡ record self.old { seen = now } }
+    {
+        self.progress.seen = now;
+    }
+}
+
+impl Future for Task {
+    type Output = Result<Ending, DriveFault>;
+
+    /// At or past the moment waited for: ends the attempt, asks the schedule, and begins the next attempt where it may.
+    fn poll(&mut self, cx: &mut Context<'_>) -> Poll<Result<Ending, DriveFault>>
+        ensures answered { MatchMemory result ⊤
+            ((self.old.broken ≡ false) × (self.new ≡ polled self.old) × (result ≡ reply_of (current_timeline self.new).ending)) }
+        ensures memory { MatchMemory result
+            (((self.old.broken ≡ true) ⊎ IsDue self.old) × (self.new ≡ record self.old { broken = true })) ⊤ }
+        ensures early { self.old.broken ≡ false → IsSomeAnd (current_timeline self.old).due (λ due. self.old.seen < due)
+            → (result ≡ Poll.Pending) × (self.new ≡ self.old) }
+        ensures over { self.old.broken ≡ false → IfSome (current_timeline self.old).ending (λ ending.
+            (result ≡ Poll.Ready (Ok ending)) × (self.new ≡ self.old)) }
+        ensures same { (self.new.number ≡ self.old.number) × (self.new.job ≡ self.old.job) × (self.new.seen ≡ self.old.seen) }
+        ensures armed { OnPending result (IsArmed cx.new) }
+        ensures kept { Keeps cx.old cx.new }
+    {
+        if self.broken {
+            return Poll::Ready(Err(DriveFault::Memory));
+        }
+        match ready!(self.progress.advance(cx)) {
+            Ok(()) => match self.progress.phase.ending() {
+                Some(ending) => Poll::Ready(Ok(ending)),
+                None => cx.yield_now(),
+            },
+            Err(fault) => {
+                self.broken = true;
+                Poll::Ready(Err(fault))
+            }
+        }
+    }
+}

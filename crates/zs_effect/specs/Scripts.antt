@@ -1,0 +1,27 @@
+-- What a script is, when a list of entries is refused, and which entry an attempt follows.
+use Rattle.std.specs.Prelude.{◌≡◌, ℕ, ◌<◌, ◌≤◌, ◌-◌, List, [], ◌∷◌, length, min, slice_index_or}
+use Rattle.std.specs.List.{All, Any}
+use Rattle.zs_effect.specs.declared.script.Beat.{Beat}
+use Rattle.zs_effect.specs.declared.script.Outcome.TheVariants.{Good}
+use Rattle.zs_effect.specs.declared.script.ScriptFault.{ScriptFault}
+use Rattle.zs_effect.specs.declared.script.ScriptFault.TheVariants.{Empty, TooLong, ZeroMs}
+
+-- 1 to 1,000 entries, each of at least 1 ms
+pub record IsScript (beats : List Beat) : Type 0 where
+  pub some : 1 ≤ length beats
+  pub few : length beats ≤ 1000
+  pub timed : All (λ beat. 1 ≤ beat.ms) beats
+
+-- the fault that comes first in the order of the variants
+abbrev pub IsFirstFault : List Beat → ScriptFault → Type 0
+IsFirstFault beats Empty = beats ≡ []
+IsFirstFault beats TooLong = 1000 < length beats
+IsFirstFault beats ZeroMs = (1 ≤ length beats) × (length beats ≤ 1000) × Any (λ beat. beat.ms ≡ 0) beats
+
+-- stands where a list has no entry
+abbrev pub no_entry : Beat
+no_entry = record { ms = 1; outcome = Good 0 }
+
+-- the k-th entry, counted from 1, or the last one where there are fewer
+abbrev pub entry_at : List Beat → ℕ → Beat
+entry_at beats k = slice_index_or beats (min k (length beats) - 1) no_entry

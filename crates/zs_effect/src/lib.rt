@@ -1,0 +1,18 @@
+//! Effects that follow a script, and their attempts as futures that are polled by hand.
+//!
+//! An attempt is ready exactly where it has seen its end, and answers the same when it is polled again.
+//!
+//! ```text
+//! let script = Script::new(beats)?;
+//! let mut attempt = Attempt::start(script.beat(1), 10);
+//! attempt.see(attempt.end());     // the next poll is ready
+//! ```
+#![tactic(auto)]
+
+mod attempt;
+mod script;
+#[cfg(test)]
+mod tests;
+
+pub use attempt::Attempt;
+pub use script::{Beat, Outcome, Script, ScriptFault};

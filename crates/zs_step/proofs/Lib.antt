@@ -1,0 +1,13 @@
+pub mod Rows
+pub mod Histories
+pub mod Sats
+pub mod Sequels
+pub mod Resets
+pub mod Steps
+pub mod AnswersInTurn
+pub mod OutputKinds
+pub mod Answering
+pub mod FirstDone
+pub mod LastReset
+pub mod VisitBounds
+pub mod Moments

@@ -1,0 +1,130 @@
+-- No decision lies before the moment of its step.
+use Rattle.std.proofs.Common.{◌≡◌, ℕ, zero, suc, ◌+◌, ◌-◌, ◌*◌, ◌%◌, ◌^◌, ◌<◌, ◌≤◌, min, max, Bool, true, false, ◌||◌, nat_lt, nat_eq, if◌then◌else◌, Option, Some, None, List, [], ◌∷◌, length, refl, sym, ap, ◌∙◌, subst, arith}
+use Rattle.zs_term.specs.Saturating.{saturated, max_moment}
+use Rattle.zs_term.specs.Output.{passes, picked}
+use Rattle.zs_term.specs.Schedule.{Schedule, forever, recurs, spaced, fixed, exponential, fibonacci, identity, elapsed, both, either, and_then, while_input, while_output, collect_all, mapped, linear, windowed, reset_when}
+use Rattle.zs_term.specs.declared.term.Test.{Test}
+use Rattle.zs_term.specs.declared.term.Pick.{Pick}
+use Rattle.zs_step.specs.declared.decision.Decision.{Decision}
+use Rattle.zs_step.specs.declared.decision.Decision.TheVariants.{Stop, Next}
+use Rattle.zs_step.specs.History.{History, last_moment, last_input, first_moment, earlier}
+use Rattle.zs_step.specs.Answer.{Answer, answer_of, is_next, only_if, later_of, earlier_of, next_run, run_after, window_end, fibonacci_number, done_from, from_done, sequel_of, since_reset, reset_if}
+use Rattle.zs_step.specs.Laws.{IsNotBefore}
+
+-- a test
+only_if-late : (m : ℕ) (b : Bool) (d : Decision) → IsNotBefore m d → IsNotBefore m (only_if b d)
+only_if-late m true d late = late
+only_if-late m false d late = tt
+
+-- the later of two
+later_of-late : (m : ℕ) (d e : Decision) → IsNotBefore m d → IsNotBefore m e → IsNotBefore m (later_of d e)
+later_of-late m (Next x) (Next y) s t = omega arith
+later_of-late m (Next x) Stop s t = tt
+later_of-late m Stop e s t = tt
+
+-- the earlier of two
+earlier_of-late : (m : ℕ) (d e : Decision) → IsNotBefore m d → IsNotBefore m e → IsNotBefore m (earlier_of d e)
+earlier_of-late m (Next x) (Next y) s t = omega arith
+earlier_of-late m (Next x) Stop s t = s
+earlier_of-late m Stop e s t = t
+
+-- a delay that is cut
+saturated-late : (m x : ℕ) → m ≤ max_moment → m ≤ saturated (m + x)
+saturated-late m x le = omega arith
+
+-- a moment or a later one
+choice-late : (b : Bool) (m x : ℕ) → m ≤ x → m ≤ (if b then m else x)
+choice-late true m x le = omega arith
+choice-late false m x le = le
+
+-- a choice with true in it
+or-true : (b : Bool) → (b || true) ≡ true
+or-true true = refl
+or-true false = refl
+
+-- the rest of a period behind a moment isn't negative
+rest-late : (m x n : ℕ) → m ≤ max_moment → m ≤ saturated (m + suc n - x % suc n)
+rest-late m x n le = grind arith
+
+-- the next run of a period after the first step
+run_after-late : (p first run m : ℕ) → m ≤ max_moment → m ≤ run_after p first run m
+run_after-late zero first run m le =
+    subst (λ b. m ≤ (if b then m else saturated (m + 0 - (m - first) % 0))) (sym (or-true (nat_lt (run + 0) m))) (omega arith)
+run_after-late (suc n) first run m le =
+    choice-late (nat_lt (run + suc n) m || nat_eq (suc n) 0) m (saturated (m + suc n - (m - first) % suc n)) (rest-late m (m - first) n le)
+
+-- the end of a window
+window_end-late : (n first m : ℕ) → m ≤ max_moment → m ≤ window_end n first m
+window_end-late zero first m le = omega arith
+window_end-late (suc n) first m le = choice-late (nat_eq (suc n) 0) m (saturated (m + suc n - (m - first) % suc n)) (rest-late m (m - first) n le)
+
+-- the next run of a period
+next_run-late : (p : ℕ) (h : History) → last_moment h ≤ max_moment → last_moment h ≤ next_run p h
+next_run-late p [] le = omega arith
+next_run-late p (q ∷ []) le = saturated-late q.0 p le
+next_run-late p (q ∷ (r ∷ h)) le = run_after-late p (first_moment (r ∷ h)) (next_run p (r ∷ h)) q.0 le
+
+-- the last moment of a part, where there is one
+abbrev moment_in : ℕ → Option History → ℕ
+moment_in d (Some g) = last_moment g
+moment_in d None = d
+
+-- the part from the first done step on ends with the last step
+done_from-last : (o : Option History) (p : ℕ × ℕ) (b : Bool) (g : History) → done_from o p b ≡ Some g → last_moment g ≡ p.0
+done_from-last (Some k) p b g e = sym (ap (moment_in 0) e)
+done_from-last None p true g e = cc
+done_from-last None p false g e = sym (ap (moment_in 0) e)
+
+-- and so for each history
+from_done-last : (f : History → Answer) (h g : History) → from_done f h ≡ Some g → last_moment g ≡ last_moment h
+from_done-last f [] g e = cc
+from_done-last f (p ∷ h) g e = done_from-last (from_done f h) p (is_next (f (p ∷ h)).decision) g e
+
+-- one schedule after another
+sequel-late : (m : ℕ) (o : Option History) (a : Answer) (b : History → Answer) → ((g : History) → o ≡ Some g → last_moment g ≡ m) → IsNotBefore m a.decision →
+    ((g : History) → last_moment g ≡ m → IsNotBefore m (b g).decision) → IsNotBefore m (sequel_of o a b).decision
+sequel-late m None a b last first second = first
+sequel-late m (Some g) a b last first second = second g (last g refl)
+
+-- a reset keeps the last step
+reset_if-last : (b : Bool) (p : ℕ × ℕ) (g : History) → last_moment (reset_if b p g) ≡ p.0
+reset_if-last true p g = refl
+reset_if-last false p g = refl
+
+-- the part since the last reset ends with the last step
+since_reset-moment : (a : History → Answer) (k : Pick) (t : Test) (h : History) → last_moment (since_reset a k t h) ≡ last_moment h
+since_reset-moment a k t [] = refl
+since_reset-moment a k t (p ∷ h) = reset_if-last (passes t (picked k (a (p ∷ since_reset a k t h)).output)) p (since_reset a k t h)
+
+-- the decision of a step, by cases on the schedule
+pub answer_of-late : (t : Schedule) (h : History) → last_moment h ≤ max_moment → IsNotBefore (last_moment h) (answer_of t h).decision
+answer_of-late forever h le = omega arith
+answer_of-late (recurs k) h le = only_if-late (last_moment h) (nat_lt (length (earlier h)) k) (Next (last_moment h)) (omega arith)
+answer_of-late (spaced d) h le = saturated-late (last_moment h) d le
+answer_of-late (fixed p) h le = next_run-late p h le
+answer_of-late (exponential b f) h le = saturated-late (last_moment h) (saturated (b * f ^ length (earlier h))) le
+answer_of-late (fibonacci o) h le = saturated-late (last_moment h) (saturated (o * fibonacci_number (length h))) le
+answer_of-late identity h le = omega arith
+answer_of-late elapsed h le = omega arith
+answer_of-late (linear n) h le = saturated-late (last_moment h) (saturated (n * length h)) le
+answer_of-late (windowed n) h le = window_end-late n (first_moment h) (last_moment h) le
+answer_of-late (both a b) h le =
+    later_of-late (last_moment h) (answer_of a h).decision (answer_of b h).decision (answer_of-late a h le) (answer_of-late b h le)
+answer_of-late (either a b) h le =
+    earlier_of-late (last_moment h) (answer_of a h).decision (answer_of b h).decision (answer_of-late a h le) (answer_of-late b h le)
+answer_of-late (and_then a b) h le =
+    sequel-late (last_moment h) (from_done (answer_of a) h) (answer_of a h) (answer_of b) (λ g e. from_done-last (answer_of a) h g e) (answer_of-late a h le)
+    (λ g e. subst (λ m. IsNotBefore m (answer_of b g).decision) e (answer_of-late b g (subst (λ m. m ≤ max_moment) (sym e) le)))
+answer_of-late (while_input s t) h le = only_if-late (last_moment h) (passes t (last_input h)) (answer_of s h).decision (answer_of-late s h le)
+answer_of-late (while_output s k t) h le =
+    only_if-late (last_moment h) (passes t (picked k (answer_of s h).output)) (answer_of s h).decision (answer_of-late s h le)
+answer_of-late (collect_all s) h le = answer_of-late s h le
+answer_of-late (mapped s f) h le = answer_of-late s h le
+answer_of-late (reset_when s k t) h le =
+    let g = since_reset (answer_of s) k t h in
+    let e : last_moment g ≡ last_moment h = since_reset-moment (answer_of s) k t h in
+    subst (λ m. IsNotBefore m (answer_of s g).decision) e (answer_of-late s g (subst (λ m. m ≤ max_moment) (sym e) le))
+
+-- a number is below a limit exactly where it is so after it was cut
+pub below-saturated : (n k : ℕ) → k ≤ max_moment → nat_lt n k ≡ nat_lt (saturated n) k
+below-saturated n k le = grind arith

@@ -1,0 +1,136 @@
+-- What a schedule answers at the last step of a history: its output and its decision, by cases on the schedule.
+-- Each equation is the rule of the ZIO operator of that name, and knows no state: a part is asked anew at each history that its
+-- rule names. docs/SEMANTICS.md says the rules in words. `proofs/Rows.antt` has worked examples; the laws in `src/laws.rt` say
+-- in other words what the definitions here say step by step.
+use Rattle.std.specs.Prelude.{ℕ, zero, suc, ◌+◌, ◌-◌, ◌*◌, ◌%◌, ◌^◌, min, max, Bool, true, false, ◌||◌, nat_lt, nat_eq, if◌then◌else◌, Option, Some, None, List, [], ◌∷◌, length}
+use Rattle.zs_term.specs.Saturating.{saturated}
+use Rattle.zs_term.specs.Output.{Output, Outputs, number, pair, left, right, listed, none, more, with_last, passes, picked, applied}
+use Rattle.zs_term.specs.Schedule.{Schedule, forever, recurs, spaced, fixed, exponential, fibonacci, identity, elapsed, both, either, and_then, while_input, while_output, collect_all, mapped, linear, windowed, reset_when}
+use Rattle.zs_term.specs.declared.term.Test.{Test}
+use Rattle.zs_term.specs.declared.term.Pick.{Pick}
+use Rattle.zs_term.specs.declared.term.Func.{Func}
+use Rattle.zs_step.specs.declared.decision.Decision.{Decision}
+use Rattle.zs_step.specs.declared.decision.Decision.TheVariants.{Stop, Next}
+use Rattle.zs_step.specs.History.{History, last_moment, last_input, first_moment, earlier}
+
+-- an output and a decision
+pub record Answer : Type 0 where
+  pub output : Output
+  pub decision : Decision
+
+-- an answer of its two parts
+abbrev pub answer : Output → Decision → Answer
+answer v d = record { output = v; decision = d }
+
+-- whether a decision is to go on
+abbrev pub is_next : Decision → Bool
+is_next Stop = false
+is_next (Next x) = true
+
+-- a decision that stops unless a test passes
+abbrev pub only_if : Bool → Decision → Decision
+only_if b d = (if b then d else Stop)
+
+-- the later of two moments, where both continue
+abbrev pub later_of : Decision → Decision → Decision
+later_of (Next x) (Next y) = Next (max x y)
+later_of (Next x) Stop = Stop
+later_of Stop d = Stop
+
+-- the earlier of two moments, or that of the one that continues
+abbrev pub earlier_of : Decision → Decision → Decision
+earlier_of (Next x) (Next y) = Next (min x y)
+earlier_of (Next x) Stop = Next x
+earlier_of Stop d = d
+
+-- the n-th number of Fibonacci: 0, 1, 1, 2, 3, ..
+abbrev pub fibonacci_number : ℕ → ℕ
+fibonacci_number zero = 0
+fibonacci_number (suc zero) = 1
+fibonacci_number (suc (suc n)) = fibonacci_number n + fibonacci_number (suc n)
+
+-- The next run of a period at a step after the first: a missed run isn't made up for, and runs keep to the first moment.
+abbrev pub run_after : ℕ → ℕ → ℕ → ℕ → ℕ
+run_after p first run now =
+    if nat_lt (run + p) now || nat_eq p 0 then now else saturated (now + p - (now - first) % p)
+
+-- the next run of a period
+abbrev pub next_run : ℕ → History → ℕ
+next_run p [] = 0
+next_run p (q ∷ []) = saturated (q.0 + p)
+next_run p (q ∷ (r ∷ h)) = run_after p (first_moment (r ∷ h)) (next_run p (r ∷ h)) q.0
+
+-- the end of the window that a moment lies in; a window isn't empty
+abbrev pub window_end : ℕ → ℕ → ℕ → ℕ
+window_end n first now = if nat_eq n 0 then now else saturated (now + n - (now - first) % n)
+
+-- an answer of a step that waits for its own output
+abbrev pub waits : ℕ → History → Answer
+waits x h = answer (number x) (Next (saturated (last_moment h + x)))
+
+-- The answers of two schedules that are stepped together.
+abbrev pub together : (Decision → Decision → Decision) → Answer → Answer → Answer
+together f a b = answer (pair a.output b.output) (f a.decision b.decision)
+
+-- one more pair behind the part from the first done step on, where there is one, or that pair alone where it stops here
+abbrev pub done_from : Option History → ℕ × ℕ → Bool → Option History
+done_from (Some g) p again = Some (p ∷ g)
+done_from None p true = None
+done_from None p false = Some (p ∷ [])
+
+-- The part of a history from the first step on at which a schedule is done, where there is one.
+abbrev pub from_done : (History → Answer) → History → Option History
+from_done a [] = None
+from_done a (p ∷ h) = done_from (from_done a h) p (is_next (a (p ∷ h)).decision)
+
+-- the first schedule's answer, or that of the second to the part from the first's end on
+abbrev pub sequel_of : Option History → Answer → (History → Answer) → Answer
+sequel_of None a b = answer (left a.output) a.decision
+sequel_of (Some g) a b = answer (right (b g).output) (b g).decision
+
+-- the first schedule until it is done, and the second from that step on
+abbrev pub sequel : (History → Answer) → (History → Answer) → History → Answer
+sequel a b h = sequel_of (from_done a h) (a h) b
+
+-- one more output at a step that continues
+abbrev pub collect_if : Bool → Outputs → Output → Outputs
+collect_if true xs x = with_last xs x
+collect_if false xs x = xs
+
+-- the outputs, in order, at all steps at which a schedule continued
+abbrev pub collected : (History → Answer) → History → Outputs
+collected a [] = none
+collected a (p ∷ h) = collect_if (is_next (a (p ∷ h)).decision) (collected a h) (a (p ∷ h)).output
+
+-- the history behind the last reset, with the last pair, or the last pair alone where a test passes there
+abbrev pub reset_if : Bool → ℕ × ℕ → History → History
+reset_if true p g = p ∷ []
+reset_if false p g = p ∷ g
+
+-- The part of a history since the last reset: a step resets where a test is true of the output that it would have without.
+abbrev pub since_reset : (History → Answer) → Pick → Test → History → History
+since_reset a k t [] = []
+since_reset a k t (p ∷ h) = reset_if (passes t (picked k (a (p ∷ since_reset a k t h)).output)) p (since_reset a k t h)
+
+-- the answer of a schedule at the last step of a history that isn't empty
+abbrev pub answer_of : Schedule → History → Answer
+answer_of forever h = answer (number (saturated (length (earlier h)))) (Next (last_moment h))
+answer_of (recurs k) h = answer (number (saturated (length (earlier h)))) (only_if (nat_lt (length (earlier h)) k) (Next (last_moment h)))
+answer_of (spaced d) h = answer (number (saturated (length (earlier h)))) (Next (saturated (last_moment h + d)))
+answer_of (fixed p) h = answer (number (saturated (length (earlier h)))) (Next (next_run p h))
+answer_of (exponential b f) h = waits (saturated (b * f ^ length (earlier h))) h
+answer_of (fibonacci o) h = waits (saturated (o * fibonacci_number (length h))) h
+answer_of identity h = answer (number (last_input h)) (Next (last_moment h))
+answer_of elapsed h = answer (number (last_moment h - first_moment h)) (Next (last_moment h))
+answer_of (linear n) h = waits (saturated (n * length h)) h
+answer_of (windowed n) h =
+    answer (number (saturated (length (earlier h)))) (Next (window_end n (first_moment h) (last_moment h)))
+answer_of (both a b) h = together later_of (answer_of a h) (answer_of b h)
+answer_of (either a b) h = together earlier_of (answer_of a h) (answer_of b h)
+answer_of (and_then a b) h = sequel (answer_of a) (answer_of b) h
+answer_of (while_input s t) h = answer (answer_of s h).output (only_if (passes t (last_input h)) (answer_of s h).decision)
+answer_of (while_output s k t) h =
+    answer (answer_of s h).output (only_if (passes t (picked k (answer_of s h).output)) (answer_of s h).decision)
+answer_of (collect_all s) h = answer (listed (collected (answer_of s) (earlier h))) (answer_of s h).decision
+answer_of (mapped s f) h = answer (applied f (answer_of s h).output) (answer_of s h).decision
+answer_of (reset_when s k t) h = answer_of s (since_reset (answer_of s) k t h)

@@ -1,0 +1,43 @@
+-- What callers know of a compiled schedule.
+use Rattle.std.specs.Prelude.{◌≡◌, ◌≤◌, ℕ, Bool, false, Some}
+use Rattle.zs_term.specs.declared.term.Term.{Term}
+use Rattle.zs_term.specs.Schedule.{Schedule, schedule_of, weight}
+use Rattle.zs_term.specs.Output.{output_of}
+use Rattle.zs_term.specs.OutputKind.{OutputKind, HasKind}
+use Rattle.zs_term.specs.Kinds.{kind_of}
+use Rattle.zs_step.specs.declared.compiled.Compiled.{Compiled}
+use Rattle.zs_step.specs.History.{History, last_moment}
+use Rattle.zs_step.specs.declared.stepped.Stepped.{Stepped}
+use Rattle.zs_step.specs.Answer.{answer, answer_of}
+use Rattle.zs_step.specs.Visits.{visits}
+use Rattle.zs_step.specs.State.{state_schedule, Represents}
+
+-- the term that was compiled
+abbrev pub compiled_term : Compiled → Term
+compiled_term c = c.checked
+
+-- the schedule that was compiled
+abbrev pub compiled_schedule : Compiled → Schedule
+compiled_schedule c = schedule_of c.checked
+
+-- whether a step of it ran out of memory
+abbrev pub is_broken : Compiled → Bool
+is_broken c = c.broken
+
+-- the last moment that it has seen, or 0
+abbrev pub last_seen : Compiled → ℕ
+last_seen c = c.last
+
+-- it is unbroken, and stands for a history, or for the empty list
+pub record StandsFor (c : Compiled) (h : History) : Type 0 where
+  pub whole : c.broken ≡ false
+  pub made_of : state_schedule c.state ≡ schedule_of c.checked
+  pub state : Represents c.state h
+  pub last : c.last ≡ last_moment h
+
+-- a step's answer is that of a schedule at the last step of a history
+pub record IsAnswer (t : Schedule) (h : History) (r : Stepped) : Type 0 where
+  pub answered : answer (output_of r.out) r.decision ≡ answer_of t h
+  pub visited : r.visits ≡ visits t h
+  pub bound : r.visits ≤ weight t
+  pub kinded : (a : OutputKind) → kind_of t ≡ Some a → HasKind (output_of r.out) a

@@ -1,0 +1,75 @@
+-- What a state that is stepped in place stands for. A state is judged by the history that it took the place of; `step_node` keeps
+-- that relation, and answers by it.
+use Rattle.std.specs.Prelude.{◌≡◌, ℕ, suc, ◌+◌, ◌*◌, ◌^◌, ◌≤◌, Bool, true, false, Option, Some, None, List, [], ◌∷◌, length}
+use Rattle.zs_term.specs.Saturating.{saturated}
+use Rattle.zs_term.specs.Output.{Output, outputs_of}
+use Rattle.zs_term.specs.Schedule.{Schedule, weight, forever, recurs, spaced, fixed, exponential, fibonacci, identity, elapsed, both, either, and_then, while_input, while_output, collect_all, mapped, linear, windowed, reset_when}
+use Rattle.zs_step.specs.declared.decision.Decision.{Decision}
+use Rattle.zs_step.specs.declared.state.State.{State}
+use Rattle.zs_step.specs.declared.state.State.TheVariants.{Forever, Recurs, Spaced, Fixed, Exponential, Fibonacci, Identity, Elapsed, Linear, Windowed, Both', Either', AndThen', WhileInput', WhileOutput', CollectAll', Map', ResetWhen'}
+use Rattle.zs_step.specs.History.{History, first_moment}
+use Rattle.zs_step.specs.Answer.{Answer, answer, answer_of, fibonacci_number, next_run, from_done, collected, since_reset}
+use Rattle.zs_step.specs.Visits.{visits}
+
+-- the schedule that a state was made of
+abbrev pub state_schedule : State → Schedule
+state_schedule (Forever n) = forever
+state_schedule (Recurs k n) = recurs k
+state_schedule (Spaced d n) = spaced d
+state_schedule (Fixed p n first run) = fixed p
+state_schedule (Exponential b f x) = exponential b f
+state_schedule (Fibonacci o x y) = fibonacci o
+state_schedule Identity = identity
+state_schedule (Elapsed started first) = elapsed
+state_schedule (Linear n steps) = linear n
+state_schedule (Windowed n steps first) = windowed n
+state_schedule (Both' p a q b) = both (state_schedule a) (state_schedule b)
+state_schedule (Either' p a q b) = either (state_schedule a) (state_schedule b)
+state_schedule (AndThen' second p a q b) = and_then (state_schedule a) (state_schedule b)
+state_schedule (WhileInput' p s t) = while_input (state_schedule s) t
+state_schedule (WhileOutput' p s k t) = while_output (state_schedule s) k t
+state_schedule (CollectAll' p s items) = collect_all (state_schedule s)
+state_schedule (Map' p s f) = mapped (state_schedule s) f
+state_schedule (ResetWhen' p s k t) = reset_when (state_schedule s) k t
+
+-- whether there was a step
+abbrev pub has_steps : History → Bool
+has_steps [] = false
+has_steps (p ∷ h) = true
+
+-- The first part stands for the history and the second for none; or, once the first was done, the second for the history from there on.
+abbrev pub SequelRepresents : Bool → Option History → Type 0 → (History → Type 0) → Type 0
+SequelRepresents false None first second = first × second []
+SequelRepresents true (Some g) first second = second g
+SequelRepresents false (Some g) first second = ⊥
+SequelRepresents true None first second = ⊥
+
+-- a state stands for a history, or for the empty list
+abbrev pub Represents : State → History → Type 0
+Represents (Forever n) h = n ≡ saturated (length h)
+Represents (Recurs k n) h = n ≡ saturated (length h)
+Represents (Spaced d n) h = n ≡ saturated (length h)
+Represents (Fixed p n first run) h = (n ≡ saturated (length h)) × (first ≡ first_moment h) × (run ≡ next_run p h)
+Represents (Exponential b f x) h = x ≡ saturated (b * f ^ length h)
+Represents (Fibonacci o x y) h = (x ≡ saturated (o * fibonacci_number (length h))) × (y ≡ saturated (o * fibonacci_number (suc (length h))))
+Represents Identity h = Unit {0}
+Represents (Elapsed started first) h = (started ≡ has_steps h) × (first ≡ first_moment h)
+Represents (Linear n x) h = x ≡ saturated (n * length h)
+Represents (Windowed n steps first) h = (steps ≡ saturated (length h)) × (first ≡ first_moment h)
+Represents (Both' p a q b) h = Represents a h × Represents b h
+Represents (Either' p a q b) h = Represents a h × Represents b h
+Represents (AndThen' second p a q b) h =
+    SequelRepresents second (from_done (answer_of (state_schedule a)) h) (Represents a h) (Represents b)
+Represents (WhileInput' p s t) h = Represents s h
+Represents (WhileOutput' p s k t) h = Represents s h
+Represents (CollectAll' p s items) h = Represents s h × (outputs_of items.items ≡ collected (answer_of (state_schedule s)) h)
+Represents (Map' p s f) h = Represents s h
+Represents (ResetWhen' p s k t) h = Represents s (since_reset (answer_of (state_schedule s)) k t h)
+
+-- A step at a moment with an input: the answer and the visits for each history that the state stood for, and what it stands for then.
+pub record StepsTo (old new : State) (now input : ℕ) (a : Answer) (n : ℕ) : Type 0 where
+  pub same : state_schedule new ≡ state_schedule old
+  pub bound : n ≤ weight (state_schedule old)
+  pub answered : (h : History) → Represents old h → a ≡ answer_of (state_schedule old) ((now, input) ∷ h)
+  pub visited : (h : History) → Represents old h → n ≡ visits (state_schedule old) ((now, input) ∷ h)
+  pub stands : (h : History) → Represents old h → Represents new ((now, input) ∷ h)

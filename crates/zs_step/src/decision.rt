@@ -1,0 +1,72 @@
+// What a schedule decides at a step.
+
+ghost use Rattle.std.specs.Prelude.{◌≡◌, ◌+◌};
+ghost use Rattle.zs_term.specs.Saturating.{saturated};
+ghost use Rattle.zs_step.specs.Answer.{later_of, earlier_of, only_if, is_next};
+
+use crate::interval::Interval;
+
+/// Whether a schedule goes on, and from which moment.
+#[derive(Clone, Copy, Debug, PartialEq, Eq)]
+pub enum Decision {
+    /// The schedule is done.
+    Stop,
+    /// The schedule goes on at this moment, in milliseconds.
+    Next(u64),
+}
+
+impl Decision {
+    // Goes on where both do, at the later moment.
+    pub(crate) fn later(self, other: Decision) -> Decision
+        ensures value { result ≡ later_of self other }
+    {
+        match self {
+            Decision::Stop => self,
+            Decision::Next(x) => match other {
+                Decision::Stop => other,
+                Decision::Next(y) => Decision::Next(
+                    Interval::after(x).intersect(&Interval::after(y)).start(),
+                ),
+            },
+        }
+    }
+
+    // Goes on where one of them does, at the earlier moment.
+    pub(crate) fn earlier(self, other: Decision) -> Decision
+        ensures value { result ≡ earlier_of self other }
+    {
+        match self {
+            Decision::Stop => other,
+            Decision::Next(x) => match other {
+                Decision::Stop => self,
+                Decision::Next(y) => Decision::Next(
+                    Interval::after(x).union(&Interval::after(y)).start(),
+                ),
+            },
+        }
+    }
+
+    // Stops unless a test passed.
+    pub(crate) fn only_if(self, passed: bool) -> Decision
+        ensures value { result ≡ only_if passed self }
+    {
+        if passed { self } else { Decision::Stop }
+    }
+
+    // Whether it goes on.
+    pub(crate) fn is_next(self) -> bool
+        ensures value { result ≡ is_next self }
+    {
+        match self {
+            Decision::Stop => false,
+            Decision::Next(_) => true,
+        }
+    }
+
+    // Goes on a delay after a moment.
+    pub(crate) fn after(moment: u64, delay: u64) -> Decision
+        ensures value { result ≡ Decision.Next (saturated (moment + delay)) }
+    {
+        Decision::Next(moment.saturating_add(delay))
+    }
+}

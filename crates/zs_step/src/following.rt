@@ -1,0 +1,42 @@
+// The answers to a list of moments and inputs.
+
+ghost use Rattle.std.specs.Prelude.{◌≡◌, ℕ, ◌+◌, ◌<◌, length, take, slice_index_or, vec_len, ◌++◌, ◌∷◌, [], IfOk, OnOk};
+ghost use Rattle.zs_term.specs.Schedule.{schedule_of};
+ghost use Rattle.zs_step.specs.History.{history_of, IsInOrder};
+ghost use Rattle.zs_step.specs.Compiled.{IsAnswer};
+ghost use Rattle.zs_step.specs.declared.stepped.Stepped.{Stepped};
+
+use crate::compiled::Compiled;
+use crate::fault::StepFault;
+use crate::stepped::Stepped;
+use std::alloc::Global;
+use zs_term::Checked;
+
+/// The answer at each pair (moment, input), oldest first, by a new `Compiled` that is stepped once for each. Fails with `Memory` alone.
+pub fn follow(
+    alloc: Global,
+    checked: Checked,
+    pairs: &[(u64, u64)],
+) -> Result<Vec<Stepped>, StepFault>
+    requires order { IsInOrder (history_of pairs.now) }
+    ensures len { IfOk result (λ v. vec_len v ≡ length pairs.now) }
+    ensures ok { IfOk result (λ v. (j : ℕ) (d : Stepped) → j < length pairs.now → IsAnswer (schedule_of checked) (history_of (take (j + 1) pairs.now)) (slice_index_or v.items j d)) }
+{
+    let mut compiled = Compiled::new(alloc, checked)?;
+    let mut answers = Vec::new(alloc);
+    for i in 0..pairs.len() {
+        let stepped = compiled.step(pairs[i].0, pairs[i].1)?;
+        keep(&mut answers, stepped)?;
+    }
+    Ok(answers)
+}
+
+// Keeps one more answer.
+fn keep(answers: &mut Vec<Stepped>, stepped: Stepped) -> Result<(), StepFault>
+    ensures ok { OnOk result (answers.new.items ≡ answers.old.items ++ stepped ∷ []) }
+{
+    match answers.push(stepped) {
+        Ok(()) => Ok(()),
+        Err(_) => Err(StepFault::Memory),
+    }
+}

@@ -1,0 +1,50 @@
+// Laws of every schedule, above the definition of its answers.
+
+ghost use Rattle.std.specs.Prelude.{◌≡◌, ◌≤◌, ◌↔◌, ℕ, Some, None, true, [], ◌∷◌, ◌++◌};
+ghost use Rattle.zs_term.specs.Saturating.{max_moment};
+ghost use Rattle.zs_term.specs.Output.{left, right};
+ghost use Rattle.zs_term.specs.OutputKind.{OutputKind, HasKind};
+ghost use Rattle.zs_term.specs.Kinds.{kind_of};
+ghost use Rattle.zs_term.specs.Schedule.{Schedule, weight, forever, recurs, and_then, while_output};
+ghost use Rattle.zs_term.specs.declared.term.Test.{Test};
+ghost use Rattle.zs_term.specs.declared.term.Pick.{Pick};
+ghost use Rattle.zs_term.specs.declared.term.Pick.TheVariants.{Whole};
+ghost use Rattle.zs_term.specs.declared.term.Cmp.TheVariants.{Lt};
+ghost use Rattle.zs_step.specs.History.{History, last_moment};
+ghost use Rattle.zs_step.specs.Answer.{answer, answer_of, from_done, since_reset};
+ghost use Rattle.zs_step.specs.Visits.{visits};
+ghost use Rattle.zs_step.specs.Laws.{GoesOnThroughout, IsFromFirstDone, IsNotBefore, IsWithoutReset, resets_at};
+
+/// The second part of `andThenEither` counts from the least step at which the first is done, and answers from there on.
+pub fn second_part_begins_where_the_first_is_done()
+    ensures found { (a : Schedule) (h part : History) → (from_done (answer_of a) h ≡ Some part) ↔ IsFromFirstDone (answer_of a) h part }
+    ensures none { (a : Schedule) (h : History) → (from_done (answer_of a) h ≡ None) ↔ GoesOnThroughout (answer_of a) h }
+    ensures second { (a b : Schedule) (h part : History) → IsFromFirstDone (answer_of a) h part → answer_of (and_then a b) h ≡ answer (right (answer_of b part).output) (answer_of b part).decision }
+    ensures first { (a b : Schedule) (h : History) → GoesOnThroughout (answer_of a) h → answer_of (and_then a b) h ≡ answer (left (answer_of a h).output) (answer_of a h).decision }
+{}
+
+/// `recurs(k)` answers as `forever.whileOutput(< k)`.
+pub fn recurs_is_forever_below_its_limit()
+    ensures value { (k : ℕ) (h : History) → k ≤ max_moment → answer_of (recurs k) h ≡ answer_of (while_output forever Whole (record { cmp = Lt; than = k })) h }
+{}
+
+/// A schedule never goes on at a moment before that of its step.
+pub fn decisions_are_not_in_the_past()
+    ensures value { (t : Schedule) (h : History) → last_moment h ≤ max_moment → IsNotBefore (last_moment h) (answer_of t h).decision }
+{}
+
+/// Every output of a schedule has its kind, so no pick and no function meets an output that it doesn't fit.
+pub fn outputs_have_kinds()
+    ensures value { (t : Schedule) (a : OutputKind) (h : History) → kind_of t ≡ Some a → HasKind (answer_of t h).output a }
+{}
+
+/// A step visits at most as many nodes as the schedule's weight, however long its history is.
+pub fn visits_are_at_most_the_weight()
+    ensures value { (t : Schedule) (h : History) → visits t h ≤ weight t }
+{}
+
+/// The part of `resetWhen` counts from the last step that reset it, or from the first step where none did.
+pub fn a_part_counts_from_its_last_reset()
+    ensures reset { (s : Schedule) (k : Pick) (t : Test) (later before : History) (p : ℕ × ℕ) → resets_at (answer_of s) k t (p ∷ before) ≡ true → IsWithoutReset (answer_of s) k t later (p ∷ before) → since_reset (answer_of s) k t (later ++ p ∷ before) ≡ later ++ p ∷ [] }
+    ensures none { (s : Schedule) (k : Pick) (t : Test) (h : History) → IsWithoutReset (answer_of s) k t h [] → since_reset (answer_of s) k t h ≡ h }
+{}

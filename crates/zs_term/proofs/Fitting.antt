@@ -1,0 +1,148 @@
+-- The numbers of a term are those of its tokens.
+use Rattle.std.proofs.Common.{◌≡◌, ℕ, ◌<◌, ◌^◌, List, [], ◌∷◌, ◌++◌, Bool, true, false, cond, Option, Some, None, refl, sym, subst, arith, inl, inr}
+use Rattle.std.specs.Prelude.{nat_le}
+use Rattle.std.proofs.lemmas.Bool.Decides.{nat_tests}
+use Rattle.zs_term.specs.declared.token.Mark.{Mark}
+use Rattle.zs_term.specs.declared.token.Mark.TheVariants.{ForeverWord, RecursWord, SpacedWord, FixedWord, ExponentialWord, FibonacciWord, IdentityWord, ElapsedWord, LinearWord, WindowedWord, AndThenWord, WhileInputWord, WhileOutputWord, CollectAllWord, MapWord, ResetWhenWord, Open, Close, Comma, Dot, AndAnd, OrOr}
+use Rattle.zs_term.specs.declared.term.Pick.{Pick}
+use Rattle.zs_term.specs.declared.term.Pick.TheVariants.{Whole as PickWhole, First as PickFirst, Second as PickSecond, Size as PickSize}
+use Rattle.zs_term.specs.declared.term.Func.{Func}
+use Rattle.zs_term.specs.declared.term.Func.TheVariants.{First, Second, Size, Merge, Const, Add, Mul}
+use Rattle.zs_term.specs.Schedule.{Schedule, forever, recurs, spaced, fixed, exponential, fibonacci, identity, elapsed, linear, windowed, both, either, and_then, while_input, while_output, collect_all, mapped, reset_when}
+use Rattle.zs_term.specs.Number.{FuncFits, HasFittingNumbers}
+use Rattle.zs_term.specs.Token.{Token, number, mark, Placed, lexed}
+use Rattle.zs_term.specs.Grammar.{Spells, with_number, with_infix, with_method, test_tokens, pick_tokens, func_tokens}
+use Rattle.zs_term.specs.Causes.{tokens_of, TextSpells, is_huge, first_huge}
+
+-- no token is a number that does not fit
+abbrev AllFit : List Token → Type 0
+AllFit [] = Unit {0}
+AllFit (t ∷ ts) = (is_huge t ≡ false) × AllFit ts
+
+all_fit : (ps : List Placed) → first_huge ps ≡ None → AllFit (tokens_of ps)
+all_fit [] h = tt
+all_fit (p ∷ ps) h = at_head (is_huge p.token) refl h (all_fit ps) where
+  at_head : (b : Bool) → is_huge p.token ≡ b → cond b (Some p.place) (first_huge ps) ≡ None → (first_huge ps ≡ None → AllFit (tokens_of ps)) → AllFit (tokens_of (p ∷ ps))
+  at_head true e k rest = cc
+  at_head false e k rest = (e, rest k)
+
+fit_front : (xs ys : List Token) → AllFit (xs ++ ys) → AllFit xs
+fit_front [] ys h = tt
+fit_front (x ∷ xs) ys h = (h.0, fit_front xs ys h.1)
+
+fit_back : (xs ys : List Token) → AllFit (xs ++ ys) → AllFit ys
+fit_back [] ys h = h
+fit_back (x ∷ xs) ys h = fit_back xs ys h.1
+
+not_huge : (n : ℕ) → is_huge (number n) ≡ false → n < 2 ^ 64
+not_huge n h = grind (arith, nat_tests)
+
+fits_infix : (l r : List Token) (m : Mark) → AllFit (with_infix l m r) → AllFit l × AllFit r
+fits_infix l r m h = (fit_front l (mark m ∷ r ++ mark Close ∷ []) h.1, fit_front r (mark Close ∷ []) (fit_back l (mark m ∷ r ++ mark Close ∷ []) h.1).1)
+
+fits_func : (f : Func) → AllFit (func_tokens f) → FuncFits f
+fits_func First h = tt
+fits_func Second h = tt
+fits_func Size h = tt
+fits_func Merge h = tt
+fits_func (Const n) h = not_huge n h.1.0
+fits_func (Add n) h = not_huge n h.1.0
+fits_func (Mul n) h = not_huge n h.1.0
+
+fits_from_tokens : (t : Schedule) (ts : List Token) → Spells ts t → AllFit ts → HasFittingNumbers t
+fits_from_tokens forever ts s h = tt
+fits_from_tokens (recurs n) ts s h = not_huge n (subst AllFit s h).1.1.0
+fits_from_tokens (spaced n) ts s h = not_huge n (subst AllFit s h).1.1.0
+fits_from_tokens (fixed n) ts s h = not_huge n (subst AllFit s h).1.1.0
+fits_from_tokens (exponential b f) ts (inl s) h = (not_huge b (subst AllFit s.0 h).1.1.0, omega (arith, s.1))
+fits_from_tokens (exponential b f) ts (inr s) h = (not_huge b (subst AllFit s h).1.1.0, not_huge f (subst AllFit s h).1.1.1.1.0)
+fits_from_tokens (fibonacci n) ts s h = not_huge n (subst AllFit s h).1.1.0
+fits_from_tokens identity ts s h = tt
+fits_from_tokens elapsed ts s h = tt
+fits_from_tokens (linear n) ts s h = not_huge n (subst AllFit s h).1.1.0
+fits_from_tokens (windowed n) ts s h = not_huge n (subst AllFit s h).1.1.0
+fits_from_tokens (both a b) ts s h = let k = fits_infix s.0 s.1 AndAnd (subst AllFit s.4 h) in (fits_from_tokens a s.0 s.2 k.0, fits_from_tokens b s.1 s.3 k.1)
+fits_from_tokens (either a b) ts s h = let k = fits_infix s.0 s.1 OrOr (subst AllFit s.4 h) in (fits_from_tokens a s.0 s.2 k.0, fits_from_tokens b s.1 s.3 k.1)
+fits_from_tokens (and_then a b) ts s h = let k = fits_infix s.0 s.1 AndThenWord (subst AllFit s.4 h) in (fits_from_tokens a s.0 s.2 k.0, fits_from_tokens b s.1 s.3 k.1)
+fits_from_tokens (while_input a t) ts s h =
+    let k = subst AllFit s.2 h in
+    (fits_from_tokens a s.0 s.1 (fit_front s.0 _ k), not_huge t.than (fit_back s.0 (with_method WhileInputWord (test_tokens t)) k).1.1.1.1.0)
+fits_from_tokens (while_output a p t) ts s h =
+    let k = subst AllFit s.2 h in
+    let arguments = fit_front (pick_tokens p ++ test_tokens t) (mark Close ∷ []) (fit_back s.0 (with_method WhileOutputWord (pick_tokens p ++ test_tokens t)) k).1.1.1 in
+    (fits_from_tokens a s.0 s.1 (fit_front s.0 _ k), not_huge t.than (fit_back (pick_tokens p) (test_tokens t) arguments).1.0)
+fits_from_tokens (collect_all a) ts s h = fits_from_tokens a s.0 s.1 (fit_front s.0 _ (subst AllFit s.2 h))
+fits_from_tokens (mapped a f) ts s h =
+    let k = subst AllFit s.2 h in
+    (fits_from_tokens a s.0 s.1 (fit_front s.0 _ k), fits_func f (fit_front (func_tokens f) (mark Close ∷ []) (fit_back s.0 (with_method MapWord (func_tokens f)) k).1.1.1))
+fits_from_tokens (reset_when a p t) ts s h =
+    let k = subst AllFit s.2 h in
+    let arguments = fit_front (pick_tokens p ++ test_tokens t) (mark Close ∷ []) (fit_back s.0 (with_method ResetWhenWord (pick_tokens p ++ test_tokens t)) k).1.1.1 in
+    (fits_from_tokens a s.0 s.1 (fit_front s.0 _ k), not_huge t.than (fit_back (pick_tokens p) (test_tokens t) arguments).1.0)
+
+-- a text without a number above 2 ^ 64 - 1 spells a term whose numbers fit
+pub fits_in : (text : List ℕ) (t : Schedule) → TextSpells text t → first_huge (lexed text).tokens ≡ None → HasFittingNumbers t
+fits_in text t s h = fits_from_tokens t (tokens_of (lexed text).tokens) s.spelled (all_fit (lexed text).tokens h)
+
+not_huge_from : (n : ℕ) → n < 2 ^ 64 → is_huge (number n) ≡ false
+not_huge_from n h = grind (arith, nat_tests)
+
+fit_both : (xs ys : List Token) → AllFit xs → AllFit ys → AllFit (xs ++ ys)
+fit_both [] ys h k = k
+fit_both (x ∷ xs) ys h k = (h.0, fit_both xs ys h.1 k)
+
+none_huge : (ps : List Placed) → AllFit (tokens_of ps) → first_huge ps ≡ None
+none_huge [] h = refl
+none_huge (p ∷ ps) h = at_head (is_huge p.token) h.0 (none_huge ps h.1) where
+  at_head : (b : Bool) → b ≡ false → first_huge ps ≡ None → cond b (Some p.place) (first_huge ps) ≡ None
+  at_head true e k = cc
+  at_head false e k = k
+
+pick_fits : (p : Pick) → AllFit (pick_tokens p)
+pick_fits PickWhole = tt
+pick_fits PickFirst = (refl, tt)
+pick_fits PickSecond = (refl, tt)
+pick_fits PickSize = (refl, tt)
+
+func_fits : (f : Func) → FuncFits f → AllFit (func_tokens f)
+func_fits First h = (refl, tt)
+func_fits Second h = (refl, tt)
+func_fits Size h = (refl, tt)
+func_fits Merge h = (refl, tt)
+func_fits (Const n) h = (refl, (not_huge_from n h, tt))
+func_fits (Add n) h = (refl, (not_huge_from n h, tt))
+func_fits (Mul n) h = (refl, (not_huge_from n h, tt))
+
+one_number : (m : Mark) (n : ℕ) → n < 2 ^ 64 → AllFit (with_number m n)
+one_number m n h = (refl, (refl, (not_huge_from n h, (refl, tt))))
+
+infix_fits : (l r : List Token) (m : Mark) → AllFit l → AllFit r → AllFit (with_infix l m r)
+infix_fits l r m h k = (refl, fit_both l (mark m ∷ r ++ mark Close ∷ []) h (refl, fit_both r (mark Close ∷ []) k (refl, tt)))
+
+method_fits : (m : Mark) (arguments : List Token) → AllFit arguments → AllFit (with_method m arguments)
+method_fits m arguments h = (refl, (refl, (refl, fit_both arguments (mark Close ∷ []) h (refl, tt))))
+
+tokens_fit : (t : Schedule) (ts : List Token) → Spells ts t → HasFittingNumbers t → AllFit ts
+tokens_fit forever ts s h = subst AllFit (sym s) (refl, tt)
+tokens_fit (recurs n) ts s h = subst AllFit (sym s) (one_number RecursWord n h)
+tokens_fit (spaced n) ts s h = subst AllFit (sym s) (one_number SpacedWord n h)
+tokens_fit (fixed n) ts s h = subst AllFit (sym s) (one_number FixedWord n h)
+tokens_fit (exponential b f) ts (inl s) h = subst AllFit (sym s.0) (one_number ExponentialWord b h.0)
+tokens_fit (exponential b f) ts (inr s) h = subst AllFit (sym s) (refl, (refl, (not_huge_from b h.0, (refl, (not_huge_from f h.1, (refl, tt))))))
+tokens_fit (fibonacci n) ts s h = subst AllFit (sym s) (one_number FibonacciWord n h)
+tokens_fit identity ts s h = subst AllFit (sym s) (refl, tt)
+tokens_fit elapsed ts s h = subst AllFit (sym s) (refl, tt)
+tokens_fit (linear n) ts s h = subst AllFit (sym s) (one_number LinearWord n h)
+tokens_fit (windowed n) ts s h = subst AllFit (sym s) (one_number WindowedWord n h)
+tokens_fit (both a b) ts s h = subst AllFit (sym s.4) (infix_fits s.0 s.1 AndAnd (tokens_fit a s.0 s.2 h.0) (tokens_fit b s.1 s.3 h.1))
+tokens_fit (either a b) ts s h = subst AllFit (sym s.4) (infix_fits s.0 s.1 OrOr (tokens_fit a s.0 s.2 h.0) (tokens_fit b s.1 s.3 h.1))
+tokens_fit (and_then a b) ts s h = subst AllFit (sym s.4) (infix_fits s.0 s.1 AndThenWord (tokens_fit a s.0 s.2 h.0) (tokens_fit b s.1 s.3 h.1))
+tokens_fit (while_input a t) ts s h = subst AllFit (sym s.2) (fit_both s.0 _ (tokens_fit a s.0 s.1 h.0) (method_fits WhileInputWord (test_tokens t) (refl, (not_huge_from t.than h.1, tt))))
+tokens_fit (while_output a p t) ts s h = subst AllFit (sym s.2) (fit_both s.0 _ (tokens_fit a s.0 s.1 h.0) (method_fits WhileOutputWord (pick_tokens p ++ test_tokens t) (fit_both (pick_tokens p) (test_tokens t) (pick_fits p) (refl, (not_huge_from t.than h.1, tt)))))
+tokens_fit (collect_all a) ts s h = subst AllFit (sym s.2) (fit_both s.0 _ (tokens_fit a s.0 s.1 h) (refl, (refl, tt)))
+tokens_fit (mapped a f) ts s h = subst AllFit (sym s.2) (fit_both s.0 _ (tokens_fit a s.0 s.1 h.0) (method_fits MapWord (func_tokens f) (func_fits f h.1)))
+tokens_fit (reset_when a p t) ts s h = subst AllFit (sym s.2) (fit_both s.0 _ (tokens_fit a s.0 s.1 h.0) (method_fits ResetWhenWord (pick_tokens p ++ test_tokens t) (fit_both (pick_tokens p) (test_tokens t) (pick_fits p) (refl, (not_huge_from t.than h.1, tt)))))
+
+-- a text that spells a term whose numbers fit has no number above 2 ^ 64 - 1
+pub none_too_large : (text : List ℕ) (t : Schedule) → TextSpells text t → HasFittingNumbers t → first_huge (lexed text).tokens ≡ None
+none_too_large text t s h = none_huge (lexed text).tokens (tokens_fit t (tokens_of (lexed text).tokens) s.spelled h)

@@ -1,0 +1,174 @@
+-- What is kept of a whole term: its sizes, and the term itself where terms are built.
+use Rattle.std.proofs.Common.{◌≡◌, ℕ, ◌+◌, ◌*◌, ◌^◌, ◌<◌, ◌≤◌, List, Bool, true, false, Option, Some, None, refl, sym, ap, ◌∙◌, arith, min, max}
+use Rattle.std.specs.Prelude.{nat_le, nat_lt, option_map, ◌&&◌}
+use Rattle.std.proofs.lemmas.Bool.Decides.{nat_tests}
+use Rattle.zs_term.specs.Saturating.{saturated}
+use Rattle.zs_term.specs.declared.term.Func.{Func}
+use Rattle.zs_term.specs.declared.term.Func.TheVariants.{First, Second, Size, Merge, Const, Add, Mul}
+use Rattle.zs_term.specs.Schedule.{Schedule, forever, recurs, spaced, fixed, exponential, fibonacci, identity, elapsed, linear, windowed, both, either, and_then, while_input, while_output, collect_all, mapped, reset_when, depth, weight, is_within_limits}
+use Rattle.zs_term.specs.Number.{fit, FuncFits, HasFittingNumbers}
+use Rattle.zs_term.specs.Token.{lexed}
+use Rattle.zs_term.specs.Machine.{value, apply_func}
+use Rattle.zs_term.specs.Parts.{Kept, keep, one_more, with_both}
+use Rattle.zs_term.specs.Causes.{tokens_of, TextSpells, first_huge}
+use Rattle.zs_term.proofs.Fitting.{fits_in}
+
+-- a form over one part is one deeper
+depth_over : (a d : ℕ) → a ≡ saturated d → saturated (a + 1) ≡ saturated (1 + d)
+depth_over a d e = omega arith
+
+-- a form over one part weighs one more
+weight_over : (a w : ℕ) → a ≡ saturated w → one_more a ≡ saturated (1 + w)
+weight_over a w e = omega arith
+
+-- a form that may be reset weighs its part twice
+weight_twice : (a w : ℕ) → a ≡ saturated w → one_more (saturated (a + a)) ≡ saturated (1 + 2 * w)
+weight_twice a w e = omega arith
+
+depth_both : (a b d e : ℕ) → a ≡ saturated d → b ≡ saturated e → saturated (max a b + 1) ≡ saturated (1 + max d e)
+depth_both a b d e h k = omega arith
+
+weight_both : (a b v w : ℕ) → a ≡ saturated v → b ≡ saturated w → one_more (saturated (a + b)) ≡ saturated (1 + v + w)
+weight_both a b v w h k = omega arith
+
+-- the depth of a function over a part
+depth_map : (build : Bool) (f : Func) (a : Kept) (d : ℕ) → a.depth ≡ saturated d → (apply_func (keep build) a f).depth ≡ saturated (1 + d)
+depth_map build First a d e = depth_over a.depth d e
+depth_map build Second a d e = depth_over a.depth d e
+depth_map build Size a d e = depth_over a.depth d e
+depth_map build Merge a d e = depth_over a.depth d e
+depth_map build (Const n) a d e = depth_over a.depth d e
+depth_map build (Add n) a d e = depth_over a.depth d e
+depth_map build (Mul n) a d e = depth_over a.depth d e
+
+-- the weight of a function over a part
+weight_map : (build : Bool) (f : Func) (a : Kept) (w : ℕ) → a.weight ≡ saturated w → (apply_func (keep build) a f).weight ≡ saturated (1 + w)
+weight_map build First a w e = weight_over a.weight w e
+weight_map build Second a w e = weight_over a.weight w e
+weight_map build Size a w e = weight_over a.weight w e
+weight_map build Merge a w e = weight_over a.weight w e
+weight_map build (Const n) a w e = weight_over a.weight w e
+weight_map build (Add n) a w e = weight_over a.weight w e
+weight_map build (Mul n) a w e = weight_over a.weight w e
+
+-- the depth that is kept
+depth_kept : (build : Bool) (t : Schedule) → (value (keep build) t).depth ≡ saturated (depth t)
+depth_kept build forever = refl
+depth_kept build (recurs n) = refl
+depth_kept build (spaced n) = refl
+depth_kept build (fixed n) = refl
+depth_kept build (exponential b f) = refl
+depth_kept build (fibonacci n) = refl
+depth_kept build identity = refl
+depth_kept build elapsed = refl
+depth_kept build (linear n) = refl
+depth_kept build (windowed n) = refl
+depth_kept build (both a b) = depth_both _ _ (depth a) (depth b) (depth_kept build a) (depth_kept build b)
+depth_kept build (either a b) = depth_both _ _ (depth a) (depth b) (depth_kept build a) (depth_kept build b)
+depth_kept build (and_then a b) = depth_both _ _ (depth a) (depth b) (depth_kept build a) (depth_kept build b)
+depth_kept build (while_input a t) = depth_over _ (depth a) (depth_kept build a)
+depth_kept build (while_output a p t) = depth_over _ (depth a) (depth_kept build a)
+depth_kept build (collect_all a) = depth_over _ (depth a) (depth_kept build a)
+depth_kept build (mapped a f) = depth_map build f (value (keep build) a) (depth a) (depth_kept build a)
+depth_kept build (reset_when a p t) = depth_over _ (depth a) (depth_kept build a)
+
+-- the weight that is kept
+weight_kept : (build : Bool) (t : Schedule) → (value (keep build) t).weight ≡ saturated (weight t)
+weight_kept build forever = refl
+weight_kept build (recurs n) = refl
+weight_kept build (spaced n) = refl
+weight_kept build (fixed n) = refl
+weight_kept build (exponential b f) = refl
+weight_kept build (fibonacci n) = refl
+weight_kept build identity = refl
+weight_kept build elapsed = refl
+weight_kept build (linear n) = refl
+weight_kept build (windowed n) = refl
+weight_kept build (both a b) = weight_both _ _ (weight a) (weight b) (weight_kept build a) (weight_kept build b)
+weight_kept build (either a b) = weight_both _ _ (weight a) (weight b) (weight_kept build a) (weight_kept build b)
+weight_kept build (and_then a b) = weight_both _ _ (weight a) (weight b) (weight_kept build a) (weight_kept build b)
+weight_kept build (while_input a t) = weight_over _ (weight a) (weight_kept build a)
+weight_kept build (while_output a p t) = weight_over _ (weight a) (weight_kept build a)
+weight_kept build (collect_all a) = weight_over _ (weight a) (weight_kept build a)
+weight_kept build (mapped a f) = weight_map build f (value (keep build) a) (weight a) (weight_kept build a)
+weight_kept build (reset_when a p t) = weight_twice _ (weight a) (weight_kept build a)
+
+fits_test : (n : ℕ) → n < 2 ^ 64 → nat_lt n (2 ^ 64) ≡ true
+fits_test n h = grind (arith, nat_tests)
+
+-- a number below 2 ^ 64 is kept
+fit_is : (n : ℕ) → n < 2 ^ 64 → fit n ≡ Some n
+fit_is n h = let e = fits_test n h in rw e refl
+
+-- two parts that are kept, together
+two_kept : {X Y Z : Type 0} (f : X → Y → Z) (o : Option X) (q : Option Y) (x : X) (y : Y) → o ≡ Some x → q ≡ Some y → with_both f o q ≡ Some (f x y)
+two_kept f o q x y h k = ap (λ u. with_both f u q) h ∙ ap (with_both f (Some x)) k
+
+schedule_map : (f : Func) (a : Schedule) → FuncFits f → (value (keep true) a).schedule ≡ Some a → (apply_func (keep true) (value (keep true) a) f).schedule ≡ Some (mapped a f)
+schedule_map First a h p = ap (option_map (λ t. mapped t First)) p
+schedule_map Second a h p = ap (option_map (λ t. mapped t Second)) p
+schedule_map Size a h p = ap (option_map (λ t. mapped t Size)) p
+schedule_map Merge a h p = ap (option_map (λ t. mapped t Merge)) p
+schedule_map (Const n) a h p = two_kept (λ t k. mapped t (Const k)) _ (fit n) a n p (fit_is n h)
+schedule_map (Add n) a h p = two_kept (λ t k. mapped t (Add k)) _ (fit n) a n p (fit_is n h)
+schedule_map (Mul n) a h p = two_kept (λ t k. mapped t (Mul k)) _ (fit n) a n p (fit_is n h)
+
+-- the term that is kept, where terms are built and its numbers fit
+schedule_kept : (t : Schedule) → HasFittingNumbers t → (value (keep true) t).schedule ≡ Some t
+schedule_kept forever h = refl
+schedule_kept (recurs n) h = ap (option_map recurs) (fit_is n h)
+schedule_kept (spaced n) h = ap (option_map spaced) (fit_is n h)
+schedule_kept (fixed n) h = ap (option_map fixed) (fit_is n h)
+schedule_kept (exponential b f) h = two_kept exponential (fit b) (fit f) b f (fit_is b h.0) (fit_is f h.1)
+schedule_kept (fibonacci n) h = ap (option_map fibonacci) (fit_is n h)
+schedule_kept identity h = refl
+schedule_kept elapsed h = refl
+schedule_kept (linear n) h = ap (option_map linear) (fit_is n h)
+schedule_kept (windowed n) h = ap (option_map windowed) (fit_is n h)
+schedule_kept (both a b) h = two_kept both _ _ a b (schedule_kept a h.0) (schedule_kept b h.1)
+schedule_kept (either a b) h = two_kept either _ _ a b (schedule_kept a h.0) (schedule_kept b h.1)
+schedule_kept (and_then a b) h = two_kept and_then _ _ a b (schedule_kept a h.0) (schedule_kept b h.1)
+schedule_kept (while_input a t) h = two_kept (λ x k. while_input x (record { cmp = t.cmp; than = k })) _ (fit t.than) a t.than (schedule_kept a h.0) (fit_is t.than h.1)
+schedule_kept (while_output a p t) h = two_kept (λ x k. while_output x p (record { cmp = t.cmp; than = k })) _ (fit t.than) a t.than (schedule_kept a h.0) (fit_is t.than h.1)
+schedule_kept (collect_all a) h = ap (option_map collect_all) (schedule_kept a h)
+schedule_kept (mapped a f) h = schedule_map f a h.1 (schedule_kept a h.0)
+schedule_kept (reset_when a p t) h = two_kept (λ x k. reset_when x p (record { cmp = t.cmp; than = k })) _ (fit t.than) a t.than (schedule_kept a h.0) (fit_is t.than h.1)
+
+le_test : (m n : ℕ) → m ≤ n → nat_le m n ≡ true
+le_test m n h = grind (arith, nat_tests)
+
+gt_test : (m n : ℕ) → n < m → nat_le m n ≡ false
+gt_test m n h = grind (arith, nat_tests)
+
+and_true : (a b : Bool) → a ≡ true → b ≡ true → (a && b) ≡ true
+and_true true b e h = h
+and_true false b e h = cc
+
+and_false : (a b : Bool) → b ≡ false → (a && b) ≡ false
+and_false true b h = h
+and_false false b h = refl
+
+false_and : (a b : Bool) → a ≡ false → (a && b) ≡ false
+false_and true b h = cc
+false_and false b h = refl
+
+-- what the sizes that are kept of a whole term say of the term
+module _ (build : Bool) (t : Schedule) (a : Kept) (e : value (keep build) t ≡ a) where
+  sizes : (a.depth ≡ saturated (depth t)) × (a.weight ≡ saturated (weight t))
+  sizes = (ap (λ k. k.depth) (sym e) ∙ depth_kept build t, ap (λ k. k.weight) (sym e) ∙ weight_kept build t)
+
+  pub too_deep : 64 < a.depth → is_within_limits t ≡ false
+  too_deep h = let deep : 64 < depth t = omega (arith, sizes.0) in false_and (nat_le (depth t) 64) (nat_le (weight t) 1000) (gt_test (depth t) 64 deep)
+
+  pub too_heavy : 1000 < a.weight → is_within_limits t ≡ false
+  too_heavy h = let heavy : 1000 < weight t = omega (arith, sizes.1) in and_false (nat_le (depth t) 64) (nat_le (weight t) 1000) (gt_test (weight t) 1000 heavy)
+
+  pub small : a.depth ≤ 64 → a.weight ≤ 1000 → is_within_limits t ≡ true
+  small d w =
+      let low : depth t ≤ 64 = omega (arith, sizes.0) in
+      let light : weight t ≤ 1000 = omega (arith, sizes.1) in
+      and_true (nat_le (depth t) 64) (nat_le (weight t) 1000) (le_test (depth t) 64 low) (le_test (weight t) 1000 light)
+
+-- the term that was built of a text whose numbers fit
+pub there : (text : List ℕ) (t : Schedule) (a : Kept) → TextSpells text t → value (keep true) t ≡ a → first_huge (lexed text).tokens ≡ None → a.schedule ≡ Some t
+there text t a s e h = ap (λ k. k.schedule) (sym e) ∙ schedule_kept t (fits_in text t s h)

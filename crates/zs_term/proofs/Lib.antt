@@ -1,0 +1,13 @@
+pub mod Values
+pub mod Sizes
+pub mod Lexing
+pub mod Runs
+pub mod Stacks
+pub mod Progress
+pub mod Fitting
+pub mod Kept
+pub mod Canonical
+pub mod OnePlace
+pub mod Verdicts
+pub mod Computed
+pub mod Texts

@@ -1,0 +1,74 @@
+-- From what has been read so far to what `read` answers.
+use Rattle.std.proofs.Common.{◌≡◌, ◌≢◌, ℕ, zero, suc, ◌+◌, ◌-◌, ◌*◌, ◌^◌, ◌<◌, ◌≤◌, List, [], ◌∷◌, ◌++◌, length, drop, map, Bool, true, false, cond, Option, Some, None, refl, sym, ap, ◌∙◌, subst, arith, append_assoc, min, max, inl, inr}
+use Rattle.std.specs.Prelude.{nat_le, nat_lt, option_map}
+use Rattle.std.proofs.lemmas.Bool.Decides.{nat_tests}
+use Rattle.zs_term.specs.Schedule.{Schedule}
+use Rattle.zs_term.specs.Token.{Token, number, mark, Placed, Lexed, nothing, stuck, with_token, lex, lexed}
+use Rattle.zs_term.specs.Grammar.{Spells, IsOpen, with_infix, with_method, test_tokens, pick_tokens, func_tokens}
+use Rattle.zs_term.specs.Machine.{State, at, Frame, Mode, start, after, step, run, value, apply_func, infix_schedule}
+use Rattle.zs_term.specs.Parts.{Kept, keep}
+use Rattle.zs_term.specs.Causes.{tokens_of, TextSpells, IsNoTermAt, refused, no_token, unfinished, is_huge, first_huge, IsRead, IsCause}
+use Rattle.zs_term.specs.Reading.{behind_tokens, SoFar, huge_with}
+use Rattle.zs_term.proofs.Runs.{run_append, goes_on, goes_nowhere, spells_to, sound, append_nil}
+
+pub tokens_append : (xs ys : List Placed) → tokens_of (xs ++ ys) ≡ tokens_of xs ++ tokens_of ys
+tokens_append [] ys = refl
+tokens_append (x ∷ xs) ys = ap (λ ts. x.token ∷ ts) (tokens_append xs ys)
+
+first_huge_more : (ps : List Placed) (place : ℕ) (t : Token) → first_huge (ps ++ record { place = place; token = t } ∷ []) ≡ huge_with (first_huge ps) place t
+first_huge_more [] place t = refl
+first_huge_more (p ∷ ps) place t = at_head (is_huge p.token) (first_huge_more ps place t) where
+  at_head : (b : Bool) → first_huge (ps ++ record { place = place; token = t } ∷ []) ≡ huge_with (first_huge ps) place t → cond b (Some p.place) (first_huge (ps ++ record { place = place; token = t } ∷ [])) ≡ huge_with (cond b (Some p.place) (first_huge ps)) place t
+  at_head true h = refl
+  at_head false h = h
+
+pub at_first : (build : Bool) (text : List ℕ) → SoFar build text (at [] start) None 0
+at_first build text = record { done = []; shape = refl; goes = refl; numbers = refl; inside = omega arith }
+
+module _ (build : Bool) (text : List ℕ) (s : State Kept (Option ℕ)) (huge : Option ℕ) (from : ℕ) (r : SoFar build text s huge from) where
+  placed : ℕ → Token → Placed
+  placed p t = record { place = p; token = t }
+
+  pub one_more : (p end : ℕ) (t : Token) (s' : State Kept (Option ℕ)) (huge' : Option ℕ) → lex 0 from (drop from text) ≡ with_token p t (lex 0 end (drop end text)) → end ≤ length text → step (keep build) (Some s) t ≡ Some s' → huge' ≡ huge_with huge p t → SoFar build text s' huge' end
+  one_more p end t s' huge' e h g k = record {
+    done = r.done ++ record { place = p; token = t } ∷ [];
+    shape = r.shape ∙ ap (behind_tokens r.done) e ∙ ap (λ ps. record { tokens = ps; stop = (lex 0 end (drop end text)).stop }) (sym (append_assoc r.done (record { place = p; token = t } ∷ []) (lex 0 end (drop end text)).tokens));
+    goes = ap (run (keep build) (Some (at [] start))) (tokens_append r.done (record { place = p; token = t } ∷ [])) ∙ run_append (keep build) (Some (at [] start)) (tokens_of r.done) (t ∷ []) ∙ ap (λ o. run (keep build) o (t ∷ [])) r.goes ∙ g;
+    numbers = k ∙ ap (λ o. huge_with o p t) r.numbers ∙ sym (first_huge_more r.done p t);
+    inside = h;
+  }
+
+  pub no_more : (p end : ℕ) (t : Token) → lex 0 from (drop from text) ≡ with_token p t (lex 0 end (drop end text)) → step (keep build) (Some s) t ≡ None → IsNoTermAt text p
+  no_more p end t e g =
+      refused r.done (record { place = p; token = t }) (lex 0 end (drop end text)).tokens (ap (λ l. l.tokens) (r.shape ∙ ap (behind_tokens r.done) e))
+      (goes_on (keep build) (tokens_of r.done) s r.goes)
+      (goes_nowhere (keep build) (tokens_of r.done ++ t ∷ []) (run_append (keep build) (Some (at [] start)) (tokens_of r.done) (t ∷ []) ∙ ap (λ o. run (keep build) o (t ∷ [])) r.goes ∙ g))
+
+  pub no_token_here : (p : ℕ) → lex 0 from (drop from text) ≡ stuck p → IsNoTermAt text p
+  no_token_here p e =
+      let all = r.shape ∙ ap (behind_tokens r.done) e in
+      let same : r.done ≡ (lexed text).tokens = sym (ap (λ l. l.tokens) all ∙ append_nil r.done) in
+      no_token p (ap (λ l. l.stop) all) (subst (λ ps. IsOpen (tokens_of ps)) same (goes_on (keep build) (tokens_of r.done) s r.goes))
+
+  -- at the end
+  module _ (e : lex 0 from (drop from text) ≡ nothing) where
+    stopped : (lexed text).stop ≡ None
+    stopped = ap (λ l. l.stop) (r.shape ∙ ap (behind_tokens r.done) e)
+
+    all_done : r.done ≡ (lexed text).tokens
+    all_done = sym (ap (λ l. l.tokens) (r.shape ∙ ap (behind_tokens r.done) e) ∙ append_nil r.done)
+
+    all_goes : run (keep build) (Some (at [] start)) (tokens_of (lexed text).tokens) ≡ Some s
+    all_goes = subst (λ ps. run (keep build) (Some (at [] start)) (tokens_of ps) ≡ Some s) all_done r.goes
+
+    pub all_numbers : huge ≡ first_huge (lexed text).tokens
+    all_numbers = r.numbers ∙ ap first_huge all_done
+
+    pub not_finished : ((a : Kept) → s ≡ at [] (after a) → ⊥) → IsNoTermAt text (length text)
+    not_finished never = unfinished stopped (goes_on (keep build) (tokens_of (lexed text).tokens) s all_goes)
+        (λ t h. let go = spells_to (keep build) (tokens_of (lexed text).tokens) t h in let same : Some s ≡ Some (at [] (after (value (keep build) t))) = sym all_goes ∙ go in let st : s ≡ at [] (after (value (keep build) t)) = cc in never (value (keep build) t) st)
+
+    pub finished : (a : Kept) → s ≡ at [] (after a) → (t : Schedule) × TextSpells text t × (value (keep build) t ≡ a)
+    finished a k =
+        let t = sound (keep build) (tokens_of (lexed text).tokens) a (all_goes ∙ ap Some k) in
+        (t.0, record { to_the_end = stopped; spelled = t.1 }, t.2)

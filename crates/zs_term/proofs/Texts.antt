@@ -1,0 +1,40 @@
+-- The text of a list of outputs, one output after another.
+use Rattle.std.proofs.Common.{◌≡◌, ℕ, zero, suc, List, [], ◌∷◌, ◌++◌, ◌<◌, ◌≤◌, ◌+◌, refl, sym, ap, ◌∙◌, append_assoc, take, get_or, length, arith, length-take-le}
+use Rattle.std.specs.Prelude.{codes, Result, Ok, Err, OnOk, is_ok, if◌then◌else◌}
+use Rattle.zs_term.specs.Output.{Output, Outputs, none, more, outputs_of, output_of, with_last}
+use Rattle.zs_term.specs.OutputText.{output_text, outputs_text, behind_text, comma_before}
+use Rattle.zs_term.specs.declared.out.Out.{Out}
+use Rattle.zs_term.proofs.Runs.{append_nil}
+use Rattle.zs_term.proofs.Values.{outputs_of-take}
+
+-- one output more behind the first
+behind_last : (xs : Outputs) (y : Output) → behind_text (with_last xs y) ≡ behind_text xs ++ (codes "," ++ output_text y)
+behind_last none y = ap (λ w. codes "," ++ w) (append_nil (output_text y))
+behind_last (more x xs) y = ap (λ w. codes "," ++ (output_text x ++ w)) (behind_last xs y) ∙ ap (λ w. codes "," ++ w) (sym (append_assoc (output_text x) (behind_text xs) (codes "," ++ output_text y)))
+
+-- one output more
+text_last : (xs : List Out) (i : ℕ) (y : Output) → i ≡ length xs → outputs_text (with_last (outputs_of xs) y) ≡ outputs_text (outputs_of xs) ++ (comma_before i ++ output_text y)
+text_last [] zero y e = append_nil (output_text y)
+text_last [] (suc i) y e = absurd (omega (arith, e))
+text_last (x ∷ xs) zero y e = absurd (omega (arith, e))
+text_last (x ∷ xs) (suc i) y e = ap (λ w. output_text (output_of x) ++ w) (behind_last (outputs_of xs) y) ∙ sym (append_assoc (output_text (output_of x)) (behind_text (outputs_of xs)) (codes "," ++ output_text y))
+
+-- a text that one more output of a list was added to
+pub text_grown : (start text middle longer : List ℕ) (xs : List Out) (i : ℕ) (y : Out) → i < length xs → y ≡ get_or xs i y
+    → text ≡ start ++ outputs_text (outputs_of (take i xs)) → middle ≡ text ++ comma_before i → longer ≡ middle ++ output_text (output_of y)
+    → longer ≡ start ++ outputs_text (outputs_of (take (i + 1) xs))
+text_grown start text middle longer xs i y inside is before comma added =
+    let front = outputs_text (outputs_of (take i xs)) in
+    let count : i ≡ length (take i xs) = omega (arith, length-take-le i xs, inside) in
+    let last = outputs_of-take xs i y inside ∙ ap (λ z. with_last (outputs_of (take i xs)) (output_of z)) (sym is) in
+    let whole = ap outputs_text last ∙ text_last (take i xs) i (output_of y) count in
+    added ∙ ap (λ w. w ++ output_text (output_of y)) (comma ∙ ap (λ w. w ++ comma_before i) before)
+    ∙ append_assoc (start ++ front) (comma_before i) (output_text (output_of y)) ∙ append_assoc start front (comma_before i ++ output_text (output_of y))
+    ∙ ap (λ w. start ++ w) (sym whole)
+
+-- the text of a list between its brackets, where the last of them was written
+pub text_enclosed : {T E : Type 0} (last : Result T E) (start one two three inner : List ℕ) → one ≡ start ++ codes "[" → two ≡ one ++ inner
+    → three ≡ (if is_ok last then two ++ codes "]" else two) → OnOk last (three ≡ start ++ (codes "[" ++ (inner ++ codes "]")))
+text_enclosed (Ok u) start one two three inner e f g =
+    g ∙ ap (λ w. w ++ codes "]") (f ∙ ap (λ w. w ++ inner) e) ∙ append_assoc (start ++ codes "[") inner (codes "]") ∙ append_assoc start (codes "[") (inner ++ codes "]")
+text_enclosed (Err u) start one two three inner e f g = tt

@@ -1,0 +1,22 @@
+use Rattle.std.proofs.Common.{rules, ◌≡◌, ◌++◌, ap, sym, subst, OnOk, string_bytes}
+use Rattle.std.specs.Prelude.{codes}
+use Rattle.zs_term.specs.Output.{output_of, outputs_of, outs_list, listed}
+use Rattle.zs_term.specs.OutputText.{output_text, outputs_text}
+use Rattle.zs_term.specs.declared.out.Out.{the_lemmas}
+use Rattle.zs_term.proofs.Values.{row_outputs_are}
+use Rattle.zs_term.proofs.Texts.{text_grown, text_enclosed}
+use Rattle.zs_term.proofs.out_text.+texts.Goals as goal
+
+-- a list and its brackets
+pub append_out-returns-in_ok-append_items-in-Items :
+    goal.append_out-returns-in_ok-append_items-in-Items
+append_out-returns-in_ok-append_items-in-Items t c =
+    let same : output_of c.args.out.now ≡ listed (outputs_of (outs_list c.in-Items.outs)) = search (rules, the_lemmas, row_outputs_are) in
+    let inner = rw c.items.ensures.value at c.in_ok-append_items-in-Items.ensures.ok in
+    let text = text_enclosed c.push_str-in-Items-2.result _ _ _ _ _ c.in_ok-push_str-in-Items.ensures.bytes inner c.push_str-in-Items-2.ensures.bytes in
+    record { ok = subst (λ w. OnOk c.push_str-in-Items-2.result (string_bytes c.push_str-in-Items-2.new.self ≡ string_bytes c.args.text.now ++ w)) (sym (ap output_text same)) text }
+
+-- one output more of a list
+pub append_items-loop-i-preserved : goal.append_items-loop-i-preserved
+append_items-loop-i-preserved t c =
+    text_grown _ _ _ _ _ _ _ c.loop-i-test.true c.index-items-i.is c.loop-i.invariant c.in_ok-append_comma.ensures.ok c.in_ok-append_out.ensures.ok

@@ -1,0 +1,13 @@
+use Rattle.zs_term.specs.Schedule.{schedule_of}
+use Rattle.zs_term.proofs.Verdicts.{term_refused, term_accepted}
+use Rattle.zs_term.proofs.reader.judged.Goals as goal
+
+pub returns-clause-ok : goal.returns-clause-ok
+returns-clause-ok c =
+    let r = rw c.as_bytes.ensures.value at c.in_ok-term.ensures.ok in
+    term_accepted schedule_of c.args.text.now c.in_ok-term.term r c.check.result c.check.ensures.ok c.check.ensures.schedule
+
+pub returns-clause-err : goal.returns-clause-err
+returns-clause-err c =
+    let r = rw c.as_bytes.ensures.value at c.in_ok-term.ensures.ok in
+    term_refused c.args.text.now (schedule_of c.in_ok-term.term) r c.check.result c.check.ensures.err

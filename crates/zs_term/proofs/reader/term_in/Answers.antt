@@ -1,0 +1,32 @@
+use Rattle.std.proofs.Common.{false, sym, ◌∙◌}
+use Rattle.zs_term.specs.Parts.{kept_of}
+use Rattle.zs_term.proofs.Kept.{too_deep, too_heavy, small}
+use Rattle.zs_term.proofs.reader.term_in.Goals as goal
+use Rattle.zs_term.proofs.reader.term_in.Goals.{then-part-gt-MAX_DEPTH-via-then-part-gt-MAX_DEPTH, then-part-gt-MAX_DEPTH-via-else-part-gt-MAX_DEPTH+then-part-gt-MAX_WEIGHT}
+
+-- one of the sizes is past its limit
+pub returns-then-part-gt-MAX_DEPTH-clause-err : goal.returns-then-part-gt-MAX_DEPTH-clause-err
+returns-then-part-gt-MAX_DEPTH-clause-err c =
+    let w = c.in_ok-part.ensures.ok in
+    let k = kept_of c.in_ok-part.part in (
+      w.0,
+      w.1,
+      elim c.then-part-gt-MAX_DEPTH.branch [
+        | then-part-gt-MAX_DEPTH-via-then-part-gt-MAX_DEPTH b ↦ too_deep false w.0 k w.2 b.if-part-gt-MAX_DEPTH.true
+        | then-part-gt-MAX_DEPTH-via-else-part-gt-MAX_DEPTH+then-part-gt-MAX_WEIGHT b ↦ too_heavy false w.0 k w.2 b.if-part-gt-MAX_WEIGHT.true
+      ],
+    )
+
+-- the sizes are within their limits, and a number is too large
+pub returns-in-Some-clause-err : goal.returns-in-Some-clause-err
+returns-in-Some-clause-err c =
+    let w = c.in_ok-part.ensures.ok in
+    let within = small false w.0 (kept_of c.in_ok-part.part) w.2 c.if-part-gt-MAX_DEPTH.false c.if-part-gt-MAX_WEIGHT.false in
+    (w.0, w.1, within, sym w.3 ∙ c.in-Some.is)
+
+-- the sizes are within their limits, and no number is too large
+pub built-requires : goal.built-requires
+built-requires c =
+    let w = c.in_ok-part.ensures.ok in
+    let within = small false w.0 (kept_of c.in_ok-part.part) w.2 c.if-part-gt-MAX_DEPTH.false c.if-part-gt-MAX_WEIGHT.false in
+    record { spelled = (w.0, record { spelled = w.1; within = within; fits = sym w.3 ∙ c.in_default.is }) }

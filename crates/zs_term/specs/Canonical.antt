@@ -1,0 +1,86 @@
+-- The one canonical spelling of a term.
+use Rattle.std.specs.Prelude.{ℕ, List, [], ◌∷◌, ◌++◌, codes}
+use Rattle.std.specs.Fmt.{decimal}
+use Rattle.zs_term.specs.Schedule.{Schedule, forever, recurs, spaced, fixed, exponential, fibonacci, identity, elapsed, both, either, and_then, while_input, while_output, collect_all, mapped, linear, windowed, reset_when}
+use Rattle.zs_term.specs.declared.term.Test.{Test}
+use Rattle.zs_term.specs.declared.term.Cmp.{Cmp}
+use Rattle.zs_term.specs.declared.term.Cmp.TheVariants.{Lt, Le, Eq, Ne, Gt, Ge}
+use Rattle.zs_term.specs.declared.term.Pick.{Pick}
+use Rattle.zs_term.specs.declared.term.Pick.TheVariants.{Whole as PickWhole, First as PickFirst, Second as PickSecond, Size as PickSize}
+use Rattle.zs_term.specs.declared.term.Func.{Func}
+use Rattle.zs_term.specs.declared.term.Func.TheVariants.{First, Second, Size, Merge, Const, Add, Mul}
+
+-- a comparison and the space behind it
+abbrev pub cmp_text : Cmp → List ℕ
+cmp_text Lt = codes "< "
+cmp_text Le = codes "<= "
+cmp_text Eq = codes "= "
+cmp_text Ne = codes "!= "
+cmp_text Gt = codes "> "
+cmp_text Ge = codes ">= "
+
+-- a pick and the space behind it, where one is canonical_text
+abbrev pub pick_text : Pick → List ℕ
+pick_text PickWhole = []
+pick_text PickFirst = codes "_1 "
+pick_text PickSecond = codes "_2 "
+pick_text PickSize = codes "size "
+
+-- a function
+abbrev pub func_text : Func → List ℕ
+func_text First = codes "_1"
+func_text Second = codes "_2"
+func_text Size = codes "size"
+func_text Merge = codes "merge"
+func_text (Const n) = codes "as " ++ decimal n
+func_text (Add n) = codes "+ " ++ decimal n
+func_text (Mul n) = codes "* " ++ decimal n
+
+-- `word(N)`
+abbrev pub number_text : List ℕ → ℕ → List ℕ
+number_text word n = word ++ (decimal n ++ codes ")")
+
+-- `(S op S)`
+abbrev pub infix_text : List ℕ → List ℕ → List ℕ → List ℕ
+infix_text left operator right = codes "(" ++ (left ++ (operator ++ (right ++ codes ")")))
+
+-- `C N)`
+abbrev pub test_text : Test → List ℕ
+test_text t = cmp_text t.cmp ++ (decimal t.than ++ codes ")")
+
+-- the longer texts between the parts
+unfoldable pub and_then_text : List ℕ
+and_then_text = codes " andThenEither "
+
+unfoldable pub exponential_text : List ℕ
+exponential_text = codes "exponential("
+
+unfoldable pub while_input_text : List ℕ
+while_input_text = codes ".whileInput("
+
+unfoldable pub while_output_text : List ℕ
+while_output_text = codes ".whileOutput("
+
+unfoldable pub reset_when_text : List ℕ
+reset_when_text = codes ".resetWhen("
+
+-- the spelling that `write` gives
+abbrev pub canonical_text : Schedule → List ℕ
+canonical_text forever = codes "forever"
+canonical_text (recurs n) = number_text (codes "recurs(") n
+canonical_text (spaced n) = number_text (codes "spaced(") n
+canonical_text (fixed n) = number_text (codes "fixed(") n
+canonical_text (exponential b f) = exponential_text ++ (decimal b ++ (codes ", " ++ (decimal f ++ codes ")")))
+canonical_text (fibonacci n) = number_text (codes "fibonacci(") n
+canonical_text identity = codes "identity"
+canonical_text elapsed = codes "elapsed"
+canonical_text (linear n) = number_text (codes "linear(") n
+canonical_text (windowed n) = number_text (codes "windowed(") n
+canonical_text (both a b) = infix_text (canonical_text a) (codes " && ") (canonical_text b)
+canonical_text (either a b) = infix_text (canonical_text a) (codes " || ") (canonical_text b)
+canonical_text (and_then a b) = infix_text (canonical_text a) and_then_text (canonical_text b)
+canonical_text (while_input a t) = canonical_text a ++ (while_input_text ++ test_text t)
+canonical_text (while_output a p t) = canonical_text a ++ (while_output_text ++ (pick_text p ++ test_text t))
+canonical_text (collect_all a) = canonical_text a ++ codes ".collectAll"
+canonical_text (mapped a f) = canonical_text a ++ (codes ".map(" ++ (func_text f ++ codes ")"))
+canonical_text (reset_when a p t) = canonical_text a ++ (reset_when_text ++ (pick_text p ++ test_text t))

@@ -1,0 +1,120 @@
+-- The kinds of terms: what a pick or a function of an output needs, and what terms have such outputs.
+use Rattle.std.specs.Prelude.{◌≡◌, ℕ, Bool, true, false, ◌&&◌, Option, Some, None, IsSome, if◌then◌else◌}
+use Rattle.zs_term.specs.declared.term.Pick.{Pick}
+use Rattle.zs_term.specs.declared.term.Pick.TheVariants.{Whole, First as PickFirst, Second as PickSecond, Size as PickSize}
+use Rattle.zs_term.specs.declared.term.Func.{Func}
+use Rattle.zs_term.specs.declared.term.Func.TheVariants.{First, Second, Size, Merge, Const, Add, Mul}
+use Rattle.zs_term.specs.declared.kind.Kind.{Kind}
+use Rattle.zs_term.specs.OutputKind.{OutputKind, output_kind_of, num, pair_of, sum_of, list_of, is_same_kind}
+use Rattle.zs_term.specs.Schedule.{Schedule, is_within_limits, has_factors, has_windows, forever, recurs, spaced, fixed, exponential, fibonacci, identity, elapsed, linear, windowed, both, either, and_then, while_input, while_output, collect_all, mapped, reset_when}
+
+-- whether a kind is that of numbers
+abbrev pub is_num : OutputKind → Bool
+is_num num = true
+is_num (pair_of a b) = false
+is_num (sum_of a b) = false
+is_num (list_of a) = false
+
+-- whether a pick fits a kind
+abbrev pub fits : Pick → OutputKind → Bool
+fits Whole num = true
+fits Whole (pair_of a b) = false
+fits Whole (sum_of a b) = false
+fits Whole (list_of a) = false
+fits PickFirst num = false
+fits PickFirst (pair_of a b) = is_num a
+fits PickFirst (sum_of a b) = false
+fits PickFirst (list_of a) = false
+fits PickSecond num = false
+fits PickSecond (pair_of a b) = is_num b
+fits PickSecond (sum_of a b) = false
+fits PickSecond (list_of a) = false
+fits PickSize num = false
+fits PickSize (pair_of a b) = false
+fits PickSize (sum_of a b) = false
+fits PickSize (list_of a) = true
+
+-- the kind of a function's answers
+abbrev pub answers : Func → OutputKind → Option OutputKind
+answers First num = None
+answers First (pair_of a b) = Some a
+answers First (sum_of a b) = None
+answers First (list_of a) = None
+answers Second num = None
+answers Second (pair_of a b) = Some b
+answers Second (sum_of a b) = None
+answers Second (list_of a) = None
+answers Size num = None
+answers Size (pair_of a b) = None
+answers Size (sum_of a b) = None
+answers Size (list_of a) = Some num
+answers Merge num = None
+answers Merge (pair_of a b) = None
+answers Merge (sum_of a b) = (if is_same_kind a b then Some a else None)
+answers Merge (list_of a) = None
+answers (Const n) num = Some num
+answers (Const n) (pair_of a b) = Some num
+answers (Const n) (sum_of a b) = Some num
+answers (Const n) (list_of a) = Some num
+answers (Add n) num = Some num
+answers (Add n) (pair_of a b) = None
+answers (Add n) (sum_of a b) = None
+answers (Add n) (list_of a) = None
+answers (Mul n) num = Some num
+answers (Mul n) (pair_of a b) = None
+answers (Mul n) (sum_of a b) = None
+answers (Mul n) (list_of a) = None
+
+-- two kinds joined, where both are there
+abbrev pub joined : (OutputKind → OutputKind → OutputKind) → Option OutputKind → Option OutputKind → Option OutputKind
+joined f (Some a) (Some b) = Some (f a b)
+joined f (Some a) None = None
+joined f None b = None
+
+-- the kind of a part, where the pick fits it
+abbrev pub where_fits : Pick → Option OutputKind → Option OutputKind
+where_fits k (Some a) = (if fits k a then Some a else None)
+where_fits k None = None
+
+-- the kind of lists of a part's outputs
+abbrev pub list_kind : Option OutputKind → Option OutputKind
+list_kind (Some a) = Some (list_of a)
+list_kind None = None
+
+-- the kind of a function's answers over a part
+abbrev pub mapped_kind : Func → Option OutputKind → Option OutputKind
+mapped_kind f (Some a) = answers f a
+mapped_kind f None = None
+
+-- the kind of a term, where it has one
+abbrev pub kind_of : Schedule → Option OutputKind
+kind_of forever = Some num
+kind_of (recurs n) = Some num
+kind_of (spaced n) = Some num
+kind_of (fixed n) = Some num
+kind_of (exponential b f) = Some num
+kind_of (fibonacci n) = Some num
+kind_of identity = Some num
+kind_of elapsed = Some num
+kind_of (linear n) = Some num
+kind_of (windowed n) = Some num
+kind_of (both a b) = joined pair_of (kind_of a) (kind_of b)
+kind_of (either a b) = joined pair_of (kind_of a) (kind_of b)
+kind_of (and_then a b) = joined sum_of (kind_of a) (kind_of b)
+kind_of (while_input s t) = kind_of s
+kind_of (while_output s k t) = where_fits k (kind_of s)
+kind_of (collect_all s) = list_kind (kind_of s)
+kind_of (mapped s f) = mapped_kind f (kind_of s)
+kind_of (reset_when s k t) = where_fits k (kind_of s)
+
+-- a term that is a schedule: it is within the limits, has factors of at least 1, a kind, and windows of at least 1
+pub record IsSchedule (t : Schedule) : Type 0 where
+  pub small : is_within_limits t ≡ true
+  pub factors : has_factors t ≡ true
+  pub kinded : IsSome (kind_of t)
+  pub windows : has_windows t ≡ true
+
+-- the erased kind that the code found, where it found one
+abbrev pub found_kind_of : Option Kind → Option OutputKind
+found_kind_of None = None
+found_kind_of (Some k) = Some (output_kind_of k)

@@ -1,0 +1,17 @@
+pub mod Saturating
+pub mod Output
+pub mod Schedule
+pub mod OutputKind
+pub mod Kinds
+pub mod Number
+pub mod Token
+pub mod Scan
+pub mod Grammar
+pub mod Machine
+pub mod Parts
+pub mod Causes
+pub mod Reading
+pub mod Canonical
+pub mod Laws
+pub mod OutputText
+pub mod Verdict

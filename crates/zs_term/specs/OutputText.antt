@@ -1,0 +1,28 @@
+-- The text of outputs: numbers in decimal, pairs and lists with commas, and no spaces.
+use Rattle.std.specs.Prelude.{ℕ, zero, suc, List, ◌++◌, [], codes}
+use Rattle.std.specs.Fmt.{decimal}
+use Rattle.zs_term.specs.Output.{Output, Outputs, number, pair, left, right, listed, none, more}
+
+abbrev mutual
+  -- the text of an output
+  pub output_text : Output → List ℕ
+  output_text (number n) = decimal n
+  output_text (pair a b) = codes "(" ++ (output_text a ++ (codes "," ++ (output_text b ++ codes ")")))
+  output_text (left a) = codes "Left(" ++ (output_text a ++ codes ")")
+  output_text (right a) = codes "Right(" ++ (output_text a ++ codes ")")
+  output_text (listed xs) = codes "[" ++ (outputs_text xs ++ codes "]")
+
+  -- the texts of a list's outputs, with a comma between two
+  pub outputs_text : Outputs → List ℕ
+  outputs_text none = []
+  outputs_text (more x xs) = output_text x ++ behind_text xs
+
+  -- the texts of the outputs behind the first, each with a comma before it
+  pub behind_text : Outputs → List ℕ
+  behind_text none = []
+  behind_text (more x xs) = codes "," ++ (output_text x ++ behind_text xs)
+
+-- the comma before an output of a list, but for the first
+abbrev pub comma_before : ℕ → List ℕ
+comma_before zero = []
+comma_before (suc place) = codes ","

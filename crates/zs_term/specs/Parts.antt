@@ -1,0 +1,123 @@
+-- What the code keeps of the terms that it has read.
+use Rattle.std.specs.Prelude.{◌≡◌, ℕ, ◌+◌, max, Bool, List, [], ◌∷◌, Option, Some, None, option_map, if◌then◌else◌}
+use Rattle.zs_term.specs.Schedule.{Schedule, exponential, collect_all, mapped, schedule_of}
+use Rattle.zs_term.specs.Saturating.{saturated}
+use Rattle.zs_term.specs.Number.{fit}
+use Rattle.zs_term.specs.Machine.{Make, Frame, left, right, Mode, start, opening, counting, exp_opening, exp_counting, based, factored, closing, after, dotted, method, picking, testing, comparing, mapping, scaling, plain_schedule, unary_schedule, infix_schedule, test_schedule, scale_by}
+use Rattle.zs_term.specs.declared.term.Cmp.{Cmp}
+use Rattle.zs_term.specs.declared.term.Func.{Func}
+use Rattle.zs_term.specs.declared.forms.Infix.{Infix}
+use Rattle.zs_term.specs.declared.forms.Action.TheVariants.{Stopping, Resetting}
+use Rattle.zs_term.specs.declared.forms.Subject.{Subject}
+use Rattle.zs_term.specs.declared.forms.Subject.TheVariants.{Input, Picked}
+use Rattle.zs_term.specs.declared.forms.Scale.{Scale}
+use Rattle.zs_term.specs.declared.part.Part.{Part}
+use Rattle.zs_term.specs.declared.parser.Frame.{Frame as FrameKept}
+use Rattle.zs_term.specs.declared.parser.Frame.TheVariants.{Left, Right}
+use Rattle.zs_term.specs.declared.parser.Mode.{Mode as ModeKept}
+use Rattle.zs_term.specs.declared.parser.Mode.TheVariants.{Start, Opening, Counting, ExpOpening, ExpCounting, Based, Factored, Closing, After, Dotted, Method, Picking, Testing, Comparing, Mapping, Scaling}
+
+-- the sizes of a term, cut at 2 ^ 64 - 1, and the term where terms are built and its numbers fit
+pub record Kept : Type 0 where
+  pub depth : ℕ
+  pub weight : ℕ
+  pub schedule : Option Schedule
+
+-- both parts, where both are there
+abbrev pub with_both : {X Y Z : Type 0} → (X → Y → Z) → Option X → Option Y → Option Z
+with_both f (Some x) (Some y) = Some (f x y)
+with_both f (Some x) None = None
+with_both f None y = None
+
+-- a leaf, where terms are built
+abbrev pub keep_leaf : Bool → Option Schedule → Kept
+keep_leaf build t = record { depth = 1; weight = 1; schedule = if build then t else None }
+
+-- a form over one part, of this weight
+abbrev pub keep_over : Kept → ℕ → Option Schedule → Kept
+keep_over a w t = record { depth = saturated (a.depth + 1); weight = w; schedule = t }
+
+-- one node more
+abbrev pub one_more : ℕ → ℕ
+one_more w = saturated (w + 1)
+
+-- the weight of a form with a test over a part of this weight
+abbrev pub test_weight : Subject → ℕ → ℕ
+test_weight Input w = one_more w
+test_weight (Picked Stopping p) w = one_more w
+test_weight (Picked Resetting p) w = one_more (saturated (w + w))
+
+-- two parts and the operator between them
+abbrev pub keep_join : Infix → Kept → Kept → Kept
+keep_join i a b = record {
+  depth = saturated (max a.depth b.depth + 1);
+  weight = one_more (saturated (a.weight + b.weight));
+  schedule = with_both (infix_schedule i) a.schedule b.schedule;
+}
+
+-- a part under a test
+abbrev pub keep_test : Kept → Subject → Cmp → Option ℕ → Kept
+keep_test a s c n = keep_over a (test_weight s a.weight) (with_both (λ t k. test_schedule s t c k) a.schedule n)
+
+-- a part under `collectAll`
+abbrev pub keep_collect : Kept → Kept
+keep_collect a = keep_over a (one_more a.weight) (option_map collect_all a.schedule)
+
+-- a part under a function without a number
+abbrev pub keep_apply : Kept → Func → Kept
+keep_apply a f = keep_over a (one_more a.weight) (option_map (λ t. mapped t f) a.schedule)
+
+-- a part under a function with a number
+abbrev pub keep_scale : Kept → Scale → Option ℕ → Kept
+keep_scale a g n = keep_over a (one_more a.weight) (with_both (λ t k. mapped t (scale_by g k)) a.schedule n)
+
+-- the sizes of terms, and the terms where they are built
+abbrev pub keep : Bool → Make Kept (Option ℕ)
+keep build = record {
+  num = fit;
+  plain = λ p. keep_leaf build (Some (plain_schedule p));
+  leaf = λ u n. keep_leaf build (option_map (unary_schedule u) n);
+  growing = λ b f. keep_leaf build (with_both exponential b f);
+  join = keep_join;
+  test = keep_test;
+  collect = keep_collect;
+  apply = keep_apply;
+  scale = keep_scale;
+}
+
+-- what the code keeps of a term
+abbrev pub kept_of : Part → Kept
+kept_of p = record { depth = p.depth; weight = p.weight; schedule = option_map (λ b. schedule_of b.value) p.term }
+
+-- what the code keeps of an open form
+abbrev pub frame_of : FrameKept → Frame Kept
+frame_of Left = left
+frame_of (Right i p) = right i (kept_of p)
+
+-- the innermost frame first
+abbrev pub stack_onto : List (Frame Kept) → List FrameKept → List (Frame Kept)
+stack_onto fs [] = fs
+stack_onto fs (k ∷ ks) = stack_onto (frame_of k ∷ fs) ks
+
+-- what the code keeps of all open forms
+abbrev pub stack_of : List FrameKept → List (Frame Kept)
+stack_of ks = stack_onto [] ks
+
+-- what the code keeps of the innermost form
+abbrev pub mode_of : ModeKept → Mode Kept (Option ℕ)
+mode_of Start = start
+mode_of (Opening u) = opening u
+mode_of (Counting u) = counting u
+mode_of ExpOpening = exp_opening
+mode_of ExpCounting = exp_counting
+mode_of (Based n) = based n
+mode_of (Factored n) = factored n
+mode_of (Closing p) = closing (kept_of p)
+mode_of (After p) = after (kept_of p)
+mode_of (Dotted p) = dotted (kept_of p)
+mode_of (Method w p) = method w (kept_of p)
+mode_of (Picking e p) = picking e (kept_of p)
+mode_of (Testing p s) = testing (kept_of p) s
+mode_of (Comparing p s c) = comparing (kept_of p) s c
+mode_of (Mapping p) = mapping (kept_of p)
+mode_of (Scaling p g) = scaling (kept_of p) g

@@ -1,0 +1,85 @@
+// Terms that were checked.
+
+ghost use Rattle.std.specs.Prelude.{◌≡◌, Some, IfOk, IfErr, true, false, ◌↔◌};
+ghost use Rattle.zs_term.specs.Schedule.{schedule_of, is_within_limits, has_factors};
+ghost use Rattle.zs_term.specs.OutputKind.{output_kind_of};
+ghost use Rattle.zs_term.specs.Kinds.{kind_of, IsSchedule};
+ghost use Rattle.zs_term.specs.Causes.{IsTermCause};
+
+use crate::fault::TermFault;
+use crate::inference::kind_of;
+use crate::kind::Kind;
+use crate::limits::{has_factors, has_windows, is_within_limits};
+use crate::term::Term;
+use std::alloc::Global;
+use std::marker::Model;
+
+/// A schedule: a term within the limits, with factors of at least 1, a kind, and windows of at least 1. Contracts see it as the term.
+#[derive(Drop)]
+pub struct Checked {
+    term: Term,
+    kind: Kind,
+}
+
+impl Model for Checked {
+    ghost use Rattle.std.specs.Prelude.{◌≡◌, Some};
+    ghost use Rattle.zs_term.specs.declared.term.Term.{Term};
+    ghost use Rattle.zs_term.specs.contracts.term.Term as shape;
+    ghost use Rattle.std.specs.Coded.{codes};
+    ghost use Rattle.zs_term.specs.Schedule.{schedule_of};
+    ghost use Rattle.zs_term.specs.OutputKind.{output_kind_of};
+    ghost use Rattle.zs_term.specs.Kinds.{kind_of, IsSchedule};
+
+    ghost Value = { Term };
+
+    ghost coded = { Prim.hlevel (codes, shape.the_row.coded) };
+
+    ghost view = { λ c. c.term };
+
+    ghost invariant = { λ c. IsSchedule (schedule_of c.term) × (kind_of (schedule_of c.term) ≡ Some (output_kind_of c.kind)) };
+}
+
+impl Checked {
+    /// The term.
+    pub fn term(&self) -> &Term
+        ensures term { result.now ≡ self.now }
+        ensures schedule { IsSchedule (schedule_of self.now) }
+    {
+        &self.term
+    }
+
+    /// The kind of its outputs.
+    pub fn kind(&self) -> &Kind
+        ensures kind { kind_of (schedule_of self.now) ≡ Some (output_kind_of result.now) }
+    {
+        &self.kind
+    }
+}
+
+/// Checks a term: the schedule that it is, or the first fault of it. The term is given up on a refusal.
+pub fn check(alloc: Global, term: Term) -> Result<Checked, TermFault>
+    ensures ok { IfOk result (λ checked. checked ≡ term) }
+    ensures schedule { IfOk result (λ checked. IsSchedule (schedule_of checked)) }
+
+    ensures err { IfErr result (IsTermCause (schedule_of term)) }
+    ensures too_big { result ≡ Err TermFault.TooBig ↔ is_within_limits (schedule_of term) ≡ false }
+    ensures bad_factor { result ≡ Err TermFault.BadFactor ↔ ((is_within_limits (schedule_of term) ≡ true) × (has_factors (schedule_of term) ≡ false)) }
+{
+    if !is_within_limits(&term) {
+        return Err(TermFault::TooBig);
+    }
+    if !has_factors(&term) {
+        return Err(TermFault::BadFactor);
+    }
+    match kind_of(alloc, &term) {
+        Err(_) => Err(TermFault::Memory),
+        Ok(None) => Err(TermFault::NoKind),
+        Ok(Some(kind)) => {
+            if has_windows(&term) {
+                Ok(Checked { term, kind })
+            } else {
+                Err(TermFault::BadWindow)
+            }
+        }
+    }
+}

@@ -1,0 +1,213 @@
+// The kinds of terms.
+
+ghost use Rattle.std.specs.Prelude.{◌≡◌, Some, None, IfOk, if◌then◌else◌};
+ghost use Rattle.zs_term.specs.Schedule.{schedule_of};
+ghost use Rattle.zs_term.specs.OutputKind.{output_kind_of, is_same_kind, num};
+ghost use Rattle.zs_term.specs.Kinds.{kind_of, answers, fits, is_num, found_kind_of};
+
+use crate::kind::Kind;
+use crate::term::{Func, Pick, Term};
+use std::alloc::{AllocError, Global};
+
+// The kind of a term, where it has one.
+pub(crate) fn kind_of(alloc: Global, term: &Term) -> Result<Option<Kind>, AllocError>
+    ensures value { IfOk result (λ k. found_kind_of k ≡ kind_of (schedule_of term.now)) }
+{
+    match term {
+        Term::Both(a, b) => {
+            let Some(x) = kind_of(alloc, a)? else {
+                return Ok(None)
+            };
+            let Some(y) = kind_of(alloc, b)? else {
+                return Ok(None)
+            };
+            Ok(Some(Kind::Pair(boxed(alloc, x)?, boxed(alloc, y)?)))
+        }
+        Term::Either(a, b) => {
+            let Some(x) = kind_of(alloc, a)? else {
+                return Ok(None)
+            };
+            let Some(y) = kind_of(alloc, b)? else {
+                return Ok(None)
+            };
+            Ok(Some(Kind::Pair(boxed(alloc, x)?, boxed(alloc, y)?)))
+        }
+        Term::AndThen(a, b) => {
+            let Some(x) = kind_of(alloc, a)? else {
+                return Ok(None)
+            };
+            let Some(y) = kind_of(alloc, b)? else {
+                return Ok(None)
+            };
+            Ok(Some(Kind::Sum(boxed(alloc, x)?, boxed(alloc, y)?)))
+        }
+        Term::WhileInput(s, _test) => kind_of(alloc, s),
+        Term::WhileOutput(s, pick, _test) => {
+            let Some(x) = kind_of(alloc, s)? else {
+                return Ok(None)
+            };
+            if fits(*pick, &x) {
+                Ok(Some(x))
+            } else {
+                Ok(None)
+            }
+        }
+        Term::ResetWhen(s, pick, _test) => {
+            let Some(x) = kind_of(alloc, s)? else {
+                return Ok(None)
+            };
+            if fits(*pick, &x) {
+                Ok(Some(x))
+            } else {
+                Ok(None)
+            }
+        }
+        Term::CollectAll(s) => {
+            let Some(x) = kind_of(alloc, s)? else {
+                return Ok(None)
+            };
+            Ok(Some(Kind::Items(boxed(alloc, x)?)))
+        }
+        Term::Map(s, func) => {
+            let Some(x) = kind_of(alloc, s)? else {
+                return Ok(None)
+            };
+            Ok(kind_after(*func, x))
+        }
+        Term::Forever
+        | Term::Recurs(_)
+        | Term::Spaced(_)
+        | Term::Fixed(_)
+        | Term::Exponential(_, _)
+        | Term::Fibonacci(_)
+        | Term::Identity
+        | Term::Elapsed
+        | Term::Linear(_)
+        | Term::Windowed(_) => Ok(Some(Kind::Num)),
+    }
+}
+
+// A kind on the heap.
+fn boxed(alloc: Global, kind: Kind) -> Result<Box<Kind>, AllocError>
+    ensures value { IfOk result (λ b. b.value ≡ kind) }
+{
+    Ok(Box::new(alloc, kind)?)
+}
+
+// Whether a kind is that of numbers.
+fn is_num(kind: &Kind) -> bool
+    ensures value { result ≡ is_num (output_kind_of kind.now) }
+{
+    match kind {
+        Kind::Num => true,
+        Kind::Pair(_, _) | Kind::Sum(_, _) | Kind::Items(_) => false,
+    }
+}
+
+// Whether a pick fits a kind.
+fn fits(pick: Pick, kind: &Kind) -> bool
+    ensures value { result ≡ fits pick (output_kind_of kind.now) }
+{
+    match pick {
+        Pick::Whole => is_num(kind),
+        Pick::First => match kind {
+            Kind::Pair(a, _b) => is_num(a),
+            Kind::Num | Kind::Sum(_, _) | Kind::Items(_) => false,
+        },
+        Pick::Second => match kind {
+            Kind::Pair(_a, b) => is_num(b),
+            Kind::Num | Kind::Sum(_, _) | Kind::Items(_) => false,
+        },
+        Pick::Size => match kind {
+            Kind::Items(_a) => true,
+            Kind::Num | Kind::Pair(_, _) | Kind::Sum(_, _) => false,
+        },
+    }
+}
+
+// Whether two kinds are one.
+fn same_kind(a: &Kind, b: &Kind) -> bool
+    ensures value { result ≡ is_same_kind (output_kind_of a.now) (output_kind_of b.now) }
+{
+    match a {
+        Kind::Num => is_num(b),
+        Kind::Pair(x, y) => match b {
+            Kind::Pair(z, w) => same_kind(x, z) && same_kind(y, w),
+            Kind::Num | Kind::Sum(_, _) | Kind::Items(_) => false,
+        },
+        Kind::Sum(x, y) => match b {
+            Kind::Sum(z, w) => same_kind(x, z) && same_kind(y, w),
+            Kind::Num | Kind::Pair(_, _) | Kind::Items(_) => false,
+        },
+        Kind::Items(x) => match b {
+            Kind::Items(z) => same_kind(x, z),
+            Kind::Num | Kind::Pair(_, _) | Kind::Sum(_, _) => false,
+        },
+    }
+}
+
+// The kind of a function's answers.
+fn kind_after(func: Func, kind: Kind) -> Option<Kind>
+    ensures value { found_kind_of result ≡ answers func (output_kind_of kind) }
+{
+    match func {
+        Func::First => first_of(kind),
+        Func::Second => second_of(kind),
+        Func::Size => num_if(is_list(&kind)),
+        Func::Merge => merged(kind),
+        Func::Const(_n) => Some(Kind::Num),
+        Func::Add(_n) => num_if(is_num(&kind)),
+        Func::Mul(_n) => num_if(is_num(&kind)),
+    }
+}
+
+// The kind of numbers, where a function fits.
+fn num_if(fits: bool) -> Option<Kind>
+    ensures value { found_kind_of result ≡ (if fits then Some num else None) }
+{
+    if fits { Some(Kind::Num) } else { None }
+}
+
+// Whether a kind is that of lists.
+fn is_list(kind: &Kind) -> bool
+    ensures value { result ≡ fits Pick.Size (output_kind_of kind.now) }
+{
+    match kind {
+        Kind::Items(_a) => true,
+        Kind::Num | Kind::Pair(_, _) | Kind::Sum(_, _) => false,
+    }
+}
+
+// The kind of the left part of a pair.
+fn first_of(kind: Kind) -> Option<Kind>
+    ensures value { found_kind_of result ≡ answers Func.First (output_kind_of kind) }
+{
+    match kind {
+        Kind::Pair(a, _b) => Some(Box::into_inner(a)),
+        Kind::Num | Kind::Sum(_, _) | Kind::Items(_) => None,
+    }
+}
+
+// The kind of the right part of a pair.
+fn second_of(kind: Kind) -> Option<Kind>
+    ensures value { found_kind_of result ≡ answers Func.Second (output_kind_of kind) }
+{
+    match kind {
+        Kind::Pair(_a, b) => Some(Box::into_inner(b)),
+        Kind::Num | Kind::Sum(_, _) | Kind::Items(_) => None,
+    }
+}
+
+// The kind of both sides of a choice, where they have one.
+fn merged(kind: Kind) -> Option<Kind>
+    ensures value { found_kind_of result ≡ answers Func.Merge (output_kind_of kind) }
+{
+    match kind {
+        Kind::Sum(a, b) => {
+            let a = Box::into_inner(a);
+            let b = Box::into_inner(b);
+            if same_kind(&a, &b) { Some(a) } else { None }
+        }
+        Kind::Num | Kind::Pair(_, _) | Kind::Items(_) => None,
+    }
+}

@@ -1,0 +1,29 @@
+// Laws of spellings, texts and faults.
+
+ghost use Rattle.zs_term.specs.Laws.{OneTerm, OneFault, OneVerdict, RoundTrip};
+ghost use Rattle.zs_term.specs.Verdict.{VerdictIsTheOne};
+
+/// No token list spells two terms.
+pub fn one_term()
+    ensures law { OneTerm }
+{}
+
+/// Of the faults that a text can have, want of memory left out, just one is the least, at one place.
+pub fn one_fault()
+    ensures law { OneFault }
+{}
+
+/// A text that spells a schedule is refused for no cause but want of memory.
+pub fn one_verdict()
+    ensures law { OneVerdict }
+{}
+
+/// The canonical spelling of a schedule is read as the schedule.
+pub fn round_trip()
+    ensures law { RoundTrip }
+{}
+
+/// The verdict that is computed of a text is the one schedule that it spells, or the least fault that stands in it.
+pub fn verdict_is_the_one()
+    ensures law { VerdictIsTheOne }
+{}

@@ -1,0 +1,287 @@
+// The tokens of a text, found one by one.
+
+ghost use Rattle.std.specs.Prelude.{◌≡◌, ℕ, ◌+◌, ◌*◌, ◌<◌, ◌≤◌, length, take_while, slice_index, drop, ◌≢◌, MatchOption, None, true, nat_lt, ◌&&◌, ◌==◌};
+ghost use Rattle.std.specs.Char.{is_ascii_alphabetic, is_ascii_digit, digit_value};
+ghost use Rattle.std.specs.Int.{IsInRange};
+ghost use Rattle.std.specs.Str.Parse.{AllDigits, digits_value};
+ghost use Rattle.zs_term.specs.Token.{word_mark, pair_mark, single_mark, number_at, token_at, lex};
+ghost use Rattle.zs_term.specs.Scan.{IsFoundAs, Scans};
+ghost use Rattle.zs_term.specs.Number.{fit};
+
+use crate::token::{Lexeme, Mark};
+
+// How many letters stand at the front.
+fn letter_count(bytes: &[u8]) -> usize
+    ensures value { result ≡ length (take_while is_ascii_alphabetic bytes.now) }
+{
+    bytes.iter().take_while(|b| b.is_ascii_alphabetic()).count()
+}
+
+// How many digits stand at the front.
+fn digit_count(bytes: &[u8]) -> usize
+    ensures value { result ≡ length (take_while is_ascii_digit bytes.now) }
+{
+    bytes.iter().take_while(|b| b.is_ascii_digit()).count()
+}
+
+// The letters at the front.
+#[tactic(auto, using(crate::proofs::Lexing::take_front, crate::proofs::Lexing::front_within))]
+fn letters(bytes: &[u8]) -> &[u8]
+    ensures value { result.now ≡ take_while is_ascii_alphabetic bytes.now }
+    ensures within { length result.now ≤ length bytes.now }
+{
+    &bytes[..letter_count(bytes)]
+}
+
+// The digits at the front.
+#[tactic(auto, using(crate::proofs::Lexing::take_front, crate::proofs::Lexing::front_within))]
+fn digits(bytes: &[u8]) -> &[u8]
+    ensures value { result.now ≡ take_while is_ascii_digit bytes.now }
+    ensures within { length result.now ≤ length bytes.now }
+{
+    &bytes[..digit_count(bytes)]
+}
+
+// The word of these letters.
+fn word(letters: &[u8]) -> Mark
+    ensures value { result ≡ word_mark letters.now }
+{
+    if letters == b"forever".as_slice() {
+        return Mark::ForeverWord;
+    }
+    if letters == b"recurs".as_slice() {
+        return Mark::RecursWord;
+    }
+    if letters == b"spaced".as_slice() {
+        return Mark::SpacedWord;
+    }
+    if letters == b"fixed".as_slice() {
+        return Mark::FixedWord;
+    }
+    if letters == b"exponential".as_slice() {
+        return Mark::ExponentialWord;
+    }
+    if letters == b"fibonacci".as_slice() {
+        return Mark::FibonacciWord;
+    }
+    if letters == b"identity".as_slice() {
+        return Mark::IdentityWord;
+    }
+    if letters == b"elapsed".as_slice() {
+        return Mark::ElapsedWord;
+    }
+    if letters == b"andThenEither".as_slice() {
+        return Mark::AndThenWord;
+    }
+    if letters == b"whileInput".as_slice() {
+        return Mark::WhileInputWord;
+    }
+    if letters == b"whileOutput".as_slice() {
+        return Mark::WhileOutputWord;
+    }
+    if letters == b"collectAll".as_slice() {
+        return Mark::CollectAllWord;
+    }
+    if letters == b"map".as_slice() {
+        return Mark::MapWord;
+    }
+    if letters == b"size".as_slice() {
+        return Mark::SizeWord;
+    }
+    if letters == b"merge".as_slice() {
+        return Mark::MergeWord;
+    }
+    if letters == b"as".as_slice() {
+        return Mark::AsWord;
+    }
+    if letters == b"linear".as_slice() {
+        return Mark::LinearWord;
+    }
+    if letters == b"windowed".as_slice() {
+        return Mark::WindowedWord;
+    }
+    if letters == b"resetWhen".as_slice() {
+        return Mark::ResetWhenWord;
+    }
+    Mark::OtherWord
+}
+
+// The symbol of two bytes.
+fn pair(first: u8, second: u8) -> Option<Mark>
+    ensures value { result ≡ pair_mark first second }
+{
+    if first == b'_' && second == b'1' {
+        return Some(Mark::FirstPart);
+    }
+    if first == b'_' && second == b'2' {
+        return Some(Mark::SecondPart);
+    }
+    if first == b'&' && second == b'&' {
+        return Some(Mark::AndAnd);
+    }
+    if first == b'|' && second == b'|' {
+        return Some(Mark::OrOr);
+    }
+    if first == b'<' && second == b'=' {
+        return Some(Mark::LessOrEqual);
+    }
+    if first == b'!' && second == b'=' {
+        return Some(Mark::NotEqual);
+    }
+    if first == b'>' && second == b'=' {
+        return Some(Mark::GreaterOrEqual);
+    }
+    None
+}
+
+// The symbol of one byte.
+fn single(byte: u8) -> Option<Mark>
+    ensures value { result ≡ single_mark byte }
+{
+    match byte {
+        b'(' => Some(Mark::Open),
+        b')' => Some(Mark::Close),
+        b',' => Some(Mark::Comma),
+        b'.' => Some(Mark::Dot),
+        b'<' => Some(Mark::Less),
+        b'=' => Some(Mark::Equal),
+        b'>' => Some(Mark::Greater),
+        b'+' => Some(Mark::Plus),
+        b'*' => Some(Mark::Times),
+        _ => None,
+    }
+}
+
+// The number that digits write, where it fits 64 bits.
+#[tactic(auto, using(std::proofs::lemmas::Str::Parse::digit_at, std::proofs::lemmas::Int::Digits::digits_value_more))]
+fn value(digits: &[u8]) -> Option<u64>
+    requires digits { AllDigits 10 digits.now }
+    ensures value { result ≡ fit (digits_value 10 digits.now) }
+{
+    let mut sum: Option<u64> = Some(0);
+    for digit in digits {
+        sum = more(sum, *digit);
+    }
+    sum
+}
+
+// One digit more.
+fn more(sum: Option<u64>, digit: u8) -> Option<u64>
+    requires digit { IsInRange 48 57 digit }
+    ensures value { (n : ℕ) → sum ≡ fit n → result ≡ fit (n * 10 + digit_value digit) }
+{
+    let sum = sum?;
+    sum.checked_mul(10)?.checked_add(u64::from(digit - b'0'))
+}
+
+/// A token at the front of some bytes, and how many of them are its own.
+#[derive(Clone, Copy, Drop)]
+pub struct Found {
+    pub lexeme: Lexeme,
+    pub len: usize,
+}
+
+// Whether several digits begin with a 0.
+fn is_padded(digits: &[u8]) -> bool
+    ensures value { result ≡ (nat_lt 1 (length digits.now) && slice_index digits.now 0 == 48) }
+{
+    1 < digits.len() && digits[0] == b'0'
+}
+
+// The number at the front, which begins with a digit.
+#[tactic(auto, using(crate::proofs::Lexing::all_digits, crate::proofs::Lexing::some_digits))]
+fn number(bytes: &[u8]) -> Option<Found>
+    requires digit { is_ascii_digit (slice_index bytes.now 0) ≡ true }
+    ensures value { MatchOption result (number_at bytes.now ≡ None) (λ found. IsFoundAs (number_at bytes.now) bytes.now found) }
+{
+    let digits = digits(bytes);
+    if is_padded(digits) {
+        return None;
+    }
+    let len = digits.len();
+    let lexeme = Lexeme::Number(value(digits));
+    Some(Found { lexeme, len })
+}
+
+// The token at the front.
+#[tactic(auto, using(crate::proofs::Lexing::some_letters))]
+fn token_at(bytes: &[u8]) -> Option<Found>
+    requires some { 0 < length bytes.now }
+    ensures value { MatchOption result (token_at bytes.now ≡ None) (λ found. IsFoundAs (token_at bytes.now) bytes.now found) }
+{
+    let first = bytes[0];
+    if first.is_ascii_alphabetic() {
+        let letters = letters(bytes);
+        let lexeme = Lexeme::Mark(word(letters));
+        let len = letters.len();
+        return Some(Found { lexeme, len });
+    }
+    if first.is_ascii_digit() {
+        return number(bytes);
+    }
+    let second = if 1 < bytes.len() { bytes[1] } else { 0 };
+    if let Some(mark) = pair(first, second) {
+        return Some(Found {
+            lexeme: Lexeme::Mark(mark),
+            len: 2,
+        });
+    }
+    let mark = single(first)?;
+    Some(Found {
+        lexeme: Lexeme::Mark(mark),
+        len: 1,
+    })
+}
+
+/// What stands at a place of a text, behind any spaces: the end, a byte at which no token stands, or a token, with
+/// its place and the place behind it.
+#[derive(Clone, Copy, Drop)]
+pub enum Scan {
+    End,
+    Stuck(usize),
+    Next(usize, Lexeme, usize),
+}
+
+// The place behind the spaces that stand at a place.
+#[tactic(auto, using(crate::proofs::Lexing::lex_space))]
+fn behind_spaces(text: &[u8], from: usize) -> usize
+    requires within { from ≤ length text.now }
+    ensures forward { from ≤ result }
+    ensures within { result ≤ length text.now }
+    ensures no_space { result < length text.now → slice_index text.now result ≢ 32 }
+    ensures same { lex 0 from (drop from text.now) ≡ lex 0 result (drop result text.now) }
+{
+    let mut at = from;
+    while at < text.len() {
+        if text[at] != b' ' {
+            return at;
+        }
+        at += 1;
+    }
+    at
+}
+
+// What stands from a place on.
+fn behind(text: &[u8], at: usize) -> &[u8]
+    requires within { at ≤ length text.now }
+    ensures value { result.now ≡ drop at text.now }
+{
+    &text[at..]
+}
+
+/// What stands at a place of a text.
+#[tactic(auto, using(crate::proofs::Lexing::lex_end))]
+pub fn scan_at(text: &[u8], from: usize) -> Scan
+    requires within { from ≤ length text.now }
+    ensures value { Scans text.now from result }
+{
+    let at = behind_spaces(text, from);
+    if at == text.len() {
+        return Scan::End;
+    }
+    let rest = behind(text, at);
+    match token_at(rest) {
+        None => Scan::Stuck(at),
+        Some(found) => Scan::Next(at, found.lexeme, at + found.len),
+    }
+}

@@ -1,0 +1,40 @@
+//! Terms of schedules: their text, their kinds and their outputs.
+//!
+//! A `Checked` is the one term of its text: `read` gives it or the first fault of the text, with its byte, and `write` gives
+//! its one canonical spelling. Start with `specs/Grammar.antt` and `specs/Causes.antt`.
+//!
+//! ```rust
+//! let schedule = read(alloc, "(exponential(10) && recurs(3))")?;
+//! assert_eq!(rt; write(alloc, &schedule)?.as_str(), "(exponential(10, 2) && recurs(3))");
+//! ```
+#![tactic(auto)]
+
+mod checked;
+mod fault;
+mod forms;
+mod inference;
+mod kind;
+mod laws;
+mod lexer;
+mod limits;
+mod out;
+mod out_text;
+mod parser;
+mod part;
+mod printer;
+mod reader;
+mod term;
+#[cfg(test)]
+mod tests;
+mod token;
+
+pub use checked::{Checked, check};
+pub use fault::TermFault;
+pub use kind::Kind;
+pub use laws::{one_fault, one_term, one_verdict, round_trip, verdict_is_the_one};
+pub use limits::{MAX_DEPTH, MAX_WEIGHT};
+pub use out::{Out, Outs, copy_all, make_left, make_list, make_pair, make_right};
+pub use out_text::{NoMemory, append_out, write_out};
+pub use printer::write;
+pub use reader::read;
+pub use term::{Cmp, Func, Pick, Term, Test};

@@ -1,0 +1,105 @@
+// The limits of terms.
+
+ghost use Rattle.std.specs.Prelude.{◌≡◌, ◌<◌, ◌≤◌, ◌+◌, ◌⊎◌, IfSome, IfNone};
+ghost use Rattle.zs_term.specs.Schedule.{schedule_of, is_within_limits, has_factors, has_windows, depth, weight};
+
+use crate::term::Term;
+
+/// The greatest depth of a schedule.
+pub const MAX_DEPTH: u64 = 64;
+
+/// The greatest weight of a schedule.
+pub const MAX_WEIGHT: u64 = 1000;
+
+// Whether a term keeps within the greatest depth and weight. It looks no deeper than that depth.
+pub(crate) fn is_within_limits(term: &Term) -> bool
+    ensures value { result ≡ is_within_limits (schedule_of term.now) }
+{
+    room_left(term, MAX_DEPTH, MAX_WEIGHT).is_some()
+}
+
+// The nodes that are left of a number, if a term has no more and is no deeper than a limit.
+fn room_left(term: &Term, levels: u64, nodes: u64) -> Option<u64>
+    ensures room { IfSome result (λ r. (r + weight (schedule_of term.now) ≡ nodes) × (depth (schedule_of term.now) ≤ levels)) }
+    ensures none { IfNone result ((levels < depth (schedule_of term.now)) ⊎ (nodes < weight (schedule_of term.now))) }
+{
+    if levels == 0 || nodes == 0 {
+        return None;
+    }
+    match term {
+        Term::Both(a, b) => room_left(b, levels - 1, room_left(a, levels - 1, nodes - 1)?),
+        Term::Either(a, b) => room_left(b, levels - 1, room_left(a, levels - 1, nodes - 1)?),
+        Term::AndThen(a, b) => room_left(b, levels - 1, room_left(a, levels - 1, nodes - 1)?),
+        Term::WhileInput(s, _test) => room_left(s, levels - 1, nodes - 1),
+        Term::WhileOutput(s, _pick, _test) => room_left(s, levels - 1, nodes - 1),
+        Term::CollectAll(s) => room_left(s, levels - 1, nodes - 1),
+        Term::Map(s, _func) => room_left(s, levels - 1, nodes - 1),
+        Term::ResetWhen(s, _pick, _test) => room_left(
+            s,
+            levels - 1,
+            room_left(s, levels - 1, nodes - 1)?,
+        ),
+        Term::Forever
+        | Term::Recurs(_)
+        | Term::Spaced(_)
+        | Term::Fixed(_)
+        | Term::Exponential(_, _)
+        | Term::Fibonacci(_)
+        | Term::Identity
+        | Term::Elapsed
+        | Term::Linear(_)
+        | Term::Windowed(_) => Some(nodes - 1),
+    }
+}
+
+// Whether each factor is at least 1.
+pub(crate) fn has_factors(term: &Term) -> bool
+    ensures value { result ≡ has_factors (schedule_of term.now) }
+{
+    match term {
+        Term::Exponential(_base, factor) => *factor >= 1,
+        Term::Both(a, b) => has_factors(a) && has_factors(b),
+        Term::Either(a, b) => has_factors(a) && has_factors(b),
+        Term::AndThen(a, b) => has_factors(a) && has_factors(b),
+        Term::WhileInput(s, _test) => has_factors(s),
+        Term::WhileOutput(s, _pick, _test) => has_factors(s),
+        Term::CollectAll(s) => has_factors(s),
+        Term::Map(s, _func) => has_factors(s),
+        Term::ResetWhen(s, _pick, _test) => has_factors(s),
+        Term::Forever
+        | Term::Recurs(_)
+        | Term::Spaced(_)
+        | Term::Fixed(_)
+        | Term::Fibonacci(_)
+        | Term::Identity
+        | Term::Elapsed
+        | Term::Linear(_)
+        | Term::Windowed(_) => true,
+    }
+}
+
+// Whether each window is at least 1.
+pub(crate) fn has_windows(term: &Term) -> bool
+    ensures value { result ≡ has_windows (schedule_of term.now) }
+{
+    match term {
+        Term::Windowed(window) => *window >= 1,
+        Term::Both(a, b) => has_windows(a) && has_windows(b),
+        Term::Either(a, b) => has_windows(a) && has_windows(b),
+        Term::AndThen(a, b) => has_windows(a) && has_windows(b),
+        Term::WhileInput(s, _test) => has_windows(s),
+        Term::WhileOutput(s, _pick, _test) => has_windows(s),
+        Term::CollectAll(s) => has_windows(s),
+        Term::Map(s, _func) => has_windows(s),
+        Term::ResetWhen(s, _pick, _test) => has_windows(s),
+        Term::Forever
+        | Term::Recurs(_)
+        | Term::Spaced(_)
+        | Term::Fixed(_)
+        | Term::Exponential(_, _)
+        | Term::Fibonacci(_)
+        | Term::Identity
+        | Term::Elapsed
+        | Term::Linear(_) => true,
+    }
+}

@@ -1,0 +1,232 @@
+// The outputs of schedules.
+
+ghost use Rattle.std.specs.Prelude.{◌≡◌, IfOk};
+ghost use Rattle.zs_term.specs.Output.{output_of, outputs_of, outs_list, pair, listed, left, right, passes, picked, applied, number_in, size_in, first_in, second_in, merge_in};
+
+use crate::term::{Cmp, Func, Pick, Test};
+use std::alloc::{AllocError, Global};
+
+/// An output of a schedule.
+#[derive(Drop)]
+#[cycle(out)]
+pub enum Out {
+    /// A number.
+    Num(u64),
+    /// A pair of outputs.
+    Pair(Box<Out>, Box<Out>),
+    /// An output of the first of two schedules in turn.
+    Left(Box<Out>),
+    /// An output of the second of two schedules in turn.
+    Right(Box<Out>),
+    /// A list of outputs.
+    Items(Outs),
+}
+
+/// A list of outputs.
+#[derive(Drop)]
+#[cycle(out)]
+pub struct Outs {
+    items: Vec<Out>,
+}
+
+impl Outs {
+    /// The list of these outputs.
+    pub fn new(items: Vec<Out>) -> Outs
+        ensures value { outs_list result ≡ items.items }
+    {
+        Outs { items }
+    }
+
+    /// The outputs in order.
+    pub fn items(&self) -> &[Out]
+        ensures value { result.now ≡ outs_list self.now }
+    {
+        &self.items
+    }
+
+    /// The outputs themselves.
+    pub fn into_items(self) -> Vec<Out>
+        ensures value { result.items ≡ outs_list self }
+    {
+        let Outs { items } = self;
+        items
+    }
+}
+
+impl Out {
+    /// An output of the same value, in memory of its own.
+    #[cycle(copy)]
+    pub fn copy(&self, alloc: Global) -> Result<Out, AllocError>
+        ensures ok { IfOk result (λ r. output_of r ≡ output_of self.now) }
+    {
+        match self {
+            Out::Num(n) => Ok(Out::Num(*n)),
+            Out::Pair(a, b) => {
+                let a = Box::new(alloc, a.copy(alloc)?)?;
+                let b = Box::new(alloc, b.copy(alloc)?)?;
+                Ok(Out::Pair(a, b))
+            }
+            Out::Left(a) => Ok(Out::Left(Box::new(alloc, a.copy(alloc)?)?)),
+            Out::Right(a) => Ok(Out::Right(Box::new(alloc, a.copy(alloc)?)?)),
+            Out::Items(outs) => Ok(Out::Items(Outs::new(copy_all(alloc, outs.items())?))),
+        }
+    }
+}
+
+/// Outputs of the same values, in memory of their own.
+#[cycle(copy)]
+pub fn copy_all(alloc: Global, outs: &[Out]) -> Result<Vec<Out>, AllocError>
+    ensures ok { IfOk result (λ r. outputs_of r.items ≡ outputs_of outs.now) }
+{
+    let mut copies = Vec::new(alloc);
+    for out in outs {
+        copies.push(out.copy(alloc)?)?;
+    }
+    Ok(copies)
+}
+
+/// A pair of two outputs.
+pub fn make_pair(alloc: Global, first: Out, second: Out) -> Result<Out, AllocError>
+    ensures ok { IfOk result (λ r. output_of r ≡ pair (output_of first) (output_of second)) }
+{
+    let first = Box::new(alloc, first)?;
+    let second = Box::new(alloc, second)?;
+    Ok(Out::Pair(first, second))
+}
+
+/// An output of a first schedule.
+pub fn make_left(alloc: Global, out: Out) -> Result<Out, AllocError>
+    ensures ok { IfOk result (λ r. output_of r ≡ left (output_of out)) }
+{
+    Ok(Out::Left(Box::new(alloc, out)?))
+}
+
+/// An output of a second schedule.
+pub fn make_right(alloc: Global, out: Out) -> Result<Out, AllocError>
+    ensures ok { IfOk result (λ r. output_of r ≡ right (output_of out)) }
+{
+    Ok(Out::Right(Box::new(alloc, out)?))
+}
+
+impl Test {
+    /// Whether a number passes.
+    pub fn passes(self, x: u64) -> bool
+        ensures value { result ≡ passes self x }
+    {
+        match self.cmp {
+            Cmp::Lt => x < self.than,
+            Cmp::Le => x <= self.than,
+            Cmp::Eq => x == self.than,
+            Cmp::Ne => x != self.than,
+            Cmp::Gt => x > self.than,
+            Cmp::Ge => x >= self.than,
+        }
+    }
+}
+
+impl Out {
+    /// The number, or 0 of another output.
+    pub fn number(&self) -> u64
+        ensures value { result ≡ number_in (output_of self.now) }
+    {
+        match self {
+            Out::Num(n) => *n,
+            Out::Pair(_, _) | Out::Left(_) | Out::Right(_) | Out::Items(_) => 0,
+        }
+    }
+
+    /// The number of items, or 0 of another output.
+    pub fn size(&self) -> u64
+        ensures value { result ≡ size_in (output_of self.now) }
+    {
+        match self {
+            Out::Items(outs) => outs.items().len() as u64,
+            Out::Num(_) | Out::Pair(_, _) | Out::Left(_) | Out::Right(_) => 0,
+        }
+    }
+}
+
+impl Pick {
+    /// The number that is picked, or 0 where the pick doesn't fit.
+    pub fn read(self, out: &Out) -> u64
+        ensures value { result ≡ picked self (output_of out.now) }
+    {
+        match self {
+            Pick::Whole => out.number(),
+            Pick::First => match out {
+                Out::Pair(a, _) => a.number(),
+                Out::Num(_) | Out::Left(_) | Out::Right(_) | Out::Items(_) => out.number(),
+            },
+            Pick::Second => match out {
+                Out::Pair(_, b) => b.number(),
+                Out::Num(_) | Out::Left(_) | Out::Right(_) | Out::Items(_) => out.number(),
+            },
+            Pick::Size => out.size(),
+        }
+    }
+}
+
+impl Out {
+    /// The first part of a pair, or the output itself.
+    pub fn into_first(self) -> Out
+        ensures value { output_of result ≡ first_in (output_of self) }
+    {
+        match self {
+            Out::Pair(a, _b) => Box::into_inner(a),
+            Out::Num(n) => Out::Num(n),
+            Out::Left(a) => Out::Left(a),
+            Out::Right(a) => Out::Right(a),
+            Out::Items(outs) => Out::Items(outs),
+        }
+    }
+
+    /// The second part of a pair, or the output itself.
+    pub fn into_second(self) -> Out
+        ensures value { output_of result ≡ second_in (output_of self) }
+    {
+        match self {
+            Out::Pair(_a, b) => Box::into_inner(b),
+            Out::Num(n) => Out::Num(n),
+            Out::Left(a) => Out::Left(a),
+            Out::Right(a) => Out::Right(a),
+            Out::Items(outs) => Out::Items(outs),
+        }
+    }
+
+    /// What stands in a side of a choice, or the output itself.
+    pub fn into_merged(self) -> Out
+        ensures value { output_of result ≡ merge_in (output_of self) }
+    {
+        match self {
+            Out::Left(a) => Box::into_inner(a),
+            Out::Right(b) => Box::into_inner(b),
+            Out::Num(n) => Out::Num(n),
+            Out::Pair(a, b) => Out::Pair(a, b),
+            Out::Items(outs) => Out::Items(outs),
+        }
+    }
+}
+
+impl Func {
+    /// The function's answer, or the output itself where the function doesn't fit.
+    pub fn apply(self, out: Out) -> Out
+        ensures value { output_of result ≡ applied self (output_of out) }
+    {
+        match self {
+            Func::First => out.into_first(),
+            Func::Second => out.into_second(),
+            Func::Merge => out.into_merged(),
+            Func::Size => Out::Num(out.size()),
+            Func::Const(n) => Out::Num(n),
+            Func::Add(n) => Out::Num(out.number().saturating_add(n)),
+            Func::Mul(n) => Out::Num(out.number().saturating_mul(n)),
+        }
+    }
+}
+
+/// An output that is a list.
+pub fn make_list(items: Vec<Out>) -> Out
+    ensures value { output_of result ≡ listed (outputs_of items.items) }
+{
+    Out::Items(Outs::new(items))
+}

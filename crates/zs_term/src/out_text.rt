@@ -1,0 +1,75 @@
+// The text of outputs.
+
+ghost use Rattle.std.specs.Prelude.{◌≡◌, ◌++◌, IfOk, OnOk, string_bytes};
+ghost use Rattle.zs_term.specs.Output.{output_of, outputs_of};
+ghost use Rattle.zs_term.specs.OutputText.{output_text, outputs_text, comma_before};
+
+use crate::out::Out;
+use std::alloc::{AllocError, Global};
+
+/// Memory ran out.
+pub type NoMemory = AllocError;
+
+/// Writes the text of an output.
+pub fn write_out(alloc: Global, out: &Out) -> Result<String, NoMemory>
+    ensures ok { IfOk result (λ text. string_bytes text ≡ output_text (output_of out.now)) }
+{
+    let mut text = String::new(alloc);
+    append_out(&mut text, out)?;
+    Ok(text)
+}
+
+/// Adds the text of an output behind a text.
+#[cycle(texts)]
+pub fn append_out(text: &mut String, out: &Out) -> Result<(), NoMemory>
+    ensures ok { OnOk result (string_bytes text.new ≡ string_bytes text.old ++ output_text (output_of out.now)) }
+{
+    match out {
+        Out::Num(n) => write!(text, "{n}"),
+        Out::Pair(a, b) => {
+            text.push_str("(")?;
+            append_out(text, a)?;
+            text.push_str(",")?;
+            append_out(text, b)?;
+            text.push_str(")")
+        }
+        Out::Left(a) => {
+            text.push_str("Left(")?;
+            append_out(text, a)?;
+            text.push_str(")")
+        }
+        Out::Right(a) => {
+            text.push_str("Right(")?;
+            append_out(text, a)?;
+            text.push_str(")")
+        }
+        Out::Items(outs) => {
+            text.push_str("[")?;
+            append_items(text, outs.items())?;
+            text.push_str("]")
+        }
+    }
+}
+
+// Adds the texts of outputs, with a comma between two.
+#[cycle(texts)]
+fn append_items(text: &mut String, items: &[Out]) -> Result<(), NoMemory>
+    ensures ok { OnOk result (string_bytes text.new ≡ string_bytes text.old ++ outputs_text (outputs_of items.now)) }
+{
+    for (i, item) in items.iter().enumerate() {
+        append_comma(text, i)?;
+        append_out(text, item)?;
+    }
+    Ok(())
+}
+
+// Adds the comma before an output of a list, but for the first.
+fn append_comma(text: &mut String, place: usize) -> Result<(), NoMemory>
+    ensures ok { OnOk result (string_bytes text.new ≡ string_bytes text.old ++ comma_before place) }
+{
+    if 0 < place {
+        text.push_str(",")
+    } else {
+        Ok(())
+    }
+}

@@ -1,0 +1,163 @@
+// Terms from their text.
+
+ghost use Rattle.std.specs.Prelude.{◌≡◌, ℕ, Option, Some, None, option_map, IfOk, IfErr, [], ◌≢◌, MatchOption, MatchResult, true};
+ghost use Rattle.zs_term.specs.Schedule.{Schedule, schedule_of};
+ghost use Rattle.zs_term.specs.Token.{Token, lexed};
+ghost use Rattle.zs_term.specs.Machine.{step, at, after};
+ghost use Rattle.zs_term.specs.Parts.{Kept, kept_of, mode_of, stack_of, keep};
+ghost use Rattle.zs_term.specs.Scan.{IsLexeme};
+ghost use Rattle.zs_term.specs.Causes.{IsCause, IsRead, SpellsSchedule};
+ghost use Rattle.zs_term.specs.Reading.{SoFar, IsWhole, huge_with};
+ghost use Rattle.zs_term.specs.Verdict.{verdict_of};
+ghost use Rattle.zs_term.specs.declared.fault.TermFault.TheVariants.{Memory};
+
+use crate::checked::{Checked, check};
+use crate::fault::TermFault;
+use crate::lexer::{Scan, scan_at};
+use crate::limits::{MAX_DEPTH, MAX_WEIGHT};
+use crate::parser::{Frame, Mode, after_mark, after_number};
+use crate::part::Part;
+use crate::term::Term;
+use crate::token::Lexeme;
+use std::alloc::{AllocError, Global};
+
+// What may come behind a token, if the token may come.
+fn after_lexeme(
+    alloc: Global,
+    build: bool,
+    frames: &mut Vec<Frame>,
+    mode: Mode,
+    lexeme: Lexeme,
+) -> Result<Option<Mode>, AllocError>
+    ensures value { (t : Token) → IsLexeme lexeme t → IfOk result (λ next. option_map (λ m. at (stack_of frames.new.items) (mode_of m)) next ≡ step (keep build) (Some (at (stack_of frames.old.items) (mode_of mode))) t) }
+{
+    match lexeme {
+        Lexeme::Mark(mark) => after_mark(alloc, build, frames, mode, mark),
+        Lexeme::Number(value) => after_number(alloc, build, mode, value),
+    }
+}
+
+// The place of the first number that does not fit, with one token more.
+fn huge_behind(huge: Option<u64>, place: usize, lexeme: Lexeme) -> Option<u64>
+    ensures value { (t : Token) → IsLexeme lexeme t → result ≡ huge_with huge place t }
+{
+    if huge.is_some() {
+        return huge;
+    }
+    match lexeme {
+        Lexeme::Number(None) => Some(place as u64),
+        Lexeme::Number(Some(_)) | Lexeme::Mark(_) => None,
+    }
+}
+
+// The whole term that was read, if nothing is open.
+#[tactic(auto, using(crate::proofs::Stacks::stack_empty))]
+fn finish(frames: &[Frame], mode: Mode) -> Option<Part>
+    ensures value { MatchOption result ((a : Kept) → at (stack_of frames.now) (mode_of mode) ≢ at [] (after a)) (λ part. at (stack_of frames.now) (mode_of mode) ≡ at [] (after (kept_of part))) }
+{
+    if !frames.is_empty() {
+        return None;
+    }
+    match mode {
+        Mode::After(part) => Some(part),
+        Mode::Start
+        | Mode::Opening(_)
+        | Mode::Counting(_)
+        | Mode::ExpOpening
+        | Mode::ExpCounting
+        | Mode::Based(_)
+        | Mode::Factored(_)
+        | Mode::Closing(_)
+        | Mode::Dotted(_)
+        | Mode::Method(_, _)
+        | Mode::Picking(_, _)
+        | Mode::Testing(_, _)
+        | Mode::Comparing(_, _, _)
+        | Mode::Mapping(_)
+        | Mode::Scaling(_, _) => None,
+    }
+}
+
+// What the whole text is read as.
+fn whole(alloc: Global, build: bool, text: &[u8]) -> Result<(Part, Option<u64>), TermFault>
+    ensures ok { IfOk result (λ found. IsWhole build text.now (kept_of found.0) found.1) }
+    ensures err { IfErr result (IsCause text.now) }
+{
+    let mut frames: Vec<Frame> = Vec::new(alloc);
+    let mut mode = Mode::Start;
+    let mut huge: Option<u64> = None;
+    let mut from: usize = 0;
+    loop {
+        match scan_at(text, from) {
+            Scan::End => match finish(&frames, mode) {
+                Some(part) => return Ok((part, huge)),
+                None => return Err(TermFault::NoTerm {
+                    at: text.len() as u64,
+                }),
+            },
+            Scan::Stuck(place) => return Err(TermFault::NoTerm { at: place as u64 }),
+            Scan::Next(place, lexeme, end) => match after_lexeme(
+                alloc,
+                build,
+                &mut frames,
+                mode,
+                lexeme,
+            ) {
+                Err(_) => return Err(TermFault::Memory),
+                Ok(None) => return Err(TermFault::NoTerm { at: place as u64 }),
+                Ok(Some(next)) => {
+                    mode = next;
+                    huge = huge_behind(huge, place, lexeme);
+                    from = end;
+                }
+            },
+        }
+    }
+}
+
+// The term of a text that spells one within the limits, with numbers that fit.
+fn built(alloc: Global, text: &[u8]) -> Result<Term, TermFault>
+    requires spelled { (t : Schedule) × IsRead text.now t }
+    ensures ok { IfOk result (λ term. IsRead text.now (schedule_of term)) }
+    ensures err { IfErr result (IsCause text.now) }
+{
+    let (part, _huge) = whole(alloc, true, text)?;
+    match part.term {
+        Some(term) => Ok(Box::into_inner(term)),
+        None => unreachable!(),
+    }
+}
+
+// The term that a text spells, where it is within the limits and its numbers fit. The text is read twice: no term is
+// built until its sizes are known.
+fn term_in(alloc: Global, text: &[u8]) -> Result<Term, TermFault>
+    ensures ok { IfOk result (λ term. IsRead text.now (schedule_of term)) }
+    ensures err { IfErr result (IsCause text.now) }
+{
+    let (part, huge) = whole(alloc, false, text)?;
+    if MAX_DEPTH < part.depth || MAX_WEIGHT < part.weight {
+        return Err(TermFault::TooBig);
+    }
+    if let Some(at) = huge {
+        return Err(TermFault::BadNumber { at });
+    }
+    built(alloc, text)
+}
+
+// The schedule that a text spells.
+fn judged(alloc: Global, text: &str) -> Result<Checked, TermFault>
+    ensures ok { IfOk result (λ checked. SpellsSchedule text.now (schedule_of checked)) }
+    ensures err { IfErr result (IsCause text.now) }
+{
+    let term = term_in(alloc, text.as_bytes())?;
+    check(alloc, term)
+}
+
+/// Reads the schedule that a text spells. Of the faults of the text the first is answered, in the order of `TermFault`.
+pub fn read(alloc: Global, text: &str) -> Result<Checked, TermFault>
+    ensures ok { IfOk result (λ checked. SpellsSchedule text.now (schedule_of checked)) }
+    ensures err { IfErr result (IsCause text.now) }
+    ensures verdict { MatchResult result (λ checked. verdict_of text.now ≡ Ok (schedule_of checked)) (λ fault. (fault ≡ Memory → ⊥) → verdict_of text.now ≡ Err fault) }
+{
+    judged(alloc, text)
+}
