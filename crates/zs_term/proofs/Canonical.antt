@@ -25,7 +25,7 @@ use Rattle.zs_term.specs.declared.term.Pick.{Pick}
 use Rattle.zs_term.specs.declared.term.Pick.TheVariants.{Whole as PickWhole, First as PickFirst, Second as PickSecond, Size as PickSize}
 use Rattle.zs_term.specs.declared.term.Func.{Func}
 use Rattle.zs_term.specs.declared.term.Func.TheVariants.{First, Second, Size, Merge, Const, Add, Mul}
-use Rattle.zs_term.proofs.Runs.{append_nil}
+use Rattle.zs_term.proofs.Completeness.{append_nil}
 use Rattle.zs_term.proofs.Progress.{tokens_append}
 use Rattle.zs_term.proofs.Lexing.{lex_owned, at_token, number_found}
 

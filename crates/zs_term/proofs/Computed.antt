@@ -11,7 +11,9 @@ use Rattle.zs_term.specs.Causes.{tokens_of, TextSpells, IsNoTermAt, refused, no_
 use Rattle.zs_term.specs.Verdict.{finished_at, go_on, term_from, spelled_term, with_kind, with_numbers_at, judged, verdict_of, VerdictIsTheOne}
 use Rattle.zs_term.specs.declared.fault.TermFault.{TermFault}
 use Rattle.zs_term.specs.declared.fault.TermFault.TheVariants.{NoTerm, TooBig, BadNumber, BadFactor, NoKind, BadWindow, Memory}
-use Rattle.zs_term.proofs.Runs.{run_append, append_nil, goes_on, goes_nowhere, spells_to, sound, planted}
+use Rattle.zs_term.proofs.Completeness.{run_append, append_nil}
+use Rattle.zs_term.proofs.Soundness.{sound}
+use Rattle.zs_term.proofs.Runs.{goes_on, goes_nowhere, spells_to, planted}
 use Rattle.zs_term.proofs.Progress.{tokens_append}
 use Rattle.zs_term.proofs.Verdicts.{one_fault, one_verdict, same_term}
 

@@ -1,6 +1,10 @@
 pub mod Values
 pub mod Sizes
+pub mod Texts
 pub mod Lexing
+pub mod Completeness
+pub mod Marks
+pub mod Soundness
 pub mod Runs
 pub mod Stacks
 pub mod Progress
@@ -10,4 +14,4 @@ pub mod Canonical
 pub mod OnePlace
 pub mod Verdicts
 pub mod Computed
-pub mod Texts
+pub mod Rows

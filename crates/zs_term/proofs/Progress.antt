@@ -9,7 +9,9 @@ use Rattle.zs_term.specs.Machine.{State, at, Frame, Mode, start, after, step, ru
 use Rattle.zs_term.specs.Parts.{Kept, keep}
 use Rattle.zs_term.specs.Causes.{tokens_of, TextSpells, IsNoTermAt, refused, no_token, unfinished, is_huge, first_huge, IsRead, IsCause}
 use Rattle.zs_term.specs.Reading.{behind_tokens, SoFar, huge_with}
-use Rattle.zs_term.proofs.Runs.{run_append, goes_on, goes_nowhere, spells_to, sound, append_nil}
+use Rattle.zs_term.proofs.Completeness.{run_append, append_nil}
+use Rattle.zs_term.proofs.Soundness.{sound}
+use Rattle.zs_term.proofs.Runs.{goes_on, goes_nowhere, spells_to}
 
 pub tokens_append : (xs ys : List Placed) → tokens_of (xs ++ ys) ≡ tokens_of xs ++ tokens_of ys
 tokens_append [] ys = refl

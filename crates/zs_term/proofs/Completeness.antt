@@ -1,0 +1,131 @@
+-- A spelling leads to the state behind its term, wherever it stands.
+use Rattle.std.proofs.Common.{◌≡◌, ℕ, List, [], ◌∷◌, ◌++◌, Bool, true, false, cond, Option, Some, None, refl, sym, ap, ◌∙◌, subst, arith, append_assoc, inl, inr, ◌⊎◌}
+use Rattle.std.specs.Prelude.{option_map, if◌then◌else◌}
+use Rattle.zs_term.specs.Schedule.{Schedule, forever, recurs, spaced, fixed, exponential, fibonacci, identity, elapsed, both, either, and_then, while_input, while_output, collect_all, mapped, linear, windowed, reset_when}
+use Rattle.zs_term.specs.Token.{Token, number, mark}
+use Rattle.zs_term.specs.Grammar.{with_number, with_numbers, with_infix, with_method, test_tokens, pick_tokens, func_tokens, cmp_mark, IsInfix, IsFollowed, Spells, IsOpen}
+use Rattle.zs_term.specs.Machine.{is_open, is_close, is_comma, is_dot, is_collect, is_exponential, plain_of, unary_of, infix_of, method_of, cmp_of, pick_of, func_of, scale_of, scale_by, Make, Frame, left, right, Mode, start, opening, counting, exp_opening, exp_counting, based, factored, closing, after, dotted, method, picking, testing, comparing, mapping, scaling, State, at, argument, or_else, begin_leaf, inner_mark, inner_number, join_mark, step_mark, step_number, step, run, apply_func, value, plain_schedule, unary_schedule, infix_schedule, test_schedule, plant}
+use Rattle.zs_term.specs.declared.token.Mark.{Mark}
+use Rattle.zs_term.specs.declared.token.Mark.TheVariants.{ForeverWord, RecursWord, SpacedWord, FixedWord, ExponentialWord, FibonacciWord, IdentityWord, ElapsedWord, AndThenWord, WhileInputWord, WhileOutputWord, CollectAllWord, MapWord, SizeWord, MergeWord, AsWord, LinearWord, WindowedWord, ResetWhenWord, FirstPart, SecondPart, Open, Close, Comma, Dot, AndAnd, OrOr, Less, LessOrEqual, Equal, NotEqual, Greater, GreaterOrEqual, Plus, Times}
+use Rattle.zs_term.specs.declared.term.Test.{Test}
+use Rattle.zs_term.specs.declared.term.Cmp.{Cmp}
+use Rattle.zs_term.specs.declared.term.Cmp.TheVariants.{Lt, Le, Eq, Ne, Gt, Ge}
+use Rattle.zs_term.specs.declared.term.Pick.{Pick}
+use Rattle.zs_term.specs.declared.term.Pick.TheVariants.{Whole as PickWhole, First as PickFirst, Second as PickSecond, Size as PickSize}
+use Rattle.zs_term.specs.declared.term.Func.{Func}
+use Rattle.zs_term.specs.declared.term.Func.TheVariants.{First, Second, Size, Merge, Const, Add, Mul}
+use Rattle.zs_term.specs.declared.forms.Plain.{Plain}
+use Rattle.zs_term.specs.declared.forms.Plain.TheVariants.{OfForever, OfIdentity, OfElapsed}
+use Rattle.zs_term.specs.declared.forms.Unary.{Unary}
+use Rattle.zs_term.specs.declared.forms.Unary.TheVariants.{OfRecurs, OfSpaced, OfFixed, OfFibonacci, OfLinear, OfWindowed}
+use Rattle.zs_term.specs.declared.forms.Infix.{Infix}
+use Rattle.zs_term.specs.declared.forms.Infix.TheVariants.{OfBoth, OfEither, OfAndThen}
+use Rattle.zs_term.specs.declared.forms.Method.{Method}
+use Rattle.zs_term.specs.declared.forms.Method.TheVariants.{OfInput, OfPicked, OfMap}
+use Rattle.zs_term.specs.declared.forms.Action.{Action}
+use Rattle.zs_term.specs.declared.forms.Action.TheVariants.{Stopping, Resetting}
+use Rattle.zs_term.specs.declared.forms.Subject.{Subject}
+use Rattle.zs_term.specs.declared.forms.Subject.TheVariants.{Input, Picked}
+use Rattle.zs_term.specs.declared.forms.Scale.{Scale}
+use Rattle.zs_term.specs.declared.forms.Scale.TheVariants.{ByConst, ByAdd, ByMul}
+
+-- nothing to add at the end
+pub append_nil : {X : Type 0} (xs : List X) → xs ++ [] ≡ xs
+append_nil [] = refl
+append_nil (x ∷ xs) = ap (λ ys. x ∷ ys) (append_nil xs)
+
+infix_shape : (l r rest : List Token) (m : Mark) → with_infix l m r ++ rest ≡ mark Open ∷ (l ++ (mark m ∷ (r ++ (mark Close ∷ rest))))
+infix_shape l r rest m = ap (λ us. mark Open ∷ us) (append_assoc l (mark m ∷ r ++ mark Close ∷ []) rest ∙ ap (λ us. l ++ (mark m ∷ us)) (append_assoc r (mark Close ∷ []) rest))
+
+module _ {A N : Type 0} (make : Make A N) where
+  pub run_append : (s : Option (State A N)) (ts us : List Token) → run make s (ts ++ us) ≡ run make (run make s ts) us
+  run_append s [] us = refl
+  run_append s (t ∷ ts) us = run_append (step make s t) ts us
+
+  pub run_none : (ts : List Token) → run make None ts ≡ None
+  run_none [] = refl
+  run_none (t ∷ ts) = run_none ts
+
+  -- where a list of tokens leads, whatever follows it
+  abbrev Leads : List Token → A → Type 0
+  Leads ts a = (fs : List (Frame A)) (rest : List Token) → run make (Some (at fs start)) (ts ++ rest) ≡ run make (Some (at fs (after a))) rest
+
+  lead_infix : (i : Infix) (m : Mark) (l r : List Token) (a b : A)
+      → ((fs : List (Frame A)) (rest : List Token) → run make (Some (at (left ∷ fs) (after a))) (mark m ∷ rest) ≡ run make (Some (at (right i a ∷ fs) start)) rest)
+      → Leads l a → Leads r b → Leads (with_infix l m r) (make.join i a b)
+  lead_infix i m l r a b goes h k = λ fs rest.
+      ap (run make (Some (at fs start))) (infix_shape l r rest m)
+      ∙ h (left ∷ fs) (mark m ∷ (r ++ (mark Close ∷ rest)))
+      ∙ goes fs (r ++ (mark Close ∷ rest))
+      ∙ k (right i a ∷ fs) (mark Close ∷ rest)
+
+  lead_behind : (front behind : List Token) (a b : A) → Leads front a
+      → ((fs : List (Frame A)) (rest : List Token) → run make (Some (at fs (after a))) (behind ++ rest) ≡ run make (Some (at fs (after b))) rest)
+      → Leads (front ++ behind) b
+  lead_behind front behind a b h goes = λ fs rest.
+      ap (run make (Some (at fs start))) (append_assoc front behind rest) ∙ h fs (behind ++ rest) ∙ goes fs rest
+
+  lead_from : (ts us : List Token) (a : A) → ts ≡ us → Leads us a → Leads ts a
+  lead_from ts us a e h = λ fs rest. ap (λ w. run make (Some (at fs start)) (w ++ rest)) e ∙ h fs rest
+
+  -- what stands behind `.word(` for each comparison, pick and function
+  lead_test : (fs : List (Frame A)) (a : A) (s : Subject) (c : Cmp) (n : ℕ) (rest : List Token) → run make (Some (at fs (testing a s))) (mark (cmp_mark c) ∷ number n ∷ mark Close ∷ rest) ≡ run make (Some (at fs (after (make.test a s c (make.num n))))) rest
+  lead_test fs a s Lt n rest = refl
+  lead_test fs a s Le n rest = refl
+  lead_test fs a s Eq n rest = refl
+  lead_test fs a s Ne n rest = refl
+  lead_test fs a s Gt n rest = refl
+  lead_test fs a s Ge n rest = refl
+
+  lead_whole : (fs : List (Frame A)) (a : A) (e : Action) (c : Cmp) (n : ℕ) (rest : List Token) → run make (Some (at fs (picking e a))) (mark (cmp_mark c) ∷ number n ∷ mark Close ∷ rest) ≡ run make (Some (at fs (after (make.test a (Picked e PickWhole) c (make.num n))))) rest
+  lead_whole fs a e Lt n rest = refl
+  lead_whole fs a e Le n rest = refl
+  lead_whole fs a e Eq n rest = refl
+  lead_whole fs a e Ne n rest = refl
+  lead_whole fs a e Gt n rest = refl
+  lead_whole fs a e Ge n rest = refl
+
+  lead_pick : (p : Pick) (fs : List (Frame A)) (a : A) (e : Action) (t : Test) (rest : List Token) → run make (Some (at fs (picking e a))) ((pick_tokens p ++ test_tokens t) ++ mark Close ∷ rest) ≡ run make (Some (at fs (after (make.test a (Picked e p) t.cmp (make.num t.than))))) rest
+  lead_pick PickFirst fs a e t rest = lead_test fs a (Picked e PickFirst) t.cmp t.than rest
+  lead_pick PickSecond fs a e t rest = lead_test fs a (Picked e PickSecond) t.cmp t.than rest
+  lead_pick PickSize fs a e t rest = lead_test fs a (Picked e PickSize) t.cmp t.than rest
+  lead_pick PickWhole fs a e t rest = lead_whole fs a e t.cmp t.than rest
+
+  -- the arguments and the parenthesis behind them, before any rest
+  lead_method : (w : Mark) (k : Mode A N) (a b : A) (arguments : List Token) (fs : List (Frame A)) (rest : List Token)
+      → run make (Some (at fs (after a))) (mark Dot ∷ mark w ∷ mark Open ∷ (arguments ++ mark Close ∷ rest)) ≡ run make (Some (at fs k)) (arguments ++ mark Close ∷ rest)
+      → run make (Some (at fs k)) (arguments ++ mark Close ∷ rest) ≡ run make (Some (at fs (after b))) rest
+      → run make (Some (at fs (after a))) (with_method w arguments ++ rest) ≡ run make (Some (at fs (after b))) rest
+  lead_method w k a b arguments fs rest begins ends =
+      ap (λ us. run make (Some (at fs (after a))) (mark Dot ∷ mark w ∷ mark Open ∷ us)) (append_assoc arguments (mark Close ∷ []) rest) ∙ begins ∙ ends
+
+  lead_map : (f : Func) (fs : List (Frame A)) (a : A) (rest : List Token) → run make (Some (at fs (after a))) (with_method MapWord (func_tokens f) ++ rest) ≡ run make (Some (at fs (after (apply_func make a f)))) rest
+  lead_map First fs a rest = refl
+  lead_map Second fs a rest = refl
+  lead_map Size fs a rest = refl
+  lead_map Merge fs a rest = refl
+  lead_map (Const n) fs a rest = refl
+  lead_map (Add n) fs a rest = refl
+  lead_map (Mul n) fs a rest = refl
+
+  -- a spelling leads to the state behind its term
+  pub complete : (t : Schedule) (ts : List Token) → Spells ts t → Leads ts (value make t)
+  complete forever ts h = lead_from ts _ _ h (λ fs rest. refl)
+  complete (recurs n) ts h = lead_from ts _ _ h (λ fs rest. refl)
+  complete (spaced n) ts h = lead_from ts _ _ h (λ fs rest. refl)
+  complete (fixed n) ts h = lead_from ts _ _ h (λ fs rest. refl)
+  complete (exponential b f) ts (inl h) = lead_from ts _ _ h.0 (λ fs rest. ap (λ k. run make (Some (at fs (after (make.growing (make.num b) (make.num k))))) rest) (sym h.1))
+  complete (exponential b f) ts (inr h) = lead_from ts _ _ h (λ fs rest. refl)
+  complete (fibonacci n) ts h = lead_from ts _ _ h (λ fs rest. refl)
+  complete identity ts h = lead_from ts _ _ h (λ fs rest. refl)
+  complete elapsed ts h = lead_from ts _ _ h (λ fs rest. refl)
+  complete (linear n) ts h = lead_from ts _ _ h (λ fs rest. refl)
+  complete (windowed n) ts h = lead_from ts _ _ h (λ fs rest. refl)
+  complete (both a b) ts h = lead_from ts _ _ h.4 (lead_infix OfBoth AndAnd h.0 h.1 (value make a) (value make b) (λ fs rest. refl) (complete a h.0 h.2) (complete b h.1 h.3))
+  complete (either a b) ts h = lead_from ts _ _ h.4 (lead_infix OfEither OrOr h.0 h.1 (value make a) (value make b) (λ fs rest. refl) (complete a h.0 h.2) (complete b h.1 h.3))
+  complete (and_then a b) ts h = lead_from ts _ _ h.4 (lead_infix OfAndThen AndThenWord h.0 h.1 (value make a) (value make b) (λ fs rest. refl) (complete a h.0 h.2) (complete b h.1 h.3))
+  complete (while_input a t) ts h = lead_from ts _ _ h.2 (lead_behind h.0 _ (value make a) _ (complete a h.0 h.1) (λ fs rest. lead_method WhileInputWord (testing (value make a) Input) (value make a) _ (test_tokens t) fs rest refl (lead_test fs (value make a) Input t.cmp t.than rest)))
+  complete (while_output a p t) ts h = lead_from ts _ _ h.2 (lead_behind h.0 _ (value make a) _ (complete a h.0 h.1) (λ fs rest. lead_method WhileOutputWord (picking Stopping (value make a)) (value make a) _ (pick_tokens p ++ test_tokens t) fs rest refl (lead_pick p fs (value make a) Stopping t rest)))
+  complete (collect_all a) ts h = lead_from ts _ _ h.2 (lead_behind h.0 _ (value make a) _ (complete a h.0 h.1) (λ fs rest. refl))
+  complete (mapped a f) ts h = lead_from ts _ _ h.2 (lead_behind h.0 _ (value make a) _ (complete a h.0 h.1) (λ fs rest. lead_map f fs (value make a) rest))
+  complete (reset_when a p t) ts h = lead_from ts _ _ h.2 (lead_behind h.0 _ (value make a) _ (complete a h.0 h.1) (λ fs rest. lead_method ResetWhenWord (picking Resetting (value make a)) (value make a) _ (pick_tokens p ++ test_tokens t) fs rest refl (lead_pick p fs (value make a) Resetting t rest)))
