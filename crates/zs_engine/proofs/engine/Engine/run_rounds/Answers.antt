@@ -1,0 +1,33 @@
+use Rattle.std.proofs.Common.{◌≡◌, ◌∙◌, refl, ap, List, length, arith}
+use Rattle.zs_agenda.specs.Timers.{Timers, Takes}
+use Rattle.zs_drive.specs.Values.{JobValue}
+use Rattle.zs_engine.specs.Rounds.{jobs_in}
+use Rattle.zs_engine.proofs.RoundLemmas.{rounds_left-falls, none-of_not_some, from_none}
+use Rattle.zs_engine.proofs.EngineLemmas.{IsDueWith-taken, taken-within, RestsWith-own, RestsWith-as}
+use Rattle.zs_engine.proofs.engine.Engine.run_rounds.Goals as goal
+
+pub run_round-requires-clause-few : goal.run_round-requires-clause-few
+run_round-requires-clause-few g c = λ _ _. rw c.loop-now.invariant.runs.same_jobs c.requires.few
+
+pub run_round-requires-clause-due : goal.run_round-requires-clause-due
+run_round-requires-clause-due g c = λ _ _.
+    let takes : Takes c.loop-now.self.agenda c.take.new.self c.in-Some.now c.in-Some.numbers.items = rw c.in-Some.is at c.in_ok-now.ensures.some in
+    let own = RestsWith-own c.args.self.now.clock (jobs_in c.args.self.now.slots.items) c.loop-now.self c.loop-now.invariant in
+    rw c.deref.ensures.value (IsDueWith-taken c.loop-now.self _ c.in-Some.now c.in-Some.numbers.items own (record { clock = refl; horizon = refl; tally = refl }) refl refl takes)
+
+pub loop-now-preserved : goal.loop-now-preserved
+loop-now-preserved g c =
+    RestsWith-as c.loop-now.self.clock c.args.self.now.clock (jobs_in c.loop-now.self.slots.items) (jobs_in c.args.self.now.slots.items) _
+    c.loop-now.invariant.runs.same_clock c.loop-now.invariant.runs.same_jobs c.in_ok-run_round.ensures.rests
+
+pub loop-now-smaller : goal.loop-now-smaller
+loop-now-smaller g c =
+    let takes : Takes c.loop-now.self.agenda c.take.new.self c.in-Some.now c.in-Some.numbers.items = rw c.in-Some.is at c.in_ok-now.ensures.some in
+    let within = taken-within c.args.self.now.clock (jobs_in c.args.self.now.slots.items) c.loop-now.self c.take.new.self c.in-Some.now c.in-Some.numbers.items c.loop-now.invariant takes in
+    rw c.in_ok-run_round.ensures.taken (rounds_left-falls _ c.loop-now.self.agenda.last_taken c.in-Some.now takes.is_after within)
+
+pub returns-clause-over : goal.returns-clause-over
+returns-clause-over g c =
+    let none = none-of_not_some c.in_ok-now.field-0 c.in_default.not-Some in
+    let same : c.take.new.self ≡ c.loop-now.self.agenda = from_none c.in_ok-now.field-0 (c.take.new.self ≡ c.loop-now.self.agenda) none c.in_ok-now.ensures.same in
+    ap (λ (t : Timers). t.moments) same ∙ c.in_ok-now.ensures.none.0 none

@@ -1,0 +1,29 @@
+-- What a run answers. Each task stands where its job alone stands on the whole clock: nothing of workers, batches, gates or
+-- timers shows. Readers of `run_jobs` trust this file and what it names of zs_drive.
+use Rattle.std.specs.Prelude.{◌≡◌, ℕ, ◌+◌, false, List, [], ◌∷◌, All, length, map}
+use Rattle.zs_drive.specs.Values.{JobValue, JobRecord, record_of}
+use Rattle.zs_drive.specs.Timeline.{timeline_of, poll_moments}
+use Rattle.zs_drive.specs.Tasks.{TaskValue, current_timeline}
+use Rattle.zs_agenda.specs.Ticks.{Ticks, horizon}
+use Rattle.zs_engine.specs.declared.answer.Answer.{Answer}
+use Rattle.zs_engine.specs.Times.{moments_from, ticks_of}
+
+-- the moments at which a poll of the job alone is due
+abbrev pub poll_moments_of : List ℕ → JobRecord → List ℕ
+poll_moments_of ticks job = poll_moments (timeline_of job ticks).attempts
+
+-- how many due polls the jobs have in all
+abbrev pub poll_count_of : List ℕ → List JobRecord → ℕ
+poll_count_of ticks [] = 0
+poll_count_of ticks (job ∷ jobs) = length (poll_moments_of ticks job) + poll_count_of ticks jobs
+
+-- The tasks are those of the jobs, in order and numbered by their places, each unbroken and where its job alone stands on
+-- the whole clock. Every due poll was counted once.
+pub record IsAnswer (clock : Ticks) (jobs : List JobValue) (answer : Answer) : Type 0 where
+  pub numbered : map (λ task. task.number) answer.tasks.items ≡ moments_from 0 (length jobs)
+  pub same_jobs : map (λ task. task.job) answer.tasks.items ≡ jobs
+  pub whole : All (λ (task : TaskValue). task.broken ≡ false) answer.tasks.items
+  pub timelines : map current_timeline answer.tasks.items ≡ map (λ job. timeline_of (record_of job) (ticks_of clock)) jobs
+  pub moments : map (λ task. task.moments) answer.tasks.items ≡ map (λ job. poll_moments_of (ticks_of clock) (record_of job)) jobs
+  pub polls : answer.polls ≡ poll_count_of (ticks_of clock) (map record_of jobs)
+  pub last : answer.horizon ≡ horizon clock

@@ -1,0 +1,5 @@
+pub mod Times
+pub mod Slots
+pub mod Rounds
+pub mod Engine
+pub mod Answers

@@ -1,0 +1,87 @@
+-- What the rounds of a run keep. Between two rounds each task stands where its job alone stands after the ticks so far, and
+-- has a timer exactly where a tick is left for the moment that it waits for. In a round this holds for all tasks but those
+-- that are still to be polled.
+use Rattle.std.specs.Prelude.{◌≡◌, ◌<◌, ◌≤◌, ◌+◌, ◌++◌, ◌∷◌, [], ℕ, true, false, List, Option, Some, None, length, slice_get, map, option_to_list, option_map}
+use Rattle.std.specs.FinMap.{get, insert}
+use Rattle.zs_agenda.specs.Timers.{Timers}
+use Rattle.zs_effect.specs.Scripts.{IsScript}
+use Rattle.zs_drive.specs.Clocks.{RisesFrom, AllBefore, max_tick}
+use Rattle.zs_drive.specs.Values.{JobValue, record_of}
+use Rattle.zs_drive.specs.Timeline.{timeline_of, poll_moments}
+use Rattle.zs_drive.specs.Tasks.{TaskValue, current_timeline}
+use Rattle.zs_engine.specs.Times.{next_of}
+use Rattle.zs_engine.specs.Slots.{Slots, has}
+
+-- The task keeps up with the clock: the ticks so far and those to come, that the task stands where its job stands after the
+-- former, and that it was polled just when an attempt began or ended.
+pub record KeepsUp (ticks : List ℕ) (task : TaskValue) : Type 0 where
+  pub past : List ℕ
+  pub rest : List ℕ
+  pub low : ℕ
+  pub split : ticks ≡ past ++ rest
+  pub before : AllBefore past low
+  pub small : low ≤ max_tick + 1
+  pub rises : RisesFrom low rest
+  pub bounded : AllBefore rest (max_tick + 1)
+  pub polled : AllBefore task.moments low
+  pub seen : task.seen ≤ low
+  pub few : length task.moments ≤ length past
+  pub same : timeline_of (record_of task.job) task.moments ≡ timeline_of (record_of task.job) past
+  pub kept : task.moments ≡ poll_moments (current_timeline task).attempts
+  pub whole : task.broken ≡ false
+  pub script : IsScript task.job.script
+
+-- the task in slot i waits for its next due poll, and its timer is set for it
+pub record IsWaiting (ticks : List ℕ) (timers : Timers) (i : ℕ) (task : TaskValue) : Type 0 where
+  pub keeps_up : KeepsUp ticks task
+  pub number : task.number ≡ i
+  pub is_set : get timers.moments i ≡ next_of ticks (current_timeline task).due
+
+-- the task of slot i is due at now, and has no timer
+pub record IsPending (ticks : List ℕ) (timers : Timers) (now i : ℕ) (task : TaskValue) : Type 0 where
+  pub keeps_up : KeepsUp ticks task
+  pub number : task.number ≡ i
+  pub is_due : next_of ticks (current_timeline task).due ≡ Some now
+  pub is_unset : get timers.moments i ≡ None
+
+-- between two rounds each task waits, and nobody else has a timer
+pub record AllWait (ticks : List ℕ) (tasks : List TaskValue) (timers : Timers) : Type 0 where
+  pub each : (i : ℕ) (task : TaskValue) → slice_get tasks i ≡ Some task → IsWaiting ticks timers i task
+  pub no_others : (i m : ℕ) → get timers.moments i ≡ Some m → i < length tasks
+
+-- in the round at now each task waits but these, which are still to be polled
+pub record AllWaitBut (ticks : List ℕ) (tasks : List TaskValue) (timers : Timers) (now : ℕ) (left : List ℕ) : Type 0 where
+  pub is_taken : timers.last_taken ≡ Some now
+  pub pending : (i : ℕ) (task : TaskValue) → slice_get tasks i ≡ Some task → has i left ≡ true → IsPending ticks timers now i task
+  pub waiting : (i : ℕ) (task : TaskValue) → slice_get tasks i ≡ Some task → has i left ≡ false → IsWaiting ticks timers i task
+  pub no_others : (i m : ℕ) → get timers.moments i ≡ Some m → i < length tasks
+  pub in_range : (i : ℕ) → has i left ≡ true → i < length tasks
+
+-- how many due polls were done in all
+abbrev pub polls_of : List TaskValue → ℕ
+polls_of [] = 0
+polls_of (task ∷ tasks) = length task.moments + polls_of tasks
+
+-- between two rounds each task is in its slot and waits, and so many polls were done
+pub record Rests (ticks : List ℕ) (slots : Slots) (timers : Timers) (count : ℕ) : Type 0 where
+  pub tasks : List TaskValue
+  pub same : slots ≡ map (λ task. Some task) tasks
+  pub all_wait : AllWait ticks tasks timers
+  pub counted : count ≡ polls_of tasks
+
+-- a round begins: each task is in its slot, and these are due at now
+pub record Begins (ticks : List ℕ) (slots : Slots) (timers : Timers) (count now : ℕ) (numbers : List ℕ) : Type 0 where
+  pub tasks : List TaskValue
+  pub same : slots ≡ map (λ task. Some task) tasks
+  pub all_wait : AllWaitBut ticks tasks timers now numbers
+  pub counted : count ≡ polls_of tasks
+
+-- the jobs of the tasks in the slots
+abbrev pub jobs_in : Slots → List JobValue
+jobs_in [] = []
+jobs_in (slot ∷ slots) = option_to_list (option_map (λ (task : TaskValue). task.job) slot) ++ jobs_in slots
+
+-- the timers with a job set, where there is a tick for it
+abbrev pub set_next : Timers → ℕ → Option ℕ → Timers
+set_next timers number None = timers
+set_next timers number (Some tick) = record timers { moments = insert timers.moments number tick }

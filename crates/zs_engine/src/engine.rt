@@ -1,0 +1,165 @@
+ghost use Rattle.std.specs.Prelude.{◌≡◌, ◌≤◌, ◌<◌, [], ◌∷◌, ◌++◌, length, Some, None, slice_set, OnOk, IfOk};
+ghost use Rattle.std.specs.FinMap.{empty, get};
+ghost use Rattle.zs_term.specs.Saturating.{max_moment};
+ghost use Rattle.zs_drive.specs.Tasks.{current_timeline};
+ghost use Rattle.zs_drive.specs.Values.{job_of};
+ghost use Rattle.zs_engine.specs.Times.{ticks_of, next_of, IsLater};
+ghost use Rattle.zs_engine.specs.Rounds.{jobs_in, set_next};
+ghost use Rattle.zs_engine.specs.Answers.{IsAnswer};
+
+use crate::answer::Answer;
+use crate::fault::{EngineFault, refused_round};
+use crate::slots::{into_tasks, take_tasks};
+use crate::timers::set_timer;
+use std::alloc::Global;
+use std::sync::Wait;
+use std::thread::Threads;
+use zs_agenda::{Agenda, Clock};
+use zs_drive::{Job, Task};
+use zs_pool::{Cut, Gate, Tally, TallySeat, round};
+
+// A run of jobs: each job's task in a slot of its own, a timer for each task that waits for a tick, and the tally of the polls.
+#[derive(Drop)]
+pub struct Engine {
+    alloc: Global,
+    clock: Clock,
+    horizon: u64,
+    slots: Vec<Option<Task>>,
+    agenda: Agenda,
+    tally: Tally,
+    seat: TallySeat,
+}
+
+// A tally of no polls, with its only seat. Want of memory is all that can refuse it.
+fn new_tally(alloc: Global) -> Result<(Tally, TallySeat), EngineFault>
+    ensures ok { IfOk result (λ t. t.1 ≡ record { tally = t.0; count = 0; allowance = max_moment; seen = 0 }) }
+{
+    match Tally::new(alloc) {
+        Ok(made) => Ok(made),
+        Err(_refused) => Err(EngineFault::Memory),
+    }
+}
+
+impl Engine {
+    ghost use Rattle.zs_engine.specs.Engine.{IsNew, RestsWith, IsDueWith};
+
+    // An engine of no jobs.
+    pub fn new(alloc: Global, clock: Clock) -> Result<Engine, EngineFault>
+        ensures new { IfOk result (IsNew clock []) }
+    {
+        let horizon = clock.horizon();
+        let agenda = Agenda::new(alloc)?;
+        let (tally, seat) = new_tally(alloc)?;
+        Ok(Engine {
+            alloc,
+            clock,
+            horizon,
+            slots: Vec::new(alloc),
+            agenda,
+            tally,
+            seat,
+        })
+    }
+
+    // Takes in one more job.
+    pub fn add(&mut self, job: Job) -> Result<(), EngineFault>
+        requires new { IsNew self.old.clock (jobs_in self.old.slots.items) self.old }
+        ensures new { OnOk result (IsNew self.old.clock (jobs_in self.old.slots.items ++ job_of job ∷ []) self.new) }
+    {
+        let task = Task::new(self.alloc, self.slots.len() as u64, job)?;
+        set_timer(&self.clock, &mut self.agenda, &task)?;
+        self.slots.push(Some(task))?;
+        Ok(())
+    }
+
+    // Puts a task that was polled back into its slot, and arms its timer again.
+    fn put_back(&mut self, task: Task) -> Result<(), EngineFault>
+        requires slot { task.number < length self.old.slots.items }
+        requires unset { get self.old.agenda.moments task.number ≡ None }
+        requires later { IsLater self.old.agenda.last_taken (next_of (ticks_of self.old.clock) (current_timeline task).due) }
+        ensures slots { OnOk result (self.new.slots.items ≡ slice_set self.old.slots.items task.number (Some task)) }
+        ensures agenda { OnOk result (self.new.agenda ≡ set_next self.old.agenda task.number (next_of (ticks_of self.old.clock) (current_timeline task).due)) }
+        ensures clock { OnOk result ((self.new.clock ≡ self.old.clock) × (self.new.horizon ≡ self.old.horizon)) }
+        ensures tally { OnOk result ((self.new.tally ≡ self.old.tally) × (self.new.seat ≡ self.old.seat)) }
+    {
+        set_timer(&self.clock, &mut self.agenda, &task)?;
+        let number = task.number() as usize;
+        self.slots[number] = Some(task);
+        Ok(())
+    }
+
+    // One round: the tasks that are due at `now` are taken out, polled, and put back.
+    fn run_round<G: Gate, R: Threads + Wait + Sync>(
+        &mut self,
+        rt: &R,
+        cut: Cut,
+        gate: &G,
+        now: u64,
+        numbers: &[u64],
+    ) -> Result<(), EngineFault>
+        requires few { length (jobs_in self.old.slots.items) ≤ 10000 }
+        requires due { IsDueWith self.old.clock (jobs_in self.old.slots.items) now numbers.now self.old }
+        ensures rests { OnOk result (RestsWith self.old.clock (jobs_in self.old.slots.items) self.new) }
+        ensures taken { OnOk result (self.new.agenda.last_taken ≡ Some now) }
+    {
+        let due = take_tasks(self.alloc, &mut self.slots, numbers)?;
+        let polled = match round(
+            rt,
+            self.alloc,
+            cut,
+            gate,
+            &self.tally,
+            &mut self.seat,
+            now,
+            due,
+        ) {
+            Ok(polled) => polled,
+            Err(fault) => return Err(refused_round(fault)),
+        };
+        for task in polled {
+            self.put_back(task)?;
+        }
+        Ok(())
+    }
+
+    // The rounds, until no task waits for a tick.
+    pub fn run_rounds<G: Gate, R: Threads + Wait + Sync>(
+        &mut self,
+        rt: &R,
+        cut: Cut,
+        gate: &G,
+    ) -> Result<(), EngineFault>
+        requires few { length (jobs_in self.old.slots.items) ≤ 10000 }
+        requires rests { RestsWith self.old.clock (jobs_in self.old.slots.items) self.old }
+        ensures rests { OnOk result (RestsWith self.old.clock (jobs_in self.old.slots.items) self.new) }
+        ensures over { OnOk result (self.new.agenda.moments ≡ empty) }
+    {
+        while let Some((now, numbers)) = self.agenda.take()? {
+            self.run_round(rt, cut, gate, now, &numbers)?;
+        }
+        Ok(())
+    }
+
+    // The tasks in job order, with the closed tally.
+    pub fn finish(self) -> Result<Answer, EngineFault>
+        requires rests { RestsWith self.clock (jobs_in self.slots.items) self }
+        requires over { self.agenda.moments ≡ empty }
+        ensures answer { IfOk result (IsAnswer self.clock (jobs_in self.slots.items)) }
+    {
+        let Engine {
+            alloc,
+            clock: _,
+            horizon,
+            slots,
+            agenda: _,
+            tally,
+            seat,
+        } = self;
+        let tasks = into_tasks(alloc, slots)?;
+        Ok(Answer {
+            tasks,
+            polls: tally.close(seat),
+            horizon,
+        })
+    }
+}

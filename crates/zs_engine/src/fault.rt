@@ -1,0 +1,57 @@
+ghost use Rattle.std.specs.Prelude.{◌≢◌};
+
+use std::alloc::{AllocError, AllocFailed};
+use thiserror::Error;
+use zs_agenda::AgendaFault;
+use zs_drive::DriveFault;
+use zs_pool::PoolFault;
+
+/// Why a run was given up.
+#[derive(Clone, Copy, Debug, PartialEq, Eq, Error)]
+pub enum EngineFault {
+    /// Memory ran out.
+    #[error("out of memory")]
+    Memory,
+    /// A thread could not be started.
+    #[error("no thread")]
+    NoThread,
+}
+
+impl From<AllocError> for EngineFault {
+    fn from(_refused: AllocError) -> Self {
+        EngineFault::Memory
+    }
+}
+
+impl<T: Drop> From<AllocFailed<T>> for EngineFault {
+    fn from(_refused: AllocFailed<T>) -> Self {
+        EngineFault::Memory
+    }
+}
+
+impl From<AgendaFault> for EngineFault {
+    fn from(fault: AgendaFault) -> Self {
+        match fault {
+            AgendaFault::Memory => EngineFault::Memory,
+        }
+    }
+}
+
+impl From<DriveFault> for EngineFault {
+    fn from(fault: DriveFault) -> Self {
+        match fault {
+            DriveFault::Memory => EngineFault::Memory,
+        }
+    }
+}
+
+// What the refusal of a round is to a run. No round is refused for a full shelf.
+pub fn refused_round(fault: PoolFault) -> EngineFault
+    requires possible { fault ≢ PoolFault.Full }
+{
+    match fault {
+        PoolFault::Memory => EngineFault::Memory,
+        PoolFault::NoThread => EngineFault::NoThread,
+        PoolFault::Full => unreachable!(),
+    }
+}

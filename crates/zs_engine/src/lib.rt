@@ -1,0 +1,27 @@
+//! Runs many jobs at once: rounds over a timer queue, up to a clock's horizon.
+//!
+//! Each task of the answer stands where its job alone stands at the horizon (`specs/Answers.antt`), for every cut of the
+//! rounds and every gate, on a clock of every millisecond and on listed ticks. The moments of the rounds rise strictly.
+//!
+//! ```rust
+//! let clock = Clock::every_ms(1000).expect(&rt, "within the limit");
+//! let cut = Cut::new(2, 1).expect(&rt, "within the limits");
+//! let answer = run_jobs(&rt, alloc, cut, &OpenGate, clock, jobs)?;
+//! assert_eq!(rt; answer.polls, 6);
+//! ```
+#![tactic(auto)]
+
+mod answer;
+mod engine;
+mod fault;
+mod jobs;
+mod laws;
+mod slots;
+#[cfg(test)]
+mod tests;
+mod timers;
+
+pub use answer::Answer;
+pub use fault::EngineFault;
+pub use jobs::run_jobs;
+pub use laws::listed_ticks;

@@ -1,0 +1,54 @@
+//! The tasks of a run, each in the slot of its job. A slot is empty while its task is polled.
+ghost use Rattle.std.specs.Prelude.{List, ◌≡◌, map, Some, None, slice_get, slice_set, OnOk, IfOk};
+ghost use Rattle.zs_drive.specs.Tasks.{TaskValue};
+ghost use Rattle.zs_engine.specs.Slots.{Picks, emptied, IsDistinct};
+
+use crate::fault::EngineFault;
+use std::alloc::Global;
+use zs_drive::Task;
+
+// Takes the task out of one slot.
+fn take_task(slots: &mut Vec<Option<Task>>, number: u64) -> Task
+    requires filled { (task : TaskValue) × (slice_get slots.old.items number ≡ Some (Some task)) }
+    ensures taken { slice_get slots.old.items number ≡ Some (Some result) }
+    ensures emptied { slots.new.items ≡ slice_set slots.old.items number None }
+{
+    let slot = &mut slots[number as usize];
+    let Some(task) = slot.take() else {
+        unreachable!();
+    };
+    task
+}
+
+// Takes the tasks out of these slots, in order.
+pub fn take_tasks(
+    alloc: Global,
+    slots: &mut Vec<Option<Task>>,
+    numbers: &[u64],
+) -> Result<Vec<Task>, EngineFault>
+    requires filled { (tasks : List TaskValue) × Picks slots.old.items numbers.now tasks }
+    requires distinct { IsDistinct numbers.now }
+    ensures picks { IfOk result (λ tasks. Picks slots.old.items numbers.now tasks.items) }
+    ensures emptied { OnOk result (slots.new.items ≡ emptied slots.old.items numbers.now) }
+{
+    let mut tasks = Vec::with_capacity(alloc, numbers.len())?;
+    for number in numbers {
+        tasks.push(take_task(slots, *number))?;
+    }
+    Ok(tasks)
+}
+
+// The tasks of slots of which none is empty.
+pub fn into_tasks(alloc: Global, slots: Vec<Option<Task>>) -> Result<Vec<Task>, EngineFault>
+    requires filled { (tasks : List TaskValue) × (slots.items ≡ map (λ t. Some t) tasks) }
+    ensures same { IfOk result (λ tasks. slots.items ≡ map (λ t. Some t) tasks.items) }
+{
+    let mut tasks = Vec::with_capacity(alloc, slots.len())?;
+    for slot in slots {
+        let Some(task) = slot else {
+            unreachable!();
+        };
+        tasks.push(task)?;
+    }
+    Ok(tasks)
+}

@@ -1,0 +1,72 @@
+-- How a round ends.
+use Rattle.std.proofs.Common.{◌≡◌, ◌+◌, ◌<◌, ◌≤◌, ℕ, suc, zero, true, Vec, Ok, Err, IfOk, List, [], ◌∷◌, ◌++◌, length, refl, sym, ap, ◌∙◌, subst, length-append, arith}
+use Rattle.std.specs.Prelude.{All, Result}
+use Rattle.std.specs.Global.{Global}
+use Rattle.std.specs.List.{range_with_len}
+use Rattle.std.specs.List.Sorted.{IsPermutation}
+use Rattle.std.proofs.Math.Seq.{drop-append_seam}
+use Rattle.std.proofs.lemmas.List.{get_or_append_left}
+use Rattle.std.proofs.lemmas.List.Elements.{All-nil, All-cons, All-drop}
+use Rattle.atomic_table.specs.Seated.{TableId}
+use Rattle.zs_drive.specs.Tasks.{TaskValue}
+use Rattle.zs_pool.specs.Batches.{BatchValue, tasks_of}
+use Rattle.zs_pool.specs.Messages.{PolledValue, IsPollAmong, numbers_of}
+use Rattle.zs_pool.specs.Board.{BoardId}
+use Rattle.zs_pool.specs.declared.rights.Rights.{Rights}
+use Rattle.zs_pool.specs.Shares.{Kept, sizes}
+use Rattle.zs_pool.specs.Joined.{IsPart, IsWhole}
+use Rattle.zs_pool.proofs.Served.{collected, counted_all}
+
+-- what an `Ok` has
+at_ok : (P : Vec PolledValue Global → Type 0) (kept : Kept) (v : Vec PolledValue Global) → kept ≡ Ok v → IfOk kept P → P v
+at_ok P kept v is h = let K : Kept → Type 0 = λ k. IfOk k P in subst K is h
+
+pub if_ok : {E : Type 0} (P : List PolledValue → Type 0) (r : Result (Vec PolledValue Global) E) (ms : List PolledValue) → IfOk r (λ v. v.items ≡ ms) → P ms → IfOk r (λ v. P v.items)
+if_ok P (Err e) ms is h = tt
+if_ok P (Ok v) ms is h = subst P (sym is) h
+
+pub any_ok : {E : Type 0} (P : Type 0) (r : Result (Vec PolledValue Global) E) → P → IfOk r (λ v. P)
+any_ok P (Err e) h = tt
+any_ok P (Ok v) h = h
+
+-- all messages are there, and each task was counted
+pub record Ended (now : ℕ) (all : List BatchValue) (first : ℕ) (room : ℕ) (r : Rights) (ms : List PolledValue) : Type 0 where
+  pub each : All (IsPollAmong now all) ms
+  pub whole : IsPermutation (range_with_len 0 (length all)) (numbers_of ms)
+  pub count : r.seat.count ≡ first + length (tasks_of all)
+  pub left : r.seat.allowance + length (tasks_of all) ≡ room
+
+pub ended : (now : ℕ) (board : BoardId) (shelf tally : TableId) (bs all : List BatchValue) (first room : ℕ) (r : Rights) (kept : Kept) (got left : List PolledValue) (k : Vec PolledValue Global)
+    → IsWhole now board shelf tally bs first room r kept got → bs ≡ all → kept ≡ Ok k → IsPermutation (range_with_len 0 (length r.pass.taken)) r.pass.taken → (r.pass.none ≡ true → length r.pass.taken ≡ length r.pass.batches)
+    → IsPermutation r.hand.put (r.hand.taken ++ left) → Ended now all first room r ((got ++ left) ++ k.items)
+ended now board shelf tally bs all first room r kept got left k w same is some whole moved =
+    let E : List BatchValue → Type 0 = λ l. Ended now l first room r ((got ++ left) ++ k.items) in
+    let p : IsPart now bs first room 0 r k.items = at_ok (λ ps. IsPart now bs first room 0 r ps.items) kept k is w.part in
+    let every : length r.pass.taken ≡ length bs = whole p.none ∙ ap length w.same in
+    let N : ℕ → Type 0 = λ n. IsPermutation (range_with_len 0 n) r.pass.taken in
+    let taken : N (length bs) = subst N every some in
+    let G : List PolledValue → Type 0 = λ l. IsPermutation r.hand.put (l ++ left) in
+    let ends = collected now bs r.pass.taken r.hand.put k.items got left taken (subst G w.taken moved) p.served in
+    let size = counted_all bs r.pass.taken taken in
+    let here : E bs = record {
+      each = ends.0;
+      whole = ends.1;
+      count = omega (arith, p.count, size);
+      left = omega (arith, p.left, size);
+    } in
+    subst E same here
+
+pub some_batches : (bs : List BatchValue) → 1 ≤ length (tasks_of bs) → 1 ≤ length bs
+some_batches [] some = absurd (omega arith)
+some_batches (b ∷ bs) some = omega arith
+
+all_front : {X : Type 0} (P : X → Type 0) (xs ys : List X) → All P (xs ++ ys) → All P xs
+all_front P xs ys h k d lt = subst P (get_or_append_left xs ys d k lt) (h k d (omega (arith, length-append xs ys)))
+
+all_back : {X : Type 0} (P : X → Type 0) (xs ys : List X) → All P (xs ++ ys) → All P ys
+all_back {X} P xs ys h = let Q : List X → Type 0 = λ l. All P l in subst Q (drop-append_seam xs ys) (All-drop P (length xs) (xs ++ ys) h)
+
+-- what holds of all tasks holds of the tasks of each batch
+pub all_parts : (P : TaskValue → Type 0) (bs : List BatchValue) → All P (tasks_of bs) → All (λ b. All P b.tasks) bs
+all_parts P [] h = All-nil (λ (b : BatchValue). All P b.tasks)
+all_parts P (b ∷ bs) h = All-cons (λ (x : BatchValue). All P x.tasks) b bs (all_front P b.tasks (tasks_of bs) h) (all_parts P bs (all_back P b.tasks (tasks_of bs) h))

@@ -1,0 +1,14 @@
+pub mod Polls
+pub mod Views
+pub mod BoardMoves
+pub mod CounterMoves
+pub mod ShelfMoves
+pub mod TallyMoves
+pub mod Zips
+pub mod Cuts
+pub mod Places
+pub mod Served
+pub mod Rooms
+pub mod Parts
+pub mod Ends
+pub mod Crossing

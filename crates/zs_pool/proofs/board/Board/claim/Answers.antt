@@ -1,0 +1,6 @@
+use Rattle.std.proofs.Common.{◌≡◌, ◌<◌, ◌≤◌, rules, arith}
+use Rattle.zs_pool.proofs.BoardMoves.{takes, learns}
+use Rattle.zs_pool.proofs.board.Board.claim.Goals as goal
+
+pub pop_as-requires-clause-rule : goal.pop_as-requires-clause-rule
+pop_as-requires-clause-rule g c = (takes _ _ (search rules), learns _ _)

@@ -1,0 +1,6 @@
+use Rattle.std.proofs.Common.{◌≡◌, ◌<◌, ◌≤◌, rules, arith}
+use Rattle.zs_pool.proofs.BoardMoves.{begins}
+use Rattle.zs_pool.proofs.board.Board.new.Goals as goal
+
+pub ruled-requires-clause-rule : goal.ruled-requires-clause-rule
+ruled-requires-clause-rule g c = begins

@@ -1,0 +1,11 @@
+use Rattle.std.proofs.Common.{◌≡◌, List, ◌++◌, length, drop}
+use Rattle.crossbeam_queue.specs.Passes.{view, IsPassOf}
+use Rattle.zs_term.specs.Saturating.{max_moment}
+use Rattle.zs_pool.proofs.board.drain.Given as goal
+
+abbrev pub invariant-loop : goal.invariant-loop
+invariant-loop g l =
+    let v = view l.place in let first = view l.initial.place in
+    IsPassOf l.queue l.place
+    × (v.share ≡ max_moment)
+    × (l.left.items ++ drop (length v.taken) v.batches ≡ drop (length first.taken) first.batches)

@@ -1,0 +1,39 @@
+use Rattle.std.proofs.Common.{◌≡◌, ◌<◌, ◌≤◌, ◌+◌, List, [], ◌∷◌, ◌++◌, length, ap, sym, ◌∙◌, subst, rules, arith, append_assoc, length-append}
+use Rattle.std.specs.Vec.Iter.{into_iter_items}
+use Rattle.std.proofs.lemmas.List.{nil_from_length, append-nil}
+use Rattle.crossbeam_queue.specs.Passes.{view}
+use Rattle.zs_pool.specs.Batches.{BatchValue}
+use Rattle.zs_pool.specs.declared.board_rule.Claims.{Claims}
+use Rattle.zs_pool.specs.Board.{claims}
+use Rattle.zs_term.specs.Saturating.{max_moment}
+use Rattle.zs_pool.proofs.BoardMoves.{puts, learns}
+use Rattle.zs_pool.proofs.board.fill.Goals as goal
+
+pub loop-batch-init : goal.loop-batch-init
+loop-batch-init g c = (c.requires.pass.0, ([], c.into_iter-batch-iterator.ensures.into_iter_gives.0, c.requires.pass.1))
+
+pub push_as-requires : goal.push_as-requires
+push_as-requires g c = record { queue = c.loop-batch.invariant.0; rule = (puts _ _ _ _ (ap (λ v. v.share) c.loop-batch.invariant.1.2), learns _ _) }
+
+pub loop-batch-preserved : goal.loop-batch-preserved
+loop-batch-preserved g c =
+    let was = c.loop-batch.invariant.1 in let put : List BatchValue = was.0 in let b : BatchValue = c.in-Some.batch in
+    let rest : List BatchValue = into_iter_items c.next.new.self in
+    let same = c.in-Ok.ensures.queue in
+    let told = c.in-Ok.ensures.rule in
+    let next = λ (v : Claims BatchValue). claims v.share (v.batches ++ b ∷ []) v.taken in
+    (
+      (same.0 ∙ c.loop-batch.invariant.0.0, same.2 ∙ c.loop-batch.invariant.0.1),
+      (
+        put ++ b ∷ [],
+        append_assoc put (b ∷ []) rest ∙ ap (λ l. put ++ l) (sym c.in-Some.ensures.steps.0) ∙ was.1,
+        told ∙ ap next was.2,
+      ),
+    )
+
+pub returns : goal.returns
+returns g c =
+    let was = c.loop-batch.invariant.1 in let it = c.loop-batch.batch-iterator in let put : List BatchValue = was.0 in
+    let none : into_iter_items it ≡ [] = nil_from_length (into_iter_items it) (omega (arith, it.rest.ok.0, c.in-None.ensures.steps.0)) in
+    let all : put ≡ c.args.batches.items = sym (append-nil put) ∙ ap (λ l. put ++ l) (sym none) ∙ was.1 in
+    record { pass = (c.loop-batch.invariant.0, was.2 ∙ ap (λ l. claims max_moment l []) all) }

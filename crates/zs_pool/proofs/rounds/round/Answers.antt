@@ -1,0 +1,33 @@
+use Rattle.std.proofs.Common.{◌≡◌, ◌≤◌, ◌+◌, ◌-◌, ◌*◌, ℕ, List, length, ap, sym, subst, rules, arith}
+use Rattle.std.specs.Prelude.{All}
+use Rattle.zs_drive.specs.Tasks.{TaskValue}
+use Rattle.zs_pool.specs.Batches.{BatchValue, tasks_of}
+use Rattle.zs_pool.specs.Rounds.{IsPollable}
+use Rattle.zs_pool.specs.Messages.{IsPollAmong}
+use Rattle.zs_pool.proofs.Cuts.{few_batches}
+use Rattle.zs_pool.proofs.Ends.{all_parts, some_batches}
+use Rattle.zs_pool.proofs.Rooms.{rooms_within}
+use Rattle.zs_pool.proofs.rounds.round.Goals as goal
+
+pub poll_shared-requires-clause-room : goal.poll_shared-requires-clause-room
+poll_shared-requires-clause-room g c κs within =
+    let bs = c.in_ok-batches.batches.items in let size = ap length c.in_ok-batches.ensures.cutting in
+    let some = some_batches bs (omega (arith, size, c.len-most.ensures)) in
+    let same : length c.args.tasks.items ≡ c.len-most.result = omega (arith, c.len-most.ensures) in
+    let P : ℕ → Type 0 = λ n. c.args.cut.workers * n ≤ c.args.seat.now.allowance in
+    rooms_within (c.min-helpers.result - 1) c.args.cut.workers c.len-most.result c.args.seat.now.allowance (omega (arith, some, c.min-helpers.ensures, c.args.cut.within)) (subst P same c.requires.allowance)
+
+pub poll_shared-requires-clause-size : goal.poll_shared-requires-clause-size
+poll_shared-requires-clause-size g c κs within =
+    let bs = c.in_ok-batches.batches.items in let size = ap length c.in_ok-batches.ensures.cutting in
+    (some_batches bs (omega (arith, size, c.len-most.ensures)), omega (arith, size, few_batches _ bs c.in_ok-batches.ensures.cut.0, c.requires.few))
+
+pub poll_shared-requires-clause-pollable : goal.poll_shared-requires-clause-pollable
+poll_shared-requires-clause-pollable g c κs within =
+    let P : List TaskValue → Type 0 = λ ts. All (IsPollable c.args.now) ts in
+    all_parts (IsPollable c.args.now) c.in_ok-batches.batches.items (subst P (sym c.in_ok-batches.ensures.cutting) c.requires.pollable)
+
+pub in_order-requires-clause-each : goal.in_order-requires-clause-each
+in_order-requires-clause-each g c =
+    let P : List BatchValue → Type 0 = λ bs. All (IsPollAmong c.args.now bs) c.in_ok-messages.messages.items in
+    subst P (sym (ap (λ v. v.items) c.of-known.ensures)) c.in_ok-messages.ensures.each

@@ -1,0 +1,34 @@
+-- How a moment's tasks are cut into batches.
+use Rattle.std.specs.Prelude.{◌≡◌, ◌≤◌, ◌-◌, length, take, ℕ, List, All, Some, slice_get}
+use Rattle.std.specs.List.{flat_map}
+use Rattle.zs_drive.specs.Tasks.{TaskValue}
+use Rattle.zs_pool.specs.Rounds.{IsPollable}
+
+-- the limits of a cut
+abbrev pub IsCut : ℕ → ℕ → Type 0
+IsCut workers grain = (1 ≤ workers) × (workers ≤ 64) × (1 ≤ grain) × (grain ≤ 10000)
+
+-- a batch: its number, and its tasks
+pub record BatchValue : Type 0 where
+  pub number : ℕ
+  pub tasks : List TaskValue
+
+-- the tasks of all batches, in order
+abbrev pub tasks_of : List BatchValue → List TaskValue
+tasks_of bs = flat_map (λ b. b.tasks) bs
+
+-- each task of each batch can be polled at this moment
+abbrev pub AllPollable : ℕ → List BatchValue → Type 0
+AllPollable now bs = All (λ b. All (IsPollable now) b.tasks) bs
+
+-- batch k has the number k
+abbrev pub AreNumbered : List BatchValue → Type 0
+AreNumbered batches = (k : ℕ) (b : BatchValue) → slice_get batches k ≡ Some b → b.number ≡ k
+
+-- the batch has as many tasks as the grain says
+abbrev pub IsFull : ℕ → BatchValue → Type 0
+IsFull grain b = length b.tasks ≡ grain
+
+-- no batch is empty or has more than `grain` tasks, and all but the last have as many
+abbrev pub AreCut : ℕ → List BatchValue → Type 0
+AreCut grain bs = All (λ b. (1 ≤ length b.tasks) × (length b.tasks ≤ grain)) bs × All (IsFull grain) (take (length bs - 1) bs)

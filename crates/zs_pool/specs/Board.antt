@@ -1,0 +1,64 @@
+-- The rule of a board: batches are claimed from the front, each once, and what is left is queued in order.
+use Rattle.std.specs.Prelude.{◌≡◌, ℕ, ◌+◌, ◌<◌, ◌≤◌, List, [], ◌∷◌, ◌++◌, length, drop, Some, slice_get, All}
+use Rattle.std.specs.List.{flat_map, sum_by, range_with_len}
+use Rattle.std.specs.List.Sorted.{IsPermutation}
+use Rattle.std.specs.Prelude.{Bool, true, false}
+use Rattle.atomic_table.specs.Seated.{TableId}
+use Rattle.zs_pool.specs.Batches.{BatchValue, AreNumbered}
+use Rattle.zs_pool.specs.Counter.{Counting}
+use Rattle.zs_pool.specs.Runs.{Every}
+use Rattle.zs_term.specs.Saturating.{max_moment}
+use Rattle.zs_pool.specs.declared.board_rule.Claims.{Claims}
+
+module _ {T : Type 0} where
+  -- a pass: its share, the batches that were put, and the numbers of those that it took
+  abbrev pub claims : ℕ → List T → List ℕ → Claims T
+  claims share batches taken = record { share = share; batches = batches; taken = taken }
+
+  -- a pass with a share knows the batches. One with none is spent, and took nothing
+  abbrev pub Fits : List T → Claims T → Type 0
+  Fits batches v = (0 < v.share → v.batches ≡ batches) × (v.share ≡ 0 → v.taken ≡ [])
+
+  pub record BoardRun (items : List T) (views : List (Claims T)) : Type 0 where
+    pub batches : List T
+    pub count : ℕ
+    pub within : count ≤ length batches
+    -- batches count .. are left, in order
+    pub left : items ≡ drop count batches
+    -- the numbers taken by all passes are 0 .. count - 1, each once
+    pub taken : IsPermutation (range_with_len 0 count) (flat_map (λ v. v.taken) views)
+    pub shares : sum_by (λ v. v.share) views ≡ max_moment
+    pub each : Every (Fits batches) views
+
+  -- batch k was taken: it is the k-th that was put, and comes after all that the pass took
+  abbrev pub Took : Claims T → T → Claims T → Type 0
+  Took v x w = (k : ℕ) × (w ≡ claims v.share v.batches (v.taken ++ k ∷ [])) × (slice_get v.batches k ≡ Some x) × All (λ j. j < k) v.taken × (v.share ≡ max_moment → k ≡ length v.taken)
+
+  -- what a pass with the whole share knows of what is left, and of what it took
+  abbrev pub IsRest : Claims T → List T → Type 0
+  IsRest v items = v.share ≡ max_moment → (length v.taken ≤ length v.batches) × (items ≡ drop (length v.taken) v.batches) × IsPermutation (range_with_len 0 (length v.taken)) v.taken
+
+-- which board it is
+pub record BoardId : Type 0 where
+  pub queue : TableId
+  pub counter : TableId
+  pub size : ℕ
+
+-- a pass, as contracts see it: of which board it is, its share, the batches that were put, the numbers of those that it took, and whether a claim of it answered None
+pub record Claimer : Type 0 where
+  pub board : BoardId
+  pub share : ℕ
+  pub batches : List BatchValue
+  pub taken : List ℕ
+  pub none : Bool
+
+abbrev pub claimer : BoardId → ℕ → List BatchValue → List ℕ → Bool → Claimer
+claimer board share batches taken none = record { board = board; share = share; batches = batches; taken = taken; none = none }
+
+-- what the parts of a pass have to do with each other
+pub record IsFit (v : Claims BatchValue) (seat : Counting) (none : Bool) : Type 0 where
+  pub share : 0 < v.share
+  pub same_share : seat.share ≡ v.share
+  pub same_count : seat.count ≡ length v.taken
+  pub numbered : AreNumbered v.batches
+  pub all_seen : none ≡ true → length v.batches ≤ seat.seen

@@ -1,0 +1,41 @@
+-- The rule of a counter beside a queue: its word is the sum of what all seats counted, taken around at 2 ^ 64, and no seat saw more than the sum.
+use Rattle.std.specs.Prelude.{◌≡◌, ℕ, ◌+◌, ◌%◌, ◌^◌, ◌<◌, ◌≤◌, List, [], ◌∷◌}
+use Rattle.std.specs.List.{sum_by}
+use Rattle.atomic_table.specs.Seated.{TableId}
+use Rattle.atomic_table.specs.Table.{State, Step, Me}
+use Rattle.zs_pool.specs.Runs.{Every}
+use Rattle.zs_term.specs.Saturating.{max_moment}
+use Rattle.zs_pool.specs.declared.counter_rule.Count.{Count}
+
+abbrev pub counted : ℕ → ℕ → ℕ → Count
+counted share count seen = record { share = share; count = count; seen = seen }
+
+abbrev pub Sound : ℕ → Count → Type 0
+Sound total v = (v.seen ≤ total) × (v.share ≡ 0 → v.count ≡ 0)
+
+pub record CountRun (words : List ℕ) (views : List Count) : Type 0 where
+  pub word : words ≡ (sum_by (λ v. v.count) views % 2 ^ 64) ∷ []
+  pub shares : sum_by (λ v. v.share) views ≡ max_moment
+  pub each : Every (Sound (sum_by (λ v. v.count) views)) views
+
+abbrev pub Lawful : Unit {0} → State (Unit {0}) Count → Type 0
+Lawful key s = CountRun s.words s.views
+
+-- one more was counted
+abbrev pub Added : Step (Unit {0}) → Me (Unit {0}) Count → ℕ → Me (Unit {0}) Count → Type 0
+Added st me n now = now ≡ (counted me.0.share (me.0.count + 1) me.0.seen, me.1)
+
+-- at least n were counted
+abbrev pub Looked : Step (Unit {0}) → Me (Unit {0}) Count → ℕ → Me (Unit {0}) Count → Type 0
+Looked st me n now = now ≡ (counted me.0.share me.0.count n, me.1)
+
+-- a seat with the whole share counted all that it saw
+abbrev pub Settled : Step (Unit {0}) → Me (Unit {0}) Count → ℕ → Me (Unit {0}) Count → Type 0
+Settled st me n now = (me.0.share ≡ max_moment → me.0.seen ≤ me.0.count) × (now ≡ me)
+
+-- a seat, as contracts see it
+pub record Counting : Type 0 where
+  pub counter : TableId
+  pub share : ℕ
+  pub count : ℕ
+  pub seen : ℕ

@@ -1,0 +1,10 @@
+pub mod Rounds
+pub mod Batches
+pub mod Messages
+pub mod Runs
+pub mod Board
+pub mod Counter
+pub mod Shelf
+pub mod Tally
+pub mod Shares
+pub mod Joined

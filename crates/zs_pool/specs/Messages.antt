@@ -1,0 +1,41 @@
+-- Polled batches: what a worker hands in.
+use Rattle.std.specs.Prelude.{◌≡◌, ℕ, true, List, [], ◌∷◌, ◌++◌, ◌⊎◌, All, Option, Some, slice_get, map}
+use Rattle.std.specs.List.{AllZip}
+use Rattle.zs_drive.specs.Tasks.{TaskValue}
+use Rattle.zs_pool.specs.Rounds.{IsPolled}
+use Rattle.zs_pool.specs.Batches.{BatchValue}
+
+-- a batch that was polled, with the moment
+pub record PolledValue : Type 0 where
+  pub number : ℕ
+  pub now : ℕ
+  pub tasks : List TaskValue
+
+-- The task has seen the moment, and has it as the last moment of its records or is broken. A task's moments rise, so
+-- the last of them is the greatest.
+abbrev pub Saw : ℕ → TaskValue → Type 0
+Saw now task = (task.seen ≡ now) × ((task.broken ≡ true) ⊎ ((ms : List ℕ) × (task.moments ≡ ms ++ now ∷ [])))
+
+abbrev pub AllSaw : ℕ → List TaskValue → Type 0
+AllSaw now tasks = All (Saw now) tasks
+
+-- the message is the poll of the batch: the same number, and the same tasks in order, each polled once
+pub record IsPollOf (now : ℕ) (b : BatchValue) (p : PolledValue) : Type 0 where
+  pub number : p.number ≡ b.number
+  pub at : p.now ≡ now
+  pub tasks : AllZip (IsPolled now) b.tasks p.tasks
+
+-- each message is the poll of the batch at its place
+abbrev pub ArePollsOf : ℕ → List BatchValue → List PolledValue → Type 0
+ArePollsOf now bs ps = AllZip (IsPollOf now) bs ps
+
+-- the message is the poll of the batch that has its number
+abbrev pub IsPollAmong : ℕ → List BatchValue → PolledValue → Type 0
+IsPollAmong now batches p = (b : BatchValue) × (slice_get batches p.number ≡ Some b) × IsPollOf now b p
+
+-- the slot has the poll of the batch
+abbrev pub HasPoll : ℕ → BatchValue → Option PolledValue → Type 0
+HasPoll now b slot = (p : PolledValue) × (slot ≡ Some p) × IsPollOf now b p
+
+abbrev pub numbers_of : List PolledValue → List ℕ
+numbers_of ps = map (λ p. p.number) ps

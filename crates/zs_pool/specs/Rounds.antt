@@ -1,0 +1,23 @@
+-- What a round makes of tasks: each is polled once, at the moment of the round.
+use Rattle.std.specs.Prelude.{◌≡◌, ℕ, ◌≤◌, true, false, List, [], ◌∷◌, ◌++◌, ◌⊎◌, IsSomeAnd}
+use Rattle.zs_drive.specs.Clocks.{max_tick}
+use Rattle.zs_drive.specs.Tasks.{TaskValue, current_timeline}
+
+-- a task after a due poll
+abbrev pub polled_at : ℕ → TaskValue → TaskValue
+polled_at now task = record task { seen = now; moments = task.moments ++ now ∷ [] }
+
+-- a task after a poll that found no memory
+abbrev pub broken_at : ℕ → TaskValue → TaskValue
+broken_at now task = record task { seen = now; broken = true }
+
+-- one poll at this moment makes the one task of the other
+abbrev pub IsPolled : ℕ → TaskValue → TaskValue → Type 0
+IsPolled now before after = (after ≡ polled_at now before) ⊎ (after ≡ broken_at now before)
+
+-- a task that can be polled at a moment at which it is due
+pub record IsPollable (now : ℕ) (task : TaskValue) : Type 0 where
+  pub whole : task.broken ≡ false
+  pub later : task.seen ≤ now
+  pub bounded : now ≤ max_tick
+  pub due : IsSomeAnd (current_timeline task).due (λ due. due ≤ now)

@@ -1,0 +1,37 @@
+-- The rule of a shelf: what was taken, with what is left, is a rearrangement of what was put.
+use Rattle.std.specs.Prelude.{◌≡◌, ℕ, ◌+◌, List, [], ◌∷◌, ◌++◌}
+use Rattle.std.specs.List.{flat_map, sum_by}
+use Rattle.std.specs.List.Sorted.{IsPermutation}
+use Rattle.atomic_table.specs.Seated.{TableId}
+use Rattle.zs_pool.specs.Messages.{PolledValue}
+use Rattle.zs_pool.specs.Runs.{Every}
+use Rattle.zs_term.specs.Saturating.{max_moment}
+use Rattle.zs_pool.specs.declared.shelf_rule.Hands.{Hands}
+
+module _ {T : Type 0} where
+  -- a pass: its share, what it put and what it took
+  abbrev pub hands : ℕ → List T → List T → Hands T
+  hands share put taken = record { share = share; put = put; taken = taken }
+
+  -- a spent pass put and took nothing
+  abbrev pub IdleIsEmpty : Hands T → Type 0
+  IdleIsEmpty v = v.share ≡ 0 → (v.put ≡ []) × (v.taken ≡ [])
+
+  pub record ShelfRun (items : List T) (views : List (Hands T)) : Type 0 where
+    pub moved : IsPermutation (flat_map (λ v. v.put) views) (flat_map (λ v. v.taken) views ++ items)
+    pub shares : sum_by (λ v. v.share) views ≡ max_moment
+    pub each : Every IdleIsEmpty views
+
+  -- what a pass with the whole share knows of what is left
+  abbrev pub IsLeft : Hands T → List T → Type 0
+  IsLeft v items = v.share ≡ max_moment → IsPermutation v.put (v.taken ++ items)
+
+-- a pass, as contracts see it: of which shelf it is, its share, what it put and what it took
+pub record Shelver : Type 0 where
+  pub shelf : TableId
+  pub share : ℕ
+  pub put : List PolledValue
+  pub taken : List PolledValue
+
+abbrev pub shelver : TableId → ℕ → List PolledValue → List PolledValue → Shelver
+shelver shelf share put taken = record { shelf = shelf; share = share; put = put; taken = taken }

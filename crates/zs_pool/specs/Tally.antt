@@ -1,0 +1,45 @@
+-- The rule of a tally: the word is the sum of what all seats counted, and no seat saw more.
+use Rattle.std.specs.Prelude.{◌≡◌, ℕ, ◌+◌, ◌-◌, ◌<◌, ◌≤◌, List, [], ◌∷◌, max}
+use Rattle.std.specs.List.{sum_by}
+use Rattle.atomic_table.specs.Seated.{TableId}
+use Rattle.atomic_table.specs.Table.{State, Step, Me}
+use Rattle.zs_term.specs.Saturating.{max_moment}
+use Rattle.zs_pool.specs.Runs.{Every}
+use Rattle.zs_pool.specs.declared.tally_rule.Tallied.{Tallied}
+
+abbrev pub tallied : ℕ → ℕ → ℕ → ℕ → Tallied
+tallied count allowance seen cut = record { count = count; allowance = allowance; seen = seen; cut = cut }
+
+pub record TallyRun (words : List ℕ) (views : List Tallied) : Type 0 where
+  -- the word is the sum of all counts
+  pub word : words ≡ sum_by (λ v. v.count) views ∷ []
+  -- the word and all allowances add up to the most
+  pub whole : sum_by (λ v. v.count) views + sum_by (λ v. v.allowance) views ≡ max_moment
+  -- no value seen exceeds the word
+  pub each : Every (λ v. v.seen ≤ sum_by (λ v. v.count) views) views
+
+abbrev pub Lawful : Unit {0} → State (Unit {0}) Tallied → Type 0
+Lawful key s = TallyRun s.words s.views
+
+-- a seat adds one
+abbrev pub Counted : Step (Unit {0}) → Me (Unit {0}) Tallied → ℕ → Me (Unit {0}) Tallied → Type 0
+Counted st me n now = now ≡ (tallied (me.0.count + 1) (me.0.allowance - 1) me.0.seen me.0.cut, me.1)
+
+-- a seat sees the word
+abbrev pub Loaded : Step (Unit {0}) → Me (Unit {0}) Tallied → ℕ → Me (Unit {0}) Tallied → Type 0
+Loaded st me n now = (me.0.count ≤ n) × (me.0.seen ≤ n) × (n + me.0.allowance ≤ max_moment) × (now ≡ (tallied me.0.count me.0.allowance n me.0.cut, me.1))
+
+-- a seat notes how much it is about to hand on
+abbrev pub Noted : Step (Unit {0}) → Me (Unit {0}) Tallied → ℕ → Me (Unit {0}) Tallied → Type 0
+Noted st me n now = now ≡ (tallied me.0.count me.0.allowance me.0.seen st.first, me.1)
+
+-- a seat learns that its allowance fits, and changes nothing
+abbrev pub Fitting : Step (Unit {0}) → Me (Unit {0}) Tallied → ℕ → Me (Unit {0}) Tallied → Type 0
+Fitting st me n now = (me.0.allowance ≤ max_moment) × (now ≡ me)
+
+-- a seat, as contracts see it: which tally it is of, its count, its allowance and the value that it saw last
+pub record Seating : Type 0 where
+  pub tally : TableId
+  pub count : ℕ
+  pub allowance : ℕ
+  pub seen : ℕ

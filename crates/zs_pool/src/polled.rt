@@ -1,0 +1,41 @@
+ghost use Rattle.std.specs.Prelude.{◌≡◌, ◌↔◌, ℕ, true, IsTrue, slice_get, Some};
+ghost use Rattle.zs_drive.specs.Tasks.{TaskValue};
+ghost use Rattle.zs_pool.specs.Messages.{AllSaw};
+
+use std::marker::Model;
+use zs_drive::Task;
+
+/// A batch that was polled: each of its tasks has seen `now`, and was polled then or is broken.
+#[derive(Drop)]
+pub struct Polled {
+    /// The number of the batch.
+    pub number: u64,
+    /// The moment of the polls, in milliseconds.
+    pub now: u64,
+    /// The tasks, in the order of the batch.
+    pub tasks: Vec<Task>,
+}
+
+impl Model for Polled {
+    ghost use Rattle.zs_pool.specs.Messages.{PolledValue, AllSaw};
+    ghost use Rattle.zs_term.specs.contracts.term.Term as e;
+    ghost use Rattle.std.specs.Coded.{codes};
+
+    ghost Value = { PolledValue };
+
+    ghost coded = { Prim.hlevel (codes, e.the_row.coded) };
+
+    ghost view = { λ p. record { number = p.number; now = p.now; tasks = p.tasks.items } };
+
+    ghost invariant = { λ p. AllSaw p.now p.tasks.items };
+}
+
+impl Polled {
+    /// Whether the poll of a task found no memory, and broke it.
+    pub fn broken(&self) -> bool
+        ensures value { IsTrue result ↔ ((k : ℕ) × (t : TaskValue) × (slice_get self.entry.now.tasks k ≡ Some t) × (t.broken ≡ true)) }
+        ensures saw { AllSaw self.entry.now.now self.entry.now.tasks }
+    {
+        self.tasks.iter().any(|task| task.broken())
+    }
+}

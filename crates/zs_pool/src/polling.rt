@@ -1,0 +1,119 @@
+//! Polls batches, and counts each poll.
+ghost use Rattle.std.specs.Prelude.{◌≡◌, ◌+◌, ◌≤◌, All, IfOk, IfErr, OnOk, OnErr, length};
+ghost use Rattle.std.specs.List.{AllZip};
+ghost use Rattle.zs_pool.specs.Rounds.{IsPollable, IsPolled};
+ghost use Rattle.zs_pool.specs.Messages.{AllSaw, IsPollOf};
+ghost use Rattle.zs_pool.specs.Shares.{Counts};
+ghost use Rattle.zs_pool.specs.declared.fault.PoolFault.TheVariants.{Memory};
+
+use crate::batch::Batch;
+use crate::fault::PoolFault;
+use crate::gate::Gate;
+use crate::polled::Polled;
+use crate::poller::Poller;
+use crate::tally::Tally;
+use crate::tally_seat::TallySeat;
+use futures::Future;
+use futures::task::Context;
+use std::alloc::Global;
+use zs_drive::Task;
+
+// A due poll. One that finds no memory breaks the task.
+fn poll_at(task: &mut Task, now: u64, cx: &mut Context<'_>)
+    requires pollable { IsPollable now task.old }
+    ensures polled { IsPolled now task.old task.new }
+{
+    task.see(now);
+    let _answer = task.poll(cx);
+}
+
+fn poll_each<G: Gate>(
+    gate: &G,
+    tally: &Tally,
+    seat: &mut TallySeat,
+    now: u64,
+    cx: &mut Context<'_>,
+    tasks: &mut [Task],
+)
+    requires tally { seat.old.tally ≡ tally.now }
+    requires allowance { length tasks.old ≤ seat.old.allowance }
+    requires pollable { All (IsPollable now) tasks.old }
+    ensures tally { seat.new.tally ≡ tally.now }
+    ensures count { seat.new.count ≡ seat.old.count + length tasks.old }
+    ensures allowance { seat.new.allowance + length tasks.old ≡ seat.old.allowance }
+    ensures polled { AllZip (IsPolled now) tasks.old tasks.new }
+    ensures saw { AllSaw now tasks.new }
+{
+    for task in tasks.iter_mut() {
+        let done = tally.seen(seat);
+        gate.pass(task.number(), now, done);
+        poll_at(task, now, cx);
+        tally.count(seat);
+    }
+}
+
+fn poll_all<G: Gate>(
+    gate: &G,
+    tally: &Tally,
+    seat: &mut TallySeat,
+    now: u64,
+    cx: &mut Context<'_>,
+    mut tasks: Vec<Task>,
+) -> Vec<Task>
+    requires tally { seat.old.tally ≡ tally.now }
+    requires allowance { length tasks.items ≤ seat.old.allowance }
+    requires pollable { All (IsPollable now) tasks.items }
+    ensures tally { seat.new.tally ≡ tally.now }
+    ensures count { seat.new.count ≡ seat.old.count + length tasks.items }
+    ensures allowance { seat.new.allowance + length tasks.items ≡ seat.old.allowance }
+    ensures polled { AllZip (IsPolled now) tasks.items result.items }
+    ensures saw { AllSaw now result.items }
+{
+    poll_each(gate, tally, seat, now, cx, tasks.as_mut_slice());
+    tasks
+}
+
+// Polls each task of the batch in order, under a context that others have used.
+pub fn poll_in<G: Gate>(
+    gate: &G,
+    tally: &Tally,
+    seat: &mut TallySeat,
+    now: u64,
+    cx: &mut Context<'_>,
+    batch: Batch,
+) -> Polled
+    requires tally { seat.old.tally ≡ tally.now }
+    requires allowance { length batch.tasks ≤ seat.old.allowance }
+    requires pollable { All (IsPollable now) batch.tasks }
+    ensures counted { Counts seat.old (length batch.tasks) seat.new }
+    ensures polled { IsPollOf now batch result }
+{
+    let Batch { number, tasks } = batch;
+    let tasks = poll_all(gate, tally, seat, now, cx, tasks);
+    Polled { number, now, tasks }
+}
+
+/// Polls each task of the batch once, in order, and counts it. After `Memory` nothing was polled, and the batch is given up.
+pub fn poll_batch<G: Gate, R>(
+    _rt: &R,
+    alloc: Global,
+    gate: &G,
+    tally: &Tally,
+    seat: &mut TallySeat,
+    now: u64,
+    batch: Batch,
+) -> Result<Polled, PoolFault>
+    requires tally { seat.old.tally ≡ tally.now }
+    requires allowance { length batch.tasks ≤ seat.old.allowance }
+    requires pollable { All (IsPollable now) batch.tasks }
+    ensures polled { IfOk result (IsPollOf now batch) }
+    ensures counted { OnOk result (Counts seat.old (length batch.tasks) seat.new) }
+    ensures kept { OnErr result (seat.new ≡ seat.old) }
+    ensures memory { IfErr result (λ e. e ≡ Memory) }
+{
+    let poller = Poller::new(alloc)?;
+    let mut cx = poller.solo().begin();
+    let polled = poll_in(gate, tally, seat, now, &mut cx, batch);
+    cx.cancel();
+    Ok(polled)
+}

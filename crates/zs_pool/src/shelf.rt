@@ -1,0 +1,147 @@
+ghost use Rattle.std.specs.Prelude.{◌≡◌, ◌∷◌, [], ◌++◌, ◌+◌, ◌-◌, ◌≤◌, ◌<◌, IsOk, IfOk, IfErr, OnOk, IfSome, IfNone};
+ghost use Rattle.std.specs.List.Sorted.{IsPermutation};
+ghost use Rattle.crossbeam_queue.specs.Passes.{view, IsPassOf};
+ghost use Rattle.zs_term.specs.Saturating.{max_moment};
+ghost use Rattle.zs_pool.specs.declared.fault.PoolFault.TheVariants.{Memory, Full};
+ghost use Rattle.zs_pool.specs.Shelf.{hands, shelver};
+
+use crate::fault::PoolFault;
+use crate::polled::Polled;
+use crate::shelf_pass::ShelfPass;
+use crate::shelf_rule::{EachOnce, Halves, Hands, Puts, Takes};
+use crossbeam_queue::{Pass, RuledArrayQueue};
+use std::alloc::Global;
+use std::marker::Model;
+use std::sync::Wait;
+
+type Line = RuledArrayQueue<Polled, Hands<Polled>, EachOnce>;
+
+type Place = Pass<Polled, Hands<Polled>>;
+
+/// A bounded queue of polled batches. Contracts see it as which one it is.
+#[derive(Drop)]
+pub struct Shelf {
+    queue: Line,
+}
+
+impl Model for Shelf {
+    ghost use Rattle.atomic_table.specs.Seated.{TableId};
+
+    ghost Value = { TableId };
+
+    ghost view = { λ s. s.queue.table.shared.table_id };
+}
+
+impl Shelf {
+    /// A shelf with room for 1 to 10,000 batches, and its first pass. Want of memory is the only fault.
+    pub fn new<R>(
+        _rt: &R,
+        alloc: Global,
+        capacity: u64,
+    ) -> Result<(Shelf, ShelfPass), PoolFault>
+        requires capacity { (1 ≤ capacity) × (capacity ≤ 10000) }
+        ensures ok { IfOk result (λ r. r.1 ≡ shelver r.0 max_moment [] []) }
+        ensures memory { IfErr result (λ e. e ≡ Memory) }
+    {
+        let Ok((queue, place)) = Line::ruled(alloc, capacity as usize) else {
+            return Err(PoolFault::Memory);
+        };
+        Ok((Shelf { queue }, ShelfPass { place }))
+    }
+
+    /// Puts a polled batch on the shelf, or hands it back where there was no room.
+    pub fn put<R: Wait>(
+        &self,
+        rt: &R,
+        pass: &mut ShelfPass,
+        message: Polled,
+    ) -> Result<(), (Polled, PoolFault)>
+        requires shelf { pass.old.shelf ≡ self.now }
+        ensures ok { OnOk result (pass.new ≡ shelver self.now pass.old.share (pass.old.put ++ message ∷ []) pass.old.taken) }
+        ensures full { IfErr result (λ e. (e.0 ≡ message) × (e.1 ≡ Full) × (pass.new ≡ pass.old)) }
+    {
+        match self.queue.push_as::<Puts, R>(rt, &mut pass.place, message) {
+            Ok(()) => Ok(()),
+            Err(message) => Err((message, PoolFault::Full)),
+        }
+    }
+
+    /// Takes the front batch, or `None` where the shelf was empty.
+    pub fn take<R: Wait>(&self, rt: &R, pass: &mut ShelfPass) -> Option<Polled>
+        requires shelf { pass.old.shelf ≡ self.now }
+        ensures taken { IfSome result (λ p. pass.new ≡ shelver self.now pass.old.share pass.old.put (pass.old.taken ++ p ∷ [])) }
+        ensures none { IfNone result (pass.new ≡ pass.old) }
+    {
+        self.queue.pop_as::<Takes, R>(rt, &mut pass.place)
+    }
+
+    /// Hands one of the share to a new pass. The first keeps the lists.
+    pub fn split<R>(
+        &self,
+        _rt: &R,
+        _alloc: Global,
+        mut pass: ShelfPass,
+    ) -> Result<(ShelfPass, ShelfPass), (ShelfPass, PoolFault)>
+        requires shelf { pass.shelf ≡ self.now }
+        requires share { 2 ≤ pass.share }
+        ensures first { IfOk result (λ r. r.0 ≡ shelver self.now (pass.share - 1) pass.put pass.taken) }
+        ensures second { IfOk result (λ r. r.1 ≡ shelver self.now 1 [] []) }
+        ensures memory { IfErr result (λ e. (e.0 ≡ pass) × (e.1 ≡ Memory)) }
+
+        // The room was made by `new`, so nothing grows here.
+        ensures succeeds { IsOk result }
+    {
+        let place = self.queue.another::<Halves>(&mut pass.place);
+        Ok((pass, ShelfPass { place }))
+    }
+
+    /// Makes one pass of two, which put and took what both did.
+    pub fn join<R>(&self, _rt: &R, mut pass: ShelfPass, other: ShelfPass) -> ShelfPass
+        requires pass { pass.shelf ≡ self.now }
+        requires other { other.shelf ≡ self.now }
+        ensures joined { result ≡ shelver self.now (pass.share + other.share) (pass.put ++ other.put) (pass.taken ++ other.taken) }
+    {
+        let ShelfPass { place: theirs } = other;
+        self.queue.absorb::<Halves>(&mut pass.place, theirs);
+        pass
+    }
+
+    /// What is left, front first. For want of memory that is given up.
+    pub fn close<R: Wait>(
+        self,
+        rt: &R,
+        alloc: Global,
+        pass: ShelfPass,
+    ) -> Result<Vec<Polled>, PoolFault>
+        requires shelf { pass.shelf ≡ self }
+        requires whole { pass.share ≡ max_moment }
+        ensures left { IfOk result (λ left. IsPermutation pass.put (pass.taken ++ left.items)) }
+        ensures memory { IfErr result (λ e. e ≡ Memory) }
+    {
+        let Shelf { queue } = self;
+        let ShelfPass { mut place } = pass;
+        drain(rt, alloc, &queue, &mut place)
+    }
+}
+
+// Takes all that is left.
+fn drain<R: Wait>(
+    rt: &R,
+    alloc: Global,
+    queue: &Line,
+    place: &mut Place,
+) -> Result<Vec<Polled>, PoolFault>
+    requires pass { IsPassOf queue.now place.old }
+    requires whole { (view place.old).share ≡ max_moment }
+    ensures left { let v = view place.old in IfOk result (λ left. IsPermutation v.put (v.taken ++ left.items)) }
+    ensures memory { IfErr result (λ e. e ≡ Memory) }
+{
+    let mut left = Vec::new(alloc);
+    for _ in rt.forever() {
+        match queue.pop_as::<Takes, R>(rt, place) {
+            Some(message) => left.push(message)?,
+            None => return Ok(left),
+        }
+    }
+    unreachable!()
+}

@@ -1,0 +1,138 @@
+ghost use Rattle.std.specs.Prelude.{◌≡◌, ◌+◌, ◌-◌, ◌≤◌, ◌<◌, max, IfOk, IfErr};
+ghost use Rattle.zs_term.specs.Saturating.{max_moment};
+ghost use Rattle.zs_pool.specs.declared.fault.PoolFault.TheVariants.{Memory};
+
+use crate::fault::PoolFault;
+use crate::tally_rule::{Counts, Exact, Fits, Halves, Notes, Sees, Tallied};
+use crate::tally_seat::TallySeat;
+use atomic_table::Table;
+use std::alloc::Global;
+use std::marker::Model;
+
+/// A counter that threads share. Contracts see it as which one it is.
+#[derive(Drop)]
+pub struct Tally {
+    table: Table<(), Tallied, (), Exact, Global>,
+}
+
+impl Model for Tally {
+    ghost use Rattle.std.specs.Prelude.{◌≡◌};
+    ghost use Rattle.atomic_table.specs.Seated.{TableId};
+
+    ghost Value = { TableId };
+
+    ghost view = { λ t. t.table.shared.table_id };
+
+    ghost invariant = { λ t. (t.table.shared.table_id.words ≡ 1) × (t.table.shared.table_id.slots ≡ 0) };
+}
+
+impl Tally {
+    /// A count of 0, and its first seat, which may count 18,446,744,073,709,551,615 times. Want of memory is the only fault.
+    pub fn new(alloc: Global) -> Result<(Tally, TallySeat), PoolFault>
+        ensures ok { IfOk result (λ t. t.1 ≡ record { tally = t.0; count = 0; allowance = max_moment; seen = 0 }) }
+        ensures memory { IfErr result (λ e. e ≡ Memory) }
+    {
+        let Ok((table, seat)) = Table::of_words(alloc, &[0], &()) else {
+            return Err(PoolFault::Memory);
+        };
+        let seat = TallySeat {
+            seat,
+            left: u64::MAX,
+        };
+        Ok((Tally { table }, seat))
+    }
+
+    /// Adds one.
+    pub fn count(&self, seat: &mut TallySeat)
+        requires tally { seat.old.tally ≡ self.now }
+        requires left { 1 ≤ seat.old.allowance }
+        ensures counted { seat.new ≡ record { tally = self.now; count = seat.old.count + 1; allowance = seat.old.allowance - 1; seen = seat.old.seen } }
+    {
+        self.table.shared.fetch_add::<Counts>(&mut seat.seat, 0, 1);
+        seat.left -= 1;
+    }
+
+    /// What was counted so far, by all seats.
+    pub fn seen(&self, seat: &mut TallySeat) -> u64
+        requires tally { seat.old.tally ≡ self.now }
+        ensures own { seat.old.count ≤ result }
+        ensures rising { seat.old.seen ≤ result }
+        ensures within { result + seat.old.allowance ≤ max_moment }
+        ensures kept { seat.new ≡ record { tally = self.now; count = seat.old.count; allowance = seat.old.allowance; seen = result } }
+    {
+        self.table.shared.load::<Sees>(&mut seat.seat, 0)
+    }
+
+    /// How often the seat may still count.
+    pub fn left(seat: &TallySeat) -> u64
+        ensures value { result ≡ seat.now.allowance }
+    {
+        seat.left
+    }
+
+    /// Hands `n` of the allowance to a new seat.
+    pub(crate) fn split_off(&self, seat: &mut TallySeat, n: u64) -> TallySeat
+        requires tally { seat.old.tally ≡ self.now }
+        requires left { n ≤ seat.old.allowance }
+        ensures first { seat.new ≡ record { tally = self.now; count = seat.old.count; allowance = seat.old.allowance - n; seen = seat.old.seen } }
+        ensures second { result ≡ record { tally = self.now; count = 0; allowance = n; seen = seat.old.seen } }
+    {
+        let words = &self.table.shared;
+        // A word that is `n` becomes `n`, so this changes nothing.
+        words.compare_exchange::<Notes>(&mut seat.seat, 0, n, n);
+        let other = words.split_seat::<Halves>(&mut seat.seat);
+        seat.left -= n;
+        TallySeat {
+            seat: other,
+            left: n,
+        }
+    }
+
+    /// Takes in what another seat counted and may still count.
+    pub(crate) fn absorb(&self, seat: &mut TallySeat, other: TallySeat)
+        requires seat { seat.old.tally ≡ self.now }
+        requires other { other.tally ≡ self.now }
+        ensures joined { seat.new ≡ record { tally = self.now; count = seat.old.count + other.count; allowance = seat.old.allowance + other.allowance; seen = max seat.old.seen other.seen } }
+    {
+        let TallySeat { seat: theirs, left } = other;
+        let words = &self.table.shared;
+        words.join_seat::<Halves>(&mut seat.seat, theirs);
+        // Both allowances together fit, as the rule says at any step.
+        words.load::<Fits>(&mut seat.seat, 0);
+        seat.left += left;
+    }
+
+    /// Hands `n` of the allowance to a new seat, which counted nothing. The first keeps the rest.
+    pub fn split(&self, mut seat: TallySeat, n: u64) -> (TallySeat, TallySeat)
+        requires tally { seat.tally ≡ self.now }
+        requires left { n ≤ seat.allowance }
+        ensures first { result.0 ≡ record { tally = self.now; count = seat.count; allowance = seat.allowance - n; seen = seat.seen } }
+        ensures second { result.1 ≡ record { tally = self.now; count = 0; allowance = n; seen = seat.seen } }
+    {
+        let other = self.split_off(&mut seat, n);
+        (seat, other)
+    }
+
+    /// Makes one seat of two: their counts and allowances are added.
+    pub fn join(&self, mut seat: TallySeat, other: TallySeat) -> TallySeat
+        requires seat { seat.tally ≡ self.now }
+        requires other { other.tally ≡ self.now }
+        ensures joined { result ≡ record { tally = self.now; count = seat.count + other.count; allowance = seat.allowance + other.allowance; seen = max seat.seen other.seen } }
+    {
+        self.absorb(&mut seat, other);
+        seat
+    }
+
+    /// What was counted in all. Where all seats were joined into this one, that is its count.
+    pub fn close(self, seat: TallySeat) -> u64
+        requires tally { seat.tally ≡ self }
+        ensures seen { seat.seen ≤ result }
+        ensures whole { seat.count + seat.allowance ≡ max_moment → result ≡ seat.count }
+    {
+        let TallySeat { seat, left: _ } = seat;
+        let closed = self.table.close_with(seat);
+        let all = closed.word(0);
+        closed.free();
+        all
+    }
+}

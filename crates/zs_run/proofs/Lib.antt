@@ -1,0 +1,9 @@
+pub mod Flow
+pub mod Trees
+pub mod NameLemmas
+pub mod ScriptLemmas
+pub mod ClockLemmas
+pub mod JobLemmas
+pub mod AnswerLemmas
+pub mod Whole
+pub mod Rows

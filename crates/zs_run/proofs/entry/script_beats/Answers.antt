@@ -1,0 +1,9 @@
+use Rattle.std.proofs.Common.{◌≡◌, ◌∙◌, sym, ap, map, rules, List}
+use Rattle.serde_json.specs.View.{view}
+use Rattle.zs_effect.specs.declared.script.Beat.{Beat}
+use Rattle.zs_run.specs.Entries.{beat_of}
+use Rattle.zs_run.proofs.Trees.{map_view}
+use Rattle.zs_run.proofs.entry.script_beats.Goals as goal
+
+pub returns : goal.returns
+returns c = record { value = rw (← c.list_or_empty.ensures.value, map_view beat_of c.list_or_empty.result.now) c.beats_of.ensures.value }

@@ -1,0 +1,15 @@
+pub mod Streams
+pub mod Marked
+pub mod Tree
+pub mod Refusals
+pub mod Entries
+pub mod Jobs
+pub mod Names
+pub mod Plan
+pub mod PlanView
+pub mod Report
+pub mod ReportView
+pub mod PlanReport
+pub mod Status
+pub mod Headline
+pub mod Reading

@@ -1,0 +1,26 @@
+-- The exit status for each fault.
+use Rattle.std.specs.Prelude.{ℕ}
+use Rattle.zs_run.specs.declared.plan_fault.PlanFault.{PlanFault}
+use Rattle.zs_run.specs.declared.plan_fault.PlanFault.TheVariants.{TooLong, Json, Shape, UnknownKey, Range, Name, SameName, Schedule, Script, Memory}
+use Rattle.zs_run.specs.declared.run_fault.RunFault.{RunFault}
+use Rattle.zs_run.specs.declared.run_fault.RunFault.TheVariants.{Read, Plan, Engine, Write}
+
+-- 2 where the plan is none, 4 for want of memory
+abbrev pub plan_status_of : PlanFault → ℕ
+plan_status_of TooLong = 2
+plan_status_of Json = 2
+plan_status_of (Shape job) = 2
+plan_status_of (UnknownKey job) = 2
+plan_status_of (Range job) = 2
+plan_status_of (Name job) = 2
+plan_status_of (SameName job) = 2
+plan_status_of (Schedule job fault) = 2
+plan_status_of (Script job fault) = 2
+plan_status_of Memory = 4
+
+-- 3 where reading or writing failed, 4 for want of memory or of a thread
+abbrev pub status_of : RunFault → ℕ
+status_of Read = 3
+status_of (Plan fault) = plan_status_of fault
+status_of (Engine fault) = 4
+status_of (Write sent) = 3

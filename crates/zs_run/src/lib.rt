@@ -1,0 +1,36 @@
+//! Jobs from the bytes of a plan to the bytes of their report.
+//!
+//! At success the bytes that `run` writes are `report_of` the plan that was read (`specs/PlanReport.antt`): each job stands
+//! there as its schedule alone gives it, whatever the number of workers, the batches and the gate. Each refusal says what
+//! was read and what went out. Start with `specs/Plan.antt`, `specs/Report.antt` and the contract of `run`.
+//!
+//! ```rust
+//! let mut reader = Marked::new(bytes);
+//! let mut writer = Marked::new(&mut text);
+//! run(&rt, rt.alloc(), &OpenGate, &mut reader, &mut writer)?;
+//! ```
+#![tactic(auto)]
+
+mod entry;
+mod job_reading;
+mod marked;
+mod names;
+mod plan;
+mod plan_fault;
+mod reading;
+mod reporting;
+mod run_fault;
+mod running;
+mod streams;
+mod transfer;
+mod tree;
+
+pub use marked::Marked;
+pub use plan::Plan;
+pub use plan_fault::PlanFault;
+pub use reading::read_plan;
+pub use reporting::report;
+pub use run_fault::{RunFault, status};
+pub use running::run;
+pub use streams::{Drain, Failed, Source};
+pub use zs_engine::EngineFault;

@@ -1,0 +1,89 @@
+//! Any reader or writer of `std` with a mark.
+ghost use Rattle.std.specs.Prelude.{◌≡◌, false};
+
+use crate::streams::{Drain, Failed, Source};
+use std::io::{Read, Write};
+
+/// Any reader or writer of `std`, with a mark that a failed call sets.
+#[derive(Drop)]
+pub struct Marked<T> {
+    inner: T,
+    failed: bool,
+    flushed: bool,
+}
+
+impl<T> Marked<T> {
+    ghost use Rattle.zs_run.specs.Marked.{marked_inner, marked_failed};
+
+    /// A reader or writer with a clear mark.
+    pub fn new(inner: T) -> Marked<T>
+        ensures inner { marked_inner result ≡ inner }
+        ensures clear { marked_failed result ≡ false }
+    {
+        Marked {
+            inner,
+            failed: false,
+            flushed: false,
+        }
+    }
+}
+
+impl<R: Read> Source for Marked<R> {
+    ghost use Rattle.zs_run.specs.Marked.{marked_inner, marked_failed};
+
+    ghost remaining = { λ m. R.remaining (marked_inner m) };
+
+    ghost mark = { marked_failed };
+
+    fn pull(&mut self, buf: &mut [u8]) -> Result<usize, Failed> {
+        match self.inner.read(buf) {
+            Ok(count) => Ok(count),
+            Err(_) => {
+                self.failed = true;
+                Err(Failed)
+            }
+        }
+    }
+
+    fn failed(&self) -> bool {
+        self.failed
+    }
+}
+
+impl<W: Write> Drain for Marked<W> {
+    ghost use Rattle.zs_run.specs.Marked.{marked_inner, marked_failed, marked_flushed};
+
+    ghost contents = { λ m. W.contents (marked_inner m) };
+
+    ghost mark = { marked_failed };
+
+    ghost flushed = { marked_flushed };
+
+    fn give(&mut self, buf: &[u8]) -> Result<usize, Failed> {
+        self.flushed = false;
+        match self.inner.write(buf) {
+            Ok(count) if count > 0 => Ok(count),
+            _ => {
+                self.failed = true;
+                Err(Failed)
+            }
+        }
+    }
+
+    fn flush(&mut self) -> Result<(), Failed> {
+        match self.inner.flush() {
+            Ok(()) => {
+                self.flushed = true;
+                Ok(())
+            }
+            Err(_) => {
+                self.failed = true;
+                Err(Failed)
+            }
+        }
+    }
+
+    fn failed(&self) -> bool {
+        self.failed
+    }
+}

@@ -1,0 +1,59 @@
+//! The names of jobs: which texts are names, and which were used before.
+ghost use Rattle.std.specs.Prelude.{◌≡◌, ◌++◌, ◌∷◌, [], ℕ, List, OnOk, string_bytes};
+ghost use Rattle.std.specs.List.{list_all};
+ghost use Rattle.std.specs.BTreeSet.{contains_text};
+ghost use Rattle.zs_run.specs.Jobs.{is_name, is_name_byte};
+ghost use Rattle.zs_run.specs.Names.{KnowsNames};
+
+use std::alloc::{AllocError, Global};
+use std::collections::BTreeSet;
+
+// The most bytes of a name.
+const MAX_NAME: usize = 64;
+
+// Whether a name may have the byte.
+#[tactic(auto, unfolding(crate::specs::Jobs::is_name_byte))]
+fn is_name_byte(byte: u8) -> bool
+    ensures value { result ≡ is_name_byte byte }
+{
+    byte.is_ascii_alphanumeric() || byte == b'-' || byte == b'_' || byte == b'.'
+}
+
+// Whether a name may have all the bytes.
+fn all_are_name_bytes(text: &[u8]) -> bool
+    ensures value { result ≡ list_all is_name_byte text.now }
+{
+    text.iter().all(|byte| is_name_byte(*byte))
+}
+
+/// Whether the text is a name.
+#[tactic(auto, unfolding(crate::specs::Jobs::is_name))]
+pub(crate) fn is_name(text: &str) -> bool
+    ensures value { result ≡ is_name text.now }
+{
+    let bytes = text.as_bytes();
+    0 < bytes.len() && bytes.len() <= MAX_NAME && all_are_name_bytes(bytes)
+}
+
+/// Whether the name is one of a set.
+pub(crate) fn is_used(names: &BTreeSet<String>, name: &str) -> bool
+    ensures value { result ≡ contains_text names.now name.now }
+{
+    names.contains(name)
+}
+
+/// Adds a name to a set.
+#[tactic(auto, using(crate::proofs::NameLemmas::knows_inserted))]
+pub(crate) fn add_name(
+    alloc: Global,
+    names: &mut BTreeSet<String>,
+    name: &str,
+) -> Result<(), AllocError>
+    ensures known { OnOk result ((earlier : List (List ℕ)) → KnowsNames names.old earlier → KnowsNames names.new (earlier ++ name.now ∷ [])) }
+{
+    let copy = String::from_str(alloc, name)?;
+    match names.insert(copy) {
+        Ok(_) => Ok(()),
+        Err(_) => Err(AllocError),
+    }
+}

@@ -1,0 +1,79 @@
+//! Why bytes are no plan.
+use std::fmt;
+use thiserror::Error;
+use zs_effect::ScriptFault;
+use zs_term::TermFault;
+
+// The document, or a job of it.
+#[derive(Drop)]
+struct Place(Option<u64>);
+
+impl fmt::Display for Place {
+    fn fmt<W: fmt::Write>(&self, f: &mut fmt::Formatter<W>) -> fmt::Result {
+        match self.0 {
+            None => write!(f, "plan"),
+            Some(job) => write!(f, "job {job}"),
+        }
+    }
+}
+
+/// Why bytes are no plan, in the order in which causes are looked for: first in the document, then job by job.
+/// `job` is the place of a job in the plan, from 0, and `None` the document itself.
+#[derive(Clone, Copy, Debug, PartialEq, Eq, Error)]
+pub enum PlanFault {
+    /// More than 16,777,216 bytes.
+    #[error("plan is longer than 16777216 bytes")]
+    TooLong,
+    /// The bytes are no JSON document in UTF-8, or one that is nested deeper than 127.
+    #[error("plan is not JSON")]
+    Json,
+    /// Something that has to be there is missing, or has another type.
+    #[error("{place}: wrong shape", place = Place(*.job))]
+    Shape {
+        /// The job, or the document.
+        job: Option<u64>,
+    },
+    /// A key that no plan has at its place.
+    #[error("{place}: unknown key", place = Place(*.job))]
+    UnknownKey {
+        /// The job, or the document.
+        job: Option<u64>,
+    },
+    /// A number, a list or a mode outside its range.
+    #[error("{place}: out of range", place = Place(*.job))]
+    Range {
+        /// The job, or the document.
+        job: Option<u64>,
+    },
+    /// The name isn't 1 to 64 letters, digits, `-`, `_` or `.`.
+    #[error("job {job}: bad name")]
+    Name {
+        /// The job.
+        job: u64,
+    },
+    /// An earlier job has this name.
+    #[error("job {job}: name used before")]
+    SameName {
+        /// The later job.
+        job: u64,
+    },
+    /// The text of the schedule is none.
+    #[error("job {job}: schedule: {fault}")]
+    Schedule {
+        /// The job.
+        job: u64,
+        /// What is wrong with the text.
+        fault: TermFault,
+    },
+    /// The entries of the script are none.
+    #[error("job {job}: script: {fault}")]
+    Script {
+        /// The job.
+        job: u64,
+        /// What is wrong with the entries.
+        fault: ScriptFault,
+    },
+    /// Memory ran out.
+    #[error("out of memory")]
+    Memory,
+}

@@ -1,0 +1,58 @@
+//! Where a plan comes from and where a report goes.
+ghost use Rattle.std.specs.Prelude.{◌≡◌, ◌≤◌, ◌<◌, ◌||◌, ℕ, List, Bool, false, true, Option, length, is_err, IfOk, OnOk};
+ghost use Rattle.std.specs.Io.KnownBytes.{Keeps, ReadConsumes, WriteAppends};
+
+/// A pull, a give or a flush that failed. It moved no bytes.
+#[derive(Clone, Copy, Debug, Drop, PartialEq, Eq)]
+pub struct Failed;
+
+/// A reader that remembers whether it failed.
+pub trait Source {
+    // The bytes that are left, where they are known.
+    ghost remaining: { Self → Option (List ℕ) };
+
+    // A call has answered `Failed`.
+    ghost mark: { Self → Bool };
+
+    /// Fills the front of a buffer that isn't empty. `Ok(0)` is the end of input.
+    fn pull(&mut self, buf: &mut [u8]) -> Result<usize, Failed>
+        requires room { 0 < length buf.old }
+        ensures within { IfOk result (λ n. n ≤ length buf.new) }
+        ensures bytes { ReadConsumes (remaining self.old) (remaining self.new) result buf.new }
+        ensures marks { mark self.new ≡ (mark self.old || is_err result) };
+
+    /// Whether a call of it has failed.
+    fn failed(&self) -> bool
+        ensures value { result ≡ mark self.now };
+}
+
+/// A writer that remembers whether it failed.
+pub trait Drain {
+    // The bytes that were taken, where they are known.
+    ghost contents: { Self → Option (List ℕ) };
+
+    // A call has answered `Failed`.
+    ghost mark: { Self → Bool };
+
+    // A flush succeeded, and nothing was taken since.
+    ghost flushed: { Self → Bool };
+
+    /// Takes at least one byte from the front of a slice that isn't empty, or fails.
+    fn give(&mut self, buf: &[u8]) -> Result<usize, Failed>
+        requires room { 0 < length buf.now }
+        ensures within { IfOk result (λ n. n ≤ length buf.now) }
+        ensures some { IfOk result (λ n. 0 < n) }
+        ensures bytes { WriteAppends (contents self.old) (contents self.new) result buf.now }
+        ensures marks { mark self.new ≡ (mark self.old || is_err result) }
+        ensures stale { IfOk result (λ _. flushed self.new ≡ false) };
+
+    /// Hands on all that was taken.
+    fn flush(&mut self) -> Result<(), Failed>
+        ensures bytes { Keeps (contents self.old) (contents self.new) }
+        ensures marks { mark self.new ≡ (mark self.old || is_err result) }
+        ensures flushed { OnOk result (flushed self.new ≡ true) };
+
+    /// Whether a call of it has failed.
+    fn failed(&self) -> bool
+        ensures value { result ≡ mark self.now };
+}

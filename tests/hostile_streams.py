@@ -1,0 +1,171 @@
+"""Standard streams that fail, end early, never end, or give one byte at a time."""
+import os
+import resource
+import signal
+import subprocess
+import threading
+import time
+
+from program import ONE_JOB, ONE_REPORT, ZSCHED, equal_jobs
+
+LONG_NAMES = [f"job{number}" for number in range(2000)]
+PATIENCE = 20
+SHORT_MEMORY = 300_000_000
+
+
+def ending(started, seconds=PATIENCE):
+    """How a started program ended: its status (None where it hangs), its output where it is a pipe, and its errors."""
+    try:
+        output, errors = started.communicate(timeout=seconds)
+    except subprocess.TimeoutExpired:
+        started.kill()
+        started.communicate()
+        return None, b"", b""
+    return started.returncode, output, errors
+
+
+def output_is_full(count):
+    """A device that is full: nothing went out, or only what the fault says."""
+    with open("/dev/full", "wb") as full:
+        started = subprocess.Popen([ZSCHED], stdin=subprocess.PIPE, stdout=full, stderr=subprocess.PIPE)
+        started.stdin.write(ONE_JOB)
+        status, _, errors = ending(started)
+    count.test("output to a full device", (status, errors), (3, b"zsched: write failed after 0 bytes\n"))
+
+
+def errors_are_full(count):
+    """Standard error that takes nothing: the status still tells the fault."""
+    with open("/dev/full", "wb") as full:
+        started = subprocess.Popen([ZSCHED], stdin=subprocess.DEVNULL, stdout=subprocess.PIPE, stderr=full)
+        status, output, _ = ending(started)
+    count.test("errors to a full device", (status, output), (2, b""))
+
+
+def pipe_is_closed(count):
+    """A reader of the report that goes away before it was written."""
+    receiving, sending = os.pipe()
+    os.close(receiving)
+    started = subprocess.Popen([ZSCHED], stdin=subprocess.PIPE, stdout=sending, stderr=subprocess.PIPE)
+    os.close(sending)
+    started.stdin.write(ONE_JOB)
+    status, _, errors = ending(started)
+    count.test("a closed pipe", (status, errors), (3, b"zsched: write failed after 0 bytes\n"))
+
+
+def reader_takes_ten_bytes(count):
+    """`zsched < plan | head -c 10` with a report that doesn't fit into the pipe."""
+    text, report = equal_jobs(LONG_NAMES, 2, 100)
+    started = subprocess.Popen([ZSCHED], stdin=subprocess.PIPE, stdout=subprocess.PIPE, stderr=subprocess.PIPE)
+    head = subprocess.Popen(["head", "-c", "10"], stdin=started.stdout, stdout=subprocess.PIPE)
+    started.stdout.close()
+    started.stdout = None
+    started.stdin.write(text)
+    status, _, errors = ending(started)
+    taken, _ = head.communicate(timeout=PATIENCE)
+    count.test("a reader that takes ten bytes, what it took", taken, report[:10])
+    count.test("a reader that takes ten bytes, the status", status, 3)
+    sent = errors.removeprefix(b"zsched: write failed after ").removesuffix(b" bytes\n")
+    is_right = sent.isdigit() and 10 <= int(sent) < len(report)
+    count.test(f"a reader that takes ten bytes, the fault {errors}", is_right, True)
+
+
+def limited_file(limit):
+    """What a program does to itself before it begins, so that its files may grow to so many bytes only."""
+    def limit_files():
+        signal.signal(signal.SIGXFSZ, signal.SIG_IGN)
+        resource.setrlimit(resource.RLIMIT_FSIZE, (limit, limit))
+    return limit_files
+
+
+def file_is_limited(count, folder):
+    """A file that may grow to so many bytes only: just the bytes that the fault tells went out."""
+    for limit in [1, 20, 111]:
+        with open(os.path.join(folder, f"limited-{limit}"), "wb+") as output:
+            started = subprocess.Popen([ZSCHED], stdin=subprocess.PIPE, stdout=output, stderr=subprocess.PIPE,
+                                       preexec_fn=limited_file(limit))
+            started.stdin.write(ONE_JOB)
+            status, _, errors = ending(started)
+            output.seek(0)
+            written = output.read()
+        wanted = (3, f"zsched: write failed after {limit} bytes\n".encode(), ONE_REPORT[:limit])
+        count.test(f"a file of at most {limit} bytes", (status, errors, written), wanted)
+
+
+def input_is_a_folder(count):
+    """A folder as standard input can't be read."""
+    folder = os.open("/", os.O_RDONLY)
+    started = subprocess.Popen([ZSCHED], stdin=folder, stdout=subprocess.PIPE, stderr=subprocess.PIPE)
+    os.close(folder)
+    count.test("a folder as input", ending(started), (3, b"", b"zsched: read failed\n"))
+
+
+def input_never_ends(count):
+    """Spaces without end: reading stops just past the greatest length."""
+    spaces = subprocess.Popen(["sh", "-c", "yes '                ' | tr -d '\\n'"], stdout=subprocess.PIPE)
+    started = subprocess.Popen([ZSCHED], stdin=spaces.stdout, stdout=subprocess.PIPE, stderr=subprocess.PIPE)
+    spaces.stdout.close()
+    wanted = (2, b"", b"zsched: plan is longer than 16777216 bytes\n")
+    count.test("spaces without end", ending(started), wanted)
+    spaces.wait(timeout=PATIENCE)
+
+
+def input_comes_slowly(count):
+    """One byte at a time, while the program is stopped and continued."""
+    started = subprocess.Popen([ZSCHED], stdin=subprocess.PIPE, stdout=subprocess.PIPE, stderr=subprocess.PIPE)
+    for place in range(len(ONE_JOB)):
+        os.write(started.stdin.fileno(), ONE_JOB[place:place + 1])
+        if place % 10 == 0:
+            started.send_signal(signal.SIGSTOP)
+            time.sleep(0.001)
+            started.send_signal(signal.SIGCONT)
+        time.sleep(0.001)
+    count.test("one byte at a time", ending(started), (0, ONE_REPORT, b""))
+
+
+def output_is_read_slowly(count):
+    """A report that doesn't fit into the pipe, and a reader that begins late."""
+    text, report = equal_jobs(LONG_NAMES, 2, 100)
+    started = subprocess.Popen([ZSCHED], stdin=subprocess.PIPE, stdout=subprocess.PIPE, stderr=subprocess.PIPE)
+    feeder = threading.Thread(target=lambda: (started.stdin.write(text), started.stdin.close()))
+    feeder.start()
+    time.sleep(0.5)
+    output = started.stdout.read()
+    feeder.join()
+    errors = started.stderr.read()
+    count.test("a reader that begins late", (started.wait(timeout=PATIENCE), output, errors), (0, report, b""))
+    started.stdout.close()
+    started.stderr.close()
+
+
+def arguments_are_ignored(count):
+    """Arguments of any kind, one that is no text among them."""
+    for argument in ["--help", "-", "", b"\xff"]:
+        started = subprocess.Popen(
+            [ZSCHED, argument], stdin=subprocess.PIPE, stdout=subprocess.PIPE, stderr=subprocess.PIPE)
+        started.stdin.write(ONE_JOB)
+        count.test(f"the argument {argument}", ending(started), (0, ONE_REPORT, b""))
+
+
+def memory_is_short(count):
+    """A plan that needs more memory than there is: out of memory, and nothing written."""
+    text = (b'{"horizon":100000,"jobs":[{"name":"a","mode":"repeat","schedule":"forever.collectAll.collectAll",'
+            b'"script":[{"ms":1,"ok":0}]}]}')
+    started = subprocess.Popen([ZSCHED], stdin=subprocess.PIPE, stdout=subprocess.PIPE, stderr=subprocess.PIPE,
+                               preexec_fn=lambda: resource.setrlimit(resource.RLIMIT_AS, (SHORT_MEMORY, SHORT_MEMORY)))
+    started.stdin.write(text)
+    count.test("a plan too large for memory", ending(started, 60), (4, b"", b"zsched: out of memory\n"))
+
+
+def test(count, folder):
+    """All tests of this file."""
+    output_is_full(count)
+    errors_are_full(count)
+    pipe_is_closed(count)
+    reader_takes_ten_bytes(count)
+    file_is_limited(count, folder)
+    input_is_a_folder(count)
+    input_never_ends(count)
+    input_comes_slowly(count)
+    output_is_read_slowly(count)
+    arguments_are_ignored(count)
+    memory_is_short(count)

@@ -1,0 +1,133 @@
+/* A library that is loaded before a program and refuses some of what the program asks the system for. It prints nothing.
+ *
+ * REFUSE_AT=N        the N-th request for memory is answered with none; all threads count together
+ * REFUSE_FROM=N      the N-th request and all later ones
+ * REFUSE_THREADS=1   no thread can be started
+ * REFUSE_COUNT=FILE  the number of requests is written to FILE when the program ends
+ *
+ * It stands on the names by which the GNU C library passes its own allocator on.
+ */
+#define _GNU_SOURCE
+#include <dlfcn.h>
+#include <errno.h>
+#include <fcntl.h>
+#include <limits.h>
+#include <pthread.h>
+#include <stdatomic.h>
+#include <stddef.h>
+#include <stdint.h>
+#include <stdio.h>
+#include <stdlib.h>
+#include <sys/syscall.h>
+#include <unistd.h>
+
+extern void *__libc_malloc(size_t);
+extern void *__libc_calloc(size_t, size_t);
+extern void *__libc_realloc(void *, size_t);
+extern void *__libc_memalign(size_t, size_t);
+
+static atomic_ulong requests;
+static unsigned long refused_at = ULONG_MAX;
+static unsigned long refused_from = ULONG_MAX;
+static int refuses_threads;
+static const char *count_file;
+
+static unsigned long number_in(const char *name)
+{
+    const char *text = getenv(name);
+    return text ? strtoul(text, NULL, 10) : ULONG_MAX;
+}
+
+__attribute__((constructor)) static void begin(void)
+{
+    refused_at = number_in("REFUSE_AT");
+    refused_from = number_in("REFUSE_FROM");
+    refuses_threads = getenv("REFUSE_THREADS") != NULL;
+    count_file = getenv("REFUSE_COUNT");
+    atomic_store(&requests, 0);
+}
+
+__attribute__((destructor)) static void end(void)
+{
+    char digits[32];
+    int length = snprintf(digits, sizeof digits, "%lu\n", atomic_load(&requests));
+    int file = count_file ? open(count_file, O_WRONLY | O_CREAT | O_TRUNC, 0600) : -1;
+    if (file >= 0) {
+        if (write(file, digits, (size_t)length) != length)
+            unlink(count_file);
+        close(file);
+    }
+}
+
+/* A program of several threads ends by this call, which runs no destructor. */
+void _exit(int status)
+{
+    end();
+    for (;;)
+        syscall(SYS_exit_group, status);
+}
+
+/* Counts one request, and tells whether it is refused. */
+static int is_refused(void)
+{
+    unsigned long number = atomic_fetch_add(&requests, 1) + 1;
+    if (number != refused_at && number < refused_from)
+        return 0;
+    errno = ENOMEM;
+    return 1;
+}
+
+void *malloc(size_t size)
+{
+    return is_refused() ? NULL : __libc_malloc(size);
+}
+
+void *calloc(size_t count, size_t size)
+{
+    return is_refused() ? NULL : __libc_calloc(count, size);
+}
+
+void *realloc(void *place, size_t size)
+{
+    return is_refused() ? NULL : __libc_realloc(place, size);
+}
+
+void *reallocarray(void *place, size_t count, size_t size)
+{
+    size_t bytes;
+    if (__builtin_mul_overflow(count, size, &bytes)) {
+        errno = ENOMEM;
+        return NULL;
+    }
+    return realloc(place, bytes);
+}
+
+void *memalign(size_t alignment, size_t size)
+{
+    return is_refused() ? NULL : __libc_memalign(alignment, size);
+}
+
+void *aligned_alloc(size_t alignment, size_t size)
+{
+    return memalign(alignment, size);
+}
+
+int posix_memalign(void **place, size_t alignment, size_t size)
+{
+    void *found = memalign(alignment, size);
+    if (!found)
+        return ENOMEM;
+    *place = found;
+    return 0;
+}
+
+int pthread_create(pthread_t *thread, const pthread_attr_t *attributes, void *(*body)(void *), void *argument)
+{
+    typedef int starts(pthread_t *, const pthread_attr_t *, void *(*)(void *), void *);
+    static starts *_Atomic next;
+    if (refuses_threads)
+        return EAGAIN;
+    if (!next)
+        next = (starts *)dlsym(RTLD_NEXT, "pthread_create");
+    return next(thread, attributes, body, argument);
+}
