@@ -48,8 +48,7 @@ module _ {T : Type 0} where
   puts n pass v x whole items views room b at =
       let w : Claims T = claims v.share (v.batches ++ x ∷ []) v.taken in
       let mine : Fits b.batches v = every_get (Fits b.batches) views pass v at b.each in
-      let now = b.batches ++ x ∷ [] in let alone = b.shares ∙ sym whole in
-      (
+      let now = b.batches ++ x ∷ [] in let alone = b.shares ∙ sym whole in (
         w,
         record {
           batches = now;
@@ -75,8 +74,7 @@ module _ {T : Type 0} where
       let front = drop_front b.batches k x items b.left in
       let all = range_with_len 0 k in let r = gathered (λ u. u.taken) views pass v at in
       let below : All (λ j. j < k) all = λ i d lt. let e = get_or-range_with_len 0 k i d (omega (arith, length-range_with_len 0 k)) in omega (arith, e, length-range_with_len 0 k) in
-      let moved = IsPermutation-trans all (flat_map (λ u. u.taken) views) (v.taken ++ r.rest) b.taken r.was in
-      (
+      let moved = IsPermutation-trans all (flat_map (λ u. u.taken) views) (v.taken ++ r.rest) b.taken r.was in (
         w,
         record {
           batches = b.batches;
@@ -148,8 +146,7 @@ module _ {T : Type 0} where
   drained v w x left new all whole took more was =
       let k = took.0 in let is = took.1 in let here : k ≡ length v.taken = took.4 whole in
       let rest : drop (length v.taken) v.batches ≡ x ∷ drop (suc k) v.batches = ap (λ n. drop n v.batches) (sym here) ∙ drop_get v.batches k x took.2 in
-      let count : length w.taken ≡ suc k = ap (λ u. length u.taken) is ∙ omega (arith, length-append v.taken (k ∷ [])) in
-      (
+      let count : length w.taken ≡ suc k = ap (λ u. length u.taken) is ∙ omega (arith, length-append v.taken (k ∷ [])) in (
         ap (λ u. u.share) is ∙ whole,
         (λ i. more i ++ drop (count i) ((ap (λ u. u.batches) is) i)) ∙ append_assoc left (x ∷ []) (drop (suc k) v.batches) ∙ ap (λ l. left ++ l) (sym rest) ∙ was,
       )

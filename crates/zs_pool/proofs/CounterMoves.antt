@@ -45,8 +45,7 @@ moves slots id me k f w then wraps more same idle sees told s run homes at fits 
     let word : f n ≡ total (set views id u) % 2 ^ 64 = ap f found ∙ wraps (total views) ∙ ap (λ t. t % 2 ^ 64) (sym now) in
     let seen : u.seen ≤ total views + k = sees n (total views + k) (omega arith) (let h = mine.0 in omega arith) in
     let none : v.share ≡ 0 → v.count ≡ 0 = mine.1 in
-    let sound : Sound (total views + k) u = (seen, λ z. let e : v.share ≡ 0 = omega arith in omega (arith, none e, idle e)) in
-    (
+    let sound : Sound (total views + k) u = (seen, λ z. let e : v.share ≡ 0 = omega arith in omega (arith, none e, idle e)) in (
       u,
       keeps,
       tt,

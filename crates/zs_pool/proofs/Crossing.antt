@@ -169,17 +169,16 @@ shelf_sync = shelf_shared (shelf_fields polled_send)
 pub captured_send : (ν : Sym) (A B C D E F G H : RattleType) → IsSend A → IsSend B → IsSend C → IsSend D → IsSend E → IsSend F → IsSend G → IsSend H
     → IsSend (TupleAt ν (A ∷ B ∷ C ∷ D ∷ E ∷ F ∷ G ∷ H ∷ []))
 captured_send ν A B C D E F G H a b c d e f g h =
-    declared_send (type_at ν (A ∷ B ∷ C ∷ D ∷ E ∷ F ∷ G ∷ H ∷ []))
+    declared_send (type_at ν (A ∷ B ∷ C ∷ D ∷ E ∷ F ∷ G ∷ H ∷ [])) (
+      as_row_send (row_field A) a,
+      (
+        as_row_send (row_field B) b,
         (
-          as_row_send (row_field A) a,
-          (
-            as_row_send (row_field B) b,
-            (
-              as_row_send (row_field C) c,
-              (as_row_send (row_field D) d, (as_row_send (row_field E) e, (as_row_send (row_field F) f, (as_row_send (row_field G) g, (as_row_send (row_field H) h, tt))))),
-            ),
-          ),
-        )
+          as_row_send (row_field C) c,
+          (as_row_send (row_field D) d, (as_row_send (row_field E) e, (as_row_send (row_field F) f, (as_row_send (row_field G) g, (as_row_send (row_field H) h, tt))))),
+        ),
+      ),
+    )
 
 -- a reference that is captured
 pub reference_send : (l : NamedLft) (R : RattleType) (one : One R.mir) → IsSync R → IsSend (as_row (shr_ref_field l R one))

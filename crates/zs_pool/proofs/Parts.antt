@@ -99,7 +99,7 @@ joins_more now board shelf tally first before all was rest w r u next kept more 
       left = ap (λ s. s.allowance) seat;
     } in
     let H : ℕ × List BatchValue × ℕ → Type 0 = λ y.
-      IfOk more (λ ps. Serves y.0 y.1 u.pass.taken (u.hand.put ++ ps.items) × (u.pass.none ≡ true) × (u.seat.count ≡ y.2 + sizes y.1 u.pass.taken) × (u.seat.allowance + sizes y.1 u.pass.taken ≡ v.seat.allowance))
+    IfOk more (λ ps. Serves y.0 y.1 u.pass.taken (u.hand.put ++ ps.items) × (u.pass.none ≡ true) × (u.seat.count ≡ y.2 + sizes y.1 u.pass.taken) × (u.seat.allowance + sizes y.1 u.pass.taken ≡ v.seat.allowance))
     in
     let theirs : H (now, bs, 0) = subst H (λ i. (mine.0 i, fresh.new.0 i, fresh.count i)) told.1 in
     let none : r.hand.taken ++ u.hand.taken ≡ r.hand.taken = ap (λ l. r.hand.taken ++ l) (same.4 ∙ fresh.new.4) ∙ append-nil r.hand.taken in

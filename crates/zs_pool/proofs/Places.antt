@@ -98,20 +98,20 @@ slotted_more now bs slots new p was rest e written among h =
     subst W (sym written) (
       omega (arith, length-set slots p.number (Some p), h.0),
       λ k b at.
-        ⊎_elim
-        (λ (same : k ≡ p.number).
+          ⊎_elim
+          (λ (same : k ≡ p.number).
           let B : ℕ → Type 0 = λ j. slice_get bs j ≡ Some b in
           let there : slice_get bs p.number ≡ Some b = subst B same at in
           let is : at_p ≡ b = cc in
           let Q : BatchValue → Type 0 = λ x. IsPollOf now x p in
           let G : ℕ → Type 0 = λ j. slice_get (set slots p.number (Some p)) j ≡ Some (Some p) in
           inl (Some p, subst G (sym same) (get_set slots p.number (Some p) below), (p, refl, subst Q is among.2)))
-        (λ (other : k ≢ p.number).
+          (λ (other : k ≢ p.number).
           ⊎_elim
           (λ (have : (o : Option PolledValue) × (slice_get slots k ≡ Some o) × HasPoll now b o). inl (have.0, get_else slots p.number k (Some p) other ∙ have.1, have.2))
           (λ (later : Has (p.number ∷ numbers_of rest) k). inr (⊎_elim (λ (x : p.number ≡ k). absurd (other (sym x))) (λ (y : Has (numbers_of rest) k). y) later))
           (was_so k b at))
-        (same_or_not k p.number),
+          (same_or_not k p.number),
     )
 
 pub slotted_all : (now : ℕ) (bs : List BatchValue) (slots : List (Option PolledValue)) (rest : List PolledValue) → length rest ≡ 0 → Slotted now bs slots rest → AllZip (HasPoll now) bs slots
@@ -153,12 +153,11 @@ next_goes now all done new [] p rest h was told = absurd h
 next_goes now all done new (b ∷ bs) p rest h was told =
     let q = h.0.0 in let same : q ≡ p = let e = h.0.1 in cc in
     let Q : PolledValue → Type 0 = λ m. IsPollOf now b m in
-    let poll : IsPollOf now b p = subst Q same h.0.2 in
-    (
+    let poll : IsPollOf now b p = subst Q same h.0.2 in (
       bs,
       h.1,
       ap (λ l. l ++ map (polled_at now) (tasks_of bs)) (told b.tasks poll.tasks) ∙ append_assoc done (map (polled_at now) b.tasks) (map (polled_at now) (tasks_of bs))
-      ∙ ap (λ l. done ++ l) (sym (map-append (polled_at now) b.tasks (tasks_of bs))) ∙ was,
+          ∙ ap (λ l. done ++ l) (sym (map-append (polled_at now) b.tasks (tasks_of bs))) ∙ was,
     )
 
 pub goes_on : (now : ℕ) (all : List BatchValue) (done new : List TaskValue) (slots rest : List (Option PolledValue)) (p : PolledValue) → slots ≡ Some p ∷ rest → ((ts : List TaskValue) → AllZip (IsPolled now) ts p.tasks → new ≡ done ++ map (polled_at now) ts) → Goes now all done slots → Goes now all new rest

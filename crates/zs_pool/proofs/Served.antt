@@ -64,10 +64,9 @@ serves_more now bs taken taken' k b m put kept put' kept' there is poll moved h 
     let old = put ++ kept in let more = old ++ m ∷ [] in
     let one = IsPermutation-append_left (b.number ∷ []) taken (numbers_of old) h.1 in
     let two : IsPermutation taken' (numbers_of more) =
-        let P : List ℕ × List ℕ → Type 0 = λ y. IsPermutation y.0 y.1 in
-        subst P (λ i. (sym is i, ((λ j. numbers_of old ++ sym poll.number j ∷ []) ∙ sym (map-append (λ x. x.number) old (m ∷ []))) i)) one
-    in
-    (
+    let P : List ℕ × List ℕ → Type 0 = λ y. IsPermutation y.0 y.1 in
+    subst P (λ i. (sym is i, ((λ j. numbers_of old ++ sym poll.number j ∷ []) ∙ sym (map-append (λ x. x.number) old (m ∷ []))) i)) one
+    in (
       All-permutation (IsPollAmong now bs) more (put' ++ kept') moved (All-push (IsPollAmong now bs) old m h.0 among),
       IsPermutation-trans taken' (numbers_of more) (numbers_of (put' ++ kept')) two (IsPermutation-map (λ x. x.number) more (put' ++ kept') moved),
     )
@@ -91,18 +90,17 @@ pub serves_both : (now : ℕ) (bs : List BatchValue) (t u : List ℕ) (p k q l :
 serves_both now bs t u p k q l one two =
     let mixed = (p ++ k) ++ (q ++ l) in let want = (p ++ q) ++ (k ++ l) in
     let inner : IsPermutation (k ++ (q ++ l)) (q ++ (k ++ l)) =
-        let P : List PolledValue × List PolledValue → Type 0 = λ y. IsPermutation y.0 y.1 in
-        subst P (λ i. (append_assoc k q l i, append_assoc q k l i)) (IsPermutation-append_left l (k ++ q) (q ++ k) (IsPermutation-append_comm k q))
+    let P : List PolledValue × List PolledValue → Type 0 = λ y. IsPermutation y.0 y.1 in
+    subst P (λ i. (append_assoc k q l i, append_assoc q k l i)) (IsPermutation-append_left l (k ++ q) (q ++ k) (IsPermutation-append_comm k q))
     in
     let moved : IsPermutation mixed want =
-        let P : List PolledValue × List PolledValue → Type 0 = λ y. IsPermutation y.0 y.1 in
-        subst P (λ i. (sym (append_assoc p k (q ++ l)) i, sym (append_assoc p q (k ++ l)) i)) (IsPermutation-append_right p (k ++ (q ++ l)) (q ++ (k ++ l)) inner)
+    let P : List PolledValue × List PolledValue → Type 0 = λ y. IsPermutation y.0 y.1 in
+    subst P (λ i. (sym (append_assoc p k (q ++ l)) i, sym (append_assoc p q (k ++ l)) i)) (IsPermutation-append_right p (k ++ (q ++ l)) (q ++ (k ++ l)) inner)
     in
     let numbers : IsPermutation (t ++ u) (numbers_of mixed) =
-        let P : List ℕ → Type 0 = λ y. IsPermutation (t ++ u) y in
-        subst P (sym (map-append (λ m. m.number) (p ++ k) (q ++ l))) (IsPermutation-append t (numbers_of (p ++ k)) u (numbers_of (q ++ l)) one.1 two.1)
-    in
-    (
+    let P : List ℕ → Type 0 = λ y. IsPermutation (t ++ u) y in
+    subst P (sym (map-append (λ m. m.number) (p ++ k) (q ++ l))) (IsPermutation-append t (numbers_of (p ++ k)) u (numbers_of (q ++ l)) one.1 two.1)
+    in (
       All-permutation (IsPollAmong now bs) mixed want moved (All-append (IsPollAmong now bs) (p ++ k) (q ++ l) one.0 two.0),
       IsPermutation-trans (t ++ u) (numbers_of mixed) (numbers_of want) numbers (IsPermutation-map (λ m. m.number) mixed want moved),
     )
@@ -115,8 +113,7 @@ pub collected : (now : ℕ) (bs : List BatchValue) (taken : List ℕ) (put kept 
     → All (IsPollAmong now bs) ((got ++ left) ++ kept) × IsPermutation (range_with_len 0 (length bs)) (numbers_of ((got ++ left) ++ kept))
 collected now bs taken put kept got left whole moved served =
     let all = IsPermutation-append_left kept put (got ++ left) moved in
-    let numbers = IsPermutation-map (λ m. m.number) (put ++ kept) ((got ++ left) ++ kept) all in
-    (
+    let numbers = IsPermutation-map (λ m. m.number) (put ++ kept) ((got ++ left) ++ kept) all in (
       All-permutation (IsPollAmong now bs) (put ++ kept) ((got ++ left) ++ kept) all served.0,
       IsPermutation-trans (range_with_len 0 (length bs)) taken (numbers_of ((got ++ left) ++ kept)) whole (IsPermutation-trans taken (numbers_of (put ++ kept)) (numbers_of ((got ++ left) ++ kept)) served.1 numbers),
     )

@@ -31,9 +31,8 @@ module _ {T : Type 0} where
       let more = grown (λ u. u.put) p views pass v w x at refl (IsPermutation-refl p) in
       let same = kept (λ u. u.taken) t views pass v w at refl (IsPermutation-refl t) in
       let was : IsPermutation (p ++ x ∷ []) (t ++ (items ++ x ∷ [])) =
-          let P : List T → Type 0 = λ l. IsPermutation (p ++ x ∷ []) l in subst P (append_assoc t items (x ∷ [])) (IsPermutation-append_left (x ∷ []) p (t ++ items) b.moved)
-      in
-      (
+      let P : List T → Type 0 = λ l. IsPermutation (p ++ x ∷ []) l in subst P (append_assoc t items (x ∷ [])) (IsPermutation-append_left (x ∷ []) p (t ++ items) b.moved)
+      in (
         w,
         record {
           moved = moves (p ++ x ∷ []) (flat_map (λ u. u.put) vs) t (flat_map (λ u. u.taken) vs) (items ++ x ∷ []) (items ++ x ∷ []) (IsPermutation-sym (p ++ x ∷ []) (flat_map (λ u. u.put) vs) more) same was refl;
@@ -49,8 +48,7 @@ module _ {T : Type 0} where
       let p = flat_map (λ u. u.put) views in let t = flat_map (λ u. u.taken) views in
       let same = kept (λ u. u.put) p views pass v w at refl (IsPermutation-refl p) in
       let more = grown (λ u. u.taken) t views pass v w x at refl (IsPermutation-refl t) in
-      let was : IsPermutation p ((t ++ x ∷ []) ++ items) = let P : List T → Type 0 = λ l. IsPermutation p l in subst P (sym (append_assoc t (x ∷ []) items)) b.moved in
-      (
+      let was : IsPermutation p ((t ++ x ∷ []) ++ items) = let P : List T → Type 0 = λ l. IsPermutation p l in subst P (sym (append_assoc t (x ∷ []) items)) b.moved in (
         w,
         record {
           moved = moves p (flat_map (λ u. u.put) vs) (t ++ x ∷ []) (flat_map (λ u. u.taken) vs) items items (IsPermutation-sym p (flat_map (λ u. u.put) vs) same) more was refl;

@@ -43,8 +43,7 @@ counts slots id me some_left s run same at fits =
     let mine : v.seen ≤ total = every_get (λ u. u.seen ≤ total) views id v at run.each in
     let more : sum_by (λ u. u.count) (set views id w) ≡ total + 1 = omega arith in
     let W : List ℕ → Type 0 = λ ws. set ws 0 ((slice_index ws 0 + 1) % 2 ^ 64) ≡ sum_by (λ u. u.count) (set views id w) ∷ [] in
-    let wraps : (total + 1) % 2 ^ 64 ≡ total + 1 = mod-eq_of_lt (omega (arith, run.whole)) in
-    (
+    let wraps : (total + 1) % 2 ^ 64 ≡ total + 1 = mod-eq_of_lt (omega (arith, run.whole)) in (
       w,
       keeps,
       tt,
@@ -65,8 +64,7 @@ sees slots id me s run same at fits =
     let a = total_set (λ u. u.allowance) views id v w at in
     let has = total_has (λ u. u.count) views id v at in let has_left = total_has (λ u. u.allowance) views id v at in
     let mine : v.seen ≤ total = every_get (λ u. u.seen ≤ total) views id v at run.each in
-    let still : sum_by (λ u. u.count) (set views id w) ≡ total = omega arith in
-    (
+    let still : sum_by (λ u. u.count) (set views id w) ≡ total = omega arith in (
       w,
       keeps,
       tt,
@@ -96,8 +94,7 @@ keeping slots id me f w then still same_count same_left same_seen told s run sam
     let a = total_set (λ u. u.allowance) views id v w at in
     let has_left = total_has (λ u. u.allowance) views id v at in
     let mine : v.seen ≤ total = every_get (λ u. u.seen ≤ total) views id v at run.each in
-    let now : sum_by (λ u. u.count) (set views id w) ≡ total = omega arith in
-    (
+    let now : sum_by (λ u. u.count) (set views id w) ≡ total = omega arith in (
       w,
       keeps,
       tt,

@@ -144,7 +144,7 @@ module _ {V : Type 0} where
         let four = IsPermutation-trans base (g w ++ (g v ++ s.rest)) (g v ++ (g w ++ s.rest)) three (aside (g w) (g v) s.rest) in
         let B : List A → Type 0 = λ l. IsPermutation l (flat_map g (set less pass both)) in
         let five : IsPermutation (g v ++ (g w ++ s.rest)) (flat_map g (set less pass both)) =
-            subst B ((λ i. joined i ++ s.rest) ∙ append_assoc (g v) (g w) s.rest) (s.becomes both) in
+        subst B ((λ i. joined i ++ s.rest) ∙ append_assoc (g v) (g w) s.rest) (s.becomes both) in
         let F : List V → Type 0 = λ vs. IsPermutation base (flat_map g vs) in
         subst F (sym (set_swap views pass other both spent apart)) (IsPermutation-trans base (g v ++ (g w ++ s.rest)) (flat_map g (set less pass both)) four five)
 

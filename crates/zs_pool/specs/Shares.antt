@@ -63,9 +63,9 @@ IsSame r after =
 abbrev pub HasServed : ℕ → Rights → Rights → Kept → Type 0
 HasServed now r after kept =
     IfOk kept
-        (λ ps.
-          Serves now r.pass.batches after.pass.taken (after.hand.put ++ ps.items) × (after.pass.none ≡ true)
-          × (after.seat.count ≡ r.seat.count + sizes r.pass.batches after.pass.taken) × (after.seat.allowance + sizes r.pass.batches after.pass.taken ≡ r.seat.allowance))
+    (λ ps.
+    Serves now r.pass.batches after.pass.taken (after.hand.put ++ ps.items) × (after.pass.none ≡ true)
+    × (after.seat.count ≡ r.seat.count + sizes r.pass.batches after.pass.taken) × (after.seat.allowance + sizes r.pass.batches after.pass.taken ≡ r.seat.allowance))
 
 -- n times t
 abbrev pub rooms : ℕ → ℕ → ℕ

@@ -71,4 +71,3 @@ impl Join<Count> for Halves {
 
     ghost spent = { counted 0 0 0 };
 }
-

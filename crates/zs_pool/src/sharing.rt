@@ -34,13 +34,7 @@ use std::thread::{Scope, Threads};
 const TRIES: u64 = 1000;
 
 // Takes messages from the shelf until all are there, or too many tries found it empty.
-fn collect<R: Wait>(
-    rt: &R,
-    shelf: &Shelf,
-    hand: &mut ShelfPass,
-    size: usize,
-    got: &mut Vec<Polled>,
-)
+fn collect<R: Wait>(rt: &R, shelf: &Shelf, hand: &mut ShelfPass, size: usize, got: &mut Vec<Polled>)
     requires shelf { hand.old.shelf ≡ shelf.now }
     requires got { hand.old.taken ≡ got.old.items }
     requires room { (length got.old.items ≤ size) × (size ≤ vec_capacity got.old) }

@@ -34,11 +34,7 @@ impl Model for Shelf {
 
 impl Shelf {
     /// A shelf with room for 1 to 10,000 batches, and its first pass. Want of memory is the only fault.
-    pub fn new<R>(
-        _rt: &R,
-        alloc: Global,
-        capacity: u64,
-    ) -> Result<(Shelf, ShelfPass), PoolFault>
+    pub fn new<R>(_rt: &R, alloc: Global, capacity: u64) -> Result<(Shelf, ShelfPass), PoolFault>
         requires capacity { (1 ≤ capacity) × (capacity ≤ 10000) }
         ensures ok { IfOk result (λ r. r.1 ≡ shelver r.0 max_moment [] []) }
         ensures memory { IfErr result (λ e. e ≡ Memory) }

@@ -21,8 +21,7 @@ loop-batch-preserved g c =
     let rest : List BatchValue = into_iter_items c.next.new.self in
     let same = c.in-Ok.ensures.queue in
     let told = c.in-Ok.ensures.rule in
-    let next = λ (v : Claims BatchValue). claims v.share (v.batches ++ b ∷ []) v.taken in
-    (
+    let next = λ (v : Claims BatchValue). claims v.share (v.batches ++ b ∷ []) v.taken in (
       (same.0 ∙ c.loop-batch.invariant.0.0, same.2 ∙ c.loop-batch.invariant.0.1),
       (
         put ++ b ∷ [],

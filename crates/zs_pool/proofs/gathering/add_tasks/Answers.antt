@@ -12,7 +12,7 @@ not_both false e h = cc
 pub returns-clause-tasks : goal.returns-clause-tasks
 returns-clause-tasks c =
     λ ts polls.
-      let sound : (k : ℕ) (t : TaskValue) → slice_get c.args.message.tasks k ≡ Some t → t.broken ≢ true =
-          λ k t at is. not_both c.broken.result c.if-broken.false (c.broken.ensures.value.1 (k, t, at, is))
-      in
-      c.in_ok-append.ensures.items ∙ ap (λ l. c.args.all.now.items ++ l) (ap (λ m. m.tasks) c.message.view_is ∙ sound_polls c.args.now ts c.args.message.tasks polls sound)
+    let sound : (k : ℕ) (t : TaskValue) → slice_get c.args.message.tasks k ≡ Some t → t.broken ≢ true =
+    λ k t at is. not_both c.broken.result c.if-broken.false (c.broken.ensures.value.1 (k, t, at, is))
+    in
+    c.in_ok-append.ensures.items ∙ ap (λ l. c.args.all.now.items ++ l) (ap (λ m. m.tasks) c.message.view_is ∙ sound_polls c.args.now ts c.args.message.tasks polls sound)

@@ -13,8 +13,7 @@ pub loop-message-init : goal.loop-message-init
 loop-message-init c =
     let rest : into_iter_items c.into_iter-message-iterator.result ≡ c.args.messages.items = c.into_iter-message-iterator.ensures.into_iter_gives.0 in
     let bs = c.args.batches.now.value.items in let P : List PolledValue → Type 0 = λ l. All (IsPollAmong c.args.now bs) l in
-    let N : List PolledValue → Type 0 = λ l. IsPermutation (range_with_len 0 c.args.count) (numbers_of l) in
-    (
+    let N : List PolledValue → Type 0 = λ l. IsPermutation (range_with_len 0 c.args.count) (numbers_of l) in (
       slotted_none c.args.now c.args.count bs c.in_ok-slots.slots.items (into_iter_items c.into_iter-message-iterator.result) c.requires.count c.in_ok-slots.ensures.count (subst N (sym rest) c.requires.whole),
       subst P (sym rest) c.requires.each,
     )
@@ -31,8 +30,7 @@ loop-message-preserved c =
     let step = c.in-Some.ensures.steps.0 in let bs = c.args.batches.now.value.items in let p : PolledValue = c.in-Some.message in
     let rest : List PolledValue = into_iter_items c.next.new.self in
     let P : List PolledValue → Type 0 = λ l. All (IsPollAmong c.args.now bs) l in
-    let all : All (IsPollAmong c.args.now bs) (p ∷ rest) = subst P step c.loop-message.invariant.1 in
-    (
+    let all : All (IsPollAmong c.args.now bs) (p ∷ rest) = subst P step c.loop-message.invariant.1 in (
       slotted_more c.args.now bs c.loop-message.slots.items c.put.new.slots.items p (into_iter_items c.loop-message.message-iterator) rest step c.put.ensures.put (All-head (IsPollAmong c.args.now bs) p rest all) c.loop-message.invariant.0,
       All-tail (IsPollAmong c.args.now bs) p rest all,
     )

@@ -21,8 +21,7 @@ loop-task-preserved g c =
     let same = c.loop-task.invariant.1 i d (omega arith) in
     let P : TaskValue → Type 0 = λ t. IsPolled c.args.now t c.poll_at.new.task in
     let here : P (get_or c.args.tasks.now i d) = subst P same c.poll_at.ensures.polled in
-    let counted = c.count.ensures.counted in let seen = c.seen-done.ensures.kept in
-    (
+    let counted = c.count.ensures.counted in let seen = c.seen-done.ensures.kept in (
       zip_write (IsPolled c.args.now) c.args.tasks.now c.loop-task.tasks i d c.poll_at.new.task (omega arith) (omega arith) c.loop-task.invariant.0 here,
       (λ k e past. let ne : k ≢ i = omega arith in get_or-set_other c.loop-task.tasks i k c.poll_at.new.task e ne ∙ c.loop-task.invariant.1 k e (omega arith)),
       ap (λ s. s.tally) counted,
@@ -33,7 +32,7 @@ loop-task-preserved g c =
 pub returns : goal.returns
 returns g c =
     let whole : AllZip (IsPolled c.args.now) c.args.tasks.now c.loop-task.tasks =
-        zip_whole (IsPolled c.args.now) c.args.tasks.now c.loop-task.tasks c.loop-task.task-index (omega arith) (omega arith) c.loop-task.invariant.0
+    zip_whole (IsPolled c.args.now) c.args.tasks.now c.loop-task.tasks c.loop-task.task-index (omega arith) (omega arith) c.loop-task.invariant.0
     in
     let end : c.loop-task.task-index ≡ length c.args.tasks.now = omega arith in
     record {

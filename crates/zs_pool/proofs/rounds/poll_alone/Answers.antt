@@ -12,6 +12,6 @@ not_both false e h = cc
 pub returns-clause-tasks : goal.returns-clause-tasks
 returns-clause-tasks g c =
     let sound : (k : ℕ) (t : TaskValue) → slice_get c.in_ok-message.message.tasks k ≡ Some t → t.broken ≢ true =
-        λ k t at is. not_both c.broken.result c.if-broken.false (c.broken.ensures.value.1 (k, t, at, is))
+    λ k t at is. not_both c.broken.result c.if-broken.false (c.broken.ensures.value.1 (k, t, at, is))
     in
     ap (λ m. m.tasks) c.message.view_is ∙ sound_polls c.args.now c.args.tasks.items c.in_ok-message.message.tasks c.in_ok-message.ensures.polled.tasks sound

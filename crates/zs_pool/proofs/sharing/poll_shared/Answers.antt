@@ -18,8 +18,8 @@ pub returns-clause-each : goal.returns-clause-each
 returns-clause-each g c =
     let w = c.in_ok-collected.ensures.1.0 in let r = c.in_ok-collected.collected.rights in let bs = c.args.batches.items in
     let e =
-        ended c.args.now _ _ _ c.in_ok-board.pass.batches bs _ _ r c.in_ok-collected.collected.kept c.in_ok-collected.collected.got.items c.in_ok-left.left.items c.in_ok-kept.kept w (ap (λ p. p.batches) c.in_ok-board.ensures.ok) c.in_ok-kept.was c.in_ok-close.ensures.taken.0 c.in_ok-close.ensures.all
-            c.in_ok-left.ensures.left
+    ended c.args.now _ _ _ c.in_ok-board.pass.batches bs _ _ r c.in_ok-collected.collected.kept c.in_ok-collected.collected.got.items c.in_ok-left.left.items c.in_ok-kept.kept w (ap (λ p. p.batches) c.in_ok-board.ensures.ok) c.in_ok-kept.was c.in_ok-close.ensures.taken.0 c.in_ok-close.ensures.all
+    c.in_ok-left.ensures.left
     in
     if_ok (λ ms. All (IsPollAmong c.args.now bs) ms) c.together.result _ c.together.ensures.ok e.each
 
@@ -27,8 +27,8 @@ pub returns-clause-whole : goal.returns-clause-whole
 returns-clause-whole g c =
     let w = c.in_ok-collected.ensures.1.0 in let r = c.in_ok-collected.collected.rights in let bs = c.args.batches.items in
     let e =
-        ended c.args.now _ _ _ c.in_ok-board.pass.batches bs _ _ r c.in_ok-collected.collected.kept c.in_ok-collected.collected.got.items c.in_ok-left.left.items c.in_ok-kept.kept w (ap (λ p. p.batches) c.in_ok-board.ensures.ok) c.in_ok-kept.was c.in_ok-close.ensures.taken.0 c.in_ok-close.ensures.all
-            c.in_ok-left.ensures.left
+    ended c.args.now _ _ _ c.in_ok-board.pass.batches bs _ _ r c.in_ok-collected.collected.kept c.in_ok-collected.collected.got.items c.in_ok-left.left.items c.in_ok-kept.kept w (ap (λ p. p.batches) c.in_ok-board.ensures.ok) c.in_ok-kept.was c.in_ok-close.ensures.taken.0 c.in_ok-close.ensures.all
+    c.in_ok-left.ensures.left
     in
     if_ok (λ ms. IsPermutation (range_with_len 0 (length bs)) (numbers_of ms)) c.together.result _ c.together.ensures.ok e.whole
 
@@ -36,15 +36,14 @@ pub returns-clause-counted : goal.returns-clause-counted
 returns-clause-counted g c =
     let w = c.in_ok-collected.ensures.1.0 in let r = c.in_ok-collected.collected.rights in let bs = c.args.batches.items in
     let e =
-        ended c.args.now _ _ _ c.in_ok-board.pass.batches bs _ _ r c.in_ok-collected.collected.kept c.in_ok-collected.collected.got.items c.in_ok-left.left.items c.in_ok-kept.kept w (ap (λ p. p.batches) c.in_ok-board.ensures.ok) c.in_ok-kept.was c.in_ok-close.ensures.taken.0 c.in_ok-close.ensures.all
-            c.in_ok-left.ensures.left
+    ended c.args.now _ _ _ c.in_ok-board.pass.batches bs _ _ r c.in_ok-collected.collected.kept c.in_ok-collected.collected.got.items c.in_ok-left.left.items c.in_ok-kept.kept w (ap (λ p. p.batches) c.in_ok-board.ensures.ok) c.in_ok-kept.was c.in_ok-close.ensures.taken.0 c.in_ok-close.ensures.all
+    c.in_ok-left.ensures.left
     in
     let mine = c.split_off.ensures.first in let lent = c.split_off.ensures.second in let back = c.absorb.ensures.joined in
-    let counts : Counts c.args.seat.now (length (tasks_of bs)) c.absorb.new.seat =
-        (
-          ap (λ s. s.tally) back ∙ search rules,
-          omega (arith, ap (λ s. s.count) back, ap (λ s. s.count) mine, ap (λ s. s.count) lent, e.count),
-          omega (arith, ap (λ s. s.allowance) back, ap (λ s. s.allowance) mine, ap (λ s. s.allowance) lent, e.left, c.left-all.ensures.value),
-        )
+    let counts : Counts c.args.seat.now (length (tasks_of bs)) c.absorb.new.seat = (
+      ap (λ s. s.tally) back ∙ search rules,
+      omega (arith, ap (λ s. s.count) back, ap (λ s. s.count) mine, ap (λ s. s.count) lent, e.count),
+      omega (arith, ap (λ s. s.allowance) back, ap (λ s. s.allowance) mine, ap (λ s. s.allowance) lent, e.left, c.left-all.ensures.value),
+    )
     in
     any_ok (Counts c.args.seat.now (length (tasks_of bs)) c.absorb.new.seat) c.together.result counts

@@ -31,8 +31,7 @@ loop-i-preserved g c =
     let less : (max_moment - i) - 1 ≡ max_moment - (i + 1) = omega arith in
     let more = c.in-Ok-push.ensures.items in
     let fresh : IsFresh board shelf tally bs own = fresh_own board shelf tally bs (max_moment - i) most _ c.loop-i.rights.pass own was.0 told.own_pass told.own_hand told.own_seat c.requires.most in
-    let A : List Worker → Type 0 = λ l. All (Promised c.args.now board shelf tally bs) l in
-    (
+    let A : List Worker → Type 0 = λ l. All (Promised c.args.now board shelf tally bs) l in (
       told.pass ∙ ap P was.0 ∙ ap (λ n. claimer board n bs [] false) less,
       told.hand ∙ ap H was.1 ∙ ap (λ n. shelver shelf n [] []) less,
       ap (λ s. s.tally) told.seat,
