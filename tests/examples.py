@@ -1,7 +1,7 @@
 #!/usr/bin/env python3
 """Runs the built program on each plan of examples/ and tests/plans/, and compares its report with the one that lies beside it.
 
-The reports were worked out from docs/SEMANTICS.md, and are never written by the program."""
+The reports were worked out by hand or by another program, and are never written by zsched."""
 import pathlib
 import subprocess
 import sys
