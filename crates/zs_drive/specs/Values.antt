@@ -3,7 +3,7 @@ use Rattle.std.specs.Prelude.{ℕ, List, Option, Some, None, string_bytes}
 use Rattle.zs_effect.specs.declared.script.Beat.{Beat}
 use Rattle.zs_effect.specs.declared.script.Outcome.{Outcome}
 use Rattle.zs_term.specs.declared.term.Term.{Term}
-use Rattle.zs_term.specs.declared.out.Out.{Out}
+use Rattle.zs_term.specs.declared.outputs.Out.{Out}
 use Rattle.zs_term.specs.Output.{output_of}
 use Rattle.zs_term.specs.Schedule.{Schedule, schedule_of}
 use Rattle.zs_step.specs.declared.decision.Decision.{Decision}

@@ -28,11 +28,11 @@ use Rattle.zs_pool.specs.contracts.shelf_rule.EachOnce as each_once
 use Rattle.zs_pool.specs.contracts.shelf_rule.EachOnceProtocolHands.TheImpl as each_once_rule
 use Rattle.zs_term.proofs.term.Term.TheLaws.TheKnot as term_knot
 use Rattle.zs_term.proofs.kind.Kind.TheLaws.TheKnot as kind_knot
-use Rattle.zs_term.proofs.out.Out.TheLaws.TheKnot as out_knot
+use Rattle.zs_term.proofs.outputs.Out.TheLaws.TheKnot as out_knot
 use Rattle.zs_step.proofs.state.State.TheLaws.TheKnot as state_knot
 use Rattle.zs_term.specs.contracts.term.Term as term
 use Rattle.zs_term.specs.contracts.kind.Kind as kind
-use Rattle.zs_term.specs.contracts.out.Out as out
+use Rattle.zs_term.specs.contracts.outputs.Out as out
 use Rattle.zs_term.specs.contracts.checked.Checked as checked
 use Rattle.zs_term.specs.contracts.checked.Checked.TheInside as checked_inside
 use Rattle.zs_step.specs.contracts.state.State as state

@@ -2,7 +2,7 @@
 use Rattle.std.proofs.Common.{◌≡◌, ℕ, ◌+◌, ◌-◌, ◌<◌, Bool, true, false, Option, Some, None, List, [], ◌∷◌, ◌++◌, length, take, drop, get_or, refl, sym, ap, ◌∙◌, append_assoc, subst, IfSome, IfNone}
 use Rattle.std.proofs.lemmas.List.{take-append-drop, drop_more, reverse-append}
 use Rattle.zs_term.specs.Output.{Output, Outputs, left, right, listed, with_last, outputs_of, output_of}
-use Rattle.zs_term.specs.declared.out.Out.{Out}
+use Rattle.zs_term.specs.declared.outputs.Out.{Out}
 use Rattle.zs_term.proofs.Values.{outputs_of-push}
 use Rattle.zs_step.specs.History.{History, history_of, earlier}
 use Rattle.zs_step.specs.declared.decision.Decision.{Decision}

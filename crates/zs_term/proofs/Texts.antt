@@ -3,7 +3,7 @@ use Rattle.std.proofs.Common.{◌≡◌, ℕ, zero, suc, List, [], ◌∷◌, �
 use Rattle.std.specs.Prelude.{codes, Result, Ok, Err, OnOk, is_ok, if◌then◌else◌}
 use Rattle.zs_term.specs.Output.{Output, Outputs, none, more, outputs_of, output_of, with_last}
 use Rattle.zs_term.specs.OutputText.{output_text, outputs_text, behind_text, comma_before}
-use Rattle.zs_term.specs.declared.out.Out.{Out}
+use Rattle.zs_term.specs.declared.outputs.Out.{Out}
 use Rattle.zs_term.proofs.Completeness.{append_nil}
 use Rattle.zs_term.proofs.Values.{outputs_of-take}
 

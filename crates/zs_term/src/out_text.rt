@@ -4,7 +4,7 @@ ghost use Rattle.std.specs.Prelude.{◌≡◌, ◌++◌, IfOk, OnOk, string_byte
 ghost use Rattle.zs_term.specs.Output.{output_of, outputs_of};
 ghost use Rattle.zs_term.specs.OutputText.{output_text, outputs_text, comma_before};
 
-use crate::out::Out;
+use crate::outputs::Out;
 use std::alloc::{AllocError, Global};
 
 /// Memory ran out.

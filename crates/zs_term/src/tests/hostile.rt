@@ -54,10 +54,10 @@ fn a_long_chain_is_too_big(rt: HostRuntime) -> Result<(), AllocError> {
 }
 
 #[test]
-fn a_megabyte_of_parentheses_is_no_term(rt: HostRuntime) -> Result<(), AllocError> {
+fn fifteen_megabytes_of_parentheses_are_no_term(rt: HostRuntime) -> Result<(), AllocError> {
     let alloc = rt.alloc();
-    let text = many(alloc, "((((((((((", 100_000)?;
+    let text = many(alloc, "((((((((((", 1_500_000)?;
     let got = answer(alloc, text.as_str())?;
-    assert!(rt; got.as_str() == "no term at byte 1000000", "{got}");
+    assert!(rt; got.as_str() == "no term at byte 15000000", "{got}");
     Ok(())
 }

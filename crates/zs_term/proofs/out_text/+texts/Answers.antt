@@ -2,7 +2,7 @@ use Rattle.std.proofs.Common.{rules, ◌≡◌, ◌++◌, ap, sym, subst, OnOk, 
 use Rattle.std.specs.Prelude.{codes}
 use Rattle.zs_term.specs.Output.{output_of, outputs_of, outs_list, listed}
 use Rattle.zs_term.specs.OutputText.{output_text, outputs_text}
-use Rattle.zs_term.specs.declared.out.Out.{the_lemmas}
+use Rattle.zs_term.specs.declared.outputs.Out.{the_lemmas}
 use Rattle.zs_term.proofs.Values.{row_outputs_are}
 use Rattle.zs_term.proofs.Texts.{text_grown, text_enclosed}
 use Rattle.zs_term.proofs.out_text.+texts.Goals as goal

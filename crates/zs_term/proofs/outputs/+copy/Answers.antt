@@ -1,7 +1,7 @@
 use Rattle.std.proofs.Common.{rules}
-use Rattle.zs_term.specs.declared.out.Out.{the_lemmas}
+use Rattle.zs_term.specs.declared.outputs.Out.{the_lemmas}
 use Rattle.zs_term.proofs.Values.{row_outputs_are, outputs_of-copied}
-use Rattle.zs_term.proofs.out.+copy.Goals as goal
+use Rattle.zs_term.proofs.outputs.+copy.Goals as goal
 
 pub Out::copy-returns-in_ok-copy_all-in-Items : goal.Out::copy-returns-in_ok-copy_all-in-Items
 Out::copy-returns-in_ok-copy_all-in-Items t c = search (rules, the_lemmas, row_outputs_are)
