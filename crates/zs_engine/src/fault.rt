@@ -1,4 +1,4 @@
-ghost use Rattle.std.specs.Prelude.{◌≢◌};
+ghost use Rattle.std.specs.Prelude.{◌≡◌, ◌≢◌, ◌↔◌};
 
 use std::alloc::{AllocError, AllocFailed};
 use thiserror::Error;
@@ -48,6 +48,8 @@ impl From<DriveFault> for EngineFault {
 // What the refusal of a round is to a run. No round is refused for a full shelf.
 pub fn refused_round(fault: PoolFault) -> EngineFault
     requires possible { fault ≢ PoolFault.Full }
+    ensures memory { result ≡ EngineFault.Memory ↔ fault ≡ PoolFault.Memory }
+    ensures thread { result ≡ EngineFault.NoThread ↔ fault ≡ PoolFault.NoThread }
 {
     match fault {
         PoolFault::Memory => EngineFault::Memory,

@@ -1,7 +1,7 @@
 //! Runs many jobs at once: rounds over a timer queue, up to a clock's horizon.
 //!
 //! Each task of the answer stands where its job alone stands at the horizon (`specs/Answers.antt`), for every cut of the
-//! rounds and every gate, on a clock of every millisecond and on listed ticks. The moments of the rounds rise strictly.
+//! rounds and every gate, on a clock of every millisecond and on listed ticks.
 //!
 //! ```rust
 //! let clock = Clock::every_ms(1000).expect(&rt, "within the limit");
