@@ -1,20 +1,23 @@
 // The steps on the two maps of a timer queue: from each moment to its jobs, and from each job to its moment.
-ghost use Rattle.std.specs.Prelude.{◌≡◌, [], ◌∷◌, nat_lt, OnOk, OnErr};
+ghost use Rattle.std.specs.Prelude.{◌≡◌, [], ◌∷◌, nat_lt, IfSome, OnOk, OnErr};
 ghost use Rattle.std.specs.List.{prefix_len};
-ghost use Rattle.zs_agenda.specs.Indexes.{Adds, Forgets, HasSameJobs, HasSameMoments, Puts, placed};
+ghost use Rattle.zs_agenda.specs.Indexes.{Adds, Forgets, HasSameJobs, HasSameMoments, IsRising, Puts, jobs_at, placed};
 
 use std::alloc::{AllocError, Global};
 use std::collections::BTreeMap;
 
 // How many jobs stand before a job that is to come in.
 fn place_of(jobs: &[u64], job: u64) -> usize
+    requires rising { IsRising jobs.now }
     ensures value { result ≡ prefix_len (λ other. nat_lt other job) jobs.now }
 {
-    jobs.iter().take_while(|other| **other < job).count()
+    // It halves the list at each look.
+    jobs.partition_point(|other| *other < job)
 }
 
 // Puts a job at its place in a rising list.
 fn put_in_order(jobs: &mut Vec<u64>, job: u64) -> Result<(), AllocError>
+    requires rising { IsRising jobs.old.items }
     ensures ok { OnOk result (jobs.new.items ≡ placed job jobs.old.items) }
     ensures err { OnErr result (jobs.new.items ≡ jobs.old.items) }
 {
@@ -25,13 +28,14 @@ fn put_in_order(jobs: &mut Vec<u64>, job: u64) -> Result<(), AllocError>
     }
 }
 
-// Adds a job at a moment.
+// Adds a job at a moment, whose jobs so far rise.
 pub(crate) fn add(
     alloc: Global,
     by_moment: &mut BTreeMap<u64, Vec<u64>>,
     moment: u64,
     job: u64,
 ) -> Result<(), AllocError>
+    requires rising { IfSome (jobs_at by_moment.old moment) IsRising }
     ensures ok { OnOk result (Adds by_moment.old by_moment.new moment job) }
     ensures err { OnErr result (HasSameJobs by_moment.old by_moment.new) }
 {
