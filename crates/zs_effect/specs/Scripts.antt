@@ -1,5 +1,5 @@
 -- What a script is, when a list of entries is refused, and which entry an attempt follows.
-use Rattle.std.specs.Prelude.{◌≡◌, ℕ, ◌<◌, ◌≤◌, ◌-◌, List, [], ◌∷◌, length, min, slice_index_or}
+use Rattle.std.specs.Prelude.{◌≡◌, ℕ, ◌<◌, ◌≤◌, ◌-◌, List, [], length, min, slice_index_or}
 use Rattle.std.specs.List.{All, Any}
 use Rattle.zs_effect.specs.declared.script.Beat.{Beat}
 use Rattle.zs_effect.specs.declared.script.Outcome.TheVariants.{Good}
