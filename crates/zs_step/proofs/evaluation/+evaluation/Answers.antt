@@ -1,6 +1,6 @@
 use Rattle.std.proofs.Common.{◌≡◌, ◌<◌, ◌≤◌, ◌-◌, ◌+◌, length, drop, take, sym, ap, ◌∙◌, arith, refl, rules, subst, IfOk}
-use Rattle.zs_term.specs.Output.{listed, output_of, outputs_of}
-use Rattle.zs_term.specs.Schedule.{Schedule, schedule_of, and_then, collect_all}
+use Rattle.zs_term.specs.Output.{output_of, outputs_of}
+use Rattle.zs_term.specs.Schedule.{schedule_of}
 use Rattle.zs_step.specs.History.{history_of}
 use Rattle.zs_step.specs.Answer.{Answer, answer, answer_of, is_next}
 use Rattle.zs_step.proofs.Sequels.{sequel-first, sequel-second, from_done-go, from_done-stop, collected-turn, collected-last, collected-answer}
