@@ -1,5 +1,5 @@
 -- Answers that are those of a schedule.
-use Rattle.std.proofs.Common.{◌≡◌, ℕ, Some, ◌∷◌, sym, ap, ◌∙◌, subst}
+use Rattle.std.proofs.Common.{◌≡◌, ℕ, Some, ◌∷◌, sym, ap, subst}
 use Rattle.zs_term.specs.Output.{Output, output_of}
 use Rattle.zs_term.specs.OutputKind.{OutputKind, HasKind}
 use Rattle.zs_term.specs.Kinds.{kind_of}

@@ -1,5 +1,5 @@
 -- The least step at which a schedule is done.
-use Rattle.std.proofs.Common.{◌≡◌, ℕ, Bool, true, false, Option, Some, None, List, [], ◌∷◌, ◌++◌, refl, sym, ap, ◌∙◌, subst}
+use Rattle.std.proofs.Common.{◌≡◌, ℕ, Bool, true, false, Option, Some, None, [], ◌∷◌, refl, sym, ap, ◌∙◌, subst}
 use Rattle.zs_term.specs.Output.{left, right}
 use Rattle.zs_step.specs.History.{History, earlier}
 use Rattle.zs_step.specs.Answer.{Answer, answer, is_next, done_from, from_done, sequel_of, sequel}

@@ -1,8 +1,8 @@
 -- A list of pairs in the order of time, as a history.
-use Rattle.std.proofs.Common.{◌≡◌, ℕ, ◌+◌, ◌-◌, ◌<◌, ◌≤◌, List, [], ◌∷◌, ◌++◌, length, take, drop, get_or, refl, sym, ap, ◌∙◌, arith, subst, reverse}
-use Rattle.std.proofs.lemmas.List.{reverse-append, length-reverse, length-take, take_more, take_all, drop_more, get_or-take}
+use Rattle.std.proofs.Common.{◌≡◌, ℕ, ◌+◌, ◌-◌, ◌<◌, ◌≤◌, List, [], ◌∷◌, ◌++◌, length, take, get_or, refl, sym, ap, ◌∙◌, arith}
+use Rattle.std.proofs.lemmas.List.{reverse-append, length-reverse, length-take, take_more, take_all, get_or-take}
 use Rattle.zs_step.specs.Answer.{next_run, run_after}
-use Rattle.zs_step.specs.History.{History, history_of, last_moment, last_input, first_moment, earlier}
+use Rattle.zs_step.specs.History.{History, history_of, first_moment, earlier}
 
 -- one more pair at the end
 pub history-push : (xs : List (ℕ × ℕ)) (p : ℕ × ℕ) → history_of (xs ++ p ∷ []) ≡ p ∷ history_of xs

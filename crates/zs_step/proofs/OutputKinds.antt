@@ -1,5 +1,5 @@
 -- The outputs of a schedule have its kind.
-use Rattle.std.proofs.Common.{◌≡◌, ℕ, Bool, true, false, Option, Some, None, List, [], ◌∷◌, refl, sym, ap, ◌∙◌, subst, ◌&&◌, if◌then◌else◌}
+use Rattle.std.proofs.Common.{◌≡◌, Bool, true, false, Option, Some, None, [], ◌∷◌, refl, sym, ap, subst, ◌&&◌, if◌then◌else◌}
 use Rattle.zs_term.specs.declared.term.Pick.{Pick}
 use Rattle.zs_term.specs.declared.term.Func.{Func}
 use Rattle.zs_term.specs.declared.term.Func.TheVariants.{First, Second, Size, Merge, Const, Add, Mul}
@@ -8,7 +8,7 @@ use Rattle.zs_term.specs.OutputKind.{OutputKind, num, pair_of, sum_of, list_of, 
 use Rattle.zs_term.specs.Schedule.{Schedule, forever, recurs, spaced, fixed, exponential, fibonacci, identity, elapsed, both, either, and_then, while_input, while_output, collect_all, mapped, linear, windowed, reset_when}
 use Rattle.zs_term.specs.Kinds.{kind_of, answers, joined, where_fits, list_kind, mapped_kind, fits}
 use Rattle.zs_step.specs.History.{History, earlier}
-use Rattle.zs_step.specs.Answer.{Answer, answer, answer_of, is_next, from_done, sequel, sequel_of, collect_if, collected, since_reset}
+use Rattle.zs_step.specs.Answer.{Answer, answer_of, is_next, from_done, sequel_of, collect_if, collected, since_reset}
 
 -- a value has a kind, where there is one
 abbrev pub Has : Output → Option OutputKind → Type 0

@@ -1,5 +1,5 @@
 -- The step at which a schedule was reset for the last time.
-use Rattle.std.proofs.Common.{◌≡◌, ℕ, ◌+◌, ◌<◌, ◌≤◌, Bool, true, false, List, [], ◌∷◌, ◌++◌, length, take, drop, get_or, sym, ap, ◌∙◌, arith}
+use Rattle.std.proofs.Common.{◌≡◌, ℕ, ◌+◌, ◌<◌, ◌≤◌, Bool, true, false, List, [], ◌∷◌, length, take, drop, get_or, sym, ap, ◌∙◌, arith}
 use Rattle.std.proofs.lemmas.List.{take_more, drop-append-le, drop_all, length-take}
 use Rattle.zs_term.specs.Output.{passes, picked}
 use Rattle.zs_term.specs.declared.term.Test.{Test}

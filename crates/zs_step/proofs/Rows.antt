@@ -1,13 +1,11 @@
 -- Worked examples of the definitions of answers and of visits. Each holds by computing alone.
 use Rattle.std.proofs.Common.{◌≡◌, ℕ, List, [], ◌∷◌, refl}
 use Rattle.std.specs.Prelude.{reverse}
-use Rattle.zs_term.specs.Output.{Output, Outputs, number, pair, left, right, listed, none, more}
+use Rattle.zs_term.specs.Output.{Output, number, pair, left, right, listed, none, more}
 use Rattle.zs_term.specs.Schedule.{Schedule, forever, recurs, spaced, fixed, exponential, fibonacci, identity, elapsed, both, either, and_then, while_input, while_output, collect_all, mapped, linear, windowed, reset_when}
-use Rattle.zs_term.specs.declared.term.Test.{Test}
 use Rattle.zs_term.specs.declared.term.Cmp.TheVariants.{Lt, Eq, Ge}
-use Rattle.zs_term.specs.declared.term.Pick.TheVariants.{Whole, First as FirstPart, Second as SecondPart, Size as SizeOf}
-use Rattle.zs_term.specs.declared.term.Func.TheVariants.{First, Second, Size, Merge, Const, Add, Mul}
-use Rattle.zs_step.specs.declared.decision.Decision.{Decision}
+use Rattle.zs_term.specs.declared.term.Pick.TheVariants.{Whole, Second as SecondPart, Size as SizeOf}
+use Rattle.zs_term.specs.declared.term.Func.TheVariants.{Merge, Add, Mul}
 use Rattle.zs_step.specs.declared.decision.Decision.TheVariants.{Stop, Next}
 use Rattle.zs_step.specs.History.{History, history_of}
 use Rattle.zs_step.specs.Answer.{Answer, answer, answer_of}

@@ -1,6 +1,6 @@
 -- Sums and products that are cut at the greatest number on the way.
-use Rattle.std.proofs.Common.{◌≡◌, ℕ, zero, suc, ◌+◌, ◌-◌, ◌*◌, ◌^◌, ◌<◌, ◌≤◌, ◌⊎◌, inl, inr, min, arith, refl, sym, ap, ◌∙◌}
-use Rattle.std.proofs.Math.Nat.{mul-le-mul_right, pow-suc, mul_assoc}
+use Rattle.std.proofs.Common.{◌≡◌, ℕ, zero, suc, ◌+◌, ◌-◌, ◌*◌, ◌^◌, ◌≤◌, ◌⊎◌, inl, inr, min, arith, sym, ap, ◌∙◌}
+use Rattle.std.proofs.Math.Nat.{pow-suc, mul_assoc}
 use Rattle.zs_term.specs.Saturating.{saturated}
 use Rattle.zs_step.specs.Answer.{fibonacci_number}
 

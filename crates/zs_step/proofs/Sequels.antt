@@ -1,13 +1,13 @@
 -- The first step at which a schedule is done, and the outputs that are collected.
-use Rattle.std.proofs.Common.{◌≡◌, ℕ, ◌+◌, ◌-◌, ◌<◌, Bool, true, false, Option, Some, None, List, [], ◌∷◌, ◌++◌, length, take, drop, get_or, refl, sym, ap, ◌∙◌, append_assoc, subst, IfSome, IfNone}
+use Rattle.std.proofs.Common.{◌≡◌, ℕ, ◌+◌, ◌-◌, ◌<◌, Bool, true, false, Option, Some, None, List, [], ◌∷◌, ◌++◌, length, take, drop, get_or, sym, ap, ◌∙◌, subst, IfSome, IfNone}
 use Rattle.std.proofs.lemmas.List.{take-append-drop, drop_more, reverse-append}
-use Rattle.zs_term.specs.Output.{Output, Outputs, left, right, listed, with_last, outputs_of, output_of}
+use Rattle.zs_term.specs.Output.{Output, Outputs, left, right, listed, outputs_of, output_of}
 use Rattle.zs_term.specs.declared.outputs.Out.{Out}
 use Rattle.zs_term.proofs.Values.{outputs_of-push}
 use Rattle.zs_step.specs.History.{History, history_of, earlier}
 use Rattle.zs_step.specs.declared.decision.Decision.{Decision}
 use Rattle.zs_step.specs.Answer.{Answer, answer, is_next, done_from, from_done, sequel_of, sequel, collect_if, collected}
-use Rattle.zs_step.proofs.Histories.{history-push, history-take, history-last}
+use Rattle.zs_step.proofs.Histories.{history-take, history-last}
 
 -- one more step of the search
 pub from_done-turn : (f : History → Answer) (p : ℕ × ℕ) (h : History) (o : Option History) (b : Bool) → from_done f h ≡ o →

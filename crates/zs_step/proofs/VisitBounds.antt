@@ -1,5 +1,5 @@
 -- A step visits at most as many nodes as the schedule weighs.
-use Rattle.std.proofs.Common.{◌≡◌, ℕ, ◌+◌, ◌*◌, ◌≤◌, Bool, true, false, Option, Some, None, List, [], ◌∷◌, arith}
+use Rattle.std.proofs.Common.{ℕ, ◌+◌, ◌*◌, ◌≤◌, Bool, true, false, Option, Some, None, [], ◌∷◌, arith}
 use Rattle.zs_term.specs.Output.{passes, picked}
 use Rattle.zs_term.specs.Schedule.{Schedule, weight, forever, recurs, spaced, fixed, exponential, fibonacci, identity, elapsed, both, either, and_then, while_input, while_output, collect_all, mapped, linear, windowed, reset_when}
 use Rattle.zs_term.specs.declared.term.Test.{Test}

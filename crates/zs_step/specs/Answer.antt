@@ -2,13 +2,12 @@
 -- Each equation is the rule of the ZIO operator of that name, and knows no state: a part is asked anew at each history that its
 -- rule names. docs/SEMANTICS.md says the rules in words. `proofs/Rows.antt` has worked examples; the laws in `src/laws.rt` say
 -- in other words what the definitions here say step by step.
-use Rattle.std.specs.Prelude.{ℕ, zero, suc, ◌+◌, ◌-◌, ◌*◌, ◌%◌, ◌^◌, min, max, Bool, true, false, ◌||◌, nat_lt, nat_eq, if◌then◌else◌, Option, Some, None, List, [], ◌∷◌, length}
+use Rattle.std.specs.Prelude.{ℕ, zero, suc, ◌+◌, ◌-◌, ◌*◌, ◌%◌, ◌^◌, min, max, Bool, true, false, ◌||◌, nat_lt, nat_eq, if◌then◌else◌, Option, Some, None, [], ◌∷◌, length}
 use Rattle.zs_term.specs.Saturating.{saturated}
-use Rattle.zs_term.specs.Output.{Output, Outputs, number, pair, left, right, listed, none, more, with_last, passes, picked, applied}
+use Rattle.zs_term.specs.Output.{Output, Outputs, number, pair, left, right, listed, none, with_last, passes, picked, applied}
 use Rattle.zs_term.specs.Schedule.{Schedule, forever, recurs, spaced, fixed, exponential, fibonacci, identity, elapsed, both, either, and_then, while_input, while_output, collect_all, mapped, linear, windowed, reset_when}
 use Rattle.zs_term.specs.declared.term.Test.{Test}
 use Rattle.zs_term.specs.declared.term.Pick.{Pick}
-use Rattle.zs_term.specs.declared.term.Func.{Func}
 use Rattle.zs_step.specs.declared.decision.Decision.{Decision}
 use Rattle.zs_step.specs.declared.decision.Decision.TheVariants.{Stop, Next}
 use Rattle.zs_step.specs.History.{History, last_moment, last_input, first_moment, earlier}

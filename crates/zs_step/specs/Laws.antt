@@ -1,6 +1,6 @@
 -- Words for the laws of schedules: each says of a whole history what the definition of an answer says step by step.
 -- `src/laws.rt` states the laws, and they are proved there for every schedule and every history.
-use Rattle.std.specs.Prelude.{◌≡◌, ℕ, ◌≤◌, Bool, true, false, List, [], ◌∷◌, ◌++◌}
+use Rattle.std.specs.Prelude.{◌≡◌, ℕ, ◌≤◌, Bool, true, false, [], ◌∷◌, ◌++◌}
 use Rattle.zs_term.specs.Output.{passes, picked}
 use Rattle.zs_term.specs.declared.term.Test.{Test}
 use Rattle.zs_term.specs.declared.term.Pick.{Pick}

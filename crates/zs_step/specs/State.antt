@@ -1,14 +1,13 @@
 -- What a state that is stepped in place stands for. A state is judged by the history that it took the place of; `step_node` keeps
 -- that relation, and answers by it.
-use Rattle.std.specs.Prelude.{◌≡◌, ℕ, suc, ◌+◌, ◌*◌, ◌^◌, ◌≤◌, Bool, true, false, Option, Some, None, List, [], ◌∷◌, length}
+use Rattle.std.specs.Prelude.{◌≡◌, ℕ, suc, ◌*◌, ◌^◌, ◌≤◌, Bool, true, false, Option, Some, None, [], ◌∷◌, length}
 use Rattle.zs_term.specs.Saturating.{saturated}
-use Rattle.zs_term.specs.Output.{Output, outputs_of}
+use Rattle.zs_term.specs.Output.{outputs_of}
 use Rattle.zs_term.specs.Schedule.{Schedule, weight, forever, recurs, spaced, fixed, exponential, fibonacci, identity, elapsed, both, either, and_then, while_input, while_output, collect_all, mapped, linear, windowed, reset_when}
-use Rattle.zs_step.specs.declared.decision.Decision.{Decision}
 use Rattle.zs_step.specs.declared.state.State.{State}
 use Rattle.zs_step.specs.declared.state.State.TheVariants.{Forever, Recurs, Spaced, Fixed, Exponential, Fibonacci, Identity, Elapsed, Linear, Windowed, Both', Either', AndThen', WhileInput', WhileOutput', CollectAll', Map', ResetWhen'}
 use Rattle.zs_step.specs.History.{History, first_moment}
-use Rattle.zs_step.specs.Answer.{Answer, answer, answer_of, fibonacci_number, next_run, from_done, collected, since_reset}
+use Rattle.zs_step.specs.Answer.{Answer, answer_of, fibonacci_number, next_run, from_done, collected, since_reset}
 use Rattle.zs_step.specs.Visits.{visits}
 
 -- the schedule that a state was made of

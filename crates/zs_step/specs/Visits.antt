@@ -1,11 +1,11 @@
 -- How many nodes the last step of a history steps.
-use Rattle.std.specs.Prelude.{ℕ, ◌+◌, Bool, true, false, if◌then◌else◌, Option, Some, None, [], ◌∷◌}
+use Rattle.std.specs.Prelude.{ℕ, ◌+◌, Bool, true, false, Option, Some, None, [], ◌∷◌}
 use Rattle.zs_term.specs.Schedule.{Schedule, forever, recurs, spaced, fixed, exponential, fibonacci, identity, elapsed, both, either, and_then, while_input, while_output, collect_all, mapped, linear, windowed, reset_when}
 use Rattle.zs_step.specs.History.{History, earlier}
 use Rattle.zs_term.specs.Output.{passes, picked}
 use Rattle.zs_term.specs.declared.term.Test.{Test}
 use Rattle.zs_term.specs.declared.term.Pick.{Pick}
-use Rattle.zs_step.specs.Answer.{Answer, answer_of, is_next, from_done, since_reset}
+use Rattle.zs_step.specs.Answer.{Answer, answer_of, from_done, since_reset}
 
 -- The second part alone once the first was done before, both where the first is done now, and the first alone before.
 abbrev pub sequel_visits : Option History → Option History → ℕ → (History → ℕ) → ℕ

@@ -1,6 +1,6 @@
-use Rattle.std.proofs.Common.{◌≡◌, ◌<◌, ◌≤◌, ◌-◌, ◌+◌, length, drop, take, sym, ap, ◌∙◌, arith, refl, rules, subst}
-use Rattle.zs_term.specs.Output.{listed, output_of, outputs_of}
-use Rattle.zs_term.specs.Schedule.{Schedule, schedule_of, and_then, collect_all}
+use Rattle.std.proofs.Common.{◌≡◌, ◌<◌, ◌≤◌, ◌-◌, ◌+◌, length, drop, take, sym, ap, ◌∙◌, arith, refl, rules, subst, IfOk}
+use Rattle.zs_term.specs.Output.{output_of, outputs_of}
+use Rattle.zs_term.specs.Schedule.{schedule_of}
 use Rattle.zs_step.specs.History.{history_of}
 use Rattle.zs_step.specs.Answer.{Answer, answer, answer_of, is_next}
 use Rattle.zs_step.proofs.Sequels.{sequel-first, sequel-second, from_done-go, from_done-stop, collected-turn, collected-last, collected-answer}
@@ -90,3 +90,14 @@ reset_start-loop-i-preserved t c =
             ∙ ap (λ s. history_of (drop s (take (c.loop-i.i + 1) c.args.history.now))) (sym w.start-is),
       )
     ]
+
+pub evaluate-returns-in_ok-start-in-ResetWhen : goal.evaluate-returns-in_ok-start-in-ResetWhen
+evaluate-returns-in_ok-start-in-ResetWhen t c =
+    let same : answer_of (schedule_of c.deref-inner.result.now) (history_of c.from_index.result.now) ≡ answer_of (schedule_of c.args.term.now) (history_of c.args.history.now) =
+    ap (λ h. answer_of (schedule_of c.deref-inner.result.now) (history_of h)) c.from_index.ensures.rest
+    ∙ ap (answer_of (schedule_of c.deref-inner.result.now)) (sym c.in_ok-start-in-ResetWhen.ensures.since)
+    ∙ search rules in
+    record {
+      value =
+          subst (λ (w : Answer). IfOk c.evaluate-in-ResetWhen.result (λ r. answer (output_of r.0) r.1 ≡ w)) same c.evaluate-in-ResetWhen.ensures.value;
+    }

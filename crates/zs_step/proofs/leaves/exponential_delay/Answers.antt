@@ -1,4 +1,4 @@
-use Rattle.std.proofs.Common.{◌≡◌, ℕ, suc, ◌+◌, ◌-◌, ◌*◌, ◌^◌, ◌≤◌, arith, ap, ◌∙◌}
+use Rattle.std.proofs.Common.{◌≡◌, suc, ◌+◌, ◌-◌, ◌*◌, ◌^◌, arith, ap, ◌∙◌}
 use Rattle.zs_term.specs.Saturating.{saturated}
 use Rattle.zs_step.proofs.Sats.{power-turn}
 use Rattle.zs_step.proofs.leaves.exponential_delay.Goals as goal

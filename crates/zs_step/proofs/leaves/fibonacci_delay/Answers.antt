@@ -1,4 +1,4 @@
-use Rattle.std.proofs.Common.{◌≡◌, ℕ, suc, ◌+◌, ◌*◌, arith, ap, ◌∙◌, add-one}
+use Rattle.std.proofs.Common.{◌≡◌, suc, ◌+◌, ◌*◌, arith, ap, ◌∙◌}
 use Rattle.zs_term.specs.Saturating.{saturated}
 use Rattle.zs_step.specs.Answer.{fibonacci_number}
 use Rattle.zs_step.proofs.Sats.{fibonacci_number-turn}

@@ -1,4 +1,4 @@
-use Rattle.std.proofs.Common.{◌≡◌, ◌*◌, ◌+◌, suc}
+use Rattle.std.proofs.Common.{◌≡◌, ◌*◌, suc}
 use Rattle.zs_term.specs.Saturating.{saturated}
 use Rattle.zs_step.specs.Answer.{fibonacci_number}
 use Rattle.zs_step.proofs.leaves.fibonacci_delay.Given as goal
