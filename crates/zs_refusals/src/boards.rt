@@ -1,5 +1,5 @@
 // The work queue, and its handles.
-ghost use Rattle.std.specs.Prelude.{◌≡◌, ◌×◌, length, IfOk};
+ghost use Rattle.std.specs.Prelude.{◌≡◌, IfOk};
 ghost use Rattle.zs_pool.specs.Batches.{AreNumbered};
 
 use crate::ended::{Ended, SetUp, memory_if, right_if};
@@ -23,22 +23,6 @@ fn empty(alloc: Global, number: u64) -> Batch
     }
 }
 
-/// A new queue, of which all is claimed.
-pub fn making<R: Wait>(rt: &R, alloc: Global) -> Result<Ended, SetUp> {
-    let batches = three(alloc)?;
-    let (board, mut pass) = match Board::new(rt, alloc, batches) {
-        Ok(made) => made,
-        Err(fault) => return Ok(refused_by(fault)),
-    };
-    for number in 0..3u64 {
-        match board.claim(rt, &mut pass) {
-            Some(batch) if batch.number == number => {}
-            _ => return Ok(Ended::Wrong("another batch")),
-        }
-    }
-    Ok(right_if(board.claim(rt, &mut pass).is_none(), "a batch too many"))
-}
-
 /// What a fault of the pool is, where no thread is started.
 pub fn refused_by(fault: PoolFault) -> Ended {
     match fault {
@@ -48,32 +32,62 @@ pub fn refused_by(fault: PoolFault) -> Ended {
     }
 }
 
-/// A handle made two. A refused split hands it back as it was.
-pub fn splitting<R: Wait>(rt: &R, alloc: Global) -> Result<Ended, SetUp> {
-    let batches = three(alloc)?;
-    let (board, mut pass) = Board::new(rt, alloc, batches)?;
-    if board.claim(rt, &mut pass).is_none() {
-        return Ok(Ended::Wrong("no batch"));
-    }
-    match board.split(rt, alloc, pass) {
-        Ok((mut first, mut second)) => {
-            let one = board.claim(rt, &mut second);
-            let two = board.claim(rt, &mut first);
-            let _joined = board.join(rt, first, second);
-            Ok(right_if(is_batch(&one, 1) && is_batch(&two, 2), "other batches"))
-        }
-        Err((mut pass, PoolFault::Memory)) => {
-            let one = board.claim(rt, &mut pass);
-            Ok(memory_if(is_batch(&one, 1), "another batch after a refusal"))
-        }
-        Err(_) => Ok(Ended::Wrong("another fault")),
+// Whether a claim answers the batch of this number.
+fn claims<R: Wait>(rt: &R, board: &Board, pass: &mut BoardPass, number: u64) -> bool
+    requires board { pass.old.board ≡ board.now }
+    ensures board { pass.new.board ≡ board.now }
+    ensures share { pass.new.share ≡ pass.old.share }
+{
+    match board.claim(rt, pass) {
+        Some(batch) => batch.number == number,
+        None => false,
     }
 }
 
-fn is_batch(batch: &Option<Batch>, number: u64) -> bool {
-    match batch {
-        Some(batch) => batch.number == number,
-        None => false,
+// Whether a claim answers none.
+fn claims_none<R: Wait>(rt: &R, board: &Board, pass: &mut BoardPass) -> bool
+    requires board { pass.old.board ≡ board.now }
+    ensures board { pass.new.board ≡ board.now }
+    ensures share { pass.new.share ≡ pass.old.share }
+{
+    match board.claim(rt, pass) {
+        Some(_) => false,
+        None => true,
+    }
+}
+
+/// A new queue, of which all is claimed.
+pub fn making<R: Wait>(rt: &R, alloc: Global) -> Result<Ended, SetUp> {
+    let batches = three(alloc)?;
+    match Board::new(rt, alloc, batches) {
+        Ok((board, mut pass)) => {
+            let zero = claims(rt, &board, &mut pass, 0);
+            let one = claims(rt, &board, &mut pass, 1);
+            let two = claims(rt, &board, &mut pass, 2);
+            let none = claims_none(rt, &board, &mut pass);
+            Ok(right_if(zero && one && two && none, "other batches"))
+        }
+        Err(fault) => Ok(refused_by(fault)),
+    }
+}
+
+/// A handle made two. A refused split would hand it back as it was.
+pub fn splitting<R: Wait>(rt: &R, alloc: Global) -> Result<Ended, SetUp> {
+    let batches = three(alloc)?;
+    let (board, mut pass) = Board::new(rt, alloc, batches)?;
+    let zero = claims(rt, &board, &mut pass, 0);
+    match board.split(rt, alloc, pass) {
+        Ok((mut first, mut second)) => {
+            let one = claims(rt, &board, &mut second, 1);
+            let two = claims(rt, &board, &mut first, 2);
+            let mut joined = board.join(rt, first, second);
+            let none = claims_none(rt, &board, &mut joined);
+            Ok(right_if(zero && one && two && none, "other batches"))
+        }
+        Err((mut pass, _)) => {
+            let one = claims(rt, &board, &mut pass, 1);
+            Ok(memory_if(zero && one, "another batch after a refusal"))
+        }
     }
 }
 
@@ -82,13 +96,14 @@ pub fn closing<R: Wait>(rt: &R, alloc: Global) -> Result<Ended, SetUp> {
     let batches = three(alloc)?;
     let (board, pass) = Board::new(rt, alloc, batches)?;
     match board.close(rt, alloc, pass) {
-        Ok(left) => match left.as_slice() {
-            [a, b, c] => Ok(right_if(
-                a.number == 0 && b.number == 1 && c.number == 2,
-                "other batches",
-            )),
-            _ => Ok(Ended::Wrong("another number of batches")),
-        },
+        Ok(left) => Ok(right_if(are_three(&left), "other batches")),
         Err(fault) => Ok(refused_by(fault)),
+    }
+}
+
+fn are_three(batches: &[Batch]) -> bool {
+    match batches {
+        [a, b, c] => a.number == 0 && b.number == 1 && c.number == 2,
+        _ => false,
     }
 }

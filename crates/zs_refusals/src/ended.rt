@@ -17,6 +17,8 @@ pub enum Ended {
     Right,
     /// It answered that memory ran out, and left what it has to.
     Memory,
+    /// It answered a batch of which a task found no memory.
+    Broken,
     /// It answered that no thread was found.
     NoThread,
     /// A run answered that memory ran out before its plan was read.
@@ -34,6 +36,7 @@ impl fmt::Display for Ended {
         match self {
             Ended::Right => write!(f, "ok"),
             Ended::Memory => write!(f, "memory"),
+            Ended::Broken => write!(f, "broken"),
             Ended::NoThread => write!(f, "no thread"),
             Ended::PlanMemory => write!(f, "plan memory"),
             Ended::EngineMemory => write!(f, "engine memory"),

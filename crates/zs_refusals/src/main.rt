@@ -61,8 +61,10 @@ fn threaded_call<R: Threads + Wait + Sync>(
         "run_jobs" => Some(runs::working(rt, alloc)),
         "report" => Some(runs::reporting(rt, alloc)),
         "run" => Some(runs::running(rt, alloc, runs::ONE_JOB)),
-        "run_one_worker" => Some(runs::running(rt, alloc, runs::ONE_WORKER)),
-        "run_two_workers" => Some(runs::running(rt, alloc, runs::TWO_WORKERS)),
+        "run_seven_alone" => Some(runs::running(rt, alloc, runs::SEVEN_ALONE)),
+        "run_seven_shared" => Some(runs::running(rt, alloc, runs::SEVEN_SHARED)),
+        "run_many_alone" => Some(runs::running(rt, alloc, runs::MANY_ALONE)),
+        "run_many_shared" => Some(runs::running(rt, alloc, runs::MANY_SHARED)),
         _ => None,
     }
 }

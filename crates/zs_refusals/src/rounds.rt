@@ -1,10 +1,10 @@
 // Batches polled, one by one and by several workers.
-ghost use Rattle.std.specs.Prelude.{◌≡◌, ◌≤◌, All, IfOk, length, map};
+ghost use Rattle.std.specs.Prelude.{◌≡◌, All, IfOk, length, map};
 ghost use Rattle.std.specs.List.Sorted.{IsStrictlyIncreasing};
 ghost use Rattle.zs_pool.specs.Rounds.{IsPollable};
 
 use crate::boards::refused_by;
-use crate::ended::{Ended, SetUp, memory_if, right_if};
+use crate::ended::{Ended, SetUp, right_if};
 use crate::tasks::retried;
 use std::alloc::Global;
 use std::sync::Wait;
@@ -47,7 +47,8 @@ pub fn tallying(alloc: Global) -> Result<Ended, SetUp> {
         Ok((tally, mut seat)) => {
             let before = tally.seen(&mut seat);
             tally.count(&mut seat);
-            Ok(right_if(before == 0 && tally.close(seat) == 1, "another count"))
+            let all = tally.close(seat);
+            Ok(right_if(before == 0 && all == 1, "another count"))
         }
         Err(fault) => Ok(refused_by(fault)),
     }
@@ -62,10 +63,12 @@ pub fn polling<R>(rt: &R, alloc: Global) -> Result<Ended, SetUp> {
     let (tally, mut seat) = Tally::new(alloc)?;
     match poll_batch(rt, alloc, &OpenGate, &tally, &mut seat, 0, batch) {
         Ok(polled) => {
-            if polled.number != 3 || polled.now != 0 || Tally::left(&seat) != u64::MAX - TASKS {
+            let counted = Tally::left(&seat) == u64::MAX - TASKS;
+            if polled.number != 3 || polled.now != 0 || !counted {
                 return Ok(Ended::Wrong("another message"));
             }
-            Ok(polled_well(&polled.tasks, polled.broken()))
+            let broken = polled.broken();
+            Ok(polled_well(&polled.tasks, broken))
         }
         Err(fault) => Ok(refused_by(fault)),
     }
@@ -84,7 +87,7 @@ fn polled_well(tasks: &[Task], broken: bool) -> Ended {
     if polled.wrapping_add(unchanged) != 3 || (unchanged > 0) != broken {
         return Ended::Wrong("other tasks");
     }
-    if broken { Ended::Memory } else { Ended::Right }
+    if broken { Ended::Broken } else { Ended::Right }
 }
 
 /// A round on two workers.
@@ -96,16 +99,20 @@ pub fn rounding<R: Threads + Wait + Sync>(rt: &R, alloc: Global) -> Result<Ended
     let (tally, mut seat) = Tally::new(alloc)?;
     match round(rt, alloc, cut, &OpenGate, &tally, &mut seat, 0, tasks) {
         Ok(tasks) => {
-            let numbered = tasks
-                .iter()
-                .zip(0..TASKS)
-                .all(|(task, number)| task.number() == number);
-            if !numbered || tally.close(seat) != TASKS {
+            let counted = tally.close(seat) == TASKS;
+            if !are_numbered(&tasks) || !counted {
                 return Ok(Ended::Wrong("other tasks"));
             }
             Ok(polled_well(&tasks, false))
         }
         Err(PoolFault::NoThread) => Ok(Ended::NoThread),
         Err(fault) => Ok(refused_by(fault)),
+    }
+}
+
+fn are_numbered(tasks: &[Task]) -> bool {
+    match tasks {
+        [a, b, c] => a.number() == 0 && b.number() == 1 && c.number() == 2,
+        _ => false,
     }
 }

@@ -1,5 +1,4 @@
 // Plans, reports, and whole runs.
-ghost use Rattle.std.specs.Prelude.{◌≡◌, ◌≤◌, IfOk, length};
 
 use crate::ended::{Ended, SetUp, memory_if, right_if};
 use crate::tasks::retried;
@@ -35,15 +34,31 @@ pub const ONE_JOB: Size = Size {
 };
 
 /// Seven jobs on one worker.
-pub const ONE_WORKER: Size = Size {
+pub const SEVEN_ALONE: Size = Size {
     names: "abcdefg",
     workers: 1,
     grain: 1,
 };
 
 /// Seven jobs on two workers, in three batches.
-pub const TWO_WORKERS: Size = Size {
+pub const SEVEN_SHARED: Size = Size {
     names: "abcdefg",
+    workers: 2,
+    grain: 3,
+};
+
+const LETTERS: &str = "abcdefghijklmnopqrstuvwxyzABCDEFGHIJKLMNOPQRSTUVWXYZ";
+
+/// 52 jobs on one worker.
+pub const MANY_ALONE: Size = Size {
+    names: LETTERS,
+    workers: 1,
+    grain: 1,
+};
+
+/// 52 jobs on two workers, in batches of three.
+pub const MANY_SHARED: Size = Size {
+    names: LETTERS,
     workers: 2,
     grain: 3,
 };
@@ -79,10 +94,10 @@ fn is_report(bytes: &[u8], size: Size) -> bool {
         rest = after;
         polls = polls.wrapping_add(3);
     }
-    let last: &[u8] = if polls == 3 {
-        b"polls 3\n"
-    } else {
-        b"polls 21\n"
+    let last: &[u8] = match polls {
+        3 => b"polls 3\n",
+        21 => b"polls 21\n",
+        _ => b"polls 156\n",
     };
     rest == last
 }
@@ -120,7 +135,7 @@ pub fn working<R: Threads + Wait + Sync>(rt: &R, alloc: Global) -> Result<Ended,
 
 /// A plan read from its bytes.
 pub fn reading(alloc: Global) -> Result<Ended, SetUp> {
-    let text = plan_text(alloc, TWO_WORKERS)?;
+    let text = plan_text(alloc, SEVEN_SHARED)?;
     match read_plan(alloc, text.as_bytes()) {
         Ok(plan) => {
             let is_right = plan.jobs.len() == 7
@@ -135,7 +150,7 @@ pub fn reading(alloc: Global) -> Result<Ended, SetUp> {
 
 // The answer on a plan of seven jobs on one worker.
 fn answered<R: Threads + Wait + Sync>(rt: &R, alloc: Global) -> Result<Answer, SetUp> {
-    let text = plan_text(alloc, ONE_WORKER)?;
+    let text = plan_text(alloc, SEVEN_ALONE)?;
     let Plan { clock, cut, jobs } = read_plan(alloc, text.as_bytes())?;
     Ok(run_jobs(rt, alloc, cut, &OpenGate, clock, jobs)?)
 }
@@ -144,7 +159,7 @@ fn answered<R: Threads + Wait + Sync>(rt: &R, alloc: Global) -> Result<Answer, S
 pub fn reporting<R: Threads + Wait + Sync>(rt: &R, alloc: Global) -> Result<Ended, SetUp> {
     let answer = answered(rt, alloc)?;
     match report(alloc, &answer) {
-        Ok(text) => Ok(right_if(is_report(text.as_bytes(), ONE_WORKER), "another report")),
+        Ok(text) => Ok(right_if(is_report(text.as_bytes(), SEVEN_ALONE), "another report")),
         Err(_) => Ok(memory_if(answer.polls == 21, "the answer was changed")),
     }
 }
@@ -152,7 +167,7 @@ pub fn reporting<R: Threads + Wait + Sync>(rt: &R, alloc: Global) -> Result<Ende
 // A writer that takes no memory.
 #[derive(Drop)]
 struct Page {
-    bytes: [u8; 1024],
+    bytes: [u8; 8192],
     used: usize,
 }
 
@@ -179,7 +194,7 @@ pub fn running<R: Threads + Wait + Sync>(
 ) -> Result<Ended, SetUp> {
     let text = plan_text(alloc, size)?;
     let mut page = Page {
-        bytes: [0u8; 1024],
+        bytes: [0u8; 8192],
         used: 0,
     };
     let mut reader = Marked::new(text.as_bytes());
@@ -196,7 +211,7 @@ pub fn running<R: Threads + Wait + Sync>(
 
 // A run that succeeded wrote its report, and another one nothing.
 fn written_well(page: &Page, ended: Ended, size: Size) -> Ended {
-    let written = &page.bytes[..page.used.min(1024)];
+    let written = &page.bytes[..page.used.min(8192)];
     match ended {
         Ended::Right => right_if(is_report(written, size), "another report"),
         other => if written.is_empty() {

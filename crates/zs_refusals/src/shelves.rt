@@ -1,10 +1,13 @@
 // The result queue, and its handles.
+ghost use Rattle.std.specs.Prelude.{◌≡◌};
+
 use crate::boards::refused_by;
 use crate::ended::{Ended, SetUp, memory_if, right_if};
 use std::alloc::Global;
 use std::sync::Wait;
-use zs_pool::{Polled, PoolFault, Shelf};
+use zs_pool::{Polled, PoolFault, Shelf, ShelfPass};
 
+// A message of no tasks.
 fn message(alloc: Global, number: u64) -> Polled {
     Polled {
         number,
@@ -13,74 +16,111 @@ fn message(alloc: Global, number: u64) -> Polled {
     }
 }
 
-fn is_message(polled: &Option<Polled>, number: u64) -> bool {
-    match polled {
+// Whether there was room for the message of this number.
+fn puts<R: Wait>(rt: &R, alloc: Global, shelf: &Shelf, pass: &mut ShelfPass, number: u64) -> bool
+    requires shelf { pass.old.shelf ≡ shelf.now }
+    ensures shelf { pass.new.shelf ≡ shelf.now }
+    ensures share { pass.new.share ≡ pass.old.share }
+{
+    match shelf.put(rt, pass, message(alloc, number)) {
+        Ok(()) => true,
+        Err(_) => false,
+    }
+}
+
+// Whether there was no room for the message of this number, and it came back.
+fn is_handed_back<R: Wait>(
+    rt: &R,
+    alloc: Global,
+    shelf: &Shelf,
+    pass: &mut ShelfPass,
+    number: u64,
+) -> bool
+    requires shelf { pass.old.shelf ≡ shelf.now }
+    ensures shelf { pass.new.shelf ≡ shelf.now }
+    ensures share { pass.new.share ≡ pass.old.share }
+{
+    match shelf.put(rt, pass, message(alloc, number)) {
+        Ok(()) => false,
+        Err((polled, fault)) => polled.number == number && fault == PoolFault::Full,
+    }
+}
+
+// Whether a take answers the message of this number.
+fn takes<R: Wait>(rt: &R, shelf: &Shelf, pass: &mut ShelfPass, number: u64) -> bool
+    requires shelf { pass.old.shelf ≡ shelf.now }
+    ensures shelf { pass.new.shelf ≡ shelf.now }
+    ensures share { pass.new.share ≡ pass.old.share }
+{
+    match shelf.take(rt, pass) {
         Some(polled) => polled.number == number,
         None => false,
     }
 }
 
-/// A new queue of one place.
-pub fn making<R: Wait>(rt: &R, alloc: Global) -> Result<Ended, SetUp> {
-    let (shelf, mut pass) = match Shelf::new(rt, alloc, 1) {
-        Ok(made) => made,
-        Err(fault) => return Ok(refused_by(fault)),
-    };
-    if shelf.put(rt, &mut pass, message(alloc, 0)).is_err() {
-        return Ok(Ended::Wrong("full from the start"));
-    }
-    match shelf.put(rt, &mut pass, message(alloc, 1)) {
-        Err((polled, PoolFault::Full)) => {
-            let first = shelf.take(rt, &mut pass);
-            let none = shelf.take(rt, &mut pass);
-            let is_right = polled.number == 1 && is_message(&first, 0) && none.is_none();
-            Ok(right_if(is_right, "another message"))
-        }
-        _ => Ok(Ended::Wrong("not full")),
+// Whether a take answers none.
+fn takes_none<R: Wait>(rt: &R, shelf: &Shelf, pass: &mut ShelfPass) -> bool
+    requires shelf { pass.old.shelf ≡ shelf.now }
+    ensures shelf { pass.new.shelf ≡ shelf.now }
+    ensures share { pass.new.share ≡ pass.old.share }
+{
+    match shelf.take(rt, pass) {
+        Some(_) => false,
+        None => true,
     }
 }
 
-/// A handle made two. A refused split hands it back as it was.
+/// A new queue of one place. A message that finds no room is handed back.
+pub fn making<R: Wait>(rt: &R, alloc: Global) -> Result<Ended, SetUp> {
+    match Shelf::new(rt, alloc, 1) {
+        Ok((shelf, mut pass)) => {
+            let put = puts(rt, alloc, &shelf, &mut pass, 0);
+            let full = is_handed_back(rt, alloc, &shelf, &mut pass, 1);
+            let zero = takes(rt, &shelf, &mut pass, 0);
+            let none = takes_none(rt, &shelf, &mut pass);
+            Ok(right_if(put && full && zero && none, "other messages"))
+        }
+        Err(fault) => Ok(refused_by(fault)),
+    }
+}
+
+/// A handle made two. A refused split would hand it back as it was.
 pub fn splitting<R: Wait>(rt: &R, alloc: Global) -> Result<Ended, SetUp> {
     let (shelf, mut pass) = Shelf::new(rt, alloc, 2)?;
-    if shelf.put(rt, &mut pass, message(alloc, 0)).is_err() {
-        return Ok(Ended::Wrong("full"));
-    }
+    let put = puts(rt, alloc, &shelf, &mut pass, 0);
     match shelf.split(rt, alloc, pass) {
         Ok((mut first, mut second)) => {
-            let put = shelf.put(rt, &mut second, message(alloc, 1));
-            let zero = shelf.take(rt, &mut first);
-            let one = shelf.take(rt, &mut first);
-            let _joined = shelf.join(rt, first, second);
-            Ok(right_if(
-                put.is_ok() && is_message(&zero, 0) && is_message(&one, 1),
-                "other messages",
-            ))
+            let put_too = puts(rt, alloc, &shelf, &mut second, 1);
+            let zero = takes(rt, &shelf, &mut first, 0);
+            let mut joined = shelf.join(rt, first, second);
+            let one = takes(rt, &shelf, &mut joined, 1);
+            Ok(right_if(put && put_too && zero && one, "other messages"))
         }
-        Err((mut pass, PoolFault::Memory)) => {
-            let zero = shelf.take(rt, &mut pass);
-            Ok(memory_if(is_message(&zero, 0), "another message after a refusal"))
+        Err((mut pass, _)) => {
+            let zero = takes(rt, &shelf, &mut pass, 0);
+            Ok(memory_if(put && zero, "another message after a refusal"))
         }
-        Err(_) => Ok(Ended::Wrong("another fault")),
     }
 }
 
 /// What is left of a queue.
 pub fn closing<R: Wait>(rt: &R, alloc: Global) -> Result<Ended, SetUp> {
     let (shelf, mut pass) = Shelf::new(rt, alloc, 3)?;
-    for number in 0..3u64 {
-        if shelf.put(rt, &mut pass, message(alloc, number)).is_err() {
-            return Ok(Ended::Wrong("full"));
-        }
+    let zero = puts(rt, alloc, &shelf, &mut pass, 0);
+    let one = puts(rt, alloc, &shelf, &mut pass, 1);
+    let two = puts(rt, alloc, &shelf, &mut pass, 2);
+    if !(zero && one && two) {
+        return Ok(Ended::Wrong("full"));
     }
     match shelf.close(rt, alloc, pass) {
-        Ok(left) => match left.as_slice() {
-            [a, b, c] => Ok(right_if(
-                a.number == 0 && b.number == 1 && c.number == 2,
-                "other messages",
-            )),
-            _ => Ok(Ended::Wrong("another number of messages")),
-        },
+        Ok(left) => Ok(right_if(are_three(&left), "other messages")),
         Err(fault) => Ok(refused_by(fault)),
+    }
+}
+
+fn are_three(messages: &[Polled]) -> bool {
+    match messages {
+        [a, b, c] => a.number == 0 && b.number == 1 && c.number == 2,
+        _ => false,
     }
 }

@@ -131,16 +131,17 @@ fn stays_broken(solo: &Solo, task: &mut Task, polls: u64, records: usize, now: u
 {
     let stands = task.polls() == polls
         && task.records().len() == records
+        && are_first(task.records())
         && task.due() == Some(now);
     if !task.broken() || !stands {
         return Ended::Wrong("not broken, or its records were changed");
     }
     match poll(solo, task) {
         Poll::Ready(Err(DriveFault::Memory)) => {
-            memory_if(
-                task.polls() == polls && task.records().len() == records,
-                "changed by a later poll",
-            )
+            let stands = task.polls() == polls
+                && task.records().len() == records
+                && are_first(task.records());
+            memory_if(stands, "changed by a later poll")
         }
         Poll::Ready(Ok(_)) | Poll::Pending => Ended::Wrong("another answer of a broken task"),
     }
@@ -153,6 +154,18 @@ fn poll(solo: &Solo, task: &mut Task) -> Poll<Result<Ending, DriveFault>>
     let polled = task.poll(&mut cx);
     cx.cancel();
     polled
+}
+
+// Where the three attempts begin.
+const BEGUN: [u64; 3] = [0, 5, 15];
+
+// Whether these are the first of the three attempts.
+fn are_first(records: &[Attempted]) -> bool {
+    records.len() <= BEGUN.len()
+        && records
+            .iter()
+            .zip(&BEGUN)
+            .all(|(record, begun)| record.begun == *begun)
 }
 
 // Three attempts, and the schedule's third answer.
