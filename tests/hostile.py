@@ -1,6 +1,7 @@
 #!/usr/bin/env python3
-"""Hostile use of the built program: requests for memory that are refused, plans and streams that no honest user gives,
-and plans that were changed at random. It ends by itself, in a few minutes. The last line is 'N passed, M failed'."""
+"""Hostile use of the built programs: requests for memory that are refused, in a call alone and in whole runs, plans and
+streams that no honest user gives, and plans that were changed at random. It ends by itself, in a few minutes. The last
+line is 'N passed, M failed'."""
 import shutil
 import sys
 import tempfile
@@ -12,7 +13,7 @@ import fuzz
 import hostile_plans
 import hostile_streams
 import refused_growths
-from program import ZSCHED, Count
+from program import REFUSALS, ZSCHED, Count
 
 FUZZ_SECONDS = 20
 FUZZ_SEED = 1
@@ -20,9 +21,10 @@ FUZZ_SEED = 1
 
 def main():
     """All parts in turn."""
-    if not ZSCHED.exists():
-        print(f"hostile: {ZSCHED} isn't there; 'rt ci' builds it")
-        return 1
+    for binary in [ZSCHED, REFUSALS]:
+        if not binary.exists():
+            print(f"hostile: {binary} isn't there; 'rt ci' builds it")
+            return 1
     for command in ["cc", "head", "yes", "tr"]:
         if shutil.which(command) is None:
             print(f"hostile: the command '{command}' isn't on this machine, so these tests can't be run")

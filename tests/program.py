@@ -5,6 +5,7 @@ import subprocess
 
 TOP = pathlib.Path(__file__).resolve().parent.parent
 ZSCHED = TOP / "crates" / "zsched" / "out" / "zsched"
+REFUSALS = TOP / "crates" / "zs_refusals" / "out" / "zs_refusals"
 
 SCRIPT = '"script":[{"ms":5,"err":7},{"ms":5,"ok":1}]'
 ONE_JOB = ('{"horizon":1000,"jobs":[{"name":"a","mode":"retry","schedule":"recurs(3)",' + SCRIPT + "}]}").encode()
@@ -36,10 +37,12 @@ def equal_jobs(names, workers, grain):
 
 
 def run(program, text, environment=None, seconds=60, **more):
-    """Runs a program on the text: its status (less than 0 for a signal, None past the time), output and errors."""
+    """Runs a program, or a list of words, on the text: its status (less than 0 for a signal, None past the time), output
+    and errors."""
+    words = program if isinstance(program, list) else [program]
     try:
         ended = subprocess.run(
-            [program], input=text, capture_output=True, timeout=seconds, env=environment, **more)
+            words, input=text, capture_output=True, timeout=seconds, env=environment, **more)
     except subprocess.TimeoutExpired:
         return None, b"", b""
     return ended.returncode, ended.stdout, ended.stderr

@@ -1,4 +1,4 @@
-"""Each request for memory refused in turn, and a machine on which no thread can be started.
+"""Each request for memory refused in turn, in a call alone and in whole runs, and a machine on which no thread can be started.
 
 A library loaded before the program (refuse.c) refuses the N-th request, for N = 1, 2, .. until a whole run makes fewer
 requests than N. It doesn't stop at the first N that succeeds, since the library can do without some requests."""
@@ -9,6 +9,57 @@ import subprocess
 import program
 
 MOST_REQUESTS = 5000
+
+# What zs_refusals prints of a call when a request of the call was refused. What a call needs is made before it, and a
+# refusal there is "set-up: memory". A call that makes no request of its own has no answer here.
+ANSWERS = {
+    "read": ["memory"],
+    "check": ["memory"],
+    "write": ["memory"],
+    "write_out": ["memory"],
+    "plain": ["memory"],
+    "compiled_new": ["memory"],
+    "step": ["memory"],
+    "follow": ["memory"],
+    "task_new": ["memory"],
+    "poll": ["memory"],
+    "agenda_new": [],
+    "set": ["memory"],
+    "take": [],
+    "board_new": ["memory"],
+    "board_split": [],
+    "board_close": ["memory"],
+    "shelf_new": ["memory"],
+    "shelf_split": [],
+    "shelf_close": ["memory"],
+    "poll_batch": ["memory", "broken"],
+    "tally_new": ["memory"],
+    "round": ["memory"],
+    "run_jobs": ["memory"],
+    "read_plan": ["memory"],
+    "report": ["memory"],
+    "run": ["plan memory", "engine memory"],
+    "run_seven_alone": ["plan memory", "engine memory"],
+    "run_seven_shared": ["plan memory", "engine memory"],
+    "run_many_alone": ["plan memory", "engine memory"],
+    "run_many_shared": ["plan memory", "engine memory"],
+}
+
+# What a call that starts threads may print besides, where the start of a thread was what found no memory.
+THREADED = {
+    "round": ["no thread"],
+    "run_jobs": ["no thread"],
+    "run_seven_shared": ["engine no thread"],
+    "run_many_shared": ["engine no thread"],
+}
+
+# The order in which the parts of a call come. A refusal in a later part is found by a greater N.
+PARTS = ["set-up: memory", "plan memory", "engine memory"]
+PART_OF = {"memory": "engine memory", "broken": "engine memory", "no thread": "engine memory",
+           "engine no thread": "engine memory"}
+
+MANY_PLACES = 40
+
 
 class Refuser:
     """The library, built into a folder."""
@@ -39,6 +90,24 @@ class Refuser:
         raise RuntimeError(f"more than {MOST_REQUESTS} requests")
 
 
+def calls_are_refused_well(count, refuser):
+    """Each call alone, with each of its requests refused: it says so and leaves what it has to, or it did without."""
+    for name, answers in ANSWERS.items():
+        allowed = ["ok", "set-up: memory", *answers, *THREADED.get(name, [])]
+        found, reached, last = set(), 0, None
+        for number, (status, output, errors) in refuser.each(program.REFUSALS, f"{name}\n".encode()):
+            last = output.decode(errors="replace").removeprefix(f"{name}: ").removesuffix("\n")
+            is_known = (status, errors) == (0, b"") and last in allowed
+            count.test(f"{name}, request {number} refused", last if is_known else (status, output, errors), last)
+            found.add(last)
+            part = PART_OF.get(last, last)
+            if part in PARTS:
+                count.test(f"{name}, request {number} refused, the order of its parts", PARTS.index(part) >= reached, True)
+                reached = PARTS.index(part)
+        count.test(f"{name}, no request refused", last, "ok")
+        count.test(f"{name}, answers that never came", [answer for answer in answers if answer not in found], [])
+
+
 def program_is_refused_well(count, refuser):
     """The program on one job and on seven: out of memory, or no thread, and nothing written; or the right report."""
     names = "abcdefg"
@@ -49,6 +118,20 @@ def program_is_refused_well(count, refuser):
         for refusal in ["refuse_at", "refuse_from"]:
             for number, ended in refuser.each(program.ZSCHED, text, refusal):
                 count.test(f"{case}, {refusal} {number}", ended if ended not in right else right, right)
+
+
+def many_jobs_are_refused_well(count, refuser):
+    """The program on 10,000 jobs, with a request refused at places all over the run."""
+    names = [f"j{number}" for number in range(10000)]
+    for workers, grain in [(1, 1), (2, 3)]:
+        text, report = program.equal_jobs(names, workers, grain)
+        right = [(0, report, b""), (4, b"", b"zsched: out of memory\n"), (4, b"", b"zsched: no thread\n")]
+        whole, requests = refuser.run(program.ZSCHED, text)
+        count.test(f"10,000 jobs, {workers} workers, nothing refused", whole, right[0])
+        for place in range(MANY_PLACES):
+            number = 1 + requests * place // MANY_PLACES
+            ended, _ = refuser.run(program.ZSCHED, text, refuse_at=number)
+            count.test(f"10,000 jobs, {workers} workers, request {number} refused", ended if ended not in right else right, right)
 
 
 def program_without_threads(count, refuser):
@@ -64,5 +147,7 @@ def program_without_threads(count, refuser):
 def test(count, folder):
     """All tests of this file."""
     refuser = Refuser(folder)
+    calls_are_refused_well(count, refuser)
     program_is_refused_well(count, refuser)
+    many_jobs_are_refused_well(count, refuser)
     program_without_threads(count, refuser)

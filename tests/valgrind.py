@@ -1,0 +1,87 @@
+#!/usr/bin/env python3
+"""Runs the built program on a dozen plans under valgrind: memcheck, helgrind and drd.
+
+    python3 tests/valgrind.py
+
+Each report has to be the right one. memcheck has to name no error and no lost memory. helgrind and drd may name only reads
+of a queue's places by the queue itself, as docs/GUARANTEES.md explains. It isn't part of ./check, since it needs valgrind.
+The last line is 'N passed, M failed'."""
+import pathlib
+import shutil
+import sys
+import tempfile
+import xml.etree.ElementTree
+
+sys.dont_write_bytecode = True
+
+from program import TOP, ZSCHED, Count, equal_jobs, job, plan, run
+
+PLANS = [
+    "backoff_with_a_cap_on_tries", "collected_inputs", "a_done_part_goes_on_again", "attempts_end_at_listed_ticks",
+    "fixed_runs_behind", "windows_wait_when_behind", "no_jobs", "seven_jobs_workers_1_grain_1",
+    "seven_jobs_workers_2_grain_1", "seven_jobs_workers_2_grain_3", "seven_jobs_workers_7_grain_1",
+    "seven_jobs_on_listed_ticks_workers_64_grain_1",
+]
+
+TOOLS = {
+    "memcheck": ["--leak-check=full", "--show-leak-kinds=all"],
+    "helgrind": [],
+    "drd": [],
+}
+
+# The functions that read what another thread wrote with no lock between them.
+QUEUE = "crossbeam_queue::"
+
+
+def cases():
+    """Names, plans, and how they have to end."""
+    listed = [(name, TOP / "tests" / "plans" / f"{name}.json") for name in PLANS]
+    found = [(name, path.read_bytes(), (0, path.with_suffix(".json.stdout").read_bytes())) for name, path in listed]
+    text, report = equal_jobs([f"job{number}" for number in range(100)], 4, 5)
+    found.append(("a hundred jobs, 4 workers, grain 5", text, (0, report)))
+    found.append(("a schedule that is none", plan([job(schedule="(recurs(1) && recurs(2)")]), (2, b"")))
+    return found
+
+
+def is_of_a_queue(error):
+    """Whether an error is an access to a queue's places, made by the queue. The first stack tells where it was made."""
+    if error.findtext("kind") not in ["Race", "ConflictingAccess"]:
+        return False
+    place = error.find("stack/frame/fn")
+    return place is not None and place.text.startswith(QUEUE)
+
+
+def errors_of(path):
+    """The kinds of the errors in a tool's file, and how many more are of a queue."""
+    kinds, of_queues = [], 0
+    for error in xml.etree.ElementTree.parse(path).getroot().iter("error"):
+        if is_of_a_queue(error):
+            of_queues += 1
+        else:
+            kinds.append(error.findtext("kind"))
+    return kinds, of_queues
+
+
+def main():
+    """Each tool on each plan."""
+    if shutil.which("valgrind") is None or not ZSCHED.exists():
+        print(f"valgrind: it needs the command 'valgrind', and {ZSCHED}, which 'rt ci' builds")
+        return 1
+    count = Count()
+    with tempfile.TemporaryDirectory() as folder:
+        file = pathlib.Path(folder) / "errors.xml"
+        for tool, flags in TOOLS.items():
+            of_queues = 0
+            for name, text, wanted in cases():
+                words = ["valgrind", "-q", f"--tool={tool}", "--xml=yes", f"--xml-file={file}", *flags, ZSCHED]
+                status, output, _ = run(words, text, seconds=300)
+                count.test(f"{tool}, {name}", (status, output), wanted)
+                kinds, more = errors_of(file)
+                count.test(f"{tool}, {name}, its errors", kinds, [])
+                of_queues += more
+            print(f"valgrind: {tool} named accesses of a queue {of_queues} times")
+    return count.close()
+
+
+if __name__ == "__main__":
+    sys.exit(main())
