@@ -426,29 +426,39 @@ fn most_jobs(alloc: Global) -> Result<Vec<Job>, Fail> {
     Ok(jobs)
 }
 
-#[test]
-fn ten_thousand_jobs_are_each_polled_twice(rt: HostRuntime) -> Result<(), Fail> {
+fn expect_most_polled_twice<R: Abort + Threads + Wait + Sync>(
+    rt: &R,
+    alloc: Global,
+    cut: (u64, u64),
+) -> Result<(), Fail> {
+    let answer = answer_of(rt, alloc, cut, every_ms(rt, 1), most_jobs(alloc)?)?;
     let fate = Fate {
         lines: &[last(0, 1)],
         ending: Some(Ending::Finished),
         polls: 2,
     };
-    for cut in [(64, 1), (64, 10_000), (3, 7)] {
-        let answer = answer_of(
-            &rt,
-            rt.alloc(),
-            cut,
-            every_ms(&rt, 1),
-            most_jobs(rt.alloc())?,
-        )?;
-        assert_eq!(rt; answer.tasks.len(), 10_000);
-        assert_eq!(rt; answer.polls, 20_000);
-        for (number, task) in (0u64..).zip(answer.tasks.iter()) {
-            assert_eq!(rt; task.number(), number);
-            expect_fate(&rt, task, fate);
-        }
+    assert_eq!(rt; answer.tasks.len(), 10_000);
+    assert_eq!(rt; answer.polls, 20_000);
+    for (number, task) in (0u64..10_000).zip(answer.tasks.iter()) {
+        assert_eq!(rt; task.number(), number);
+        expect_fate(rt, task, fate);
     }
     Ok(())
+}
+
+#[test]
+fn ten_thousand_jobs_in_batches_of_one(rt: HostRuntime) -> Result<(), Fail> {
+    expect_most_polled_twice(&rt, rt.alloc(), (64, 1))
+}
+
+#[test]
+fn ten_thousand_jobs_in_one_batch(rt: HostRuntime) -> Result<(), Fail> {
+    expect_most_polled_twice(&rt, rt.alloc(), (64, 10_000))
+}
+
+#[test]
+fn ten_thousand_jobs_in_batches_of_seven(rt: HostRuntime) -> Result<(), Fail> {
+    expect_most_polled_twice(&rt, rt.alloc(), (3, 7))
 }
 
 #[test]
