@@ -1,5 +1,5 @@
 //! Readers and writers that fail, or give and take a few bytes a call.
-ghost use Rattle.std.specs.Prelude.{ℕ, List, Option, None};
+ghost use Rattle.std.specs.Prelude.{◌≡◌, ◌≤◌, ◌<◌, length, IfOk, None};
 
 use crate::{Drain, Failed, Source};
 use std::io;
@@ -93,7 +93,9 @@ pub(super) enum Answers {
 
 impl Answers {
     // The number of bytes, no more than there are.
-    fn within(self, most: usize) -> io::Result<usize> {
+    fn within(self, most: usize) -> io::Result<usize>
+        ensures within { IfOk result (λ count. count ≤ most) }
+    {
         match self {
             Answers::Count(count) => Ok(count.min(most)),
             Answers::Error(kind) => Err(io::Error::from(kind)),

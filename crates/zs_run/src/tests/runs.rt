@@ -1,4 +1,6 @@
 //! Whole runs over readers and writers that are none of `std`'s.
+ghost use Rattle.std.specs.Prelude.{◌≡◌, false};
+
 use super::fakes::{Halting, Limited};
 use crate::{PlanFault, RunFault, run};
 use std::alloc::Global;
@@ -70,7 +72,9 @@ fn plan_of(alloc: Global, workers: u64, grain: u64) -> Result<String, Fail> {
 }
 
 // A reader of the text, in pieces of so many bytes, that fails after so many.
-fn halting(text: &str, step: usize, left: usize) -> Halting<'_> {
+fn halting(text: &str, step: usize, left: usize) -> Halting<'_>
+    ensures clear { result.failed ≡ false }
+{
     Halting {
         bytes: text.as_bytes(),
         step,
@@ -80,7 +84,9 @@ fn halting(text: &str, step: usize, left: usize) -> Halting<'_> {
 }
 
 // A writer that takes pieces of so many bytes, and so many in all.
-fn limited(alloc: Global, step: usize, room: usize, flushes: bool) -> Limited {
+fn limited(alloc: Global, step: usize, room: usize, flushes: bool) -> Limited
+    ensures clear { result.failed ≡ false }
+{
     Limited {
         taken: Vec::new(alloc),
         step,
@@ -160,7 +166,7 @@ fn a_failed_writer_has_the_first_bytes(rt: HostRuntime) -> Result<(), Fail> {
         (7, 20),
         (20, 20),
         (4096, 500),
-        (1, report.len() - 1),
+        (1, report.len().saturating_sub(1)),
     ] {
         let mut reader = halting(&plan, 4096, usize::MAX);
         let mut writer = limited(alloc, step, room, true);
