@@ -22,6 +22,8 @@ mod reporting;
 mod run_fault;
 mod running;
 mod streams;
+#[cfg(test)]
+mod tests;
 mod transfer;
 mod tree;
 

@@ -1,0 +1,222 @@
+//! Whole runs over readers and writers that are none of `std`'s.
+ghost use Rattle.std.specs.Prelude.{◌≡◌, false};
+
+use super::fakes::{Halting, Limited};
+use crate::{PlanFault, RunFault, run};
+use std::alloc::Global;
+use std::sync::Wait;
+use std::test::Fail;
+use std::thread::Threads;
+use zs_pool::OpenGate;
+
+// Jobs that fail, run at the horizon, finish with a list, never begin, are ended by a failure, succeed, and finish with a side.
+const JOBS: &str = r#""jobs":[
+{"name":"gives-up","mode":"retry","schedule":"(exponential(10) && recurs(2))","script":[{"ms":1,"err":1}]},
+{"name":"runs","mode":"retry","schedule":"recurs(3)","start":95,"script":[{"ms":5,"err":7},{"ms":5,"ok":1}]},
+{"name":"collects","mode":"repeat","schedule":"identity.whileInput(< 3).collectAll","script":[{"ms":1,"ok":1},{"ms":1,"ok":2},{"ms":1,"ok":3}]},
+{"name":"waits","mode":"retry","schedule":"recurs(3)","start":101,"script":[{"ms":5,"err":7}]},
+{"name":"fails","mode":"repeat","schedule":"recurs(5)","script":[{"ms":2,"ok":1},{"ms":2,"err":4}]},
+{"name":"succeeds","mode":"retry","schedule":"recurs(3)","script":[{"ms":5,"err":7},{"ms":5,"ok":1}]},
+{"name":"turns","mode":"repeat","schedule":"(recurs(2) andThenEither recurs(1))","script":[{"ms":1,"ok":5}]}
+]}"#;
+
+const REPORT: &str = "job gives-up retry
+attempt 1 0..1 err 1
+step 1 out (10,0) next 11
+attempt 2 11..12 err 1
+step 2 out (20,1) next 32
+attempt 3 32..33 err 1
+step 3 out (40,2) done
+end failed 1 at 33 polls 6
+job runs retry
+attempt 1 95..100 err 7
+step 1 out 0 next 100
+attempt 2 100.. running
+end unfinished at 100 polls 2
+job collects repeat
+attempt 1 0..1 ok 1
+step 1 out [] next 1
+attempt 2 1..2 ok 2
+step 2 out [1] next 2
+attempt 3 2..3 ok 3
+step 3 out [1,2] done
+end finished [1,2] at 3 polls 4
+job waits retry
+end unfinished at 100 polls 0
+job fails repeat
+attempt 1 0..2 ok 1
+step 1 out 0 next 2
+attempt 2 2..4 err 4
+end failed 4 at 4 polls 3
+job succeeds retry
+attempt 1 0..5 err 7
+step 1 out 0 next 5
+attempt 2 5..10 ok 1
+end succeeded 1 at 10 polls 3
+job turns repeat
+attempt 1 0..1 ok 5
+step 1 out Left(0) next 1
+attempt 2 1..2 ok 5
+step 2 out Left(1) next 2
+attempt 3 2..3 ok 5
+step 3 out Right(0) next 3
+attempt 4 3..4 ok 5
+step 4 out Right(1) done
+end finished Right(1) at 4 polls 5
+polls 23
+";
+
+// A plan of those jobs.
+fn plan_of(alloc: Global, workers: u64, grain: u64) -> Result<String, Fail> {
+    Ok(format!(in alloc; "{{\"horizon\":100,\"workers\":{workers},\"grain\":{grain},{JOBS}")?)
+}
+
+// A reader of the text, in pieces of so many bytes, that fails after so many.
+fn halting(text: &str, step: usize, left: usize) -> Halting<'_>
+    ensures clear { result.failed ≡ false }
+{
+    Halting {
+        bytes: text.as_bytes(),
+        step,
+        left,
+        failed: false,
+    }
+}
+
+// A writer that takes pieces of so many bytes, and so many in all.
+fn limited(alloc: Global, step: usize, room: usize, flushes: bool) -> Limited
+    ensures clear { result.failed ≡ false }
+{
+    Limited {
+        taken: Vec::new(alloc),
+        step,
+        room,
+        flushes,
+        flushed: false,
+        failed: false,
+    }
+}
+
+#[test]
+fn every_cut_writes_the_same_bytes(rt: HostRuntime) -> Result<(), Fail> {
+    let alloc = rt.alloc();
+    for workers in [1, 2, 7, 64] {
+        for grain in [1, 3, 10_000] {
+            let plan = plan_of(alloc, workers, grain)?;
+            let mut reader = halting(&plan, 4096, usize::MAX);
+            let mut writer = limited(alloc, 4096, usize::MAX, true);
+            run(&rt, alloc, &OpenGate, &mut reader, &mut writer)?;
+            assert_eq!(rt; writer.taken.as_slice(), REPORT.as_bytes());
+            assert!(rt; writer.flushed, "workers {workers} grain {grain}");
+        }
+    }
+    Ok(())
+}
+
+#[test]
+fn pieces_of_any_size_make_the_same_bytes(rt: HostRuntime) -> Result<(), Fail> {
+    let alloc = rt.alloc();
+    let plan = plan_of(alloc, 2, 1)?;
+    for (read, write) in [(1, 1), (1, 4096), (4096, 1), (3, 7), (100, 64)] {
+        let mut reader = halting(&plan, read, usize::MAX);
+        let mut writer = limited(alloc, write, usize::MAX, true);
+        run(&rt, alloc, &OpenGate, &mut reader, &mut writer)?;
+        assert_eq!(rt;
+            writer.taken.as_slice(),
+            REPORT.as_bytes(),
+            "{read} and {write}"
+        );
+    }
+    Ok(())
+}
+
+#[test]
+fn a_failed_reader_has_nothing_written(rt: HostRuntime) -> Result<(), Fail> {
+    let alloc = rt.alloc();
+    let plan = plan_of(alloc, 1, 1)?;
+    for (step, left) in [
+        (1, 0),
+        (1, 1),
+        (7, 500),
+        (4096, 500),
+        (1, plan.len()),
+        (4096, plan.len()),
+    ] {
+        let mut reader = halting(&plan, step, left);
+        let mut writer = limited(alloc, 4096, usize::MAX, true);
+        let ended = run(&rt, alloc, &OpenGate, &mut reader, &mut writer);
+        assert_eq!(rt; ended, Err(RunFault::Read), "after {left} bytes");
+        assert!(rt; reader.failed && !writer.failed, "after {left} bytes");
+        assert!(rt;
+            writer.taken.is_empty() && !writer.flushed,
+            "after {left} bytes"
+        );
+    }
+    Ok(())
+}
+
+#[test]
+fn a_failed_writer_has_the_first_bytes(rt: HostRuntime) -> Result<(), Fail> {
+    let alloc = rt.alloc();
+    let plan = plan_of(alloc, 1, 1)?;
+    let report = REPORT.as_bytes();
+    for (step, room) in [
+        (1, 0),
+        (1, 1),
+        (7, 20),
+        (20, 20),
+        (4096, 500),
+        (1, report.len().saturating_sub(1)),
+    ] {
+        let mut reader = halting(&plan, 4096, usize::MAX);
+        let mut writer = limited(alloc, step, room, true);
+        let ended = run(&rt, alloc, &OpenGate, &mut reader, &mut writer);
+        let sent = room as u64;
+        assert_eq!(rt; ended, Err(RunFault::Write { sent }));
+        assert!(rt;
+            writer.failed && !reader.failed && !writer.flushed,
+            "after {room} bytes"
+        );
+        assert_eq!(rt; writer.taken.len(), room);
+        assert!(rt;
+            report.starts_with(writer.taken.as_slice()),
+            "after {room} bytes"
+        );
+    }
+    Ok(())
+}
+
+#[test]
+fn a_failed_flush_comes_after_all_bytes(rt: HostRuntime) -> Result<(), Fail> {
+    let alloc = rt.alloc();
+    let plan = plan_of(alloc, 1, 1)?;
+    let mut reader = halting(&plan, 4096, usize::MAX);
+    let mut writer = limited(alloc, 100, usize::MAX, false);
+    let ended = run(&rt, alloc, &OpenGate, &mut reader, &mut writer);
+    let sent = REPORT.len() as u64;
+    assert_eq!(rt; ended, Err(RunFault::Write { sent }));
+    assert_eq!(rt; writer.taken.as_slice(), REPORT.as_bytes());
+    assert!(rt; writer.failed && !writer.flushed);
+    Ok(())
+}
+
+#[test]
+fn a_refused_plan_has_nothing_written(rt: HostRuntime) -> Result<(), Fail> {
+    let alloc = rt.alloc();
+    for (text, fault) in [
+        ("", PlanFault::Json),
+        ("{}", PlanFault::Shape { job: None }),
+        (
+            r#"{"horizon":1,"jobs":[{}]}"#,
+            PlanFault::Shape { job: Some(0) },
+        ),
+    ] {
+        let mut reader = halting(text, 4096, usize::MAX);
+        let mut writer = limited(alloc, 4096, usize::MAX, true);
+        let ended = run(&rt, alloc, &OpenGate, &mut reader, &mut writer);
+        assert_eq!(rt; ended, Err(RunFault::Plan(fault)), "{text}");
+        assert!(rt; writer.taken.is_empty() && !writer.flushed, "{text}");
+        assert!(rt; !reader.failed && !writer.failed, "{text}");
+    }
+    Ok(())
+}
