@@ -153,8 +153,14 @@ batch_send = batch_sent (batch_fields task_send)
 polled_send : IsSend polled.the_row
 polled_send = polled_sent (polled_fields task_send)
 
+pub board_pass_send : IsSend board_pass.the_row
+board_pass_send = board_pass_sent (board_pass_fields batch_send)
+
+pub shelf_pass_send : IsSend shelf_pass.the_row
+shelf_pass_send = shelf_pass_sent (shelf_pass_fields polled_send)
+
 pub rights_send : IsSend rights.the_row
-rights_send = rights_sent (board_pass_sent (board_pass_fields batch_send)) (shelf_pass_sent (shelf_pass_fields polled_send))
+rights_send = rights_sent board_pass_send shelf_pass_send
 
 pub worked_send : IsSend worked.the_row
 worked_send = worked_sent rights_send polled_send
