@@ -1,6 +1,7 @@
 // Rounds on one thread and on several, under gates that hold them.
 ghost use Rattle.std.specs.Prelude.{◌≡◌, ◌≤◌, IfOk};
 ghost use Rattle.zs_drive.specs.Clocks.{max_tick};
+ghost use Rattle.zs_term.specs.Saturating.{max_moment};
 
 use super::gates::{Held, InTurn, LastFirst, Meeting, Slow};
 use super::*;
@@ -84,27 +85,34 @@ fn two_threads_meet_at_the_gate(rt: HostRuntime) -> Result<(), Fail> {
     Ok(())
 }
 
-// A hundred rounds in a row over two new tasks each, in which two threads meet: what was counted in all.
+// A hundred rounds in a row over two new tasks each, in which two threads meet. Gives back the seat that counted.
 fn hundred_rounds<R: Threads + Wait + Sync + Abort>(
     rt: &R,
     alloc: Global,
     cut: Cut,
-) -> Result<u64, Fail> {
-    let (tally, mut seat) = Tally::new(alloc)?;
+    tally: &Tally,
+    mut seat: TallySeat,
+) -> Result<TallySeat, Fail>
+    requires tally { seat.tally ≡ tally.now }
+    requires left { seat.allowance ≡ max_moment }
+    ensures tally { IfOk result (λ s. s.tally ≡ tally.now) }
+{
     for _k in 0..100u64 {
         let gate = Meeting::of(2);
         let tasks = new_tasks(alloc, 2, 0)?;
-        let polled = round(rt, alloc, cut, &gate, &tally, &mut seat, 0, tasks)?;
+        let polled = round(rt, alloc, cut, &gate, tally, &mut seat, 0, tasks)?;
         assert_eq!(rt; gate.alone(), 0);
         expect_polled(rt, &polled, 2);
     }
-    Ok(tally.close(seat))
+    Ok(seat)
 }
 
 #[test]
 fn two_threads_meet_in_each_of_a_hundred_rounds(rt: HostRuntime) -> Result<(), Fail> {
     let cut = within(&rt, 64, 1);
-    assert_eq!(rt; hundred_rounds(&rt, rt.alloc(), cut)?, 200);
+    let (tally, seat) = Tally::new(rt.alloc())?;
+    let seat = hundred_rounds(&rt, rt.alloc(), cut, &tally, seat)?;
+    assert_eq!(rt; tally.close(seat), 200);
     Ok(())
 }
 

@@ -1,4 +1,4 @@
-use Rattle.std.proofs.Common.{◌≡◌, ◌+◌, List, sym, ap, subst, arith, length-append, ◌∷◌, ◌++◌, [], length}
+use Rattle.std.proofs.Common.{List, sym, ap, subst, arith, length-append, ◌∷◌, [], length}
 use Rattle.zs_pool.specs.Batches.{BatchValue, AreNumbered}
 use Rattle.zs_pool.proofs.Places.{numbered_push}
 use Rattle.zs_pool.proofs.tests.board.empty_batches.Goals as goal
