@@ -1,22 +1,21 @@
 -- Each move keeps the rule of a board.
-use Rattle.std.proofs.Common.{◌≡◌, ◌≢◌, Bool, true, ℕ, zero, suc, ◌+◌, ◌-◌, ◌<◌, ◌≤◌, List, [], ◌∷◌, ◌++◌, length, get_or, drop, set, Option, Some, None, refl, sym, ap, ◌∙◌, subst, arith, append_assoc, length-append}
+use Rattle.std.proofs.Common.{◌≡◌, Bool, true, ℕ, zero, suc, ◌+◌, ◌-◌, ◌<◌, ◌≤◌, List, [], ◌∷◌, ◌++◌, length, drop, set, Some, refl, sym, ap, ◌∙◌, subst, arith, append_assoc, length-append}
 use mathlib.Core.Option.{some}
 use lib.ListN.{get_elem?}
 use Rattle.std.specs.Prelude.{slice_get, All}
-use Rattle.std.specs.List.{flat_map, sum_by, range_with_len}
+use Rattle.std.specs.List.{flat_map, range_with_len}
 use Rattle.std.specs.List.Sorted.{IsPermutation}
 use Rattle.std.proofs.lemmas.List.{drop-append-le, get_or_append_left, nil_from_length, append-nil}
 use Rattle.std.proofs.lemmas.List.FromFn.{length-range_with_len, get_or-range_with_len}
-use Rattle.std.proofs.lemmas.List.Sorted.{IsPermutation-refl, IsPermutation-sym, IsPermutation-trans, All-permutation, length_permutation}
+use Rattle.std.proofs.lemmas.List.Sorted.{IsPermutation-refl, IsPermutation-trans, All-permutation, length_permutation}
 use Rattle.crossbeam_queue.specs.Fifo.{Pushes, Pops, Forks, Merges, Learns, Held}
 use Rattle.crossbeam_queue.proofs.Lists.{set_else}
 use Rattle.zs_pool.specs.Batches.{BatchValue}
 use Rattle.zs_pool.specs.Counter.{Counting}
 use Rattle.zs_pool.specs.declared.board_rule.Claims.{Claims}
-use Rattle.zs_pool.specs.Runs.{Every}
 use Rattle.zs_term.specs.Saturating.{max_moment}
 use Rattle.zs_pool.specs.Board.{claims, Fits, BoardRun, Took, IsRest, IsFit}
-use Rattle.zs_pool.proofs.Views.{total_set, total_has, total_new, every_get, every_set, every_new, every_alone, every_map, gathered, gathered_alone, merged, newcomer, kept, grown}
+use Rattle.zs_pool.proofs.Views.{total_set, total_new, every_get, every_set, every_new, every_alone, every_map, gathered, gathered_alone, merged, newcomer, kept, grown}
 
 range_more : (a n : ℕ) → range_with_len a (suc n) ≡ range_with_len a n ++ (a + n) ∷ []
 range_more a zero = ap (λ k. k ∷ []) (omega arith)

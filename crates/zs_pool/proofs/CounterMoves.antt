@@ -1,18 +1,18 @@
 -- Each step keeps the rule of a counter.
-use Rattle.std.proofs.Common.{◌≡◌, ◌≢◌, ℕ, zero, suc, ◌+◌, ◌-◌, ◌%◌, ◌^◌, ◌<◌, ◌≤◌, max, List, [], ◌∷◌, ◌++◌, set, refl, sym, ap, ◌∙◌, subst, arith}
+use Rattle.std.proofs.Common.{◌≡◌, ℕ, ◌+◌, ◌-◌, ◌%◌, ◌^◌, ◌<◌, ◌≤◌, max, List, [], ◌∷◌, ◌++◌, set, refl, sym, ap, ◌∙◌, subst, arith}
 use Rattle.std.proofs.Math.Nat.{mod-le, mod-add-mod}
 use mathlib.Core.Option.{some, none}
 use Rattle.std.specs.Prelude.{slice_index}
 use lib.ListN.{get_elem?}
 use Rattle.std.specs.List.{sum_by}
-use Rattle.atomic_table.specs.Table.{State, Act, Step, Me, step, Allows, Splits, Joins, opening}
+use Rattle.atomic_table.specs.Table.{State, Me, step, Allows, Splits, Joins, opening}
 use Rattle.atomic_table.specs.Table.Act.{keeps}
 use Rattle.crossbeam_queue.proofs.Lists.{set_else}
 use Rattle.zs_pool.specs.declared.counter_rule.Count.{Count}
 use Rattle.zs_pool.specs.Runs.{Every}
 use Rattle.zs_term.specs.Saturating.{max_moment}
-use Rattle.zs_pool.specs.Counter.{counted, Sound, CountRun, Lawful, Added, Looked, Settled}
-use Rattle.zs_pool.proofs.Views.{total_set, total_has, total_new, total_alone, every_get, every_set, every_new, every_map}
+use Rattle.zs_pool.specs.Counter.{counted, Sound, Lawful, Added, Looked, Settled}
+use Rattle.zs_pool.proofs.Views.{total_set, total_new, total_alone, every_get, every_set, every_new, every_map}
 
 abbrev Rule : State (Unit {0}) Count → Type 0
 Rule = Lawful tt

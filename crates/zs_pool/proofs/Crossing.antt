@@ -12,9 +12,7 @@ use denote.Struct.Field.{row_field, shr_ref_field}
 use denote.Struct.Tuple.{TupleAt, type_at}
 use denote.Param.SendFields.{declared_send, declared_sync, as_row_send}
 use Rattle.std.proofs.Crossing.{Box-send, Vec-send, crosses, send as heap_send, sync as heap_sync, frees}
-use Rattle.std.specs.contracts.alloc.Global as global
 use Rattle.std.specs.contracts.impls.GlobalAllocator.TheImpl as heap
-use Rattle.std.specs.contracts.vec.Vec as vec
 use Rattle.std.proofs.option.Option.TheSendSync as option
 use Rattle.std.specs.contracts.option.Option as option_type
 use Rattle.std.proofs.result.Result.TheSendSync as result
@@ -58,7 +56,6 @@ use Rattle.zs_pool.specs.contracts.shelf_pass.ShelfPass as shelf_pass
 use Rattle.zs_pool.specs.contracts.shelf_pass.ShelfPass.TheInside as shelf_pass_inside
 use Rattle.zs_pool.specs.contracts.rights.Rights as rights
 use Rattle.zs_pool.specs.contracts.worker.Worked as worked
-use Rattle.zs_pool.specs.contracts.tally_seat.TallySeat as tally_seat
 use Rattle.zs_pool.proofs.tally_seat.TallySeat.TheSendSync as tally_seat_sent
 use Rattle.zs_pool.proofs.counter.CounterSeat.TheSendSync as counter_seat
 use Rattle.zs_pool.proofs.counter.Counter.TheSendSync as counter
@@ -153,8 +150,14 @@ batch_send = batch_sent (batch_fields task_send)
 polled_send : IsSend polled.the_row
 polled_send = polled_sent (polled_fields task_send)
 
+pub board_pass_send : IsSend board_pass.the_row
+board_pass_send = board_pass_sent (board_pass_fields batch_send)
+
+pub shelf_pass_send : IsSend shelf_pass.the_row
+shelf_pass_send = shelf_pass_sent (shelf_pass_fields polled_send)
+
 pub rights_send : IsSend rights.the_row
-rights_send = rights_sent (board_pass_sent (board_pass_fields batch_send)) (shelf_pass_sent (shelf_pass_fields polled_send))
+rights_send = rights_sent board_pass_send shelf_pass_send
 
 pub worked_send : IsSend worked.the_row
 worked_send = worked_sent rights_send polled_send

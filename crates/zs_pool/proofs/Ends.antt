@@ -1,5 +1,5 @@
 -- How a round ends.
-use Rattle.std.proofs.Common.{◌≡◌, ◌+◌, ◌<◌, ◌≤◌, ℕ, suc, zero, true, Vec, Ok, Err, IfOk, List, [], ◌∷◌, ◌++◌, length, refl, sym, ap, ◌∙◌, subst, length-append, arith}
+use Rattle.std.proofs.Common.{◌≡◌, ◌+◌, ◌≤◌, ℕ, true, Vec, Ok, Err, IfOk, List, [], ◌∷◌, ◌++◌, length, sym, ap, ◌∙◌, subst, length-append, arith}
 use Rattle.std.specs.Prelude.{All, Result}
 use Rattle.std.specs.Global.{Global}
 use Rattle.std.specs.List.{range_with_len}
@@ -13,7 +13,7 @@ use Rattle.zs_pool.specs.Batches.{BatchValue, tasks_of}
 use Rattle.zs_pool.specs.Messages.{PolledValue, IsPollAmong, numbers_of}
 use Rattle.zs_pool.specs.Board.{BoardId}
 use Rattle.zs_pool.specs.declared.rights.Rights.{Rights}
-use Rattle.zs_pool.specs.Shares.{Kept, sizes}
+use Rattle.zs_pool.specs.Shares.{Kept}
 use Rattle.zs_pool.specs.Joined.{IsPart, IsWhole}
 use Rattle.zs_pool.proofs.Served.{collected, counted_all}
 

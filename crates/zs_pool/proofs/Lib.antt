@@ -12,3 +12,4 @@ pub mod Rooms
 pub mod Parts
 pub mod Ends
 pub mod Crossing
+pub mod NewTasks

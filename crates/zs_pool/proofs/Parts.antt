@@ -1,8 +1,6 @@
 -- What is joined so far.
-use Rattle.std.proofs.Common.{◌≡◌, ◌+◌, ◌<◌, ◌≤◌, ◌||◌, ℕ, suc, zero, Bool, true, false, Vec, Ok, Err, IfOk, List, [], ◌∷◌, ◌++◌, length, refl, sym, ap, ◌∙◌, subst, append_assoc, append-nil, arith}
+use Rattle.std.proofs.Common.{◌≡◌, ◌+◌, ◌||◌, ℕ, Bool, true, false, Ok, Err, IfOk, List, ◌∷◌, ◌++◌, length, refl, sym, ap, ◌∙◌, subst, append-nil, arith}
 use Rattle.std.specs.Prelude.{All}
-use Rattle.std.specs.Global.{Global}
-use Rattle.std.specs.List.{sum_by}
 use Rattle.std.proofs.lemmas.List.Sums.{sum_by-cons}
 use Rattle.std.proofs.lemmas.List.Elements.{All-head, All-tail}
 use Rattle.atomic_table.specs.Seated.{TableId}
@@ -11,7 +9,7 @@ use Rattle.zs_pool.specs.Messages.{PolledValue}
 use Rattle.zs_pool.specs.Board.{BoardId, claimer}
 use Rattle.zs_pool.specs.Shelf.{Shelver, shelver}
 use Rattle.zs_pool.specs.declared.rights.Rights.{Rights}
-use Rattle.zs_pool.specs.Shares.{Kept, IsFresh, IsOf, IsSame, HasServed, Serves, sizes}
+use Rattle.zs_pool.specs.Shares.{Kept, IsOf, IsSame, HasServed, Serves, sizes}
 use Rattle.zs_pool.specs.Joined.{Worker, Promised, allowed, AreBoth, IsPart}
 use Rattle.zs_pool.proofs.Served.{serves_both, sizes_both}
 

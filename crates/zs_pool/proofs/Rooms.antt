@@ -1,16 +1,13 @@
 -- What the seats of all workers take of the allowance.
-use Rattle.std.proofs.Common.{◌≡◌, ◌+◌, ◌-◌, ◌*◌, ◌<◌, ◌≤◌, ℕ, suc, zero, false, true, Vec, List, [], ◌∷◌, ◌++◌, length, refl, sym, ap, ◌∙◌, subst, arith}
+use Rattle.std.proofs.Common.{◌≡◌, ◌+◌, ◌*◌, ◌<◌, ◌≤◌, ℕ, suc, zero, false, List, [], ◌∷◌, ◌++◌, length, sym, ap, ◌∙◌, subst, arith}
 use Rattle.std.specs.Prelude.{All}
-use Rattle.std.specs.List.{sum_by}
 use Rattle.std.proofs.lemmas.List.Sums.{sum_by-append, sum_by-cons}
 use Rattle.std.proofs.lemmas.List.Elements.{All-push}
 use Rattle.std.proofs.Math.Nat.{suc-mul}
 use Rattle.atomic_table.specs.Seated.{TableId}
 use Rattle.zs_pool.specs.Batches.{BatchValue, tasks_of}
 use Rattle.zs_pool.specs.Board.{BoardId, Claimer, claimer}
-use Rattle.zs_pool.specs.Shelf.{Shelver, shelver}
-use Rattle.zs_term.specs.Saturating.{max_moment}
-use Rattle.zs_pool.specs.Tally.{Seating}
+use Rattle.zs_pool.specs.Shelf.{shelver}
 use Rattle.zs_pool.specs.declared.rights.Rights.{Rights}
 use Rattle.zs_pool.specs.Shares.{rooms, IsFresh}
 use Rattle.zs_pool.specs.Joined.{Worker, Promised, allowed}

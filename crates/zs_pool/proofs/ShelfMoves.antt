@@ -1,18 +1,17 @@
 -- Each move keeps the rule of a shelf.
-use Rattle.std.proofs.Common.{◌≡◌, ℕ, ◌+◌, ◌-◌, ◌<◌, ◌≤◌, List, [], ◌∷◌, ◌++◌, length, set, refl, sym, ap, ◌∙◌, subst, arith, append_assoc}
+use Rattle.std.proofs.Common.{◌≡◌, ℕ, ◌+◌, ◌-◌, ◌<◌, List, [], ◌∷◌, ◌++◌, set, refl, sym, ap, ◌∙◌, subst, arith, append_assoc}
 use mathlib.Core.Option.{some}
 use lib.ListN.{get_elem?}
-use Rattle.std.specs.List.{flat_map, sum_by}
+use Rattle.std.specs.List.{flat_map}
 use Rattle.std.specs.List.Sorted.{IsPermutation}
 use Rattle.std.proofs.lemmas.List.{append-nil, nil_from_length}
 use Rattle.std.proofs.lemmas.List.Sorted.{IsPermutation-refl, IsPermutation-sym, IsPermutation-trans, IsPermutation-append_left}
 use Rattle.crossbeam_queue.specs.Fifo.{Pushes, Pops, Forks, Merges, Learns, Held}
 use Rattle.crossbeam_queue.proofs.Lists.{set_else}
 use Rattle.zs_pool.specs.declared.shelf_rule.Hands.{Hands}
-use Rattle.zs_pool.specs.Runs.{Every}
 use Rattle.zs_term.specs.Saturating.{max_moment}
 use Rattle.zs_pool.specs.Shelf.{hands, IdleIsEmpty, ShelfRun, IsLeft}
-use Rattle.zs_pool.proofs.Views.{total_set, total_new, every_get, every_set, every_new, every_map, gathered_alone, merged, newcomer, kept, grown}
+use Rattle.zs_pool.proofs.Views.{total_set, total_new, every_set, every_new, every_map, gathered_alone, merged, newcomer, kept, grown}
 
 module _ {T : Type 0} where
   -- what was put, before and after a change of the views

@@ -1,5 +1,5 @@
 -- Each step keeps the rule of a tally.
-use Rattle.std.proofs.Common.{◌≡◌, ◌≢◌, Bool, true, false, ◌==◌, ℕ, zero, suc, ◌+◌, ◌-◌, ◌%◌, ◌^◌, ◌<◌, ◌≤◌, max, List, [], ◌∷◌, ◌++◌, set, refl, sym, ap, ◌∙◌, subst, arith}
+use Rattle.std.proofs.Common.{◌≡◌, Bool, true, false, ◌==◌, ℕ, ◌+◌, ◌-◌, ◌%◌, ◌^◌, ◌≤◌, max, List, [], ◌∷◌, ◌++◌, set, refl, sym, ap, ◌∙◌, subst, arith}
 use Rattle.std.proofs.Math.Nat.{mod-eq_of_lt}
 use Rattle.std.proofs.lemmas.Bool.{eqb-true}
 use mathlib.Core.Option.{some, none, some-injective}
@@ -7,14 +7,14 @@ use Rattle.std.specs.Prelude.{slice_index}
 use lib.ListN.{get_elem?}
 use prog.Atomic.{either}
 use Rattle.std.specs.List.{sum_by}
-use Rattle.atomic_table.specs.Table.{State, Act, Step, Me, step, Allows, Splits, Joins, Final, Seen, opening}
+use Rattle.atomic_table.specs.Table.{State, Me, step, Allows, Splits, Joins, Final, Seen, opening}
 use Rattle.atomic_table.specs.Table.Act.{keeps}
 use Rattle.atomic_table.proofs.Lists.{set_else}
 use Rattle.zs_pool.specs.declared.tally_rule.Tallied.{Tallied}
 use Rattle.zs_pool.specs.Runs.{Every}
-use Rattle.zs_pool.specs.Tally.{tallied, TallyRun, Lawful, Counted, Noted, Fitting, Loaded}
+use Rattle.zs_pool.specs.Tally.{tallied, Lawful, Counted, Noted, Fitting, Loaded}
 use Rattle.zs_term.specs.Saturating.{max_moment}
-use Rattle.zs_pool.proofs.Views.{total_set, total_has, total_new, every_get, every_set, every_new, every_map, set_swap}
+use Rattle.zs_pool.proofs.Views.{total_set, total_has, total_new, every_get, every_set, every_new, every_map}
 
 abbrev Rule : State (Unit {0}) Tallied → Type 0
 Rule = Lawful tt

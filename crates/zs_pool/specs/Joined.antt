@@ -1,5 +1,5 @@
 -- What the collecting thread has, while it joins the workers.
-use Rattle.std.specs.Prelude.{◌≡◌, ℕ, ◌+◌, ◌≤◌, length, true, List, [], ◌∷◌, ◌++◌, All, Ok, IfOk, Vec}
+use Rattle.std.specs.Prelude.{◌≡◌, ℕ, ◌+◌, true, List, ◌++◌, Ok, IfOk, Vec}
 use Rattle.std.specs.Global.{Global}
 use Rattle.std.specs.List.{sum_by}
 use Rattle.std.specs.declared.thread.PromisedHandle.{PromisedHandle}

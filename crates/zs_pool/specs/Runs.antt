@@ -1,5 +1,5 @@
 -- What holds of each of the passes or seats of one object.
-use Rattle.std.specs.Prelude.{ℕ, List, [], ◌∷◌}
+use Rattle.std.specs.Prelude.{List, [], ◌∷◌}
 
 -- a fact of each view
 abbrev pub Every : {V : Type 0} → (V → Type 0) → List V → Type 0

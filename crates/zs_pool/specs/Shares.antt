@@ -4,7 +4,7 @@ use Rattle.std.specs.Global.{Global}
 use Rattle.std.specs.List.{sum_by}
 use Rattle.std.specs.List.Sorted.{IsPermutation}
 use Rattle.atomic_table.specs.Seated.{TableId}
-use Rattle.zs_pool.specs.Batches.{BatchValue, AllPollable, tasks_of}
+use Rattle.zs_pool.specs.Batches.{BatchValue, tasks_of}
 use Rattle.zs_pool.specs.Messages.{PolledValue, IsPollAmong, numbers_of}
 use Rattle.std.specs.declared.alloc.AllocError.{AllocError}
 use Rattle.zs_pool.specs.Board.{BoardId}

@@ -1,4 +1,4 @@
-use Rattle.std.proofs.Common.{◌≡◌, ◌<◌, ◌≤◌, List, [], ◌∷◌, ◌++◌, length, drop, ap, sym, ◌∙◌, subst, rules, arith, append_assoc}
+use Rattle.std.proofs.Common.{◌∙◌, arith}
 use Rattle.crossbeam_queue.specs.Passes.{view}
 use Rattle.zs_pool.proofs.BoardMoves.{takes, learns, drained, nothing_left}
 use Rattle.zs_pool.proofs.board.drain.Goals as goal

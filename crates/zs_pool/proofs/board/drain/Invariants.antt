@@ -1,4 +1,4 @@
-use Rattle.std.proofs.Common.{◌≡◌, List, ◌++◌, length, drop}
+use Rattle.std.proofs.Common.{◌≡◌, ◌++◌, length, drop}
 use Rattle.crossbeam_queue.specs.Passes.{view, IsPassOf}
 use Rattle.zs_term.specs.Saturating.{max_moment}
 use Rattle.zs_pool.proofs.board.drain.Given as goal

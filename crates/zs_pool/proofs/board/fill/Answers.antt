@@ -1,7 +1,6 @@
-use Rattle.std.proofs.Common.{◌≡◌, ◌<◌, ◌≤◌, ◌+◌, List, [], ◌∷◌, ◌++◌, length, ap, sym, ◌∙◌, subst, rules, arith, append_assoc, length-append}
+use Rattle.std.proofs.Common.{◌≡◌, List, [], ◌∷◌, ◌++◌, ap, sym, ◌∙◌, arith, append_assoc}
 use Rattle.std.specs.Vec.Iter.{into_iter_items}
 use Rattle.std.proofs.lemmas.List.{nil_from_length, append-nil}
-use Rattle.crossbeam_queue.specs.Passes.{view}
 use Rattle.zs_pool.specs.Batches.{BatchValue}
 use Rattle.zs_pool.specs.declared.board_rule.Claims.{Claims}
 use Rattle.zs_pool.specs.Board.{claims}

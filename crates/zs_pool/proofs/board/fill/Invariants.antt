@@ -1,6 +1,6 @@
-use Rattle.std.proofs.Common.{◌≡◌, ◌+◌, ◌≤◌, List, [], ◌++◌, length}
-use Rattle.std.specs.Vec.Iter.{into_iter_items, into_iter_len}
-use Rattle.crossbeam_queue.specs.Passes.{view, IsPassOf, ruled_capacity}
+use Rattle.std.proofs.Common.{◌≡◌, List, [], ◌++◌}
+use Rattle.std.specs.Vec.Iter.{into_iter_items}
+use Rattle.crossbeam_queue.specs.Passes.{view, IsPassOf}
 use Rattle.zs_pool.specs.Batches.{BatchValue}
 use Rattle.zs_pool.specs.Board.{claims}
 use Rattle.zs_term.specs.Saturating.{max_moment}

@@ -1,6 +1,5 @@
-use Rattle.std.proofs.Common.{◌≡◌, ◌<◌, ℕ, List, [], ◌∷◌, ◌++◌, map, Option, Some, None, length, sym, ap, ◌∙◌, subst, rules, arith}
+use Rattle.std.proofs.Common.{◌≡◌, List, ◌∷◌, Option, Some, ap, ◌∙◌, arith}
 use Rattle.std.specs.Vec.Iter.{into_iter_items}
-use Rattle.zs_pool.specs.Batches.{BatchValue}
 use Rattle.zs_pool.specs.Messages.{PolledValue}
 use Rattle.zs_pool.proofs.Places.{goes_from, goes_on, goes_all, has_some}
 use Rattle.zs_pool.proofs.gathering.in_order.Goals as goal

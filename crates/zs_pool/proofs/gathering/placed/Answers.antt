@@ -1,12 +1,11 @@
-use Rattle.std.proofs.Common.{◌≡◌, ◌<◌, ℕ, List, [], ◌∷◌, length, sym, subst, rules, arith}
+use Rattle.std.proofs.Common.{◌≡◌, List, ◌∷◌, sym, subst, arith}
 use Rattle.std.specs.Prelude.{All}
 use Rattle.std.specs.List.{range_with_len}
 use Rattle.std.specs.List.Sorted.{IsPermutation}
 use Rattle.std.specs.Vec.Iter.{into_iter_items}
 use Rattle.std.proofs.lemmas.List.Elements.{All-head, All-tail}
-use Rattle.zs_pool.specs.Batches.{BatchValue}
 use Rattle.zs_pool.specs.Messages.{PolledValue, IsPollAmong, numbers_of}
-use Rattle.zs_pool.proofs.Places.{Slotted, slotted_none, slotted_more, slotted_all, get_below}
+use Rattle.zs_pool.proofs.Places.{slotted_none, slotted_more, slotted_all, get_below}
 use Rattle.zs_pool.proofs.gathering.placed.Goals as goal
 
 pub loop-message-init : goal.loop-message-init

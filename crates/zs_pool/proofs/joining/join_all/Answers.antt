@@ -1,4 +1,4 @@
-use Rattle.std.proofs.Common.{◌≡◌, ◌≤◌, ℕ, List, [], length, IfOk, subst, rules, arith}
+use Rattle.std.proofs.Common.{◌≡◌, List, [], IfOk, subst, arith}
 use Rattle.std.specs.Vec.Iter.{into_iter_items}
 use Rattle.std.proofs.lemmas.List.{nil_from_length}
 use Rattle.zs_pool.specs.Joined.{Worker, IsPart, allowed}

@@ -1,4 +1,3 @@
-use Rattle.std.proofs.Common.{◌≡◌, length}
 use Rattle.std.specs.Vec.Iter.{into_iter_items}
 use Rattle.zs_pool.proofs.Parts.{Joins}
 use Rattle.zs_pool.proofs.joining.join_all.Given as goal

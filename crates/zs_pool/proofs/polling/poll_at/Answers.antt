@@ -1,7 +1,6 @@
-use Rattle.std.proofs.Common.{◌≡◌, ◌⊎◌, subst, sym}
+use Rattle.std.proofs.Common.{◌≡◌, ◌⊎◌, subst}
 use Rattle.std.specs.Prelude.{false, true, ⊤}
 use Rattle.zs_drive.specs.Tasks.{TaskValue, current_timeline, polled, reply_of, MatchMemory, IsDue}
-use Rattle.zs_pool.specs.Rounds.{IsPolled}
 use Rattle.zs_pool.proofs.Polls.{is_polled}
 use Rattle.zs_pool.proofs.polling.poll_at.Goals as goal
 

@@ -1,4 +1,4 @@
-use Rattle.std.proofs.Common.{◌≡◌, ◌+◌, ◌≤◌, ℕ, length, take, get_or}
+use Rattle.std.proofs.Common.{◌≡◌, ◌+◌, ◌≤◌, ℕ, take, get_or}
 use Rattle.std.specs.List.{AllZip}
 use Rattle.zs_pool.specs.Rounds.{IsPolled}
 use Rattle.zs_pool.proofs.polling.poll_each.Given as goal

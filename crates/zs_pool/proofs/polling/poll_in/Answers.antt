@@ -1,4 +1,4 @@
-use Rattle.std.proofs.Common.{◌≡◌, sym, subst}
+use Rattle.std.proofs.Common.{sym, subst}
 use Rattle.std.specs.Prelude.{All}
 use Rattle.zs_pool.specs.Rounds.{IsPollable}
 use Rattle.zs_pool.specs.Batches.{BatchValue}

@@ -1,7 +1,6 @@
-use Rattle.std.proofs.Common.{◌≡◌, ◌≢◌, ℕ, Bool, true, false, List, Some, map, ap, ◌∙◌, IsTrue}
+use Rattle.std.proofs.Common.{◌≡◌, ◌≢◌, ℕ, Bool, true, false, Some, ap, ◌∙◌, IsTrue}
 use Rattle.std.specs.Prelude.{slice_get}
 use Rattle.zs_drive.specs.Tasks.{TaskValue}
-use Rattle.zs_pool.specs.Rounds.{polled_at}
 use Rattle.zs_pool.proofs.Places.{sound_polls}
 use Rattle.zs_pool.proofs.rounds.poll_alone.Goals as goal
 

@@ -1,7 +1,7 @@
-use Rattle.std.proofs.Common.{◌≡◌, ◌≤◌, ◌+◌, ◌-◌, ◌*◌, ℕ, List, length, ap, sym, subst, rules, arith}
+use Rattle.std.proofs.Common.{◌≡◌, ◌≤◌, ◌-◌, ◌*◌, ℕ, List, length, ap, sym, subst, arith}
 use Rattle.std.specs.Prelude.{All}
 use Rattle.zs_drive.specs.Tasks.{TaskValue}
-use Rattle.zs_pool.specs.Batches.{BatchValue, tasks_of}
+use Rattle.zs_pool.specs.Batches.{BatchValue}
 use Rattle.zs_pool.specs.Rounds.{IsPollable}
 use Rattle.zs_pool.specs.Messages.{IsPollAmong}
 use Rattle.zs_pool.proofs.Cuts.{few_batches}

@@ -1,9 +1,9 @@
-use Rattle.std.proofs.Common.{◌≡◌, ◌+◌, ◌++◌, ◌≤◌, List, length, IfOk, ap, sym, subst, ◌∙◌, rules, arith}
+use Rattle.std.proofs.Common.{List, length, ap, sym, subst, ◌∙◌, rules, arith}
 use Rattle.std.specs.Prelude.{All}
 use Rattle.std.specs.List.{range_with_len}
 use Rattle.std.specs.List.Sorted.{IsPermutation}
 use Rattle.zs_pool.specs.Batches.{BatchValue, AllPollable, tasks_of}
-use Rattle.zs_pool.specs.Messages.{PolledValue, IsPollAmong, numbers_of}
+use Rattle.zs_pool.specs.Messages.{IsPollAmong, numbers_of}
 use Rattle.zs_pool.specs.Shares.{Counts}
 use Rattle.zs_pool.proofs.Ends.{ended, if_ok, any_ok}
 use Rattle.zs_pool.proofs.sharing.poll_shared.Goals as goal

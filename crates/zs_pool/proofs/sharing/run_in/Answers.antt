@@ -1,4 +1,4 @@
-use Rattle.std.proofs.Common.{◌≡◌, ◌+◌, ◌-◌, ◌≤◌, List, length, IfOk, ap, sym, ◌∙◌, subst, rules, arith}
+use Rattle.std.proofs.Common.{List, IfOk, ap, sym, ◌∙◌, subst, arith}
 use Rattle.zs_pool.specs.Batches.{BatchValue, AllPollable}
 use Rattle.zs_pool.specs.Joined.{IsPart, allowed}
 use Rattle.zs_pool.proofs.Parts.{part_start}

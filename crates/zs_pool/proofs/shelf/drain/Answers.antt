@@ -1,4 +1,4 @@
-use Rattle.std.proofs.Common.{◌≡◌, ◌<◌, ◌∙◌, rules, arith}
+use Rattle.std.proofs.Common.{◌∙◌, arith}
 use Rattle.crossbeam_queue.specs.Passes.{view}
 use Rattle.zs_pool.proofs.ShelfMoves.{takes, learns, drained, nothing_left}
 use Rattle.zs_pool.proofs.shelf.drain.Goals as goal

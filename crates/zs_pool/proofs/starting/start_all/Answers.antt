@@ -1,10 +1,10 @@
-use Rattle.std.proofs.Common.{rules, ◌≡◌, ◌≤◌, ◌<◌, ◌+◌, ◌-◌, ◌++◌, ◌∷◌, [], ℕ, List, false, ap, sym, ◌∙◌, subst, length, length-append, arith}
+use Rattle.std.proofs.Common.{rules, ◌≡◌, ◌+◌, ◌-◌, ◌∷◌, [], List, false, ap, sym, ◌∙◌, subst, length, length-append, arith}
 use Rattle.std.specs.Prelude.{All}
 use Rattle.zs_pool.specs.Batches.{BatchValue, AllPollable}
 use Rattle.zs_pool.specs.Board.{Claimer, claimer}
 use Rattle.zs_pool.specs.Shelf.{Shelver, shelver}
 use Rattle.zs_term.specs.Saturating.{max_moment}
-use Rattle.zs_pool.specs.Shares.{rooms, IsFresh}
+use Rattle.zs_pool.specs.Shares.{IsFresh}
 use Rattle.zs_pool.specs.Joined.{Worker, Promised, allowed}
 use Rattle.zs_pool.proofs.Rooms.{rooms_more, rooms_fit, fresh_own, allowed_push, promised_push}
 use Rattle.zs_pool.proofs.starting.start_all.Goals as goal

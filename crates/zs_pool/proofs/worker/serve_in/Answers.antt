@@ -1,6 +1,6 @@
-use Rattle.std.proofs.Common.{◌≡◌, ◌+◌, ◌<◌, ◌≤◌, ◌++◌, ◌∷◌, [], ℕ, List, Some, ap, sym, ◌∙◌, subst, rules, arith}
+use Rattle.std.proofs.Common.{◌≡◌, ◌+◌, ◌++◌, ◌∷◌, [], ℕ, List, Some, ap, sym, ◌∙◌, subst, arith}
 use Rattle.std.specs.Prelude.{All, slice_get}
-use Rattle.zs_pool.specs.Batches.{BatchValue, AllPollable}
+use Rattle.zs_pool.specs.Batches.{BatchValue}
 use Rattle.zs_pool.specs.Rounds.{IsPollable}
 use Rattle.zs_pool.specs.Shares.{sizes}
 use Rattle.zs_pool.proofs.Served.{Fits, all_get, claim_fits, serves_more, sizes_more, size_is, fits_more}

@@ -1,4 +1,3 @@
-use Rattle.std.proofs.Common.{◌≡◌, ◌<◌, ◌≤◌, rules, arith}
 use Rattle.zs_pool.proofs.BoardMoves.{learns}
 use Rattle.zs_pool.proofs.board.Board.close.Goals as goal
 

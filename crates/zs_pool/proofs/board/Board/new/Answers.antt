@@ -1,4 +1,3 @@
-use Rattle.std.proofs.Common.{◌≡◌, ◌<◌, ◌≤◌, rules, arith}
 use Rattle.zs_pool.proofs.BoardMoves.{begins}
 use Rattle.zs_pool.proofs.board.Board.new.Goals as goal
 

@@ -1,4 +1,4 @@
-use Rattle.std.proofs.Common.{◌≡◌, ◌<◌, ◌≤◌, rules, arith}
+use Rattle.std.proofs.Common.{rules}
 use Rattle.zs_pool.proofs.BoardMoves.{forks}
 use Rattle.zs_pool.proofs.board.Board.split.Goals as goal
 

@@ -1,4 +1,4 @@
-use Rattle.std.proofs.Common.{◌≡◌, ◌≤◌}
+use Rattle.std.proofs.Common.{◌≡◌}
 use Rattle.zs_pool.proofs.board.Board.wait_for_all.Given as goal
 
 abbrev pub invariant-loop : goal.invariant-loop

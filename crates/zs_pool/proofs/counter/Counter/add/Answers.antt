@@ -1,4 +1,4 @@
-use Rattle.std.proofs.Common.{◌≡◌, ◌<◌, ◌≤◌, rules, arith}
+use Rattle.std.proofs.Common.{rules, arith}
 use Rattle.zs_pool.proofs.CounterMoves.{adds}
 use Rattle.zs_pool.proofs.counter.Counter.add.Goals as goal
 

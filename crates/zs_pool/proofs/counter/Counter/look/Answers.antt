@@ -1,4 +1,4 @@
-use Rattle.std.proofs.Common.{◌≡◌, ◌<◌, ◌≤◌, rules, arith}
+use Rattle.std.proofs.Common.{rules, arith}
 use Rattle.zs_pool.proofs.CounterMoves.{looks}
 use Rattle.zs_pool.proofs.counter.Counter.look.Goals as goal
 

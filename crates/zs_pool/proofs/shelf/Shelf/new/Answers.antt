@@ -1,4 +1,3 @@
-use Rattle.std.proofs.Common.{◌≡◌, ◌<◌, ◌≤◌, rules, arith}
 use Rattle.zs_pool.proofs.ShelfMoves.{begins}
 use Rattle.zs_pool.proofs.shelf.Shelf.new.Goals as goal
 

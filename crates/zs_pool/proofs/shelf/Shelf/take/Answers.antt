@@ -1,4 +1,4 @@
-use Rattle.std.proofs.Common.{◌≡◌, ◌<◌, ◌≤◌, rules, arith}
+use Rattle.std.proofs.Common.{rules}
 use Rattle.zs_pool.proofs.ShelfMoves.{takes, learns}
 use Rattle.zs_pool.proofs.shelf.Shelf.take.Goals as goal
 

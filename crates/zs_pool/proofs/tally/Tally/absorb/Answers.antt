@@ -1,4 +1,4 @@
-use Rattle.std.proofs.Common.{◌≡◌, ◌<◌, ◌≤◌, rules, arith}
+use Rattle.std.proofs.Common.{rules, arith}
 use Rattle.zs_pool.proofs.TallyMoves.{joins, fits}
 use Rattle.zs_pool.proofs.tally.Tally.absorb.Goals as goal
 

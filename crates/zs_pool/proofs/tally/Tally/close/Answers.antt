@@ -1,5 +1,4 @@
-use Rattle.std.proofs.Common.{◌≡◌, ◌+◌, ◌<◌, ◌≤◌, ap, rules, arith}
-use Rattle.zs_term.specs.Saturating.{max_moment}
+use Rattle.std.proofs.Common.{ap, arith}
 use Rattle.zs_pool.proofs.TallyMoves.{closes}
 use Rattle.zs_pool.proofs.tally.Tally.close.Goals as goal
 

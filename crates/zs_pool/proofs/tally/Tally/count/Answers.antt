@@ -1,4 +1,4 @@
-use Rattle.std.proofs.Common.{◌≡◌, ◌<◌, ◌≤◌, ◌∙◌, ap, sym, rules, arith}
+use Rattle.std.proofs.Common.{rules, arith}
 use Rattle.zs_pool.proofs.TallyMoves.{counts}
 use Rattle.zs_pool.proofs.tally.Tally.count.Goals as goal
 

@@ -1,4 +1,4 @@
-use Rattle.std.proofs.Common.{◌≡◌, ◌<◌, ◌≤◌, rules, arith}
+use Rattle.std.proofs.Common.{rules, arith}
 use Rattle.zs_pool.proofs.TallyMoves.{sees}
 use Rattle.zs_pool.proofs.tally.Tally.seen.Goals as goal
 

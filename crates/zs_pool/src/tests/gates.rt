@@ -1,0 +1,170 @@
+// Gates that hold threads. A gate can't fail a test, so it counts what went wrong, and gives up waiting at last.
+use super::*;
+use std::sync::atomic::{AtomicU64, Ordering};
+use std::thread;
+
+// Yields until the number is at least so much, and tells whether it came to that.
+fn comes_to(number: &AtomicU64, wanted: u64) -> bool {
+    for _ in 0..TURNS {
+        if number.load(Ordering::SeqCst) >= wanted {
+            return true;
+        }
+        thread::yield_now();
+    }
+    false
+}
+
+// Holds each pass until as many passes were entered, and counts those that gave up.
+#[derive(Drop)]
+pub struct Meeting {
+    wanted: u64,
+    entered: AtomicU64,
+    alone: AtomicU64,
+}
+
+impl Meeting {
+    pub fn of(wanted: u64) -> Meeting {
+        Meeting {
+            wanted,
+            entered: AtomicU64::new(0),
+            alone: AtomicU64::new(0),
+        }
+    }
+
+    // How many passes gave up.
+    pub fn alone(&self) -> u64 {
+        self.alone.load(Ordering::SeqCst)
+    }
+}
+
+impl Gate for Meeting {
+    fn pass(&self, _job: u64, _now: u64, _done: u64) {
+        self.entered.fetch_add(1, Ordering::SeqCst);
+        if !comes_to(&self.entered, self.wanted) {
+            self.alone.fetch_add(1, Ordering::SeqCst);
+        }
+    }
+}
+
+// Holds the pass of one job until the passes of two others were entered, and keeps the greatest `done`.
+#[derive(Drop)]
+pub struct Held {
+    job: u64,
+    others: AtomicU64,
+    alone: AtomicU64,
+    done: AtomicU64,
+}
+
+impl Held {
+    pub fn job(job: u64) -> Held {
+        Held {
+            job,
+            others: AtomicU64::new(0),
+            alone: AtomicU64::new(0),
+            done: AtomicU64::new(0),
+        }
+    }
+
+    // How many passes gave up.
+    pub fn alone(&self) -> u64 {
+        self.alone.load(Ordering::SeqCst)
+    }
+
+    // The most polls that a pass was told of.
+    pub fn done(&self) -> u64 {
+        self.done.load(Ordering::SeqCst)
+    }
+}
+
+impl Gate for Held {
+    fn pass(&self, job: u64, _now: u64, done: u64) {
+        self.done.fetch_max(done, Ordering::SeqCst);
+        if job != self.job {
+            self.others.fetch_add(1, Ordering::SeqCst);
+        } else if !comes_to(&self.others, 2) {
+            self.alone.fetch_add(1, Ordering::SeqCst);
+        }
+    }
+}
+
+// Lets the passes of so many jobs go by falling number, and counts those that gave up.
+#[derive(Drop)]
+pub struct LastFirst {
+    jobs: u64,
+    gone: AtomicU64,
+    alone: AtomicU64,
+}
+
+impl LastFirst {
+    pub fn of(jobs: u64) -> LastFirst {
+        LastFirst {
+            jobs,
+            gone: AtomicU64::new(0),
+            alone: AtomicU64::new(0),
+        }
+    }
+
+    // How many passes gave up.
+    pub fn alone(&self) -> u64 {
+        self.alone.load(Ordering::SeqCst)
+    }
+}
+
+impl Gate for LastFirst {
+    fn pass(&self, job: u64, _now: u64, _done: u64) {
+        let before = self.jobs.wrapping_sub(job).wrapping_sub(1);
+        if !comes_to(&self.gone, before) {
+            self.alone.fetch_add(1, Ordering::SeqCst);
+        }
+        self.gone.fetch_add(1, Ordering::SeqCst);
+    }
+}
+
+// Holds the passes of one job for a while.
+#[derive(Clone, Copy)]
+pub struct Slow {
+    pub job: u64,
+}
+
+impl Gate for Slow {
+    fn pass(&self, job: u64, _now: u64, _done: u64) {
+        if job == self.job {
+            for _ in 0..10_000u64 {
+                thread::yield_now();
+            }
+        }
+    }
+}
+
+// Counts its passes. Each has to be of the job with the number of passes before, and be told of as many polls.
+#[derive(Drop)]
+pub struct InTurn {
+    passes: AtomicU64,
+    wrong: AtomicU64,
+}
+
+impl InTurn {
+    pub fn new() -> InTurn {
+        InTurn {
+            passes: AtomicU64::new(0),
+            wrong: AtomicU64::new(0),
+        }
+    }
+
+    pub fn passes(&self) -> u64 {
+        self.passes.load(Ordering::SeqCst)
+    }
+
+    pub fn wrong(&self) -> u64 {
+        self.wrong.load(Ordering::SeqCst)
+    }
+}
+
+impl Gate for InTurn {
+    fn pass(&self, job: u64, _now: u64, done: u64) {
+        let before = self.passes.fetch_add(1, Ordering::SeqCst);
+        if job != before || done != before {
+            self.wrong.fetch_add(1, Ordering::SeqCst);
+        }
+    }
+}
