@@ -21,8 +21,11 @@ const BLOCK: &str =
 /// How a run is cut, over how many of the jobs.
 #[derive(Clone, Copy, Debug, Drop, PartialEq, Eq)]
 pub struct Size {
+    /// The names of the jobs, one letter each.
     pub names: &'static str,
+    /// The number of workers.
     pub workers: u64,
+    /// How many tasks a batch has.
     pub grain: u64,
 }
 
