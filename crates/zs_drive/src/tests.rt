@@ -7,7 +7,7 @@ use futures::task::{Doorbell, Poll, Solo};
 use std::alloc::Global;
 use std::test::Fail;
 use zs_effect::{Beat, Outcome, Script};
-use zs_term::{Term, check};
+use zs_term::{Cmp, Term, Test, check};
 
 /// Where a job stands: its due polls, what it waits for, its ending, and when its last attempt began and ended.
 #[derive(Clone, Copy, Debug, PartialEq, Eq)]
@@ -236,6 +236,94 @@ fn a_delay_saturates(rt: HostRuntime) -> Result<(), Fail> {
         last: Some((4, Some(5))),
     };
     assert_eq!(rt; stand(&rt, task, 5)?, want);
+    Ok(())
+}
+
+#[test]
+fn a_done_part_goes_on_again(rt: HostRuntime) -> Result<(), Fail> {
+    let alloc = rt.alloc();
+    let is_zero = Test {
+        cmp: Cmp::Eq,
+        than: 0,
+    };
+    let zeros = Term::WhileInput(Box::new(alloc, Term::Identity)?, is_zero);
+    let (first, second) = two(zeros, Term::Recurs(3), alloc)?;
+    let beats = [good(1, 0), good(1, 1), good(1, 0)];
+    let task = make(alloc, Mode::Repeat, Term::Either(first, second), 0, &beats)?;
+    let want = Standing {
+        polls: 5,
+        due: Some(5),
+        ending: None,
+        last: Some((4, None)),
+    };
+    assert_eq!(rt; stand(&rt, task, 4)?, want);
+    Ok(())
+}
+
+#[test]
+fn inputs_are_collected_while_they_pass(rt: HostRuntime) -> Result<(), Fail> {
+    let alloc = rt.alloc();
+    let is_small = Test {
+        cmp: Cmp::Lt,
+        than: 3,
+    };
+    let small = Term::WhileInput(Box::new(alloc, Term::Identity)?, is_small);
+    let term = Term::CollectAll(Box::new(alloc, small)?);
+    let beats = [good(1, 1), good(1, 2), good(1, 3)];
+    let task = make(alloc, Mode::Repeat, term, 0, &beats)?;
+    let want = Standing {
+        polls: 4,
+        due: None,
+        ending: Some(Ending::Finished),
+        last: Some((2, Some(3))),
+    };
+    assert_eq!(rt; stand(&rt, task, 1000)?, want);
+    Ok(())
+}
+
+#[test]
+fn a_retry_goes_past_the_last_entry(rt: HostRuntime) -> Result<(), Fail> {
+    let beats = [bad(1, 11), bad(2, 12), bad(3, 13)];
+    let task = make(rt.alloc(), Mode::Retry, Term::Recurs(3), 0, &beats)?;
+    let want = Standing {
+        polls: 5,
+        due: None,
+        ending: Some(Ending::Failed(13)),
+        last: Some((6, Some(9))),
+    };
+    assert_eq!(rt; stand(&rt, task, 1000)?, want);
+    Ok(())
+}
+
+#[test]
+fn an_end_saturates(rt: HostRuntime) -> Result<(), Fail> {
+    let beats = [good(2, 4), good(u64::MAX, 9)];
+    let task = make(rt.alloc(), Mode::Repeat, Term::Spaced(0), 3, &beats)?;
+    let want = Standing {
+        polls: 2,
+        due: Some(u64::MAX),
+        ending: None,
+        last: Some((5, None)),
+    };
+    assert_eq!(rt; stand(&rt, task, 20)?, want);
+    Ok(())
+}
+
+#[test]
+fn a_task_is_polled_by_hand(rt: HostRuntime) -> Result<(), Fail> {
+    let solo = Solo::new(&rt, Doorbell::spinning())?;
+    let beats = [bad(5, 7), good(5, 1)];
+    let mut task = make(rt.alloc(), Mode::Retry, Term::Recurs(3), 0, &beats)?;
+    assert_eq!(rt; task.due(), Some(0));
+    assert_eq!(rt; poll(&solo, &mut task), Poll::Pending);
+    assert_eq!(rt; (task.due(), task.polls()), (Some(5), 1));
+    task.see(5);
+    assert_eq!(rt; poll(&solo, &mut task), Poll::Pending);
+    assert_eq!(rt; (task.due(), task.polls()), (Some(10), 2));
+    task.see(10);
+    let ended = Poll::Ready(Ok(Ending::Succeeded(1)));
+    assert_eq!(rt; poll(&solo, &mut task), ended);
+    assert_eq!(rt; (task.due(), task.polls()), (None, 3));
     Ok(())
 }
 

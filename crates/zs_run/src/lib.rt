@@ -22,8 +22,6 @@ mod reporting;
 mod run_fault;
 mod running;
 mod streams;
-#[cfg(test)]
-mod tests;
 mod transfer;
 mod tree;
 

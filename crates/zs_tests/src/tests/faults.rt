@@ -1,9 +1,9 @@
 //! What each fault says, and the exit status for it.
-use crate::{EngineFault, PlanFault, RunFault, status};
 use std::alloc::Global;
 use std::process::Abort;
 use std::test::Fail;
 use zs_effect::ScriptFault;
+use zs_run::{EngineFault, PlanFault, RunFault, status};
 use zs_term::TermFault;
 
 fn expect_text(

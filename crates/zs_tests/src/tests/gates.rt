@@ -1,6 +1,6 @@
 // Runs on several workers, under gates that hold a thread until others have come: a run on fewer threads, or one that
 // holds a lock over both the gate and the poll, gives up waiting and is told by a flag.
-use crate::fixtures::{PLAN, plan_of, report_of, written};
+use super::fixtures::{PLAN, plan_of, report_of, written};
 use std::sync::atomic::{AtomicU64, Ordering};
 use std::test::Fail;
 use std::thread;

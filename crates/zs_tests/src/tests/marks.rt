@@ -1,7 +1,7 @@
 //! What a `Marked` answers of the reader or writer inside, and when its mark is set.
 use super::fakes::Answers;
-use crate::{Drain, Failed, Marked, Source};
 use std::io;
+use zs_run::{Drain, Failed, Marked, Source};
 
 // Errors of a reader or a writer, those among them after which others would try again.
 const KINDS: [io::ErrorKind; 4] = [

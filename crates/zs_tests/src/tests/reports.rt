@@ -1,5 +1,5 @@
 //! The lines of a report.
-use crate::report;
+use super::fixtures::{PLAN, REPORT};
 use std::alloc::Global;
 use std::process::Abort;
 use std::sync::Wait;
@@ -10,6 +10,7 @@ use zs_drive::{Job, Mode};
 use zs_effect::{Beat, Outcome, Script};
 use zs_engine::run_jobs;
 use zs_pool::{Cut, OpenGate};
+use zs_run::{Plan, read_plan, report};
 
 fn good(ms: u64, value: u64) -> Beat {
     Beat {
@@ -58,13 +59,13 @@ fn no_jobs_are_one_line(rt: HostRuntime) -> Result<(), Fail> {
 }
 
 #[test]
-fn a_retry_that_succeeds(rt: HostRuntime) -> Result<(), Fail> {
+fn a_plan_is_read_run_and_reported(rt: HostRuntime) -> Result<(), Fail> {
     let alloc = rt.alloc();
-    let beats = [bad(5, 7), good(5, 1)];
-    let jobs = vec![in alloc; job_of(alloc, Mode::Retry, "recurs(3)", &beats)?]?;
-    let lines =
-        "job a retry\nattempt 1 0..5 err 7\nstep 1 out 0 next 5\nattempt 2 5..10 ok 1\nend succeeded 1 at 10 polls 3\npolls 3\n";
-    expect_report(&rt, alloc, 1000, jobs, lines)
+    let Plan { clock, cut, jobs } = read_plan(alloc, PLAN.as_bytes())?;
+    let answer = run_jobs(&rt, alloc, cut, &OpenGate, clock, jobs)?;
+    let text = report(alloc, &answer)?;
+    assert_eq!(rt; text.as_str(), REPORT);
+    Ok(())
 }
 
 #[test]

@@ -1,7 +1,7 @@
 // Readers and writers that fail, give little, or never end.
 ghost use Rattle.std.specs.Prelude.{◌≡◌, ◌≤◌, ◌<◌, length};
 
-use crate::fixtures::{PLAN, REPORT};
+use super::fixtures::{PLAN, REPORT};
 use std::io;
 use std::io::{Read, Write};
 use std::test::Fail;

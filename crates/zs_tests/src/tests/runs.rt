@@ -2,12 +2,12 @@
 ghost use Rattle.std.specs.Prelude.{◌≡◌, false};
 
 use super::fakes::{Halting, Limited};
-use crate::{PlanFault, RunFault, run};
 use std::alloc::Global;
 use std::sync::Wait;
 use std::test::Fail;
 use std::thread::Threads;
 use zs_pool::OpenGate;
+use zs_run::{PlanFault, RunFault, run};
 
 // Jobs that fail, run at the horizon, finish with a list, never begin, are ended by a failure, succeed, and finish with a side.
 const JOBS: &str = r#""jobs":[

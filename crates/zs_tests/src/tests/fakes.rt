@@ -1,9 +1,9 @@
 //! Readers and writers that fail, or give and take a few bytes a call.
 ghost use Rattle.std.specs.Prelude.{◌≡◌, ◌≤◌, ◌<◌, length, IfOk, None};
 
-use crate::{Drain, Failed, Source};
 use std::io;
 use std::io::{Read, Write};
+use zs_run::{Drain, Failed, Source};
 
 /// Gives a few bytes a call, and fails once so many were given.
 #[derive(Drop)]

@@ -1,12 +1,13 @@
 //! What a plan that is read stands for.
-use crate::{Plan, PlanFault, read_plan};
+use super::fixtures::PLAN;
 use std::alloc::Global;
 use std::test::Fail;
 use zs_drive::{Job, Mode};
 use zs_effect::{Beat, Outcome};
+use zs_run::{Plan, PlanFault, read_plan};
 
 /// The fault of a text, where it is no plan.
-pub(super) fn fault_of(alloc: Global, text: &str) -> Option<PlanFault> {
+pub fn fault_of(alloc: Global, text: &str) -> Option<PlanFault> {
     match read_plan(alloc, text.as_bytes()) {
         Ok(_plan) => None,
         Err(fault) => Some(fault),
@@ -26,9 +27,7 @@ fn first_job(plan: &Plan) -> Result<&Job, Fail> {
 #[test]
 fn a_plan_of_one_job_has_its_parts(rt: HostRuntime) -> Result<(), Fail> {
     let alloc = rt.alloc();
-    let text =
-        r#"{"horizon":1000,"jobs":[{"name":"a","mode":"retry","schedule":"recurs(3)","script":[{"ms":5,"err":7},{"ms":5,"ok":1}]}]}"#;
-    let plan = read_plan(alloc, text.as_bytes())?;
+    let plan = read_plan(alloc, PLAN.as_bytes())?;
     assert_eq!(rt; plan.clock.horizon(), 1000);
     assert_eq!(rt; plan.clock.tick(999), Some(999));
     assert_eq!(rt; (plan.cut.workers(), plan.cut.grain()), (1, 1));

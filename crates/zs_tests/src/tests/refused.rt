@@ -1,10 +1,10 @@
 //! Bytes that are no plan. Each fault stands with the one that comes after it in the order, and is told first.
 use super::plans::fault_of;
-use crate::{PlanFault, read_plan};
 use std::alloc::Global;
 use std::process::Abort;
 use std::test::Fail;
 use zs_effect::ScriptFault;
+use zs_run::{PlanFault, read_plan};
 use zs_term::TermFault;
 
 const DOCUMENT: Option<u64> = None;
