@@ -17,8 +17,6 @@ mod fault;
 mod jobs;
 mod laws;
 mod slots;
-#[cfg(test)]
-mod tests;
 mod timers;
 
 pub use answer::Answer;

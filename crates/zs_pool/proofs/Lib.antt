@@ -12,4 +12,3 @@ pub mod Rooms
 pub mod Parts
 pub mod Ends
 pub mod Crossing
-pub mod NewTasks

@@ -37,8 +37,6 @@ mod starting;
 mod tally;
 mod tally_rule;
 mod tally_seat;
-#[cfg(test)]
-mod tests;
 mod worker;
 
 pub use batch::Batch;

@@ -1,4 +1,4 @@
-// Plans, their reports, and runs over memory.
+//! Plans, their reports, and runs over memory.
 use std::alloc::{AllocError, Global};
 use std::sync::Wait;
 use std::test::Fail;

@@ -1,17 +1,15 @@
-// Runs on several workers, under gates that hold a thread until others have come: a run on fewer threads, or one that
-// holds a lock over both the gate and the poll, gives up waiting and is told by a flag.
-use super::fixtures::{PLAN, plan_of, report_of, written};
+//! Gates that hold threads. A gate can't fail a test, so it counts what went wrong, and gives up waiting at last.
 use std::sync::atomic::{AtomicU64, Ordering};
-use std::test::Fail;
 use std::thread;
 use zs_pool::Gate;
 
-const TURNS: u64 = 100_000_000;
+/// How often one thread looks for what another does, before it gives up.
+pub const TURNS: u64 = 100_000_000;
 
-// Yields until the counter is at least so much, and tells whether it came to that.
-fn comes_to(counter: &AtomicU64, wanted: u64) -> bool {
+/// Yields until the number is at least so much, and tells whether it came to that.
+pub fn comes_to(number: &AtomicU64, wanted: u64) -> bool {
     for _ in 0..TURNS {
-        if counter.load(Ordering::SeqCst) >= wanted {
+        if number.load(Ordering::SeqCst) >= wanted {
             return true;
         }
         thread::yield_now();
@@ -19,123 +17,116 @@ fn comes_to(counter: &AtomicU64, wanted: u64) -> bool {
     false
 }
 
-// The counter of one of the moments 0, 5 and 10.
-fn counter_at(counters: &[AtomicU64], now: u64) -> Option<&AtomicU64> {
-    counters.get((now / 5) as usize)
+/// Holds each pass until as many passes were entered, and counts those that gave up.
+#[derive(Drop)]
+pub struct Meeting {
+    wanted: u64,
+    entered: AtomicU64,
+    alone: AtomicU64,
 }
 
-// Holds each pass until both passes of its moment were entered.
-#[derive(Drop)]
-struct Meeting {
-    entered: [AtomicU64; 3],
-    alone: AtomicU64,
+impl Meeting {
+    pub fn of(wanted: u64) -> Meeting {
+        Meeting {
+            wanted,
+            entered: AtomicU64::new(0),
+            alone: AtomicU64::new(0),
+        }
+    }
+
+    /// How many passes gave up.
+    pub fn alone(&self) -> u64 {
+        self.alone.load(Ordering::SeqCst)
+    }
 }
 
 impl Gate for Meeting {
-    fn pass(&self, _job: u64, now: u64, _done: u64) {
-        let met = match counter_at(&self.entered, now) {
-            Some(entered) => {
-                entered.fetch_add(1, Ordering::SeqCst);
-                comes_to(entered, 2)
-            }
-            None => false,
-        };
-        if !met {
+    fn pass(&self, _job: u64, _now: u64, _done: u64) {
+        self.entered.fetch_add(1, Ordering::SeqCst);
+        if !comes_to(&self.entered, self.wanted) {
             self.alone.fetch_add(1, Ordering::SeqCst);
         }
     }
 }
 
-#[test]
-fn two_jobs_meet_at_the_gate_of_each_moment(rt: HostRuntime) -> Result<(), Fail> {
-    let alloc = rt.alloc();
-    let gate = Meeting {
-        entered: [AtomicU64::new(0), AtomicU64::new(0), AtomicU64::new(0)],
-        alone: AtomicU64::new(0),
-    };
-    let plan = plan_of(alloc, "ab", 2, 1)?;
-    let written = written(&rt, alloc, &gate, &plan)?;
-    let report = report_of(alloc, "ab", 6)?;
-    assert_eq!(rt; gate.alone.load(Ordering::SeqCst), 0);
-    assert_eq!(rt; written.as_slice(), report.as_bytes());
-    Ok(())
+/// Holds the pass of one job until the passes of two others were entered, and keeps the greatest `done`.
+#[derive(Drop)]
+pub struct Held {
+    job: u64,
+    others: AtomicU64,
+    alone: AtomicU64,
+    done: AtomicU64,
 }
 
-// Holds the pass of one job until the passes of two others of its moment were entered.
-#[derive(Drop)]
-struct Held {
-    job: u64,
-    others: [AtomicU64; 3],
-    alone: AtomicU64,
+impl Held {
+    pub fn job(job: u64) -> Held {
+        Held {
+            job,
+            others: AtomicU64::new(0),
+            alone: AtomicU64::new(0),
+            done: AtomicU64::new(0),
+        }
+    }
+
+    /// How many passes gave up.
+    pub fn alone(&self) -> u64 {
+        self.alone.load(Ordering::SeqCst)
+    }
+
+    /// The most polls that a pass was told of.
+    pub fn done(&self) -> u64 {
+        self.done.load(Ordering::SeqCst)
+    }
 }
 
 impl Gate for Held {
-    fn pass(&self, job: u64, now: u64, _done: u64) {
-        let met = match counter_at(&self.others, now) {
-            Some(others) => if job == self.job {
-                comes_to(others, 2)
-            } else {
-                others.fetch_add(1, Ordering::SeqCst);
-                true
-            },
-            None => false,
-        };
-        if !met {
+    fn pass(&self, job: u64, _now: u64, done: u64) {
+        self.done.fetch_max(done, Ordering::SeqCst);
+        if job != self.job {
+            self.others.fetch_add(1, Ordering::SeqCst);
+        } else if !comes_to(&self.others, 2) {
             self.alone.fetch_add(1, Ordering::SeqCst);
         }
     }
 }
 
-#[test]
-fn one_worker_takes_the_batches_of_both_other_jobs(rt: HostRuntime) -> Result<(), Fail> {
-    let alloc = rt.alloc();
-    let plan = plan_of(alloc, "abc", 2, 1)?;
-    let report = report_of(alloc, "abc", 9)?;
-    for job in 0..3u64 {
-        let gate = Held {
-            job,
-            others: [AtomicU64::new(0), AtomicU64::new(0), AtomicU64::new(0)],
-            alone: AtomicU64::new(0),
-        };
-        let written = written(&rt, alloc, &gate, &plan)?;
-        assert_eq!(rt; gate.alone.load(Ordering::SeqCst), 0, "job {job}");
-        assert_eq!(rt; written.as_slice(), report.as_bytes(), "job {job}");
-    }
-    Ok(())
-}
-
-// Counts its passes, and those that were told of another number of polls than passes before.
+/// Lets the passes of so many jobs go by falling number, and counts those that gave up.
 #[derive(Drop)]
-struct Counting {
-    passes: AtomicU64,
-    wrong: AtomicU64,
+pub struct LastFirst {
+    jobs: u64,
+    gone: AtomicU64,
+    alone: AtomicU64,
 }
 
-impl Gate for Counting {
-    fn pass(&self, _job: u64, _now: u64, done: u64) {
-        let before = self.passes.fetch_add(1, Ordering::SeqCst);
-        if done != before {
-            self.wrong.fetch_add(1, Ordering::SeqCst);
+impl LastFirst {
+    pub fn of(jobs: u64) -> LastFirst {
+        LastFirst {
+            jobs,
+            gone: AtomicU64::new(0),
+            alone: AtomicU64::new(0),
         }
     }
+
+    /// How many passes gave up.
+    pub fn alone(&self) -> u64 {
+        self.alone.load(Ordering::SeqCst)
+    }
 }
 
-#[test]
-fn each_pass_is_told_of_the_polls_before(rt: HostRuntime) -> Result<(), Fail> {
-    let gate = Counting {
-        passes: AtomicU64::new(0),
-        wrong: AtomicU64::new(0),
-    };
-    let _ = written(&rt, rt.alloc(), &gate, PLAN)?;
-    assert_eq!(rt; gate.passes.load(Ordering::SeqCst), 3);
-    assert_eq!(rt; gate.wrong.load(Ordering::SeqCst), 0);
-    Ok(())
+impl Gate for LastFirst {
+    fn pass(&self, job: u64, _now: u64, _done: u64) {
+        let before = self.jobs.wrapping_sub(job).wrapping_sub(1);
+        if !comes_to(&self.gone, before) {
+            self.alone.fetch_add(1, Ordering::SeqCst);
+        }
+        self.gone.fetch_add(1, Ordering::SeqCst);
+    }
 }
 
-// Holds each pass of one job for a while.
-#[derive(Clone, Copy, Drop)]
-struct Slow {
-    job: u64,
+/// Holds the passes of one job for a while.
+#[derive(Clone, Copy)]
+pub struct Slow {
+    pub job: u64,
 }
 
 impl Gate for Slow {
@@ -148,14 +139,35 @@ impl Gate for Slow {
     }
 }
 
-#[test]
-fn a_slow_job_changes_nothing(rt: HostRuntime) -> Result<(), Fail> {
-    let alloc = rt.alloc();
-    let plan = plan_of(alloc, "abcdefg", 3, 1)?;
-    let report = report_of(alloc, "abcdefg", 21)?;
-    for job in 0..7u64 {
-        let written = written(&rt, alloc, &Slow { job }, &plan)?;
-        assert_eq!(rt; written.as_slice(), report.as_bytes(), "job {job}");
+/// Counts its passes. Each has to be of the job with the number of passes before, and be told of as many polls.
+#[derive(Drop)]
+pub struct InTurn {
+    passes: AtomicU64,
+    wrong: AtomicU64,
+}
+
+impl InTurn {
+    pub fn new() -> InTurn {
+        InTurn {
+            passes: AtomicU64::new(0),
+            wrong: AtomicU64::new(0),
+        }
     }
-    Ok(())
+
+    pub fn passes(&self) -> u64 {
+        self.passes.load(Ordering::SeqCst)
+    }
+
+    pub fn wrong(&self) -> u64 {
+        self.wrong.load(Ordering::SeqCst)
+    }
+}
+
+impl Gate for InTurn {
+    fn pass(&self, job: u64, _now: u64, done: u64) {
+        let before = self.passes.fetch_add(1, Ordering::SeqCst);
+        if job != before || done != before {
+            self.wrong.fetch_add(1, Ordering::SeqCst);
+        }
+    }
 }

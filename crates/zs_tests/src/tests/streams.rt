@@ -1,4 +1,4 @@
-// Readers and writers that fail, give little, or never end.
+//! Readers and writers that fail, give little, or never end.
 ghost use Rattle.std.specs.Prelude.{◌≡◌, ◌≤◌, ◌<◌, length};
 
 use super::fixtures::{PLAN, REPORT};

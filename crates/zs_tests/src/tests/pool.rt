@@ -1,0 +1,84 @@
+//! Cuts, and the tasks that the tests of boards, shelves, tallies and rounds poll.
+ghost use Rattle.std.specs.Prelude.{◌≡◌, ◌≤◌, [], false, All, IfOk, map, length};
+ghost use Rattle.std.specs.List.Sorted.{IsStrictlyIncreasing};
+ghost use Rattle.zs_drive.specs.Clocks.{max_tick};
+ghost use Rattle.zs_pool.specs.Rounds.{IsPollable};
+
+use super::gates::TURNS;
+use std::alloc::Global;
+use std::test::Fail;
+use zs_drive::{Job, Mode, Task};
+use zs_effect::{Beat, Outcome, Script};
+use zs_pool::{
+    Batch, Board, BoardPass, Cut, Gate, OpenGate, Polled, PoolFault, Shelf, ShelfPass, Tally,
+    TallySeat, poll_batch, round,
+};
+use zs_term::{Term, check};
+
+mod board;
+mod polling;
+mod rounds;
+mod shelf;
+mod tally;
+
+// A retry that fails after 5 ms, and succeeds 5 ms later.
+fn new_task(alloc: Global, number: u64) -> Result<Task, Fail>
+    ensures new { IfOk result (λ task. (task.number ≡ number) × (task.moments ≡ []) × (task.seen ≡ 0) × (task.broken ≡ false) × (task.job.start ≡ 0)) }
+{
+    let beats = [
+        Beat {
+            ms: 5,
+            outcome: Outcome::Bad(7),
+        },
+        Beat {
+            ms: 5,
+            outcome: Outcome::Good(1),
+        },
+    ];
+    let job = Job {
+        name: String::from_str(alloc, "a")?,
+        mode: Mode::Retry,
+        schedule: check(alloc, Term::Recurs(3))?,
+        start: 0,
+        script: Script::new(Vec::from_slice(alloc, &beats)?)?,
+    };
+    Ok(Task::new(alloc, number, job)?)
+}
+
+// Such tasks, with the numbers from 0 on, to be polled at this moment.
+fn new_tasks(alloc: Global, count: u64, now: u64) -> Result<Vec<Task>, Fail>
+    requires now { now ≤ max_tick }
+    ensures count { IfOk result (λ tasks. length tasks.items ≡ count) }
+    ensures rising { IfOk result (λ tasks. IsStrictlyIncreasing (map (λ task. task.number) tasks.items)) }
+    ensures pollable { IfOk result (λ tasks. All (IsPollable now) tasks.items) }
+{
+    let mut tasks = Vec::new(alloc);
+    for number in 0..count {
+        tasks.push(new_task(alloc, number)?)?;
+    }
+    Ok(tasks)
+}
+
+#[test]
+fn a_cut_has_limits(rt: HostRuntime) {
+    for (workers, grain) in [(0u64, 1u64), (65, 1), (1, 0), (1, 10001)] {
+        assert!(rt; Cut::new(workers, grain).is_none(), "{workers} {grain}");
+    }
+    for (workers, grain) in [(1u64, 1u64), (64, 1), (1, 10000), (64, 10000)] {
+        let cut = Cut::new(workers, grain).expect(&rt, "within the limits");
+        assert_eq!(rt; (cut.workers(), cut.grain()), (workers, grain));
+    }
+}
+
+#[test]
+fn faults_have_texts(rt: HostRuntime) -> Result<(), Fail> {
+    for (fault, want) in [
+        (PoolFault::Memory, "out of memory"),
+        (PoolFault::NoThread, "no thread"),
+        (PoolFault::Full, "the shelf is full"),
+    ] {
+        let text = format!(in rt.alloc(); "{fault}")?;
+        assert_eq!(rt; text.as_str(), want);
+    }
+    Ok(())
+}
