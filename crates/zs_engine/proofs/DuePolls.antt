@@ -1,18 +1,18 @@
 -- A due poll adds its moment, and no other, to the moments at which the attempts of a job alone begin and end.
-use Rattle.std.proofs.Common.{◌≡◌, ℕ, zero, suc, ◌+◌, ◌≤◌, ◌<◌, ◌^◌, ◌-◌, max, List, [], ◌∷◌, ◌++◌, length, Option, nat_lt, true, false, if◌then◌else◌, append_assoc, refl, sym, ◌∙◌, ap, arith, ◌⊎◌, inl, inr}
+use Rattle.std.proofs.Common.{◌≡◌, ℕ, zero, suc, ◌+◌, ◌≤◌, ◌<◌, ◌^◌, ◌-◌, max, List, [], ◌∷◌, ◌++◌, length, Option, nat_lt, false, if◌then◌else◌, append_assoc, refl, sym, ◌∙◌, ap, arith, ◌⊎◌, inl, inr}
 use Rattle.std.specs.Prelude.{Some, None, flat_map, fold}
 use Rattle.zs_effect.specs.Scripts.{IsScript}
 use Rattle.zs_effect.specs.declared.script.Outcome.{Outcome}
 use Rattle.zs_term.specs.Output.{Output}
 use Rattle.zs_term.specs.Saturating.{saturated}
 use Rattle.zs_step.specs.History.{History}
-use Rattle.zs_step.specs.Answer.{Answer, answer_of}
+use Rattle.zs_step.specs.Answer.{answer_of}
 use Rattle.zs_step.specs.declared.decision.Decision.{Decision}
 use Rattle.zs_step.specs.declared.decision.Decision.TheVariants.{Stop, Next}
 use Rattle.zs_drive.specs.declared.record.Ending.{Ending}
 use Rattle.zs_drive.specs.Clocks.{first_tick_from, AllBefore}
-use Rattle.zs_drive.specs.Values.{JobRecord, AttemptedValue, EndedValue}
-use Rattle.zs_drive.specs.Timeline.{Timeline, number_of, ending_by_outcome, ended_attempt, waiting, running, over, before, beat_after, by_answer, by_outcome, from_wait, from_begin, from, timeline_of, moments_of, with_moment, poll_moments}
+use Rattle.zs_drive.specs.Values.{JobRecord, AttemptedValue}
+use Rattle.zs_drive.specs.Timeline.{Timeline, number_of, ending_by_outcome, waiting, running, before, beat_after, by_answer, by_outcome, from_wait, from_begin, from, timeline_of, moments_of, with_moment, poll_moments}
 use Rattle.std.proofs.lemmas.Bool.Decides.{nat_tests}
 use Rattle.zs_drive.proofs.Ticks.{lt_cases}
 use Rattle.zs_drive.proofs.Moments.{moments-one, moments-two}

@@ -1,5 +1,5 @@
 -- The end of a run: no task waits for a tick any more.
-use Rattle.std.proofs.Common.{◌≡◌, ◌<◌, ◌≤◌, ◌+◌, ℕ, suc, false, All, List, [], ◌∷◌, Some, None, length, refl, sym, ap, ◌∙◌, subst, arith, slice_get, map, nat_cmp}
+use Rattle.std.proofs.Common.{◌≡◌, ◌<◌, ◌≤◌, ◌+◌, ℕ, suc, false, List, [], ◌∷◌, Some, None, length, refl, sym, ap, ◌∙◌, subst, arith, slice_get, map, nat_cmp}
 use Rattle.std.proofs.lemmas.List.{length-map}
 use Rattle.std.specs.List.{AllByRecursion}
 use Rattle.std.proofs.lemmas.List.Elements.{All-from_recursion}
@@ -7,7 +7,7 @@ use Rattle.std.specs.FinMap as map_of
 use Rattle.zs_agenda.specs.Timers.{Timers, Moments, Takes}
 use Rattle.zs_agenda.specs.Ticks.{Ticks, horizon}
 use Rattle.zs_drive.specs.Clocks.{AllBefore}
-use Rattle.zs_drive.specs.Values.{JobValue, JobRecord, record_of}
+use Rattle.zs_drive.specs.Values.{JobValue, record_of}
 use Rattle.zs_drive.specs.Timeline.{Timeline, timeline_of, poll_moments}
 use Rattle.zs_drive.specs.Tasks.{TaskValue, current_timeline}
 use Rattle.zs_drive.proofs.Ticks.{first_tick_from-before}

@@ -2,7 +2,6 @@
 use Rattle.std.specs.Prelude.{◌≡◌, ◌+◌, ℕ, List, None}
 use Rattle.std.specs.List.Sorted.{IsStrictlyIncreasing}
 use Rattle.zs_agenda.specs.Ticks.{Ticks, horizon}
-use Rattle.zs_agenda.specs.Timers.{Timers}
 use Rattle.zs_drive.specs.Clocks.{AreTicks, AllBefore}
 use Rattle.zs_drive.specs.Values.{JobValue}
 use Rattle.zs_term.specs.Saturating.{max_moment}

@@ -1,7 +1,7 @@
 -- The ticks of a clock as one rising list. On this list the timeline of a job alone stands (zs_drive), so that one theorem
 -- serves a clock of every millisecond and one of listed ticks. The laws at the end tie the list to the clock; the contract
 -- of `listed_ticks` gives them.
-use Rattle.std.specs.Prelude.{◌≡◌, ◌≤◌, ◌+◌, ℕ, zero, suc, List, [], ◌∷◌, Option, Some, None}
+use Rattle.std.specs.Prelude.{◌≡◌, ◌+◌, ℕ, zero, suc, List, [], ◌∷◌, Option, Some, None}
 use Rattle.zs_drive.specs.Clocks.{first_tick_from, AreTicks, AllBefore}
 use Rattle.zs_agenda.specs.Ticks.{Ticks, every_ms, listed, first_tick, horizon, IsClock}
 use Rattle.zs_agenda.specs.Timers.{IsAfter}

@@ -2,14 +2,13 @@
 use Rattle.std.proofs.Common.{◌≡◌, ◌+◌, ℕ, List, [], ◌∷◌, length, map, refl, sym, ap, ◌∙◌, sum_by}
 use Rattle.std.proofs.lemmas.List.Sums.{sum_by-cons}
 use Rattle.zs_agenda.specs.Ticks.{Ticks, horizon}
-use Rattle.zs_drive.specs.Values.{JobValue, JobRecord, job_of, record_of, job_record}
-use Rattle.zs_drive.specs.Timeline.{Timeline, timeline_of, poll_moments}
+use Rattle.zs_drive.specs.Values.{JobRecord, job_of, record_of, job_record}
+use Rattle.zs_drive.specs.Timeline.{Timeline, timeline_of}
 use Rattle.zs_drive.specs.Tasks.{TaskValue, current_timeline}
 use Rattle.zs_drive.specs.declared.job.Job.{Job}
 use Rattle.zs_engine.specs.Times.{ticks_of}
 use Rattle.zs_engine.specs.Answers.{IsAnswer, poll_count_of, poll_moments_of}
 use Rattle.zs_engine.specs.declared.answer.Answer.{Answer}
-use Rattle.zs_run.specs.Plan.{PlanRecord}
 use Rattle.zs_run.specs.Report.{JobReport, report_text}
 use Rattle.zs_run.specs.ReportView.{task_report}
 use Rattle.zs_run.specs.PlanReport.{job_report, report_of}

@@ -1,8 +1,8 @@
 -- A clock's ticks by tests, and what is told of them by their order.
-use Rattle.std.proofs.Common.{◌≡◌, ◌≤◌, ◌<◌, ◌+◌, ◌-◌, ◌↔◌, ◌&&◌, ℕ, List, [], ◌∷◌, length, slice_index, Bool, true, false, nat_lt, nat_le, Option, Some, None, if◌then◌else◌, refl, ap, arith, nat_cmp}
+use Rattle.std.proofs.Common.{◌≡◌, ◌≤◌, ◌+◌, ◌-◌, ◌↔◌, ◌&&◌, ℕ, List, [], ◌∷◌, length, slice_index, Bool, true, false, nat_lt, nat_le, Option, Some, None, if◌then◌else◌, refl, arith, nat_cmp}
 use Rattle.std.specs.Prelude.{IsSome, IfSome}
 use Rattle.std.specs.List.{AllByRecursion}
-use Rattle.std.specs.List.Sorted.{IsStrictlyIncreasing, IsStrictlySortedBy}
+use Rattle.std.specs.List.Sorted.{IsStrictlySortedBy}
 use Rattle.std.specs.declared.cmp.Ordering.TheVariants.{Less}
 use Rattle.std.proofs.lemmas.Bool.Decides.{nat_tests}
 use Rattle.std.proofs.lemmas.Map.Keys.{sorted_from_strictly_increasing, IsStrictlyIncreasing-from_sorted}

@@ -1,5 +1,5 @@
 -- Plans of a few texts, computed: each fault against its neighbours in the order, and what a plan stands for.
-use Rattle.std.proofs.Common.{◌≡◌, ℕ, List, [], ◌∷◌, Ok, Err, Some, None, codes, refl}
+use Rattle.std.proofs.Common.{◌≡◌, [], ◌∷◌, Ok, Err, Some, None, codes, refl}
 use Rattle.std.specs.Prelude.{Option, Result}
 use Rattle.std.specs.Str.{is_utf8, chars}
 use Rattle.std.specs.Fmt.{digits}
@@ -11,7 +11,7 @@ use Rattle.zs_term.specs.declared.fault.TermFault.TheVariants as terms
 use Rattle.zs_drive.specs.declared.job.Mode.TheVariants as modes
 use Rattle.zs_drive.specs.Timeline.{timeline_of, from, from_begin, from_wait, by_outcome, by_answer, poll_moments}
 use Rattle.zs_drive.specs.Clocks.{first_tick_from}
-use Rattle.zs_engine.specs.Times.{ticks_of, moments_from}
+use Rattle.zs_engine.specs.Times.{ticks_of}
 use Rattle.zs_effect.specs.declared.script.Outcome.TheVariants.{Good, Bad}
 use Rattle.zs_effect.specs.declared.script.ScriptFault.TheVariants as scripts
 use Rattle.zs_run.specs.Entries.{entry_is_shaped, entry_has_known_keys, beat_of, script_of}

@@ -1,6 +1,6 @@
 -- The entries of a script by tests, and what is told of them by their first fault.
-use Rattle.std.proofs.Common.{◌≡◌, ◌≤◌, ◌<◌, ◌==◌, ℕ, zero, suc, List, [], ◌∷◌, ◌||◌, length, Bool, true, false, nat_lt, if◌then◌else◌, Result, Ok, Err, refl, ap, arith}
-use Rattle.std.specs.List.{All, Any, list_any}
+use Rattle.std.proofs.Common.{◌≡◌, ◌≤◌, ◌==◌, ℕ, List, length, true, false, nat_lt, Ok, Err, refl, arith}
+use Rattle.std.specs.List.{list_any}
 use Rattle.std.proofs.lemmas.Bool.Decides.{nat_tests}
 use Rattle.std.proofs.lemmas.List.Folds.{list_any_none, list_any-from_Any}
 use Rattle.zs_effect.specs.declared.script.Beat.{Beat}

@@ -1,5 +1,5 @@
 -- The plan of the bytes that are read is that of all bytes.
-use Rattle.std.proofs.Common.{◌≡◌, ◌<◌, ◌≤◌, ◌⊎◌, inl, inr, ℕ, List, [], length, take, Bool, true, false, Option, None, Some, Ok, Err, Result, IfSome, refl, sym, ◌∙◌, ap, arith}
+use Rattle.std.proofs.Common.{◌≡◌, ◌<◌, ◌≤◌, ◌⊎◌, inl, inr, ℕ, List, [], length, take, Option, None, Some, Ok, Err, Result, IfSome, sym, ◌∙◌, ap, arith}
 use Rattle.std.proofs.lemmas.Bool.{cases_lt, lt-leb}
 use Rattle.std.proofs.lemmas.List.{take_all, drop_all, length-take-le}
 use Rattle.zs_run.specs.Plan.{PlanRecord, plan_of, max_bytes}

@@ -1,5 +1,5 @@
 -- How a run ends: the words of the contract of `run`, on the bytes that were left to read before and after it.
-use Rattle.std.specs.Prelude.{◌≡◌, ℕ, List, [], drop, ⊤, Option, None, Some, Result, Ok, Err, IfSome}
+use Rattle.std.specs.Prelude.{◌≡◌, ℕ, List, [], drop, ⊤, Option, None, Some, Ok, Err, IfSome}
 use Rattle.zs_run.specs.Plan.{PlanRecord, plan_of}
 use Rattle.zs_run.specs.PlanReport.{report_of}
 use Rattle.zs_run.specs.declared.plan_fault.PlanFault.{PlanFault}

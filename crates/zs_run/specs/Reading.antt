@@ -1,5 +1,5 @@
 -- What reading a plan from a reader answers.
-use Rattle.std.specs.Prelude.{◌≡◌, ◌≢◌, ℕ, List, [], Option, None, Some, Result, Ok, Err, IfSome}
+use Rattle.std.specs.Prelude.{◌≡◌, ◌≢◌, ℕ, List, [], Option, Some, Result, Ok, Err, IfSome}
 use Rattle.zs_run.specs.declared.plan_fault.PlanFault.TheVariants as faults
 use Rattle.zs_run.specs.declared.run_fault.RunFault.{RunFault}
 use Rattle.zs_run.specs.declared.plan.Plan.{Plan}

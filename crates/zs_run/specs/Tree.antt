@@ -1,5 +1,5 @@
 -- Looking into a JSON document. Numbers are whole where they are written in digits alone and fit 64 bits.
-use Rattle.std.specs.Prelude.{ℕ, ◌||◌, ◌&&◌, List, [], ◌∷◌, map, Bool, is_some, is_none, if◌then◌else◌, Option, Some, None, option_map, option_and_then, unwrap_or}
+use Rattle.std.specs.Prelude.{ℕ, ◌||◌, ◌&&◌, List, [], ◌∷◌, map, Bool, is_some, is_none, if◌then◌else◌, Option, None, option_map, option_and_then, unwrap_or}
 use Rattle.std.specs.List.{list_all, list_any}
 use Rattle.std.specs.Str.{is_utf8, bytes_eq}
 use Rattle.serde_json.specs.Data.{Data, Items, no_items, item, Members, no_members, member}

@@ -1,7 +1,7 @@
 -- The canonical spelling is read as its tokens.
-use Rattle.std.proofs.Common.{◌≡◌, ◌≢◌, ℕ, zero, suc, ◌+◌, ◌-◌, ◌<◌, ◌≤◌, ◌^◌, List, [], ◌∷◌, ◌++◌, length, get_or, take, drop, map, Bool, true, false, cond, Option, Some, None, refl, sym, ap, ◌∙◌, subst, arith, append_assoc, length-append, inl, inr}
-use Rattle.std.specs.Prelude.{take_while, slice_index, nat_eq, nat_lt, ◌==◌, ◌&&◌, codes}
-use Rattle.std.specs.Char.{is_ascii_alphabetic, is_ascii_digit, digit_value}
+use Rattle.std.proofs.Common.{◌≡◌, ◌≢◌, ℕ, zero, suc, ◌+◌, ◌-◌, ◌<◌, ◌^◌, List, [], ◌∷◌, ◌++◌, length, drop, map, Bool, true, false, cond, Some, refl, sym, ap, ◌∙◌, subst, arith, append_assoc, length-append, inr}
+use Rattle.std.specs.Prelude.{take_while, slice_index, nat_eq, nat_lt, ◌&&◌, codes}
+use Rattle.std.specs.Char.{is_ascii_alphabetic, is_ascii_digit}
 use Rattle.std.specs.Fmt.{decimal}
 use Rattle.std.specs.Str.Parse.{AllDigits, digits_value}
 use Rattle.std.proofs.lemmas.Fmt.{decimal_is_IsNumeral, first_decimal, decimal_digit}
@@ -10,14 +10,14 @@ use Rattle.std.proofs.lemmas.Str.Parse.{digit_from_value}
 use Rattle.std.proofs.lemmas.Bool.Decides.{nat_tests}
 use Rattle.zs_term.specs.Schedule.{Schedule, forever, recurs, spaced, fixed, exponential, fibonacci, identity, elapsed, both, either, and_then, while_input, while_output, collect_all, mapped, linear, windowed, reset_when}
 use Rattle.zs_term.specs.Number.{FuncFits, HasFittingNumbers}
-use Rattle.zs_term.specs.Token.{Token, number, mark, Placed, Lexed, nothing, stuck, with_token, next_token, token_at, number_at, word_at, longest, pair_mark, single_mark, word_mark, lex, lexed}
+use Rattle.zs_term.specs.Token.{Token, number, mark, Placed, nothing, with_token, next_token, token_at, number_at, word_at, longest, pair_mark, single_mark, word_mark, lex, lexed}
 use Rattle.zs_term.specs.Grammar.{with_number, with_numbers, with_infix, with_method, test_tokens, pick_tokens, func_tokens, cmp_mark, Spells}
-use Rattle.zs_term.specs.Causes.{tokens_of, TextSpells}
+use Rattle.zs_term.specs.Causes.{tokens_of}
 use Rattle.zs_term.specs.Reading.{behind_tokens}
 use Rattle.zs_term.specs.Canonical.{canonical_text, number_text, infix_text, cmp_text, pick_text, func_text, test_text, and_then_text, while_input_text, while_output_text, reset_when_text, exponential_text}
 use Rattle.zs_term.specs.Laws.{CanonicalSpells}
 use Rattle.zs_term.specs.declared.token.Mark.{Mark}
-use Rattle.zs_term.specs.declared.token.Mark.TheVariants.{ForeverWord, RecursWord, SpacedWord, FixedWord, ExponentialWord, FibonacciWord, IdentityWord, ElapsedWord, AndThenWord, WhileInputWord, WhileOutputWord, CollectAllWord, MapWord, SizeWord, MergeWord, AsWord, LinearWord, WindowedWord, ResetWhenWord, FirstPart, SecondPart, Open, Close, Comma, Dot, AndAnd, OrOr, Less, LessOrEqual, Equal, NotEqual, Greater, GreaterOrEqual, Plus, Times}
+use Rattle.zs_term.specs.declared.token.Mark.TheVariants.{ForeverWord, RecursWord, SpacedWord, FixedWord, ExponentialWord, FibonacciWord, IdentityWord, ElapsedWord, AndThenWord, WhileInputWord, WhileOutputWord, CollectAllWord, MapWord, LinearWord, WindowedWord, ResetWhenWord, FirstPart, SecondPart, Open, Close, Comma, Dot, AndAnd, OrOr, Less, LessOrEqual, Equal, NotEqual, Greater, GreaterOrEqual, Plus, Times}
 use Rattle.zs_term.specs.declared.term.Test.{Test}
 use Rattle.zs_term.specs.declared.term.Cmp.{Cmp}
 use Rattle.zs_term.specs.declared.term.Cmp.TheVariants.{Lt, Le, Eq, Ne, Gt, Ge}

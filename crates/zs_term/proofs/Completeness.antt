@@ -1,12 +1,11 @@
 -- A spelling leads to the state behind its term, wherever it stands.
-use Rattle.std.proofs.Common.{◌≡◌, ℕ, List, [], ◌∷◌, ◌++◌, Bool, true, false, cond, Option, Some, None, refl, sym, ap, ◌∙◌, subst, arith, append_assoc, inl, inr, ◌⊎◌}
-use Rattle.std.specs.Prelude.{option_map, if◌then◌else◌}
+use Rattle.std.proofs.Common.{◌≡◌, ℕ, List, [], ◌∷◌, ◌++◌, Option, Some, None, refl, sym, ap, ◌∙◌, append_assoc, inl, inr}
 use Rattle.zs_term.specs.Schedule.{Schedule, forever, recurs, spaced, fixed, exponential, fibonacci, identity, elapsed, both, either, and_then, while_input, while_output, collect_all, mapped, linear, windowed, reset_when}
 use Rattle.zs_term.specs.Token.{Token, number, mark}
-use Rattle.zs_term.specs.Grammar.{with_number, with_numbers, with_infix, with_method, test_tokens, pick_tokens, func_tokens, cmp_mark, IsInfix, IsFollowed, Spells, IsOpen}
-use Rattle.zs_term.specs.Machine.{is_open, is_close, is_comma, is_dot, is_collect, is_exponential, plain_of, unary_of, infix_of, method_of, cmp_of, pick_of, func_of, scale_of, scale_by, Make, Frame, left, right, Mode, start, opening, counting, exp_opening, exp_counting, based, factored, closing, after, dotted, method, picking, testing, comparing, mapping, scaling, State, at, argument, or_else, begin_leaf, inner_mark, inner_number, join_mark, step_mark, step_number, step, run, apply_func, value, plain_schedule, unary_schedule, infix_schedule, test_schedule, plant}
+use Rattle.zs_term.specs.Grammar.{with_infix, with_method, test_tokens, pick_tokens, func_tokens, cmp_mark, Spells}
+use Rattle.zs_term.specs.Machine.{Make, Frame, left, right, Mode, start, after, picking, testing, State, at, step, run, apply_func, value}
 use Rattle.zs_term.specs.declared.token.Mark.{Mark}
-use Rattle.zs_term.specs.declared.token.Mark.TheVariants.{ForeverWord, RecursWord, SpacedWord, FixedWord, ExponentialWord, FibonacciWord, IdentityWord, ElapsedWord, AndThenWord, WhileInputWord, WhileOutputWord, CollectAllWord, MapWord, SizeWord, MergeWord, AsWord, LinearWord, WindowedWord, ResetWhenWord, FirstPart, SecondPart, Open, Close, Comma, Dot, AndAnd, OrOr, Less, LessOrEqual, Equal, NotEqual, Greater, GreaterOrEqual, Plus, Times}
+use Rattle.zs_term.specs.declared.token.Mark.TheVariants.{AndThenWord, WhileInputWord, WhileOutputWord, MapWord, ResetWhenWord, Open, Close, Dot, AndAnd, OrOr}
 use Rattle.zs_term.specs.declared.term.Test.{Test}
 use Rattle.zs_term.specs.declared.term.Cmp.{Cmp}
 use Rattle.zs_term.specs.declared.term.Cmp.TheVariants.{Lt, Le, Eq, Ne, Gt, Ge}
@@ -14,20 +13,12 @@ use Rattle.zs_term.specs.declared.term.Pick.{Pick}
 use Rattle.zs_term.specs.declared.term.Pick.TheVariants.{Whole as PickWhole, First as PickFirst, Second as PickSecond, Size as PickSize}
 use Rattle.zs_term.specs.declared.term.Func.{Func}
 use Rattle.zs_term.specs.declared.term.Func.TheVariants.{First, Second, Size, Merge, Const, Add, Mul}
-use Rattle.zs_term.specs.declared.forms.Plain.{Plain}
-use Rattle.zs_term.specs.declared.forms.Plain.TheVariants.{OfForever, OfIdentity, OfElapsed}
-use Rattle.zs_term.specs.declared.forms.Unary.{Unary}
-use Rattle.zs_term.specs.declared.forms.Unary.TheVariants.{OfRecurs, OfSpaced, OfFixed, OfFibonacci, OfLinear, OfWindowed}
 use Rattle.zs_term.specs.declared.forms.Infix.{Infix}
 use Rattle.zs_term.specs.declared.forms.Infix.TheVariants.{OfBoth, OfEither, OfAndThen}
-use Rattle.zs_term.specs.declared.forms.Method.{Method}
-use Rattle.zs_term.specs.declared.forms.Method.TheVariants.{OfInput, OfPicked, OfMap}
 use Rattle.zs_term.specs.declared.forms.Action.{Action}
 use Rattle.zs_term.specs.declared.forms.Action.TheVariants.{Stopping, Resetting}
 use Rattle.zs_term.specs.declared.forms.Subject.{Subject}
 use Rattle.zs_term.specs.declared.forms.Subject.TheVariants.{Input, Picked}
-use Rattle.zs_term.specs.declared.forms.Scale.{Scale}
-use Rattle.zs_term.specs.declared.forms.Scale.TheVariants.{ByConst, ByAdd, ByMul}
 
 -- nothing to add at the end
 pub append_nil : {X : Type 0} (xs : List X) → xs ++ [] ≡ xs

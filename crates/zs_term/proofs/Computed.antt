@@ -1,16 +1,16 @@
 -- The verdict that is computed of a text is the one of its spelling and causes.
 use Rattle.std.proofs.Common.{◌≡◌, ℕ, List, [], ◌∷◌, ◌++◌, length, Bool, true, false, cond, Option, Some, None, refl, sym, ap, ◌∙◌, subst, append_assoc, Ok, Err}
-use Rattle.std.specs.Prelude.{Result, IfOk, IfErr, MatchResult, IsSome, if◌then◌else◌}
+use Rattle.std.specs.Prelude.{Result, IfOk, IfErr, MatchResult, IsSome}
 use Rattle.zs_term.specs.Schedule.{Schedule, is_within_limits, has_factors, has_windows}
 use Rattle.zs_term.specs.OutputKind.{OutputKind}
-use Rattle.zs_term.specs.Kinds.{kind_of, IsSchedule}
-use Rattle.zs_term.specs.Token.{Token, Placed, lexed}
-use Rattle.zs_term.specs.Grammar.{Spells, IsOpen}
-use Rattle.zs_term.specs.Machine.{Frame, left, right, Mode, start, opening, counting, exp_opening, exp_counting, based, factored, closing, after, dotted, method, picking, testing, comparing, mapping, scaling, State, at, step, run, value, plant}
+use Rattle.zs_term.specs.Kinds.{kind_of}
+use Rattle.zs_term.specs.Token.{Placed, lexed}
+use Rattle.zs_term.specs.Grammar.{Spells}
+use Rattle.zs_term.specs.Machine.{Frame, Mode, start, opening, counting, exp_opening, exp_counting, based, factored, closing, after, dotted, method, picking, testing, comparing, mapping, scaling, State, at, step, run, value, plant}
 use Rattle.zs_term.specs.Causes.{tokens_of, TextSpells, IsNoTermAt, refused, no_token, unfinished, first_huge, IsRead, SpellsSchedule, IsCause}
 use Rattle.zs_term.specs.Verdict.{finished_at, go_on, term_from, spelled_term, with_kind, with_numbers_at, judged, verdict_of, VerdictIsTheOne}
 use Rattle.zs_term.specs.declared.fault.TermFault.{TermFault}
-use Rattle.zs_term.specs.declared.fault.TermFault.TheVariants.{NoTerm, TooBig, BadNumber, BadFactor, NoKind, BadWindow, Memory}
+use Rattle.zs_term.specs.declared.fault.TermFault.TheVariants.{TooBig, BadFactor, BadWindow, Memory}
 use Rattle.zs_term.proofs.Completeness.{run_append, append_nil}
 use Rattle.zs_term.proofs.Soundness.{sound}
 use Rattle.zs_term.proofs.Runs.{goes_on, goes_nowhere, spells_to, planted}

@@ -1,9 +1,8 @@
 -- The numbers of a term are those of its tokens.
-use Rattle.std.proofs.Common.{◌≡◌, ℕ, ◌<◌, ◌^◌, List, [], ◌∷◌, ◌++◌, Bool, true, false, cond, Option, Some, None, refl, sym, subst, arith, inl, inr}
-use Rattle.std.specs.Prelude.{nat_le}
+use Rattle.std.proofs.Common.{◌≡◌, ℕ, ◌<◌, ◌^◌, List, [], ◌∷◌, ◌++◌, Bool, true, false, cond, Some, None, refl, sym, subst, arith, inl, inr}
 use Rattle.std.proofs.lemmas.Bool.Decides.{nat_tests}
 use Rattle.zs_term.specs.declared.token.Mark.{Mark}
-use Rattle.zs_term.specs.declared.token.Mark.TheVariants.{ForeverWord, RecursWord, SpacedWord, FixedWord, ExponentialWord, FibonacciWord, IdentityWord, ElapsedWord, LinearWord, WindowedWord, AndThenWord, WhileInputWord, WhileOutputWord, CollectAllWord, MapWord, ResetWhenWord, Open, Close, Comma, Dot, AndAnd, OrOr}
+use Rattle.zs_term.specs.declared.token.Mark.TheVariants.{RecursWord, SpacedWord, FixedWord, ExponentialWord, FibonacciWord, LinearWord, WindowedWord, AndThenWord, WhileInputWord, WhileOutputWord, MapWord, ResetWhenWord, Close, AndAnd, OrOr}
 use Rattle.zs_term.specs.declared.term.Pick.{Pick}
 use Rattle.zs_term.specs.declared.term.Pick.TheVariants.{Whole as PickWhole, First as PickFirst, Second as PickSecond, Size as PickSize}
 use Rattle.zs_term.specs.declared.term.Func.{Func}

@@ -1,5 +1,5 @@
 -- What is kept of a whole term: its sizes, and the term itself where terms are built.
-use Rattle.std.proofs.Common.{◌≡◌, ℕ, ◌+◌, ◌*◌, ◌^◌, ◌<◌, ◌≤◌, List, Bool, true, false, Option, Some, None, refl, sym, ap, ◌∙◌, arith, min, max}
+use Rattle.std.proofs.Common.{◌≡◌, ℕ, ◌+◌, ◌*◌, ◌^◌, ◌<◌, ◌≤◌, List, Bool, true, false, Option, Some, None, refl, sym, ap, ◌∙◌, arith, max}
 use Rattle.std.specs.Prelude.{nat_le, nat_lt, option_map, ◌&&◌}
 use Rattle.std.proofs.lemmas.Bool.Decides.{nat_tests}
 use Rattle.zs_term.specs.Saturating.{saturated}
@@ -10,7 +10,7 @@ use Rattle.zs_term.specs.Number.{fit, FuncFits, HasFittingNumbers}
 use Rattle.zs_term.specs.Token.{lexed}
 use Rattle.zs_term.specs.Machine.{value, apply_func}
 use Rattle.zs_term.specs.Parts.{Kept, keep, one_more, with_both}
-use Rattle.zs_term.specs.Causes.{tokens_of, TextSpells, first_huge}
+use Rattle.zs_term.specs.Causes.{TextSpells, first_huge}
 use Rattle.zs_term.proofs.Fitting.{fits_in}
 
 -- a form over one part is one deeper

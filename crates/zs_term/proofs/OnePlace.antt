@@ -1,5 +1,5 @@
 -- A text that spells no term goes wrong at one place.
-use Rattle.std.proofs.Common.{◌≡◌, ℕ, List, [], ◌∷◌, ◌++◌, Option, Some, None, sym, ap, ◌∙◌, subst, append_assoc, refl}
+use Rattle.std.proofs.Common.{◌≡◌, ℕ, List, [], ◌∷◌, ◌++◌, Some, None, sym, ap, ◌∙◌, subst, append_assoc, refl}
 use Rattle.zs_term.specs.Schedule.{Schedule}
 use Rattle.zs_term.specs.Token.{Token, Placed, lexed}
 use Rattle.zs_term.specs.Grammar.{Spells, IsOpen}

@@ -1,13 +1,11 @@
 -- From what has been read so far to what `read` answers.
-use Rattle.std.proofs.Common.{◌≡◌, ◌≢◌, ℕ, zero, suc, ◌+◌, ◌-◌, ◌*◌, ◌^◌, ◌<◌, ◌≤◌, List, [], ◌∷◌, ◌++◌, length, drop, map, Bool, true, false, cond, Option, Some, None, refl, sym, ap, ◌∙◌, subst, arith, append_assoc, min, max, inl, inr}
-use Rattle.std.specs.Prelude.{nat_le, nat_lt, option_map}
-use Rattle.std.proofs.lemmas.Bool.Decides.{nat_tests}
+use Rattle.std.proofs.Common.{◌≡◌, ℕ, ◌+◌, ◌≤◌, List, [], ◌∷◌, ◌++◌, length, drop, Bool, true, false, cond, Option, Some, None, refl, sym, ap, ◌∙◌, subst, arith, append_assoc}
 use Rattle.zs_term.specs.Schedule.{Schedule}
-use Rattle.zs_term.specs.Token.{Token, number, mark, Placed, Lexed, nothing, stuck, with_token, lex, lexed}
-use Rattle.zs_term.specs.Grammar.{Spells, IsOpen, with_infix, with_method, test_tokens, pick_tokens, func_tokens}
-use Rattle.zs_term.specs.Machine.{State, at, Frame, Mode, start, after, step, run, value, apply_func, infix_schedule}
+use Rattle.zs_term.specs.Token.{Token, Placed, nothing, stuck, with_token, lex, lexed}
+use Rattle.zs_term.specs.Grammar.{IsOpen}
+use Rattle.zs_term.specs.Machine.{State, at, start, after, step, run, value}
 use Rattle.zs_term.specs.Parts.{Kept, keep}
-use Rattle.zs_term.specs.Causes.{tokens_of, TextSpells, IsNoTermAt, refused, no_token, unfinished, is_huge, first_huge, IsRead, IsCause}
+use Rattle.zs_term.specs.Causes.{tokens_of, TextSpells, IsNoTermAt, refused, no_token, unfinished, is_huge, first_huge}
 use Rattle.zs_term.specs.Reading.{behind_tokens, SoFar, huge_with}
 use Rattle.zs_term.proofs.Completeness.{run_append, append_nil}
 use Rattle.zs_term.proofs.Soundness.{sound}

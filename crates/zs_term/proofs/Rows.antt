@@ -5,8 +5,8 @@ use Rattle.std.specs.Fmt.{digits}
 use Rattle.zs_term.specs.declared.term.Pick.TheVariants.{Whole}
 use Rattle.zs_term.specs.declared.term.Func.TheVariants.{First}
 use Rattle.zs_term.specs.declared.term.Cmp.TheVariants.{Lt, Eq, Ge}
-use Rattle.zs_term.specs.declared.fault.TermFault.TheVariants.{NoTerm, TooBig, BadNumber, BadFactor, NoKind, BadWindow}
-use Rattle.zs_term.specs.Schedule.{Schedule, forever, recurs, spaced, exponential, identity, linear, windowed, both, either, while_output, mapped, reset_when, weight, depth}
+use Rattle.zs_term.specs.declared.fault.TermFault.TheVariants.{NoTerm, BadNumber, BadFactor, NoKind, BadWindow}
+use Rattle.zs_term.specs.Schedule.{Schedule, forever, recurs, spaced, exponential, identity, linear, windowed, both, either, while_output, mapped, reset_when, weight}
 use Rattle.zs_term.specs.Output.{number, pair, left, listed, more, none}
 use Rattle.zs_term.specs.Token.{lex}
 use Rattle.zs_term.specs.Canonical.{canonical_text, exponential_text, while_output_text, reset_when_text}

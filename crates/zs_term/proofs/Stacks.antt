@@ -1,7 +1,7 @@
 -- Frames that are pushed and popped.
-use Rattle.std.proofs.Common.{◌≡◌, List, [], ◌∷◌, ◌++◌, ◌+◌, length, Option, Some, None, refl, ap, ◌∙◌, arith}
+use Rattle.std.proofs.Common.{◌≡◌, List, [], ◌∷◌, ◌++◌, ◌+◌, length, Option, Some, None, refl, ap, arith}
 use Rattle.std.specs.Prelude.{option_map}
-use Rattle.zs_term.specs.Machine.{Mode, State, at}
+use Rattle.zs_term.specs.Machine.{Mode, at}
 use Rattle.zs_term.specs.Parts.{mode_of}
 use Rattle.zs_term.specs.declared.parser.Mode.{Mode as ModeKept}
 use Rattle.std.specs.Prelude.{ℕ}

@@ -1,5 +1,5 @@
 -- The text of a list of outputs, one output after another.
-use Rattle.std.proofs.Common.{◌≡◌, ℕ, zero, suc, List, [], ◌∷◌, ◌++◌, ◌<◌, ◌≤◌, ◌+◌, refl, sym, ap, ◌∙◌, append_assoc, take, get_or, length, arith, length-take-le}
+use Rattle.std.proofs.Common.{◌≡◌, ℕ, zero, suc, List, [], ◌∷◌, ◌++◌, ◌<◌, ◌+◌, sym, ap, ◌∙◌, append_assoc, take, get_or, length, arith, length-take-le}
 use Rattle.std.specs.Prelude.{codes, Result, Ok, Err, OnOk, is_ok, if◌then◌else◌}
 use Rattle.zs_term.specs.Output.{Output, Outputs, none, more, outputs_of, output_of, with_last}
 use Rattle.zs_term.specs.OutputText.{output_text, outputs_text, behind_text, comma_before}

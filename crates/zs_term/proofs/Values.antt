@@ -1,8 +1,8 @@
 -- Lists of outputs as values.
 use Rattle.std.proofs.Common.{◌≡◌, ℕ, List, [], ◌∷◌, ◌++◌, refl, ap, ◌∙◌, take, get_or, ◌<◌, ◌+◌, length, arith}
 use Rattle.std.proofs.lemmas.List.{take_more}
-use Rattle.zs_term.specs.declared.outputs.Out.{Out, Row_of-Out, end_of-Out, more_of-Out, items-the_row-Out, items_hidden-the_row-Out-0}
-use Rattle.zs_term.specs.Output.{Output, Outputs, none, more, output_of, outputs_of, row_outputs, with_last, count}
+use Rattle.zs_term.specs.declared.outputs.Out.{Out, Row_of-Out, end_of-Out, more_of-Out, items-the_row-Out}
+use Rattle.zs_term.specs.Output.{more, output_of, outputs_of, row_outputs, with_last, count}
 
 pub row_outputs_are : {m : _} (k : Row_of-Out m) → row_outputs k ≡ outputs_of (items-the_row-Out m k)
 row_outputs_are end_of-Out = refl

@@ -4,9 +4,8 @@ use Rattle.std.specs.Prelude.{IsSome, Result, Ok, Err, IfOk, IfErr}
 use Rattle.zs_term.specs.Schedule.{Schedule, is_within_limits, has_factors, has_windows}
 use Rattle.zs_term.specs.OutputKind.{OutputKind}
 use Rattle.zs_term.specs.Kinds.{kind_of, IsSchedule}
-use Rattle.zs_term.specs.Number.{HasFittingNumbers}
 use Rattle.zs_term.specs.Token.{lexed}
-use Rattle.zs_term.specs.Causes.{tokens_of, TextSpells, IsNoTermAt, first_huge, IsRead, SpellsSchedule, IsCause, IsTermCause}
+use Rattle.zs_term.specs.Causes.{tokens_of, TextSpells, first_huge, IsRead, SpellsSchedule, IsCause, IsTermCause}
 use Rattle.zs_term.specs.Canonical.{canonical_text}
 use Rattle.zs_term.specs.Laws.{OneFault, OneVerdict, RoundTrip}
 use Rattle.zs_term.specs.declared.fault.TermFault.{TermFault}

@@ -2,7 +2,7 @@
 use Rattle.std.specs.Prelude.{◌≡◌, ℕ, ◌^◌, nat_le, IsSome, Bool, true, false, List, [], ◌∷◌, ◌++◌, map, length, Option, Some, None, if◌then◌else◌}
 use Rattle.zs_term.specs.Schedule.{Schedule, is_within_limits, has_factors, has_windows}
 use Rattle.zs_term.specs.Kinds.{kind_of, IsSchedule}
-use Rattle.zs_term.specs.Token.{Token, number, mark, Placed, Lexed, lexed}
+use Rattle.zs_term.specs.Token.{Token, number, mark, Placed, lexed}
 use Rattle.zs_term.specs.Grammar.{Spells, IsOpen}
 use Rattle.zs_term.specs.declared.fault.TermFault.{TermFault}
 use Rattle.zs_term.specs.declared.fault.TermFault.TheVariants.{NoTerm, TooBig, BadNumber, BadFactor, NoKind, BadWindow, Memory}

@@ -1,10 +1,9 @@
 -- The state after some tokens: what is still open, and what may come next.
-use Rattle.std.specs.Prelude.{◌≡◌, ℕ, List, [], ◌∷◌, ◌++◌, Bool, true, false, if◌then◌else◌, Option, Some, None, option_map}
+use Rattle.std.specs.Prelude.{ℕ, List, [], ◌∷◌, Bool, true, false, if◌then◌else◌, Option, Some, None, option_map}
 use Rattle.zs_term.specs.Schedule.{Schedule, forever, recurs, spaced, fixed, exponential, fibonacci, identity, elapsed, both, either, and_then, while_input, while_output, collect_all, mapped, linear, windowed, reset_when}
 use Rattle.zs_term.specs.Token.{Token, number, mark}
 use Rattle.zs_term.specs.declared.token.Mark.{Mark}
 use Rattle.zs_term.specs.declared.token.Mark.TheVariants.{ForeverWord, RecursWord, SpacedWord, FixedWord, ExponentialWord, FibonacciWord, IdentityWord, ElapsedWord, AndThenWord, WhileInputWord, WhileOutputWord, CollectAllWord, MapWord, SizeWord, MergeWord, AsWord, LinearWord, WindowedWord, ResetWhenWord, FirstPart, SecondPart, Open, Close, Comma, Dot, AndAnd, OrOr, Less, LessOrEqual, Equal, NotEqual, Greater, GreaterOrEqual, Plus, Times}
-use Rattle.zs_term.specs.declared.term.Test.{Test}
 use Rattle.zs_term.specs.declared.term.Cmp.{Cmp}
 use Rattle.zs_term.specs.declared.term.Cmp.TheVariants.{Lt, Le, Eq, Ne, Gt, Ge}
 use Rattle.zs_term.specs.declared.term.Pick.{Pick}

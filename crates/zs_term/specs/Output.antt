@@ -1,5 +1,5 @@
 -- Outputs as plain values, and what tests and functions make of them.
-use Rattle.std.specs.Prelude.{◌≡◌, ℕ, zero, suc, ◌+◌, ◌*◌, Bool, true, false, not, List, [], ◌∷◌, map, nat_lt, nat_le, nat_eq}
+use Rattle.std.specs.Prelude.{ℕ, ◌+◌, ◌*◌, Bool, not, List, [], ◌∷◌, nat_lt, nat_le, nat_eq}
 use Rattle.zs_term.specs.Saturating.{saturated}
 use Rattle.zs_term.specs.declared.outputs.Out.{Out, Num, Pair', Left', Right', Items', Row_of-Out, end_of-Out, more_of-Out}
 use Rattle.zs_term.specs.declared.outputs.Outs.{Outs}

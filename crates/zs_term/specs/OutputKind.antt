@@ -1,5 +1,5 @@
 -- Kinds as plain data, and which values have them.
-use Rattle.std.specs.Prelude.{◌≡◌, ℕ, Bool, true, false, ◌&&◌, Option, Some, None}
+use Rattle.std.specs.Prelude.{Bool, true, false, ◌&&◌}
 use Rattle.zs_term.specs.declared.kind.Kind.{Kind}
 use Rattle.zs_term.specs.declared.kind.Kind.TheVariants.{Num, Pair', Sum', Items'}
 use Rattle.zs_term.specs.Output.{Output, Outputs, number, pair, left, right, listed, none, more}

@@ -1,5 +1,5 @@
 -- What has been read of a text so far.
-use Rattle.std.specs.Prelude.{◌≡◌, ℕ, ◌≤◌, Bool, List, [], ◌∷◌, ◌++◌, length, drop, Option, Some, None, if◌then◌else◌}
+use Rattle.std.specs.Prelude.{◌≡◌, ℕ, ◌≤◌, Bool, List, [], ◌++◌, length, drop, Option, Some, None, if◌then◌else◌}
 use Rattle.zs_term.specs.Token.{Token, Placed, Lexed, lex, lexed}
 use Rattle.zs_term.specs.Machine.{State, at, start, run, value}
 use Rattle.zs_term.specs.Schedule.{Schedule}

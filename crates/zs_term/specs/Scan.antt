@@ -1,6 +1,6 @@
 -- What the code finds at a place of a text.
-use Rattle.std.specs.Prelude.{◌≡◌, ℕ, ◌+◌, ◌<◌, ◌≤◌, List, length, drop, Option, Some, None, MatchOption}
-use Rattle.zs_term.specs.Token.{Token, number, mark, token_at, lex, nothing, stuck, with_token}
+use Rattle.std.specs.Prelude.{◌≡◌, ℕ, ◌<◌, ◌≤◌, List, length, drop, Option, Some}
+use Rattle.zs_term.specs.Token.{Token, number, mark, lex, nothing, stuck, with_token}
 use Rattle.zs_term.specs.Number.{fit}
 use Rattle.zs_term.specs.declared.token.Lexeme.{Lexeme}
 use Rattle.zs_term.specs.declared.token.Lexeme.TheVariants.{Number, Mark}

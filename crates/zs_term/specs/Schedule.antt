@@ -1,5 +1,5 @@
 -- Terms as plain data, without their places in memory, and their sizes. Numbers are of any size here.
-use Rattle.std.specs.Prelude.{ℕ, ◌+◌, ◌*◌, ◌≤◌, max, Bool, true, false, ◌&&◌, nat_le}
+use Rattle.std.specs.Prelude.{ℕ, ◌+◌, ◌*◌, max, Bool, true, ◌&&◌, nat_le}
 use Rattle.zs_term.specs.declared.term.Term.{Term}
 use Rattle.zs_term.specs.declared.term.Term.TheVariants.{Forever, Recurs, Spaced, Fixed, Exponential, Fibonacci, Identity, Elapsed, Linear, Windowed, Both', Either', AndThen', WhileInput', WhileOutput', CollectAll', Map', ResetWhen'}
 use Rattle.zs_term.specs.declared.term.Test.{Test}

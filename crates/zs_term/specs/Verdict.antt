@@ -1,11 +1,11 @@
 -- What a text is read as: the schedule that it spells, or its one fault, as a function that computes.
 -- `src/laws.rt` ties it to the relations of `Causes`: a law says that the schedule is the one of the text, and the fault the least.
-use Rattle.std.specs.Prelude.{◌≡◌, ℕ, List, [], ◌∷◌, length, Bool, true, false, Option, Some, None, if◌then◌else◌, Result, Ok, Err, MatchResult}
+use Rattle.std.specs.Prelude.{◌≡◌, ℕ, List, [], ◌∷◌, length, Option, Some, None, if◌then◌else◌, Result, Ok, Err, MatchResult}
 use Rattle.zs_term.specs.Schedule.{Schedule, is_within_limits, has_factors, has_windows}
 use Rattle.zs_term.specs.OutputKind.{OutputKind}
 use Rattle.zs_term.specs.Kinds.{kind_of}
 use Rattle.zs_term.specs.Token.{Placed, lexed}
-use Rattle.zs_term.specs.Machine.{Frame, left, right, Mode, start, opening, counting, exp_opening, exp_counting, based, factored, closing, after, dotted, method, picking, testing, comparing, mapping, scaling, State, at, step, plant}
+use Rattle.zs_term.specs.Machine.{Frame, Mode, start, after, State, at, step, plant}
 use Rattle.zs_term.specs.Causes.{first_huge, SpellsSchedule, IsCause}
 use Rattle.zs_term.specs.declared.fault.TermFault.{TermFault}
 use Rattle.zs_term.specs.declared.fault.TermFault.TheVariants.{NoTerm, TooBig, BadNumber, BadFactor, NoKind, BadWindow, Memory}

@@ -1,6 +1,3 @@
-use Rattle.std.proofs.Common.{◌≡◌, ◌∙◌, sym, ap, map, rules, List}
-use Rattle.serde_json.specs.View.{view}
-use Rattle.zs_effect.specs.declared.script.Beat.{Beat}
 use Rattle.zs_run.specs.Entries.{beat_of}
 use Rattle.zs_run.proofs.Trees.{map_view}
 use Rattle.zs_run.proofs.entry.script_beats.Goals as goal

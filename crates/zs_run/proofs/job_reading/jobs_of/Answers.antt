@@ -1,4 +1,4 @@
-use Rattle.std.proofs.Common.{◌≡◌, ◌≢◌, ◌<◌, ◌+◌, ◌++◌, ◌∷◌, [], ◌∙◌, ℕ, List, Bool, sym, ap, map, drop, length, length-append, Ok, Err, codes, rules, arith, subst}
+use Rattle.std.proofs.Common.{◌≡◌, ◌+◌, ◌++◌, ◌∷◌, [], ◌∙◌, ℕ, List, Bool, sym, ap, map, drop, length-append, Ok, Err, codes, rules, arith}
 use Rattle.std.proofs.lemmas.List.{map-append, drop_all}
 use Rattle.std.proofs.lemmas.Result.{err_from_is_err_and}
 use Rattle.serde_json.specs.View.{view}
@@ -6,8 +6,8 @@ use Rattle.zs_drive.specs.Values.{job_record}
 use Rattle.zs_drive.specs.declared.job.Job.{Job}
 use Rattle.zs_run.specs.Tree.{is_one_of, text_at}
 use Rattle.zs_run.specs.Names.{KnowsNames}
-use Rattle.zs_run.specs.Jobs.{job_of, jobs_of}
-use Rattle.zs_run.proofs.JobLemmas.{after, after_step, after_fault, after_all, job_after}
+use Rattle.zs_run.specs.Jobs.{job_of}
+use Rattle.zs_run.proofs.JobLemmas.{after_step, after_fault, after_all, job_after}
 use Rattle.zs_run.proofs.job_reading.jobs_of.Goals as goal
 
 -- the names of jobs

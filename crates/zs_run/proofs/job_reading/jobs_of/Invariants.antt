@@ -1,6 +1,6 @@
 use Rattle.std.proofs.Common.{◌≡◌, map, drop, length, []}
 use Rattle.serde_json.specs.View.{view}
-use Rattle.zs_drive.specs.Values.{JobRecord, job_record}
+use Rattle.zs_drive.specs.Values.{job_record}
 use Rattle.zs_run.specs.Jobs.{jobs_of}
 use Rattle.zs_run.specs.Names.{KnowsNames}
 use Rattle.zs_run.proofs.JobLemmas.{after}

@@ -1,4 +1,4 @@
-use Rattle.std.proofs.Common.{length, ◌-◌, ◌≡◌, ◌≤◌, take, false, vec_len}
+use Rattle.std.proofs.Common.{◌-◌, ◌≡◌, ◌≤◌, false, vec_len}
 use Rattle.std.specs.Io.KnownBytes.{Consumes}
 use Rattle.zs_run.proofs.transfer.read_up_to.Given as goal
 

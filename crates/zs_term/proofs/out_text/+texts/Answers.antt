@@ -1,7 +1,6 @@
 use Rattle.std.proofs.Common.{rules, ◌≡◌, ◌++◌, ap, sym, subst, OnOk, string_bytes}
-use Rattle.std.specs.Prelude.{codes}
 use Rattle.zs_term.specs.Output.{output_of, outputs_of, outs_list, listed}
-use Rattle.zs_term.specs.OutputText.{output_text, outputs_text}
+use Rattle.zs_term.specs.OutputText.{output_text}
 use Rattle.zs_term.specs.declared.outputs.Out.{the_lemmas}
 use Rattle.zs_term.proofs.Values.{row_outputs_are}
 use Rattle.zs_term.proofs.Texts.{text_grown, text_enclosed}

@@ -1,4 +1,4 @@
-use Rattle.std.proofs.Common.{◌≡◌, Some, sym, ap, subst, ◌∙◌}
+use Rattle.std.proofs.Common.{◌≡◌, sym, ap, subst, ◌∙◌}
 use Rattle.zs_term.specs.Schedule.{schedule_of}
 use Rattle.zs_term.specs.Parts.{kept_of}
 use Rattle.zs_term.specs.Causes.{IsRead}

@@ -1,6 +1,6 @@
-use Rattle.std.proofs.Common.{◌≡◌, Some, sym, ap, subst, ◌∙◌}
-use Rattle.zs_term.specs.Machine.{at, step}
-use Rattle.zs_term.specs.Parts.{mode_of, stack_of, keep}
+use Rattle.std.proofs.Common.{sym}
+use Rattle.zs_term.specs.Machine.{at}
+use Rattle.zs_term.specs.Parts.{mode_of, stack_of}
 use Rattle.zs_term.proofs.Progress.{finished, all_numbers, not_finished, no_token_here, no_more, one_more}
 use Rattle.zs_term.proofs.reader.whole.Goals as goal
 

@@ -1,4 +1,3 @@
-use Rattle.std.proofs.Common.{refl}
 use Rattle.zs_engine.proofs.EngineLemmas.{IsNew-none}
 use Rattle.zs_engine.proofs.engine.Engine.new.Goals as goal
 

@@ -1,6 +1,5 @@
-use Rattle.std.proofs.Common.{◌≡◌, ◌∙◌, refl, ap, List, length, arith}
+use Rattle.std.proofs.Common.{◌≡◌, ◌∙◌, refl, ap}
 use Rattle.zs_agenda.specs.Timers.{Timers, Takes}
-use Rattle.zs_drive.specs.Values.{JobValue}
 use Rattle.zs_engine.specs.Rounds.{jobs_in}
 use Rattle.zs_engine.proofs.RoundLemmas.{rounds_left-falls, none-of_not_some, from_none}
 use Rattle.zs_engine.proofs.EngineLemmas.{IsDueWith-taken, taken-within, RestsWith-own, RestsWith-as}
