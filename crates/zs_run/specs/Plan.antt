@@ -1,6 +1,6 @@
 -- The plan of a list of bytes, or its first fault: first the causes in the document, then job by job those in the jobs.
 -- Each cause is a test on the whole JSON document, and the tests stand in the order of the faults.
-use Rattle.std.specs.Prelude.{ℕ, ◌+◌, ◌-◌, ◌&&◌, List, [], ◌∷◌, length, slice_index, Bool, true, nat_lt, nat_le, is_some, if◌then◌else◌, Option, Some, None, Result, Ok, Err, codes}
+use Rattle.std.specs.Prelude.{ℕ, ◌+◌, ◌-◌, ◌&&◌, List, [], ◌∷◌, length, slice_index, Bool, true, nat_lt, nat_le, is_some, if◌then◌else◌, Option, Some, None, Result, Ok, codes}
 use Rattle.serde_json.specs.Data.{Data}
 use Rattle.serde_json.specs.Find.{as_object}
 use Rattle.zs_agenda.specs.Ticks.{Ticks, every_ms, listed, max_horizon}
