@@ -1,0 +1,34 @@
+"""Where the program is, and one run of it."""
+import os
+import pathlib
+import shutil
+import subprocess
+
+BUILT = pathlib.Path(__file__).resolve().parents[2] / "crates" / "zsched" / "out" / "zsched"
+
+
+class NoProgram(Exception):
+    """The program isn't there. The text says where it was looked for."""
+
+
+def find(named=None):
+    """The program's path: the one that is named, else that of the variable ZSCHED, else the one that this tree built, else
+    the one on PATH."""
+    for place in [named, os.environ.get("ZSCHED")]:
+        if place:
+            if not os.access(place, os.X_OK) or os.path.isdir(place):
+                raise NoProgram(f"no program at {place}")
+            return str(place)
+    if os.access(BUILT, os.X_OK):
+        return str(BUILT)
+    installed = shutil.which("zsched")
+    if installed is None:
+        raise NoProgram("zsched is neither built (./run --proved builds it) nor installed; --zsched PATH or ZSCHED names one")
+    return installed
+
+
+def run(program, plan, seconds=None):
+    """Runs the program on a plan's bytes: status, standard output, standard error. Past the seconds it is killed, and
+    subprocess.TimeoutExpired is raised."""
+    ended = subprocess.run([program], input=plan, capture_output=True, timeout=seconds, check=False)
+    return ended.returncode, ended.stdout, ended.stderr
