@@ -2,13 +2,13 @@
 use Rattle.std.proofs.Common.{◌≡◌, ℕ, zero, suc, ◌+◌, ◌-◌, ◌*◌, ◌%◌, ◌^◌, ◌≤◌, Bool, true, false, ◌||◌, nat_lt, nat_eq, if◌then◌else◌, Option, Some, None, [], ◌∷◌, length, refl, sym, ap, subst, arith}
 use Rattle.zs_term.specs.Saturating.{saturated, max_moment}
 use Rattle.zs_term.specs.Output.{passes, picked}
-use Rattle.zs_term.specs.Schedule.{Schedule, forever, recurs, spaced, fixed, exponential, fibonacci, identity, elapsed, both, either, and_then, while_input, while_output, collect_all, mapped, linear, windowed, reset_when}
+use Rattle.zs_term.specs.Schedule.{Schedule, leaf, two, over, Leaf, forever, recurs, spaced, fixed, exponential, fibonacci, identity, elapsed, linear, windowed, Pairing, both, either, and_then, Modifier, while_input, while_output, collect_all, mapped, reset_when}
 use Rattle.zs_term.specs.declared.term.Test.{Test}
 use Rattle.zs_term.specs.declared.term.Pick.{Pick}
 use Rattle.zs_step.specs.declared.decision.Decision.{Decision}
 use Rattle.zs_step.specs.declared.decision.Decision.TheVariants.{Stop, Next}
 use Rattle.zs_step.specs.History.{History, last_moment, last_input, first_moment, earlier}
-use Rattle.zs_step.specs.Answer.{Answer, answer_of, is_next, only_if, later_of, earlier_of, next_run, run_after, window_end, fibonacci_number, done_from, from_done, sequel_of, since_reset, reset_if}
+use Rattle.zs_step.specs.Answer.{Answer, leaf_answer, paired, modified, answer_of, is_next, only_if, later_of, earlier_of, next_run, run_after, window_end, fibonacci_number, done_from, from_done, sequel_of, since_reset, reset_if}
 use Rattle.zs_step.specs.Laws.{IsNotBefore}
 
 -- a test
@@ -96,34 +96,44 @@ since_reset-moment : (a : History → Answer) (k : Pick) (t : Test) (h : History
 since_reset-moment a k t [] = refl
 since_reset-moment a k t (p ∷ h) = reset_if-last (passes t (picked k (a (p ∷ since_reset a k t h)).output)) p (since_reset a k t h)
 
--- the decision of a step, by cases on the schedule
+-- no decision of a schedule lies before the moment of its step
+abbrev IsLate : (History → Answer) → Type 0
+IsLate a = (h : History) → last_moment h ≤ max_moment → IsNotBefore (last_moment h) (a h).decision
+
+-- the same at a moment that is known to be the last one
+late-at : (a : History → Answer) → IsLate a → (m : ℕ) (g : History) → last_moment g ≡ m → m ≤ max_moment → IsNotBefore m (a g).decision
+late-at a late m g e le = subst (λ n. IsNotBefore n (a g).decision) e (late g (subst (λ n. n ≤ max_moment) (sym e) le))
+
+leaf-late : (l : Leaf) → IsLate (leaf_answer l)
+leaf-late forever h le = omega arith
+leaf-late (recurs k) h le = only_if-late (last_moment h) (nat_lt (length (earlier h)) k) (Next (last_moment h)) (omega arith)
+leaf-late (spaced d) h le = saturated-late (last_moment h) d le
+leaf-late (fixed p) h le = next_run-late p h le
+leaf-late (exponential b f) h le = saturated-late (last_moment h) (saturated (b * f ^ length (earlier h))) le
+leaf-late (fibonacci o) h le = saturated-late (last_moment h) (saturated (o * fibonacci_number (length h))) le
+leaf-late identity h le = omega arith
+leaf-late elapsed h le = omega arith
+leaf-late (linear n) h le = saturated-late (last_moment h) (saturated (n * length h)) le
+leaf-late (windowed n) h le = window_end-late n (first_moment h) (last_moment h) le
+
+paired-late : (p : Pairing) (a b : History → Answer) → IsLate a → IsLate b → IsLate (paired p a b)
+paired-late both a b s t h le = later_of-late (last_moment h) (a h).decision (b h).decision (s h le) (t h le)
+paired-late either a b s t h le = earlier_of-late (last_moment h) (a h).decision (b h).decision (s h le) (t h le)
+paired-late and_then a b s t h le =
+    sequel-late (last_moment h) (from_done a h) (a h) b (λ g e. from_done-last a h g e) (s h le) (λ g e. late-at b t (last_moment h) g e le)
+
+modified-late : (m : Modifier) (a : History → Answer) → IsLate a → IsLate (modified m a)
+modified-late (while_input t) a s h le = only_if-late (last_moment h) (passes t (last_input h)) (a h).decision (s h le)
+modified-late (while_output k t) a s h le = only_if-late (last_moment h) (passes t (picked k (a h).output)) (a h).decision (s h le)
+modified-late collect_all a s h le = s h le
+modified-late (mapped f) a s h le = s h le
+modified-late (reset_when k t) a s h le = late-at a s (last_moment h) (since_reset a k t h) (since_reset-moment a k t h) le
+
+-- the decision of a step
 pub answer_of-late : (t : Schedule) (h : History) → last_moment h ≤ max_moment → IsNotBefore (last_moment h) (answer_of t h).decision
-answer_of-late forever h le = omega arith
-answer_of-late (recurs k) h le = only_if-late (last_moment h) (nat_lt (length (earlier h)) k) (Next (last_moment h)) (omega arith)
-answer_of-late (spaced d) h le = saturated-late (last_moment h) d le
-answer_of-late (fixed p) h le = next_run-late p h le
-answer_of-late (exponential b f) h le = saturated-late (last_moment h) (saturated (b * f ^ length (earlier h))) le
-answer_of-late (fibonacci o) h le = saturated-late (last_moment h) (saturated (o * fibonacci_number (length h))) le
-answer_of-late identity h le = omega arith
-answer_of-late elapsed h le = omega arith
-answer_of-late (linear n) h le = saturated-late (last_moment h) (saturated (n * length h)) le
-answer_of-late (windowed n) h le = window_end-late n (first_moment h) (last_moment h) le
-answer_of-late (both a b) h le =
-    later_of-late (last_moment h) (answer_of a h).decision (answer_of b h).decision (answer_of-late a h le) (answer_of-late b h le)
-answer_of-late (either a b) h le =
-    earlier_of-late (last_moment h) (answer_of a h).decision (answer_of b h).decision (answer_of-late a h le) (answer_of-late b h le)
-answer_of-late (and_then a b) h le =
-    sequel-late (last_moment h) (from_done (answer_of a) h) (answer_of a h) (answer_of b) (λ g e. from_done-last (answer_of a) h g e) (answer_of-late a h le)
-    (λ g e. subst (λ m. IsNotBefore m (answer_of b g).decision) e (answer_of-late b g (subst (λ m. m ≤ max_moment) (sym e) le)))
-answer_of-late (while_input s t) h le = only_if-late (last_moment h) (passes t (last_input h)) (answer_of s h).decision (answer_of-late s h le)
-answer_of-late (while_output s k t) h le =
-    only_if-late (last_moment h) (passes t (picked k (answer_of s h).output)) (answer_of s h).decision (answer_of-late s h le)
-answer_of-late (collect_all s) h le = answer_of-late s h le
-answer_of-late (mapped s f) h le = answer_of-late s h le
-answer_of-late (reset_when s k t) h le =
-    let g = since_reset (answer_of s) k t h in
-    let e : last_moment g ≡ last_moment h = since_reset-moment (answer_of s) k t h in
-    subst (λ m. IsNotBefore m (answer_of s g).decision) e (answer_of-late s g (subst (λ m. m ≤ max_moment) (sym e) le))
+answer_of-late (leaf l) h le = leaf-late l h le
+answer_of-late (two p a b) h le = paired-late p (answer_of a) (answer_of b) (λ g. answer_of-late a g) (λ g. answer_of-late b g) h le
+answer_of-late (over s m) h le = modified-late m (answer_of s) (λ g. answer_of-late s g) h le
 
 -- a number is below a limit exactly where it is so after it was cut
 pub below-saturated : (n k : ℕ) → k ≤ max_moment → nat_lt n k ≡ nat_lt (saturated n) k

@@ -5,10 +5,10 @@ use Rattle.zs_term.specs.declared.term.Func.{Func}
 use Rattle.zs_term.specs.declared.term.Func.TheVariants.{First, Second, Size, Merge, Const, Add, Mul}
 use Rattle.zs_term.specs.Output.{Output, Outputs, number, pair, left, right, listed, none, more, with_last, applied}
 use Rattle.zs_term.specs.OutputKind.{OutputKind, num, pair_of, sum_of, list_of, is_same_kind, HasKind, AllHaveKind}
-use Rattle.zs_term.specs.Schedule.{Schedule, forever, recurs, spaced, fixed, exponential, fibonacci, identity, elapsed, both, either, and_then, while_input, while_output, collect_all, mapped, linear, windowed, reset_when}
-use Rattle.zs_term.specs.Kinds.{kind_of, answers, joined, where_fits, list_kind, mapped_kind, fits}
+use Rattle.zs_term.specs.Schedule.{Schedule, leaf, two, over, Leaf, forever, recurs, spaced, fixed, exponential, fibonacci, identity, elapsed, linear, windowed, Pairing, both, either, and_then, Modifier, while_input, while_output, collect_all, mapped, reset_when}
+use Rattle.zs_term.specs.Kinds.{kind_of, pairing_kind, modifier_kind, answers, joined, where_fits, list_kind, mapped_kind, fits}
 use Rattle.zs_step.specs.History.{History, earlier}
-use Rattle.zs_step.specs.Answer.{Answer, answer_of, is_next, from_done, sequel_of, collect_if, collected, since_reset}
+use Rattle.zs_step.specs.Answer.{Answer, leaf_answer, paired, modified, answer_of, is_next, from_done, sequel_of, collect_if, collected, since_reset}
 
 -- a value has a kind, where there is one
 abbrev pub Has : Output → Option OutputKind → Type 0
@@ -152,27 +152,39 @@ has-applied : (f : Func) (v : Output) (o : Option OutputKind) → Has v o → Ha
 has-applied f v None s = tt
 has-applied f v (Some a) s = applied-has f v a s
 
+-- each leaf's output is a number
+leaf-has : (l : Leaf) (h : History) → HasKind (leaf_answer l h).output num
+leaf-has forever h = tt
+leaf-has (recurs k) h = tt
+leaf-has (spaced d) h = tt
+leaf-has (fixed p) h = tt
+leaf-has (exponential b f) h = tt
+leaf-has (fibonacci o) h = tt
+leaf-has identity h = tt
+leaf-has elapsed h = tt
+leaf-has (linear n) h = tt
+leaf-has (windowed n) h = tt
+
+-- two schedules
+paired-has : (p : Pairing) (a b : History → Answer) (k l : Option OutputKind) → ((h : History) → Has (a h).output k) → ((h : History) → Has (b h).output l) →
+    (h : History) → Has (paired p a b h).output (joined (pairing_kind p) k l)
+paired-has both a b k l s t h = has-pair (a h).output (b h).output k l (s h) (t h)
+paired-has either a b k l s t h = has-pair (a h).output (b h).output k l (s h) (t h)
+paired-has and_then a b k l s t h = has-sequel (from_done a h) (a h) b k l (s h) t
+
+-- one schedule
+modified-has : (m : Modifier) (a : History → Answer) (o : Option OutputKind) → ((h : History) → Has (a h).output o) → (h : History) → Has (modified m a h).output (modifier_kind m o)
+modified-has (while_input t) a o s h = s h
+modified-has (while_output k t) a o s h = has-fits k (a h).output o (s h)
+modified-has collect_all a o s h = has-list a o s (earlier h)
+modified-has (mapped f) a o s h = has-applied f (a h).output o (s h)
+modified-has (reset_when k t) a o s h = has-fits k (a (since_reset a k t h)).output o (s (since_reset a k t h))
+
 -- each schedule's output has its kind, where it has one
 pub answer_of-has : (t : Schedule) (h : History) → Has (answer_of t h).output (kind_of t)
-answer_of-has forever h = tt
-answer_of-has (recurs k) h = tt
-answer_of-has (spaced d) h = tt
-answer_of-has (fixed p) h = tt
-answer_of-has (exponential b f) h = tt
-answer_of-has (fibonacci o) h = tt
-answer_of-has identity h = tt
-answer_of-has elapsed h = tt
-answer_of-has (linear n) h = tt
-answer_of-has (windowed n) h = tt
-answer_of-has (both a b) h = has-pair (answer_of a h).output (answer_of b h).output (kind_of a) (kind_of b) (answer_of-has a h) (answer_of-has b h)
-answer_of-has (either a b) h = has-pair (answer_of a h).output (answer_of b h).output (kind_of a) (kind_of b) (answer_of-has a h) (answer_of-has b h)
-answer_of-has (and_then a b) h = has-sequel (from_done (answer_of a) h) (answer_of a h) (answer_of b) (kind_of a) (kind_of b) (answer_of-has a h) (λ g. answer_of-has b g)
-answer_of-has (while_input s t) h = answer_of-has s h
-answer_of-has (while_output s k t) h = has-fits k (answer_of s h).output (kind_of s) (answer_of-has s h)
-answer_of-has (reset_when s k t) h =
-    has-fits k (answer_of s (since_reset (answer_of s) k t h)).output (kind_of s) (answer_of-has s (since_reset (answer_of s) k t h))
-answer_of-has (collect_all s) h = has-list (answer_of s) (kind_of s) (λ g. answer_of-has s g) (earlier h)
-answer_of-has (mapped s f) h = has-applied f (answer_of s h).output (kind_of s) (answer_of-has s h)
+answer_of-has (leaf l) h = leaf-has l h
+answer_of-has (two p a b) h = paired-has p (answer_of a) (answer_of b) (kind_of a) (kind_of b) (λ g. answer_of-has a g) (λ g. answer_of-has b g) h
+answer_of-has (over s m) h = modified-has m (answer_of s) (kind_of s) (λ g. answer_of-has s g) h
 
 -- every output of a schedule with a kind has that kind
 pub answer_of-has_kind : (t : Schedule) (a : OutputKind) (h : History) → kind_of t ≡ Some a → HasKind (answer_of t h).output a

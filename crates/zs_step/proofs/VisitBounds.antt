@@ -1,12 +1,12 @@
 -- A step visits at most as many nodes as the schedule weighs.
 use Rattle.std.proofs.Common.{ℕ, ◌+◌, ◌*◌, ◌≤◌, Bool, true, false, Option, Some, None, [], ◌∷◌, arith}
 use Rattle.zs_term.specs.Output.{passes, picked}
-use Rattle.zs_term.specs.Schedule.{Schedule, weight, forever, recurs, spaced, fixed, exponential, fibonacci, identity, elapsed, both, either, and_then, while_input, while_output, collect_all, mapped, linear, windowed, reset_when}
+use Rattle.zs_term.specs.Schedule.{Schedule, weight, times, leaf, two, over, Pairing, both, either, and_then, Modifier, while_input, while_output, collect_all, mapped, reset_when}
 use Rattle.zs_term.specs.declared.term.Test.{Test}
 use Rattle.zs_term.specs.declared.term.Pick.{Pick}
 use Rattle.zs_step.specs.History.{History, earlier}
 use Rattle.zs_step.specs.Answer.{Answer, answer_of, from_done, since_reset}
-use Rattle.zs_step.specs.Visits.{visits, sequel_visits, reset_visits, reset_visits_if}
+use Rattle.zs_step.specs.Visits.{visits, paired_visits, modified_visits, sequel_visits, reset_visits, reset_visits_if}
 
 -- one schedule after another
 sequel_visits-le : (o p : Option History) (n x y : ℕ) (v : History → ℕ) → n ≤ x → ((g : History) → v g ≤ y) → sequel_visits o p n v ≤ x + y
@@ -26,27 +26,22 @@ reset_visits-le a v k t [] x all = omega arith
 reset_visits-le a v k t (p ∷ h) x all =
     reset_visits_if-le (passes t (picked k (a (p ∷ since_reset a k t h)).output)) (v (p ∷ since_reset a k t h)) (v (p ∷ [])) x (all (p ∷ since_reset a k t h)) (all (p ∷ []))
 
+-- two parts
+paired_visits-le : (p : Pairing) (a : History → Answer) (v w : History → ℕ) (x y : ℕ) → ((h : History) → v h ≤ x) → ((h : History) → w h ≤ y) → (h : History) → paired_visits p a v w h ≤ x + y
+paired_visits-le both a v w x y s t h = omega (arith, s h, t h)
+paired_visits-le either a v w x y s t h = omega (arith, s h, t h)
+paired_visits-le and_then a v w x y s t h = sequel_visits-le (from_done a (earlier h)) (from_done a h) (v h) x y w (s h) t
+
+-- one part
+modified_visits-le : (m : Modifier) (a : History → Answer) (v : History → ℕ) (x : ℕ) → ((h : History) → v h ≤ x) → (h : History) → modified_visits m a v h ≤ times m * x
+modified_visits-le (while_input t) a v x s h = omega (arith, s h)
+modified_visits-le (while_output k t) a v x s h = omega (arith, s h)
+modified_visits-le collect_all a v x s h = omega (arith, s h)
+modified_visits-le (mapped f) a v x s h = omega (arith, s h)
+modified_visits-le (reset_when k t) a v x s h = reset_visits-le a v k t h x s
+
 -- the visits of a step, by cases on the schedule
 pub visits-le : (t : Schedule) (h : History) → visits t h ≤ weight t
-visits-le forever h = omega arith
-visits-le (recurs k) h = omega arith
-visits-le (spaced d) h = omega arith
-visits-le (fixed p) h = omega arith
-visits-le (exponential b f) h = omega arith
-visits-le (fibonacci o) h = omega arith
-visits-le identity h = omega arith
-visits-le elapsed h = omega arith
-visits-le (linear n) h = omega arith
-visits-le (windowed n) h = omega arith
-visits-le (both a b) h = let x = visits-le a h in let y = visits-le b h in omega arith
-visits-le (either a b) h = let x = visits-le a h in let y = visits-le b h in omega arith
-visits-le (and_then a b) h =
-    let x = sequel_visits-le (from_done (answer_of a) (earlier h)) (from_done (answer_of a) h) (visits a h) (weight a) (weight b) (visits b) (visits-le a h) (λ g. visits-le b g) in
-    omega arith
-visits-le (while_input s t) h = let x = visits-le s h in omega arith
-visits-le (while_output s k t) h = let x = visits-le s h in omega arith
-visits-le (collect_all s) h = let x = visits-le s h in omega arith
-visits-le (mapped s f) h = let x = visits-le s h in omega arith
-visits-le (reset_when s k t) h =
-    let x = reset_visits-le (answer_of s) (visits s) k t h (weight s) (λ g. visits-le s g) in
-    omega arith
+visits-le (leaf l) h = omega arith
+visits-le (two p a b) h = omega (arith, paired_visits-le p (answer_of a) (visits a) (visits b) (weight a) (weight b) (λ g. visits-le a g) (λ g. visits-le b g) h)
+visits-le (over s m) h = omega (arith, modified_visits-le m (answer_of s) (visits s) (weight s) (λ g. visits-le s g) h)

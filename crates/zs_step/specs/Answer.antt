@@ -5,7 +5,7 @@
 use Rattle.std.specs.Prelude.{ℕ, zero, suc, ◌+◌, ◌-◌, ◌*◌, ◌%◌, ◌^◌, min, max, Bool, true, false, ◌||◌, nat_lt, nat_eq, if◌then◌else◌, Option, Some, None, [], ◌∷◌, length}
 use Rattle.zs_term.specs.Saturating.{saturated}
 use Rattle.zs_term.specs.Output.{Output, Outputs, number, pair, left, right, listed, none, with_last, passes, picked, applied}
-use Rattle.zs_term.specs.Schedule.{Schedule, forever, recurs, spaced, fixed, exponential, fibonacci, identity, elapsed, both, either, and_then, while_input, while_output, collect_all, mapped, linear, windowed, reset_when}
+use Rattle.zs_term.specs.Schedule.{Schedule, leaf, two, over, Leaf, forever, recurs, spaced, fixed, exponential, fibonacci, identity, elapsed, linear, windowed, Pairing, both, either, and_then, Modifier, while_input, while_output, collect_all, mapped, reset_when}
 use Rattle.zs_term.specs.declared.term.Test.{Test}
 use Rattle.zs_term.specs.declared.term.Pick.{Pick}
 use Rattle.zs_step.specs.declared.decision.Decision.{Decision}
@@ -111,25 +111,36 @@ abbrev pub since_reset : (History → Answer) → Pick → Test → History → 
 since_reset a k t [] = []
 since_reset a k t (p ∷ h) = reset_if (passes t (picked k (a (p ∷ since_reset a k t h)).output)) p (since_reset a k t h)
 
+-- The rules of the leaves.
+abbrev pub leaf_answer : Leaf → History → Answer
+leaf_answer forever h = answer (number (saturated (length (earlier h)))) (Next (last_moment h))
+leaf_answer (recurs k) h = answer (number (saturated (length (earlier h)))) (only_if (nat_lt (length (earlier h)) k) (Next (last_moment h)))
+leaf_answer (spaced d) h = answer (number (saturated (length (earlier h)))) (Next (saturated (last_moment h + d)))
+leaf_answer (fixed p) h = answer (number (saturated (length (earlier h)))) (Next (next_run p h))
+leaf_answer (exponential b f) h = waits (saturated (b * f ^ length (earlier h))) h
+leaf_answer (fibonacci o) h = waits (saturated (o * fibonacci_number (length h))) h
+leaf_answer identity h = answer (number (last_input h)) (Next (last_moment h))
+leaf_answer elapsed h = answer (number (last_moment h - first_moment h)) (Next (last_moment h))
+leaf_answer (linear n) h = waits (saturated (n * length h)) h
+leaf_answer (windowed n) h =
+    answer (number (saturated (length (earlier h)))) (Next (window_end n (first_moment h) (last_moment h)))
+
+-- The rules of the operators between two schedules, given what each of them answers to every history.
+abbrev pub paired : Pairing → (History → Answer) → (History → Answer) → History → Answer
+paired both a b h = together later_of (a h) (b h)
+paired either a b h = together earlier_of (a h) (b h)
+paired and_then a b h = sequel a b h
+
+-- The rules of the operators over one schedule, given what it answers to every history.
+abbrev pub modified : Modifier → (History → Answer) → History → Answer
+modified (while_input t) a h = answer (a h).output (only_if (passes t (last_input h)) (a h).decision)
+modified (while_output k t) a h = answer (a h).output (only_if (passes t (picked k (a h).output)) (a h).decision)
+modified collect_all a h = answer (listed (collected a (earlier h))) (a h).decision
+modified (mapped f) a h = answer (applied f (a h).output) (a h).decision
+modified (reset_when k t) a h = a (since_reset a k t h)
+
 -- the answer of a schedule at the last step of a history that isn't empty
 abbrev pub answer_of : Schedule → History → Answer
-answer_of forever h = answer (number (saturated (length (earlier h)))) (Next (last_moment h))
-answer_of (recurs k) h = answer (number (saturated (length (earlier h)))) (only_if (nat_lt (length (earlier h)) k) (Next (last_moment h)))
-answer_of (spaced d) h = answer (number (saturated (length (earlier h)))) (Next (saturated (last_moment h + d)))
-answer_of (fixed p) h = answer (number (saturated (length (earlier h)))) (Next (next_run p h))
-answer_of (exponential b f) h = waits (saturated (b * f ^ length (earlier h))) h
-answer_of (fibonacci o) h = waits (saturated (o * fibonacci_number (length h))) h
-answer_of identity h = answer (number (last_input h)) (Next (last_moment h))
-answer_of elapsed h = answer (number (last_moment h - first_moment h)) (Next (last_moment h))
-answer_of (linear n) h = waits (saturated (n * length h)) h
-answer_of (windowed n) h =
-    answer (number (saturated (length (earlier h)))) (Next (window_end n (first_moment h) (last_moment h)))
-answer_of (both a b) h = together later_of (answer_of a h) (answer_of b h)
-answer_of (either a b) h = together earlier_of (answer_of a h) (answer_of b h)
-answer_of (and_then a b) h = sequel (answer_of a) (answer_of b) h
-answer_of (while_input s t) h = answer (answer_of s h).output (only_if (passes t (last_input h)) (answer_of s h).decision)
-answer_of (while_output s k t) h =
-    answer (answer_of s h).output (only_if (passes t (picked k (answer_of s h).output)) (answer_of s h).decision)
-answer_of (collect_all s) h = answer (listed (collected (answer_of s) (earlier h))) (answer_of s h).decision
-answer_of (mapped s f) h = answer (applied f (answer_of s h).output) (answer_of s h).decision
-answer_of (reset_when s k t) h = answer_of s (since_reset (answer_of s) k t h)
+answer_of (leaf l) h = leaf_answer l h
+answer_of (two p a b) h = paired p (answer_of a) (answer_of b) h
+answer_of (over s m) h = modified m (answer_of s) h

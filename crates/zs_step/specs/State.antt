@@ -3,7 +3,7 @@
 use Rattle.std.specs.Prelude.{◌≡◌, ℕ, suc, ◌*◌, ◌^◌, ◌≤◌, Bool, true, false, Option, Some, None, [], ◌∷◌, length}
 use Rattle.zs_term.specs.Saturating.{saturated}
 use Rattle.zs_term.specs.Output.{outputs_of}
-use Rattle.zs_term.specs.Schedule.{Schedule, weight, forever, recurs, spaced, fixed, exponential, fibonacci, identity, elapsed, both, either, and_then, while_input, while_output, collect_all, mapped, linear, windowed, reset_when}
+use Rattle.zs_term.specs.Schedule.{Schedule, weight, leaf, two, over, forever, recurs, spaced, fixed, exponential, fibonacci, identity, elapsed, linear, windowed, both, either, and_then, while_input, while_output, collect_all, mapped, reset_when}
 use Rattle.zs_step.specs.declared.state.State.{State}
 use Rattle.zs_step.specs.declared.state.State.TheVariants.{Forever, Recurs, Spaced, Fixed, Exponential, Fibonacci, Identity, Elapsed, Linear, Windowed, Both', Either', AndThen', WhileInput', WhileOutput', CollectAll', Map', ResetWhen'}
 use Rattle.zs_step.specs.History.{History, first_moment}
@@ -12,24 +12,45 @@ use Rattle.zs_step.specs.Visits.{visits}
 
 -- the schedule that a state was made of
 abbrev pub state_schedule : State → Schedule
-state_schedule (Forever n) = forever
-state_schedule (Recurs k n) = recurs k
-state_schedule (Spaced d n) = spaced d
-state_schedule (Fixed p n first run) = fixed p
-state_schedule (Exponential b f x) = exponential b f
-state_schedule (Fibonacci o x y) = fibonacci o
-state_schedule Identity = identity
-state_schedule (Elapsed started first) = elapsed
-state_schedule (Linear n steps) = linear n
-state_schedule (Windowed n steps first) = windowed n
-state_schedule (Both' p a q b) = both (state_schedule a) (state_schedule b)
-state_schedule (Either' p a q b) = either (state_schedule a) (state_schedule b)
-state_schedule (AndThen' second p a q b) = and_then (state_schedule a) (state_schedule b)
-state_schedule (WhileInput' p s t) = while_input (state_schedule s) t
-state_schedule (WhileOutput' p s k t) = while_output (state_schedule s) k t
-state_schedule (CollectAll' p s items) = collect_all (state_schedule s)
-state_schedule (Map' p s f) = mapped (state_schedule s) f
-state_schedule (ResetWhen' p s k t) = reset_when (state_schedule s) k t
+state_schedule (Forever n) = leaf forever
+state_schedule (Recurs k n) = leaf (recurs k)
+state_schedule (Spaced d n) = leaf (spaced d)
+state_schedule (Fixed p n first run) = leaf (fixed p)
+state_schedule (Exponential b f x) = leaf (exponential b f)
+state_schedule (Fibonacci o x y) = leaf (fibonacci o)
+state_schedule Identity = leaf identity
+state_schedule (Elapsed started first) = leaf elapsed
+state_schedule (Linear n steps) = leaf (linear n)
+state_schedule (Windowed n steps first) = leaf (windowed n)
+state_schedule (Both' p a q b) = two both (state_schedule a) (state_schedule b)
+state_schedule (Either' p a q b) = two either (state_schedule a) (state_schedule b)
+state_schedule (AndThen' second p a q b) = two and_then (state_schedule a) (state_schedule b)
+state_schedule (WhileInput' p s t) = over (state_schedule s) (while_input t)
+state_schedule (WhileOutput' p s k t) = over (state_schedule s) (while_output k t)
+state_schedule (CollectAll' p s items) = over (state_schedule s) collect_all
+state_schedule (Map' p s f) = over (state_schedule s) (mapped f)
+state_schedule (ResetWhen' p s k t) = over (state_schedule s) (reset_when k t)
+
+-- whether a node has no parts
+abbrev pub is_leaf : State → Bool
+is_leaf (Forever n) = true
+is_leaf (Recurs k n) = true
+is_leaf (Spaced d n) = true
+is_leaf (Fixed p n first run) = true
+is_leaf (Exponential b f x) = true
+is_leaf (Fibonacci o x y) = true
+is_leaf Identity = true
+is_leaf (Elapsed started first) = true
+is_leaf (Linear n steps) = true
+is_leaf (Windowed n steps first) = true
+is_leaf (Both' p a q b) = false
+is_leaf (Either' p a q b) = false
+is_leaf (AndThen' second p a q b) = false
+is_leaf (WhileInput' p s t) = false
+is_leaf (WhileOutput' p s k t) = false
+is_leaf (CollectAll' p s items) = false
+is_leaf (Map' p s f) = false
+is_leaf (ResetWhen' p s k t) = false
 
 -- whether there was a step
 abbrev pub has_steps : History → Bool

@@ -1,6 +1,6 @@
 -- How many nodes the last step of a history steps.
 use Rattle.std.specs.Prelude.{ℕ, ◌+◌, Bool, true, false, Option, Some, None, [], ◌∷◌}
-use Rattle.zs_term.specs.Schedule.{Schedule, forever, recurs, spaced, fixed, exponential, fibonacci, identity, elapsed, both, either, and_then, while_input, while_output, collect_all, mapped, linear, windowed, reset_when}
+use Rattle.zs_term.specs.Schedule.{Schedule, leaf, two, over, Pairing, both, either, and_then, Modifier, while_input, while_output, collect_all, mapped, reset_when}
 use Rattle.zs_step.specs.History.{History, earlier}
 use Rattle.zs_term.specs.Output.{passes, picked}
 use Rattle.zs_term.specs.declared.term.Test.{Test}
@@ -25,23 +25,22 @@ reset_visits a v k t [] = 0
 reset_visits a v k t (p ∷ h) =
     reset_visits_if (passes t (picked k (a (p ∷ since_reset a k t h)).output)) (v (p ∷ since_reset a k t h)) (v (p ∷ []))
 
+-- those of two parts
+abbrev pub paired_visits : Pairing → (History → Answer) → (History → ℕ) → (History → ℕ) → History → ℕ
+paired_visits both a v w h = v h + w h
+paired_visits either a v w h = v h + w h
+paired_visits and_then a v w h = sequel_visits (from_done a (earlier h)) (from_done a h) (v h) w
+
+-- those of one part
+abbrev pub modified_visits : Modifier → (History → Answer) → (History → ℕ) → History → ℕ
+modified_visits (while_input t) a v h = v h
+modified_visits (while_output k t) a v h = v h
+modified_visits collect_all a v h = v h
+modified_visits (mapped f) a v h = v h
+modified_visits (reset_when k t) a v h = reset_visits a v k t h
+
 -- The nodes that the last step of a history steps: each is one, with those that its rule asks of its parts.
 abbrev pub visits : Schedule → History → ℕ
-visits forever h = 1
-visits (recurs k) h = 1
-visits (spaced d) h = 1
-visits (fixed p) h = 1
-visits (exponential b f) h = 1
-visits (fibonacci o) h = 1
-visits identity h = 1
-visits elapsed h = 1
-visits (linear n) h = 1
-visits (windowed n) h = 1
-visits (both a b) h = 1 + visits a h + visits b h
-visits (either a b) h = 1 + visits a h + visits b h
-visits (and_then a b) h = 1 + sequel_visits (from_done (answer_of a) (earlier h)) (from_done (answer_of a) h) (visits a h) (visits b)
-visits (while_input s t) h = 1 + visits s h
-visits (while_output s k t) h = 1 + visits s h
-visits (collect_all s) h = 1 + visits s h
-visits (mapped s f) h = 1 + visits s h
-visits (reset_when s k t) h = 1 + reset_visits (answer_of s) (visits s) k t h
+visits (leaf l) h = 1
+visits (two p a b) h = 1 + paired_visits p (answer_of a) (visits a) (visits b) h
+visits (over s m) h = 1 + modified_visits m (answer_of s) (visits s) h

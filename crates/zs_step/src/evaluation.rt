@@ -3,11 +3,11 @@
 ghost use Rattle.std.specs.Prelude.{◌≡◌, ◌<◌, ◌≤◌, ◌+◌, length, drop, take, IfOk, OnOk, IfSome, IfNone};
 ghost use Rattle.zs_term.specs.Schedule.{schedule_of};
 ghost use Rattle.zs_term.specs.Saturating.{saturated};
-ghost use Rattle.zs_term.specs.Output.{passes, picked, output_of, outputs_of, outs_list, number};
+ghost use Rattle.zs_term.specs.Output.{passes, picked, output_of, outputs_of, outs_list, number, pair, applied};
 ghost use Rattle.zs_term.specs.OutputKind.{OutputKind, HasKind};
 ghost use Rattle.zs_term.specs.Kinds.{kind_of};
 ghost use Rattle.zs_step.specs.History.{history_of, earlier, IsInOrder};
-ghost use Rattle.zs_step.specs.Answer.{answer_of, answer, waits, from_done, collect_if, collected, is_next, since_reset};
+ghost use Rattle.zs_step.specs.Answer.{answer_of, answer, waits, from_done, collect_if, collected, is_next, only_if, since_reset};
 
 use crate::decision::Decision;
 use crate::fault::StepFault;
@@ -16,7 +16,7 @@ use crate::leaves::{
     linear_delay, steps_before, window_end,
 };
 use std::alloc::{AllocError, Global};
-use zs_term::{Checked, Out, Pick, Term, Test, make_left, make_list, make_pair, make_right};
+use zs_term::{Checked, Func, Out, Pick, Term, Test, make_left, make_list, make_pair, make_right};
 
 // The answer of a term at the last pair of a list of moments and inputs.
 #[cycle(evaluation)]
@@ -58,14 +58,16 @@ fn evaluate(
             Decision::Next(window_end(*n, first_moment(history), last_moment(history))),
         )),
         Term::Both(a, b) => {
-            let (x, first) = evaluate(alloc, a, history)?;
-            let (y, second) = evaluate(alloc, b, history)?;
-            Ok((make_pair(alloc, x, y)?, first.later(second)))
+            let x = evaluate(alloc, a, history)?;
+            let y = evaluate(alloc, b, history)?;
+            let decision = x.1.later(y.1);
+            paired(alloc, x.0, y.0, decision)
         }
         Term::Either(a, b) => {
-            let (x, first) = evaluate(alloc, a, history)?;
-            let (y, second) = evaluate(alloc, b, history)?;
-            Ok((make_pair(alloc, x, y)?, first.earlier(second)))
+            let x = evaluate(alloc, a, history)?;
+            let y = evaluate(alloc, b, history)?;
+            let decision = x.1.earlier(y.1);
+            paired(alloc, x.0, y.0, decision)
         }
         Term::AndThen(a, b) => {
             let first: &Term = a;
@@ -82,14 +84,14 @@ fn evaluate(
                 }
             }
         }
-        Term::WhileInput(s, test) => {
-            let (out, decision) = evaluate(alloc, s, history)?;
-            Ok((out, decision.only_if(test.passes(last_input(history)))))
-        }
+        Term::WhileInput(s, test) => Ok(only_if(
+            evaluate(alloc, s, history)?,
+            test.passes(last_input(history)),
+        )),
         Term::WhileOutput(s, pick, test) => {
-            let (out, decision) = evaluate(alloc, s, history)?;
-            let passed = test.passes(pick.read(&out));
-            Ok((out, decision.only_if(passed)))
+            let x = evaluate(alloc, s, history)?;
+            let passed = test.passes(pick.read(&x.0));
+            Ok(only_if(x, passed))
         }
         Term::CollectAll(s) => {
             let part: &Term = s;
@@ -97,16 +99,41 @@ fn evaluate(
             let items = outputs_before(alloc, part, history)?;
             Ok((make_list(items), decision_of(last)))
         }
-        Term::Map(s, func) => {
-            let (out, decision) = evaluate(alloc, s, history)?;
-            Ok((func.apply(out), decision))
-        }
+        Term::Map(s, func) => Ok(mapped(evaluate(alloc, s, history)?, *func)),
         Term::ResetWhen(s, pick, test) => {
             let inner: &Term = s;
             let start = reset_start(alloc, inner, *pick, *test, history)?;
             evaluate(alloc, inner, from_index(history, start))
         }
     }
+}
+
+// A pair of two outputs, with a decision.
+fn paired(
+    alloc: Global,
+    first: Out,
+    second: Out,
+    decision: Decision,
+) -> Result<(Out, Decision), AllocError>
+    ensures value { IfOk result (λ r. answer (output_of r.0) r.1 ≡ answer (pair (output_of first) (output_of second)) decision) }
+{
+    Ok((make_pair(alloc, first, second)?, decision))
+}
+
+// An answer that stops unless a test passed.
+fn only_if(from: (Out, Decision), passed: bool) -> (Out, Decision)
+    ensures value { answer (output_of result.0) result.1 ≡ answer (output_of from.0) (only_if passed from.1) }
+{
+    let (out, decision) = from;
+    (out, decision.only_if(passed))
+}
+
+// An answer with a function of its output.
+fn mapped(from: (Out, Decision), func: Func) -> (Out, Decision)
+    ensures value { answer (output_of result.0) result.1 ≡ answer (applied func (output_of from.0)) from.1 }
+{
+    let (out, decision) = from;
+    (func.apply(out), decision)
 }
 
 // An answer with the number of earlier steps.

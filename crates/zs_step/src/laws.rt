@@ -5,7 +5,7 @@ ghost use Rattle.zs_term.specs.Saturating.{max_moment};
 ghost use Rattle.zs_term.specs.Output.{left, right};
 ghost use Rattle.zs_term.specs.OutputKind.{OutputKind, HasKind};
 ghost use Rattle.zs_term.specs.Kinds.{kind_of};
-ghost use Rattle.zs_term.specs.Schedule.{Schedule, weight, forever, recurs, and_then, while_output};
+ghost use Rattle.zs_term.specs.Schedule.{Schedule, weight, leaf, two, over, forever, recurs, and_then, while_output};
 ghost use Rattle.zs_term.specs.declared.term.Test.{Test};
 ghost use Rattle.zs_term.specs.declared.term.Pick.{Pick};
 ghost use Rattle.zs_term.specs.declared.term.Pick.TheVariants.{Whole};
@@ -19,13 +19,13 @@ ghost use Rattle.zs_step.specs.Laws.{GoesOnThroughout, IsFromFirstDone, IsNotBef
 pub fn second_part_begins_where_the_first_is_done()
     ensures found { (a : Schedule) (h part : History) → (from_done (answer_of a) h ≡ Some part) ↔ IsFromFirstDone (answer_of a) h part }
     ensures none { (a : Schedule) (h : History) → (from_done (answer_of a) h ≡ None) ↔ GoesOnThroughout (answer_of a) h }
-    ensures second { (a b : Schedule) (h part : History) → IsFromFirstDone (answer_of a) h part → answer_of (and_then a b) h ≡ answer (right (answer_of b part).output) (answer_of b part).decision }
-    ensures first { (a b : Schedule) (h : History) → GoesOnThroughout (answer_of a) h → answer_of (and_then a b) h ≡ answer (left (answer_of a h).output) (answer_of a h).decision }
+    ensures second { (a b : Schedule) (h part : History) → IsFromFirstDone (answer_of a) h part → answer_of (two and_then a b) h ≡ answer (right (answer_of b part).output) (answer_of b part).decision }
+    ensures first { (a b : Schedule) (h : History) → GoesOnThroughout (answer_of a) h → answer_of (two and_then a b) h ≡ answer (left (answer_of a h).output) (answer_of a h).decision }
 {}
 
 /// `recurs(k)` answers as `forever.whileOutput(< k)`.
 pub fn recurs_is_forever_below_its_limit()
-    ensures value { (k : ℕ) (h : History) → k ≤ max_moment → answer_of (recurs k) h ≡ answer_of (while_output forever Whole (record { cmp = Lt; than = k })) h }
+    ensures value { (k : ℕ) (h : History) → k ≤ max_moment → answer_of (leaf (recurs k)) h ≡ answer_of (over (leaf forever) (while_output Whole (record { cmp = Lt; than = k }))) h }
 {}
 
 /// A schedule never goes on at a moment before that of its step.

@@ -49,6 +49,7 @@ pub(crate) enum State {
 }
 
 // The state of a term before its first step.
+#[cycle(making)]
 pub(crate) fn state_of(alloc: Global, term: &Term) -> Result<State, AllocError>
     ensures made_of { IfOk result (λ s. state_schedule s ≡ schedule_of term.now) }
     ensures represents { IfOk result (λ s. Represents s []) }
@@ -65,37 +66,32 @@ pub(crate) fn state_of(alloc: Global, term: &Term) -> Result<State, AllocError>
         Term::Linear(n) => Ok(State::Linear(*n, 0)),
         Term::Windowed(n) => Ok(State::Windowed(*n, 0, 0)),
         Term::Both(a, b) => {
-            let a = boxed(alloc, state_of(alloc, a)?)?;
-            Ok(State::Both(a, boxed(alloc, state_of(alloc, b)?)?))
+            let a = part(alloc, a)?;
+            Ok(State::Both(a, part(alloc, b)?))
         }
         Term::Either(a, b) => {
-            let a = boxed(alloc, state_of(alloc, a)?)?;
-            Ok(State::Either(a, boxed(alloc, state_of(alloc, b)?)?))
+            let a = part(alloc, a)?;
+            Ok(State::Either(a, part(alloc, b)?))
         }
         Term::AndThen(a, b) => {
-            let a = boxed(alloc, state_of(alloc, a)?)?;
-            Ok(State::AndThen(false, a, boxed(alloc, state_of(alloc, b)?)?))
+            let a = part(alloc, a)?;
+            Ok(State::AndThen(false, a, part(alloc, b)?))
         }
-        Term::WhileInput(s, test) => Ok(State::WhileInput(
-            boxed(alloc, state_of(alloc, s)?)?,
-            *test,
-        )),
-        Term::WhileOutput(s, pick, test) => Ok(State::WhileOutput(
-            boxed(alloc, state_of(alloc, s)?)?,
-            *pick,
-            *test,
-        )),
-        Term::CollectAll(s) => Ok(State::CollectAll(
-            boxed(alloc, state_of(alloc, s)?)?,
-            Vec::new(alloc),
-        )),
-        Term::Map(s, func) => Ok(State::Map(boxed(alloc, state_of(alloc, s)?)?, *func)),
-        Term::ResetWhen(s, pick, test) => Ok(State::ResetWhen(
-            boxed(alloc, state_of(alloc, s)?)?,
-            *pick,
-            *test,
-        )),
+        Term::WhileInput(s, test) => Ok(State::WhileInput(part(alloc, s)?, *test)),
+        Term::WhileOutput(s, pick, test) => Ok(State::WhileOutput(part(alloc, s)?, *pick, *test)),
+        Term::CollectAll(s) => Ok(State::CollectAll(part(alloc, s)?, Vec::new(alloc))),
+        Term::Map(s, func) => Ok(State::Map(part(alloc, s)?, *func)),
+        Term::ResetWhen(s, pick, test) => Ok(State::ResetWhen(part(alloc, s)?, *pick, *test)),
     }
+}
+
+// The state of a part before its first step, in memory of its own.
+#[cycle(making)]
+fn part(alloc: Global, term: &Term) -> Result<Box<State>, AllocError>
+    ensures made_of { IfOk result (λ s. state_schedule s.value ≡ schedule_of term.now) }
+    ensures represents { IfOk result (λ s. Represents s.value []) }
+{
+    boxed(alloc, state_of(alloc, term)?)
 }
 
 // A part's state in memory of its own.

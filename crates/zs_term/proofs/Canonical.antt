@@ -8,13 +8,13 @@ use Rattle.std.proofs.lemmas.Fmt.{decimal_is_IsNumeral, first_decimal, decimal_d
 use Rattle.std.proofs.lemmas.List.Sums.{take_while-cons}
 use Rattle.std.proofs.lemmas.Str.Parse.{digit_from_value}
 use Rattle.std.proofs.lemmas.Bool.Decides.{nat_tests}
-use Rattle.zs_term.specs.Schedule.{Schedule, forever, recurs, spaced, fixed, exponential, fibonacci, identity, elapsed, both, either, and_then, while_input, while_output, collect_all, mapped, linear, windowed, reset_when}
-use Rattle.zs_term.specs.Number.{FuncFits, HasFittingNumbers}
+use Rattle.zs_term.specs.Schedule.{Schedule, leaf, two, over, Leaf, forever, recurs, spaced, fixed, exponential, fibonacci, identity, elapsed, linear, windowed, Pairing, both, either, and_then, Modifier, while_input, while_output, collect_all, mapped, reset_when}
+use Rattle.zs_term.specs.Number.{FuncFits, LeafFits, ModifierFits, HasFittingNumbers}
 use Rattle.zs_term.specs.Token.{Token, number, mark, Placed, nothing, with_token, next_token, token_at, number_at, word_at, longest, pair_mark, single_mark, word_mark, lex, lexed}
-use Rattle.zs_term.specs.Grammar.{with_number, with_numbers, with_infix, with_method, test_tokens, pick_tokens, func_tokens, cmp_mark, Spells}
+use Rattle.zs_term.specs.Grammar.{with_number, with_numbers, with_infix, with_method, test_tokens, pick_tokens, func_tokens, cmp_mark, SpellsLeaf, pairing_mark, modifier_tokens, Spells}
 use Rattle.zs_term.specs.Causes.{tokens_of}
 use Rattle.zs_term.specs.Reading.{behind_tokens}
-use Rattle.zs_term.specs.Canonical.{canonical_text, number_text, infix_text, cmp_text, pick_text, func_text, test_text, and_then_text, while_input_text, while_output_text, reset_when_text, exponential_text}
+use Rattle.zs_term.specs.Canonical.{canonical_text, leaf_text, pairing_text, modifier_text, number_text, infix_text, cmp_text, pick_text, func_text, test_text, and_then_text, while_input_text, while_output_text, reset_when_text, exponential_text}
 use Rattle.zs_term.specs.Laws.{CanonicalSpells}
 use Rattle.zs_term.specs.declared.token.Mark.{Mark}
 use Rattle.zs_term.specs.declared.token.Mark.TheVariants.{ForeverWord, RecursWord, SpacedWord, FixedWord, ExponentialWord, FibonacciWord, IdentityWord, ElapsedWord, AndThenWord, WhileInputWord, WhileOutputWord, CollectAllWord, MapWord, LinearWord, WindowedWord, ResetWhenWord, FirstPart, SecondPart, Open, Close, Comma, Dot, AndAnd, OrOr, Less, LessOrEqual, Equal, NotEqual, Greater, GreaterOrEqual, Plus, Times}
@@ -294,12 +294,54 @@ reset_loose behind rest = (refl, refl, refl)
 collect_read : Reads Loose (codes ".collectAll") (mark Dot ∷ mark CollectAllWord ∷ [])
 collect_read = both_read dot_read (word_read 99 (codes "ollectAll") (λ e. omega arith) refl) (λ rest u. tt)
 
-exponential_read : (b f : ℕ) → b < 2 ^ 64 → f < 2 ^ 64 → Reads Loose (canonical_text (exponential b f)) (with_numbers ExponentialWord b f)
+exponential_read : (b f : ℕ) → b < 2 ^ 64 → f < 2 ^ 64 → Reads Loose (leaf_text (exponential b f)) (with_numbers ExponentialWord b f)
 unfolding exponential_text
 exponential_read b f h k =
     loosely (both_read (word_open_read 101 (codes "xponential") (λ e. omega arith) refl)
     (both_read (number_read b h) (both_read (spaced_read (codes ",") _ comma_read) (close_behind (decimal f) _ (number_read f k)) (λ rest u. tt)) (λ rest u. (refl, refl, refl)))
     (λ rest u. tt))
+
+-- what spells the leaf, and how its text is read as it
+record SpelledLeaf (l : Leaf) : Type 0 where
+  tokens : List Token
+  spelled : SpellsLeaf tokens l
+  read : Reads Loose (leaf_text l) tokens
+
+spelled_leaf : (l : Leaf) → LeafFits l → SpelledLeaf l
+spelled_leaf forever h = record { tokens = mark ForeverWord ∷ []; spelled = refl; read = word_read 102 (codes "orever") (λ e. omega arith) refl }
+spelled_leaf (recurs n) h = record { tokens = with_number RecursWord n; spelled = refl; read = number_form_read (codes "recurs(") RecursWord n h (word_open_read 114 (codes "ecurs") (λ e. omega arith) refl) }
+spelled_leaf (spaced n) h = record { tokens = with_number SpacedWord n; spelled = refl; read = number_form_read (codes "spaced(") SpacedWord n h (word_open_read 115 (codes "paced") (λ e. omega arith) refl) }
+spelled_leaf (fixed n) h = record { tokens = with_number FixedWord n; spelled = refl; read = number_form_read (codes "fixed(") FixedWord n h (word_open_read 102 (codes "ixed") (λ e. omega arith) refl) }
+spelled_leaf (exponential b f) h = record { tokens = with_numbers ExponentialWord b f; spelled = inr refl; read = exponential_read b f h.0 h.1 }
+spelled_leaf (fibonacci n) h = record { tokens = with_number FibonacciWord n; spelled = refl; read = number_form_read (codes "fibonacci(") FibonacciWord n h (word_open_read 102 (codes "ibonacci") (λ e. omega arith) refl) }
+spelled_leaf identity h = record { tokens = mark IdentityWord ∷ []; spelled = refl; read = word_read 105 (codes "dentity") (λ e. omega arith) refl }
+spelled_leaf elapsed h = record { tokens = mark ElapsedWord ∷ []; spelled = refl; read = word_read 101 (codes "lapsed") (λ e. omega arith) refl }
+spelled_leaf (linear n) h = record { tokens = with_number LinearWord n; spelled = refl; read = number_form_read (codes "linear(") LinearWord n h (word_open_read 108 (codes "inear") (λ e. omega arith) refl) }
+spelled_leaf (windowed n) h = record { tokens = with_number WindowedWord n; spelled = refl; read = number_form_read (codes "windowed(") WindowedWord n h (word_open_read 119 (codes "indowed") (λ e. omega arith) refl) }
+
+pairing_read : (p : Pairing) → Reads Any (pairing_text p) (mark (pairing_mark p) ∷ [])
+pairing_read both = both_read space_read (spaced_read (codes "&&") _ and_read) (λ rest u. tt)
+pairing_read either = both_read space_read (spaced_read (codes "||") _ or_read) (λ rest u. tt)
+pairing_read and_then = and_then_read
+
+pairing_loose : (p : Pairing) (rest : List ℕ) → Loose (pairing_text p ++ rest)
+pairing_loose both rest = (refl, refl, refl)
+pairing_loose either rest = (refl, refl, refl)
+pairing_loose and_then rest = and_then_loose rest
+
+modifier_read : (m : Modifier) → ModifierFits m → Reads Loose (modifier_text m) (modifier_tokens m)
+modifier_read (while_input t) h = loosely (both_read input_read (test_read t h) (λ rest u. tt))
+modifier_read (while_output p t) h = loosely (both_read output_read (picked_read p t h) (λ rest u. tt))
+modifier_read collect_all h = collect_read
+modifier_read (mapped f) h = loosely (both_read map_read (close_behind (func_text f) _ (func_read f h)) (λ rest u. tt))
+modifier_read (reset_when p t) h = loosely (both_read reset_read (picked_read p t h) (λ rest u. tt))
+
+modifier_loose : (m : Modifier) (rest : List ℕ) → Loose (modifier_text m ++ rest)
+modifier_loose (while_input t) rest = input_loose _ rest
+modifier_loose (while_output p t) rest = output_loose _ rest
+modifier_loose collect_all rest = (refl, refl, refl)
+modifier_loose (mapped f) rest = (refl, refl, refl)
+modifier_loose (reset_when p t) rest = reset_loose _ rest
 
 -- what spells the term, and how the canonical text is read as it
 record Spelled (t : Schedule) : Type 0 where
@@ -308,71 +350,20 @@ record Spelled (t : Schedule) : Type 0 where
   read : Reads Loose (canonical_text t) tokens
 
 spelled : (t : Schedule) → HasFittingNumbers t → Spelled t
-spelled forever h = record { tokens = mark ForeverWord ∷ []; spelled = refl; read = word_read 102 (codes "orever") (λ e. omega arith) refl }
-spelled (recurs n) h = record { tokens = with_number RecursWord n; spelled = refl; read = number_form_read (codes "recurs(") RecursWord n h (word_open_read 114 (codes "ecurs") (λ e. omega arith) refl) }
-spelled (spaced n) h = record { tokens = with_number SpacedWord n; spelled = refl; read = number_form_read (codes "spaced(") SpacedWord n h (word_open_read 115 (codes "paced") (λ e. omega arith) refl) }
-spelled (fixed n) h = record { tokens = with_number FixedWord n; spelled = refl; read = number_form_read (codes "fixed(") FixedWord n h (word_open_read 102 (codes "ixed") (λ e. omega arith) refl) }
-spelled (exponential b f) h = record { tokens = with_numbers ExponentialWord b f; spelled = inr refl; read = exponential_read b f h.0 h.1 }
-spelled (fibonacci n) h = record { tokens = with_number FibonacciWord n; spelled = refl; read = number_form_read (codes "fibonacci(") FibonacciWord n h (word_open_read 102 (codes "ibonacci") (λ e. omega arith) refl) }
-spelled identity h = record { tokens = mark IdentityWord ∷ []; spelled = refl; read = word_read 105 (codes "dentity") (λ e. omega arith) refl }
-spelled elapsed h = record { tokens = mark ElapsedWord ∷ []; spelled = refl; read = word_read 101 (codes "lapsed") (λ e. omega arith) refl }
-spelled (linear n) h = record { tokens = with_number LinearWord n; spelled = refl; read = number_form_read (codes "linear(") LinearWord n h (word_open_read 108 (codes "inear") (λ e. omega arith) refl) }
-spelled (windowed n) h = record { tokens = with_number WindowedWord n; spelled = refl; read = number_form_read (codes "windowed(") WindowedWord n h (word_open_read 119 (codes "indowed") (λ e. omega arith) refl) }
-spelled (both a b) h =
+spelled (leaf l) h = let x = spelled_leaf l h in record { tokens = x.tokens; spelled = x.spelled; read = x.read }
+spelled (two p a b) h =
     let x = spelled a h.0 in let y = spelled b h.1 in
     record {
-      tokens = with_infix x.tokens AndAnd y.tokens;
+      tokens = with_infix x.tokens (pairing_mark p) y.tokens;
       spelled = (x.tokens, y.tokens, x.spelled, y.spelled, refl);
-      read = infix_form_read (codes " && ") AndAnd (canonical_text a) (canonical_text b) x.tokens y.tokens x.read (λ rest. (refl, refl, refl)) (both_read space_read (spaced_read (codes "&&") _ and_read) (λ rest u. tt)) y.read;
+      read = infix_form_read (pairing_text p) (pairing_mark p) (canonical_text a) (canonical_text b) x.tokens y.tokens x.read (pairing_loose p) (pairing_read p) y.read;
     }
-spelled (either a b) h =
-    let x = spelled a h.0 in let y = spelled b h.1 in
-    record {
-      tokens = with_infix x.tokens OrOr y.tokens;
-      spelled = (x.tokens, y.tokens, x.spelled, y.spelled, refl);
-      read = infix_form_read (codes " || ") OrOr (canonical_text a) (canonical_text b) x.tokens y.tokens x.read (λ rest. (refl, refl, refl)) (both_read space_read (spaced_read (codes "||") _ or_read) (λ rest u. tt)) y.read;
-    }
-spelled (and_then a b) h =
-    let x = spelled a h.0 in let y = spelled b h.1 in
-    record {
-      tokens = with_infix x.tokens AndThenWord y.tokens;
-      spelled = (x.tokens, y.tokens, x.spelled, y.spelled, refl);
-      read = infix_form_read and_then_text AndThenWord (canonical_text a) (canonical_text b) x.tokens y.tokens x.read and_then_loose and_then_read y.read;
-    }
-spelled (while_input a t) h =
+spelled (over a m) h =
     let x = spelled a h.0 in
     record {
-      tokens = x.tokens ++ with_method WhileInputWord (test_tokens t);
+      tokens = x.tokens ++ modifier_tokens m;
       spelled = (x.tokens, x.spelled, refl);
-      read = method_read (canonical_text a) _ x.tokens _ x.read (input_loose _) (loosely (both_read input_read (test_read t h.1) (λ rest u. tt)));
-    }
-spelled (while_output a p t) h =
-    let x = spelled a h.0 in
-    record {
-      tokens = x.tokens ++ with_method WhileOutputWord (pick_tokens p ++ test_tokens t);
-      spelled = (x.tokens, x.spelled, refl);
-      read = method_read (canonical_text a) _ x.tokens _ x.read (output_loose _) (loosely (both_read output_read (picked_read p t h.1) (λ rest u. tt)));
-    }
-spelled (collect_all a) h =
-    let x = spelled a h in
-    record {
-      tokens = x.tokens ++ mark Dot ∷ mark CollectAllWord ∷ [];
-      spelled = (x.tokens, x.spelled, refl);
-      read = method_read (canonical_text a) _ x.tokens _ x.read (λ rest. (refl, refl, refl)) collect_read;
-    }
-spelled (mapped a f) h =
-    let x = spelled a h.0 in
-    record {
-      tokens = x.tokens ++ with_method MapWord (func_tokens f);
-      spelled = (x.tokens, x.spelled, refl);
-      read = method_read (canonical_text a) _ x.tokens _ x.read (λ rest. (refl, refl, refl)) (loosely (both_read map_read (close_behind (func_text f) _ (func_read f h.1)) (λ rest u. tt)));
-    }
-spelled (reset_when a p t) h =
-    let x = spelled a h.0 in
-    record {
-      tokens = x.tokens ++ with_method ResetWhenWord (pick_tokens p ++ test_tokens t);
-      spelled = (x.tokens, x.spelled, refl);
-      read = method_read (canonical_text a) _ x.tokens _ x.read (reset_loose _) (loosely (both_read reset_read (picked_read p t h.1) (λ rest u. tt)));
+      read = method_read (canonical_text a) _ x.tokens _ x.read (modifier_loose m) (modifier_read m h.1);
     }
 
 at_the_end : (at : ℕ) → lex 0 at [] ≡ nothing

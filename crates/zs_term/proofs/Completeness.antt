@@ -1,9 +1,9 @@
 -- A spelling leads to the state behind its term, wherever it stands.
 use Rattle.std.proofs.Common.{◌≡◌, ℕ, List, [], ◌∷◌, ◌++◌, Option, Some, None, refl, sym, ap, ◌∙◌, append_assoc, inl, inr}
-use Rattle.zs_term.specs.Schedule.{Schedule, forever, recurs, spaced, fixed, exponential, fibonacci, identity, elapsed, both, either, and_then, while_input, while_output, collect_all, mapped, linear, windowed, reset_when}
+use Rattle.zs_term.specs.Schedule.{Schedule, leaf, two, over, Leaf, forever, recurs, spaced, fixed, exponential, fibonacci, identity, elapsed, linear, windowed, Pairing, both, either, and_then, Modifier, while_input, while_output, collect_all, mapped, reset_when}
 use Rattle.zs_term.specs.Token.{Token, number, mark}
-use Rattle.zs_term.specs.Grammar.{with_infix, with_method, test_tokens, pick_tokens, func_tokens, cmp_mark, Spells}
-use Rattle.zs_term.specs.Machine.{Make, Frame, left, right, Mode, start, after, picking, testing, State, at, step, run, apply_func, value}
+use Rattle.zs_term.specs.Grammar.{with_infix, with_method, test_tokens, pick_tokens, func_tokens, cmp_mark, SpellsLeaf, pairing_mark, modifier_tokens, Spells}
+use Rattle.zs_term.specs.Machine.{Make, Frame, left, right, Mode, start, after, picking, testing, State, at, step, run, apply_func, leaf_value, pairing_infix, modifier_value, value}
 use Rattle.zs_term.specs.declared.token.Mark.{Mark}
 use Rattle.zs_term.specs.declared.token.Mark.TheVariants.{AndThenWord, WhileInputWord, WhileOutputWord, MapWord, ResetWhenWord, Open, Close, Dot, AndAnd, OrOr}
 use Rattle.zs_term.specs.declared.term.Test.{Test}
@@ -99,24 +99,26 @@ module _ {A N : Type 0} (make : Make A N) where
   lead_map (Add n) fs a rest = refl
   lead_map (Mul n) fs a rest = refl
 
+  complete_leaf : (l : Leaf) (ts : List Token) → SpellsLeaf ts l → Leads ts (leaf_value make l)
+  complete_leaf (exponential b f) ts (inl h) = lead_from ts _ _ h.0 (λ fs rest. ap (λ k. run make (Some (at fs (after (make.growing (make.num b) (make.num k))))) rest) (sym h.1))
+  complete_leaf (exponential b f) ts (inr h) = lead_from ts _ _ h (λ fs rest. refl)
+  complete_leaf _ ts h = lead_from ts _ _ h (λ fs rest. refl)
+
+  -- the token between two schedules leads to the right one
+  lead_between : (p : Pairing) (a : A) (fs : List (Frame A)) (rest : List Token) → run make (Some (at (left ∷ fs) (after a))) (mark (pairing_mark p) ∷ rest) ≡ run make (Some (at (right (pairing_infix p) a ∷ fs) start)) rest
+  lead_between both a fs rest = refl
+  lead_between either a fs rest = refl
+  lead_between and_then a fs rest = refl
+
+  lead_modifier : (m : Modifier) (a : A) (fs : List (Frame A)) (rest : List Token) → run make (Some (at fs (after a))) (modifier_tokens m ++ rest) ≡ run make (Some (at fs (after (modifier_value make a m)))) rest
+  lead_modifier (while_input t) a fs rest = lead_method WhileInputWord (testing a Input) a _ (test_tokens t) fs rest refl (lead_test fs a Input t.cmp t.than rest)
+  lead_modifier (while_output p t) a fs rest = lead_method WhileOutputWord (picking Stopping a) a _ (pick_tokens p ++ test_tokens t) fs rest refl (lead_pick p fs a Stopping t rest)
+  lead_modifier collect_all a fs rest = refl
+  lead_modifier (mapped f) a fs rest = lead_map f fs a rest
+  lead_modifier (reset_when p t) a fs rest = lead_method ResetWhenWord (picking Resetting a) a _ (pick_tokens p ++ test_tokens t) fs rest refl (lead_pick p fs a Resetting t rest)
+
   -- a spelling leads to the state behind its term
   pub complete : (t : Schedule) (ts : List Token) → Spells ts t → Leads ts (value make t)
-  complete forever ts h = lead_from ts _ _ h (λ fs rest. refl)
-  complete (recurs n) ts h = lead_from ts _ _ h (λ fs rest. refl)
-  complete (spaced n) ts h = lead_from ts _ _ h (λ fs rest. refl)
-  complete (fixed n) ts h = lead_from ts _ _ h (λ fs rest. refl)
-  complete (exponential b f) ts (inl h) = lead_from ts _ _ h.0 (λ fs rest. ap (λ k. run make (Some (at fs (after (make.growing (make.num b) (make.num k))))) rest) (sym h.1))
-  complete (exponential b f) ts (inr h) = lead_from ts _ _ h (λ fs rest. refl)
-  complete (fibonacci n) ts h = lead_from ts _ _ h (λ fs rest. refl)
-  complete identity ts h = lead_from ts _ _ h (λ fs rest. refl)
-  complete elapsed ts h = lead_from ts _ _ h (λ fs rest. refl)
-  complete (linear n) ts h = lead_from ts _ _ h (λ fs rest. refl)
-  complete (windowed n) ts h = lead_from ts _ _ h (λ fs rest. refl)
-  complete (both a b) ts h = lead_from ts _ _ h.4 (lead_infix OfBoth AndAnd h.0 h.1 (value make a) (value make b) (λ fs rest. refl) (complete a h.0 h.2) (complete b h.1 h.3))
-  complete (either a b) ts h = lead_from ts _ _ h.4 (lead_infix OfEither OrOr h.0 h.1 (value make a) (value make b) (λ fs rest. refl) (complete a h.0 h.2) (complete b h.1 h.3))
-  complete (and_then a b) ts h = lead_from ts _ _ h.4 (lead_infix OfAndThen AndThenWord h.0 h.1 (value make a) (value make b) (λ fs rest. refl) (complete a h.0 h.2) (complete b h.1 h.3))
-  complete (while_input a t) ts h = lead_from ts _ _ h.2 (lead_behind h.0 _ (value make a) _ (complete a h.0 h.1) (λ fs rest. lead_method WhileInputWord (testing (value make a) Input) (value make a) _ (test_tokens t) fs rest refl (lead_test fs (value make a) Input t.cmp t.than rest)))
-  complete (while_output a p t) ts h = lead_from ts _ _ h.2 (lead_behind h.0 _ (value make a) _ (complete a h.0 h.1) (λ fs rest. lead_method WhileOutputWord (picking Stopping (value make a)) (value make a) _ (pick_tokens p ++ test_tokens t) fs rest refl (lead_pick p fs (value make a) Stopping t rest)))
-  complete (collect_all a) ts h = lead_from ts _ _ h.2 (lead_behind h.0 _ (value make a) _ (complete a h.0 h.1) (λ fs rest. refl))
-  complete (mapped a f) ts h = lead_from ts _ _ h.2 (lead_behind h.0 _ (value make a) _ (complete a h.0 h.1) (λ fs rest. lead_map f fs (value make a) rest))
-  complete (reset_when a p t) ts h = lead_from ts _ _ h.2 (lead_behind h.0 _ (value make a) _ (complete a h.0 h.1) (λ fs rest. lead_method ResetWhenWord (picking Resetting (value make a)) (value make a) _ (pick_tokens p ++ test_tokens t) fs rest refl (lead_pick p fs (value make a) Resetting t rest)))
+  complete (leaf l) ts h = complete_leaf l ts h
+  complete (two p a b) ts h = lead_from ts _ _ h.4 (lead_infix (pairing_infix p) (pairing_mark p) h.0 h.1 (value make a) (value make b) (λ fs rest. lead_between p (value make a) fs rest) (complete a h.0 h.2) (complete b h.1 h.3))
+  complete (over a m) ts h = lead_from ts _ _ h.2 (lead_behind h.0 _ (value make a) _ (complete a h.0 h.1) (λ fs rest. lead_modifier m (value make a) fs rest))

@@ -7,10 +7,10 @@ use Rattle.zs_term.specs.declared.term.Pick.{Pick}
 use Rattle.zs_term.specs.declared.term.Pick.TheVariants.{Whole as PickWhole, First as PickFirst, Second as PickSecond, Size as PickSize}
 use Rattle.zs_term.specs.declared.term.Func.{Func}
 use Rattle.zs_term.specs.declared.term.Func.TheVariants.{First, Second, Size, Merge, Const, Add, Mul}
-use Rattle.zs_term.specs.Schedule.{Schedule, forever, recurs, spaced, fixed, exponential, fibonacci, identity, elapsed, linear, windowed, both, either, and_then, while_input, while_output, collect_all, mapped, reset_when}
-use Rattle.zs_term.specs.Number.{FuncFits, HasFittingNumbers}
+use Rattle.zs_term.specs.Schedule.{Schedule, leaf, two, over, Leaf, forever, recurs, spaced, fixed, exponential, fibonacci, identity, elapsed, linear, windowed, Pairing, Modifier, while_input, while_output, collect_all, mapped, reset_when}
+use Rattle.zs_term.specs.Number.{FuncFits, LeafFits, ModifierFits, HasFittingNumbers}
 use Rattle.zs_term.specs.Token.{Token, number, mark, Placed, lexed}
-use Rattle.zs_term.specs.Grammar.{Spells, with_number, with_infix, with_method, test_tokens, pick_tokens, func_tokens}
+use Rattle.zs_term.specs.Grammar.{SpellsLeaf, pairing_mark, modifier_tokens, Spells, with_number, with_infix, with_method, test_tokens, pick_tokens, func_tokens}
 use Rattle.zs_term.specs.Causes.{tokens_of, TextSpells, is_huge, first_huge}
 
 -- no token is a number that does not fit
@@ -48,36 +48,31 @@ fits_func (Const n) h = not_huge n h.1.0
 fits_func (Add n) h = not_huge n h.1.0
 fits_func (Mul n) h = not_huge n h.1.0
 
+leaf_fits : (l : Leaf) (ts : List Token) → SpellsLeaf ts l → AllFit ts → LeafFits l
+leaf_fits forever ts s h = tt
+leaf_fits (recurs n) ts s h = not_huge n (subst AllFit s h).1.1.0
+leaf_fits (spaced n) ts s h = not_huge n (subst AllFit s h).1.1.0
+leaf_fits (fixed n) ts s h = not_huge n (subst AllFit s h).1.1.0
+leaf_fits (exponential b f) ts (inl s) h = (not_huge b (subst AllFit s.0 h).1.1.0, omega (arith, s.1))
+leaf_fits (exponential b f) ts (inr s) h = (not_huge b (subst AllFit s h).1.1.0, not_huge f (subst AllFit s h).1.1.1.1.0)
+leaf_fits (fibonacci n) ts s h = not_huge n (subst AllFit s h).1.1.0
+leaf_fits identity ts s h = tt
+leaf_fits elapsed ts s h = tt
+leaf_fits (linear n) ts s h = not_huge n (subst AllFit s h).1.1.0
+leaf_fits (windowed n) ts s h = not_huge n (subst AllFit s h).1.1.0
+
+-- what stands behind a schedule, where all its tokens fit
+modifier_fits : (m : Modifier) → AllFit (modifier_tokens m) → ModifierFits m
+modifier_fits (while_input t) h = not_huge t.than h.1.1.1.1.0
+modifier_fits (while_output p t) h = not_huge t.than (fit_back (pick_tokens p) (test_tokens t) (fit_front (pick_tokens p ++ test_tokens t) (mark Close ∷ []) h.1.1.1)).1.0
+modifier_fits collect_all h = tt
+modifier_fits (mapped f) h = fits_func f (fit_front (func_tokens f) (mark Close ∷ []) h.1.1.1)
+modifier_fits (reset_when p t) h = not_huge t.than (fit_back (pick_tokens p) (test_tokens t) (fit_front (pick_tokens p ++ test_tokens t) (mark Close ∷ []) h.1.1.1)).1.0
+
 fits_from_tokens : (t : Schedule) (ts : List Token) → Spells ts t → AllFit ts → HasFittingNumbers t
-fits_from_tokens forever ts s h = tt
-fits_from_tokens (recurs n) ts s h = not_huge n (subst AllFit s h).1.1.0
-fits_from_tokens (spaced n) ts s h = not_huge n (subst AllFit s h).1.1.0
-fits_from_tokens (fixed n) ts s h = not_huge n (subst AllFit s h).1.1.0
-fits_from_tokens (exponential b f) ts (inl s) h = (not_huge b (subst AllFit s.0 h).1.1.0, omega (arith, s.1))
-fits_from_tokens (exponential b f) ts (inr s) h = (not_huge b (subst AllFit s h).1.1.0, not_huge f (subst AllFit s h).1.1.1.1.0)
-fits_from_tokens (fibonacci n) ts s h = not_huge n (subst AllFit s h).1.1.0
-fits_from_tokens identity ts s h = tt
-fits_from_tokens elapsed ts s h = tt
-fits_from_tokens (linear n) ts s h = not_huge n (subst AllFit s h).1.1.0
-fits_from_tokens (windowed n) ts s h = not_huge n (subst AllFit s h).1.1.0
-fits_from_tokens (both a b) ts s h = let k = fits_infix s.0 s.1 AndAnd (subst AllFit s.4 h) in (fits_from_tokens a s.0 s.2 k.0, fits_from_tokens b s.1 s.3 k.1)
-fits_from_tokens (either a b) ts s h = let k = fits_infix s.0 s.1 OrOr (subst AllFit s.4 h) in (fits_from_tokens a s.0 s.2 k.0, fits_from_tokens b s.1 s.3 k.1)
-fits_from_tokens (and_then a b) ts s h = let k = fits_infix s.0 s.1 AndThenWord (subst AllFit s.4 h) in (fits_from_tokens a s.0 s.2 k.0, fits_from_tokens b s.1 s.3 k.1)
-fits_from_tokens (while_input a t) ts s h =
-    let k = subst AllFit s.2 h in
-    (fits_from_tokens a s.0 s.1 (fit_front s.0 _ k), not_huge t.than (fit_back s.0 (with_method WhileInputWord (test_tokens t)) k).1.1.1.1.0)
-fits_from_tokens (while_output a p t) ts s h =
-    let k = subst AllFit s.2 h in
-    let arguments = fit_front (pick_tokens p ++ test_tokens t) (mark Close ∷ []) (fit_back s.0 (with_method WhileOutputWord (pick_tokens p ++ test_tokens t)) k).1.1.1 in
-    (fits_from_tokens a s.0 s.1 (fit_front s.0 _ k), not_huge t.than (fit_back (pick_tokens p) (test_tokens t) arguments).1.0)
-fits_from_tokens (collect_all a) ts s h = fits_from_tokens a s.0 s.1 (fit_front s.0 _ (subst AllFit s.2 h))
-fits_from_tokens (mapped a f) ts s h =
-    let k = subst AllFit s.2 h in
-    (fits_from_tokens a s.0 s.1 (fit_front s.0 _ k), fits_func f (fit_front (func_tokens f) (mark Close ∷ []) (fit_back s.0 (with_method MapWord (func_tokens f)) k).1.1.1))
-fits_from_tokens (reset_when a p t) ts s h =
-    let k = subst AllFit s.2 h in
-    let arguments = fit_front (pick_tokens p ++ test_tokens t) (mark Close ∷ []) (fit_back s.0 (with_method ResetWhenWord (pick_tokens p ++ test_tokens t)) k).1.1.1 in
-    (fits_from_tokens a s.0 s.1 (fit_front s.0 _ k), not_huge t.than (fit_back (pick_tokens p) (test_tokens t) arguments).1.0)
+fits_from_tokens (leaf l) ts s h = leaf_fits l ts s h
+fits_from_tokens (two p a b) ts s h = let k = fits_infix s.0 s.1 (pairing_mark p) (subst AllFit s.4 h) in (fits_from_tokens a s.0 s.2 k.0, fits_from_tokens b s.1 s.3 k.1)
+fits_from_tokens (over a m) ts s h = let k = subst AllFit s.2 h in (fits_from_tokens a s.0 s.1 (fit_front s.0 _ k), modifier_fits m (fit_back s.0 _ k))
 
 -- a text without a number above 2 ^ 64 - 1 spells a term whose numbers fit
 pub fits_in : (text : List ℕ) (t : Schedule) → TextSpells text t → first_huge (lexed text).tokens ≡ None → HasFittingNumbers t
@@ -121,26 +116,30 @@ infix_fits l r m h k = (refl, fit_both l (mark m ∷ r ++ mark Close ∷ []) h (
 method_fits : (m : Mark) (arguments : List Token) → AllFit arguments → AllFit (with_method m arguments)
 method_fits m arguments h = (refl, (refl, (refl, fit_both arguments (mark Close ∷ []) h (refl, tt))))
 
+leaf_tokens_fit : (l : Leaf) (ts : List Token) → SpellsLeaf ts l → LeafFits l → AllFit ts
+leaf_tokens_fit forever ts s h = subst AllFit (sym s) (refl, tt)
+leaf_tokens_fit (recurs n) ts s h = subst AllFit (sym s) (one_number RecursWord n h)
+leaf_tokens_fit (spaced n) ts s h = subst AllFit (sym s) (one_number SpacedWord n h)
+leaf_tokens_fit (fixed n) ts s h = subst AllFit (sym s) (one_number FixedWord n h)
+leaf_tokens_fit (exponential b f) ts (inl s) h = subst AllFit (sym s.0) (one_number ExponentialWord b h.0)
+leaf_tokens_fit (exponential b f) ts (inr s) h = subst AllFit (sym s) (refl, (refl, (not_huge_from b h.0, (refl, (not_huge_from f h.1, (refl, tt))))))
+leaf_tokens_fit (fibonacci n) ts s h = subst AllFit (sym s) (one_number FibonacciWord n h)
+leaf_tokens_fit identity ts s h = subst AllFit (sym s) (refl, tt)
+leaf_tokens_fit elapsed ts s h = subst AllFit (sym s) (refl, tt)
+leaf_tokens_fit (linear n) ts s h = subst AllFit (sym s) (one_number LinearWord n h)
+leaf_tokens_fit (windowed n) ts s h = subst AllFit (sym s) (one_number WindowedWord n h)
+
+modifier_tokens_fit : (m : Modifier) → ModifierFits m → AllFit (modifier_tokens m)
+modifier_tokens_fit (while_input t) h = method_fits WhileInputWord (test_tokens t) (refl, (not_huge_from t.than h, tt))
+modifier_tokens_fit (while_output p t) h = method_fits WhileOutputWord (pick_tokens p ++ test_tokens t) (fit_both (pick_tokens p) (test_tokens t) (pick_fits p) (refl, (not_huge_from t.than h, tt)))
+modifier_tokens_fit collect_all h = (refl, (refl, tt))
+modifier_tokens_fit (mapped f) h = method_fits MapWord (func_tokens f) (func_fits f h)
+modifier_tokens_fit (reset_when p t) h = method_fits ResetWhenWord (pick_tokens p ++ test_tokens t) (fit_both (pick_tokens p) (test_tokens t) (pick_fits p) (refl, (not_huge_from t.than h, tt)))
+
 tokens_fit : (t : Schedule) (ts : List Token) → Spells ts t → HasFittingNumbers t → AllFit ts
-tokens_fit forever ts s h = subst AllFit (sym s) (refl, tt)
-tokens_fit (recurs n) ts s h = subst AllFit (sym s) (one_number RecursWord n h)
-tokens_fit (spaced n) ts s h = subst AllFit (sym s) (one_number SpacedWord n h)
-tokens_fit (fixed n) ts s h = subst AllFit (sym s) (one_number FixedWord n h)
-tokens_fit (exponential b f) ts (inl s) h = subst AllFit (sym s.0) (one_number ExponentialWord b h.0)
-tokens_fit (exponential b f) ts (inr s) h = subst AllFit (sym s) (refl, (refl, (not_huge_from b h.0, (refl, (not_huge_from f h.1, (refl, tt))))))
-tokens_fit (fibonacci n) ts s h = subst AllFit (sym s) (one_number FibonacciWord n h)
-tokens_fit identity ts s h = subst AllFit (sym s) (refl, tt)
-tokens_fit elapsed ts s h = subst AllFit (sym s) (refl, tt)
-tokens_fit (linear n) ts s h = subst AllFit (sym s) (one_number LinearWord n h)
-tokens_fit (windowed n) ts s h = subst AllFit (sym s) (one_number WindowedWord n h)
-tokens_fit (both a b) ts s h = subst AllFit (sym s.4) (infix_fits s.0 s.1 AndAnd (tokens_fit a s.0 s.2 h.0) (tokens_fit b s.1 s.3 h.1))
-tokens_fit (either a b) ts s h = subst AllFit (sym s.4) (infix_fits s.0 s.1 OrOr (tokens_fit a s.0 s.2 h.0) (tokens_fit b s.1 s.3 h.1))
-tokens_fit (and_then a b) ts s h = subst AllFit (sym s.4) (infix_fits s.0 s.1 AndThenWord (tokens_fit a s.0 s.2 h.0) (tokens_fit b s.1 s.3 h.1))
-tokens_fit (while_input a t) ts s h = subst AllFit (sym s.2) (fit_both s.0 _ (tokens_fit a s.0 s.1 h.0) (method_fits WhileInputWord (test_tokens t) (refl, (not_huge_from t.than h.1, tt))))
-tokens_fit (while_output a p t) ts s h = subst AllFit (sym s.2) (fit_both s.0 _ (tokens_fit a s.0 s.1 h.0) (method_fits WhileOutputWord (pick_tokens p ++ test_tokens t) (fit_both (pick_tokens p) (test_tokens t) (pick_fits p) (refl, (not_huge_from t.than h.1, tt)))))
-tokens_fit (collect_all a) ts s h = subst AllFit (sym s.2) (fit_both s.0 _ (tokens_fit a s.0 s.1 h) (refl, (refl, tt)))
-tokens_fit (mapped a f) ts s h = subst AllFit (sym s.2) (fit_both s.0 _ (tokens_fit a s.0 s.1 h.0) (method_fits MapWord (func_tokens f) (func_fits f h.1)))
-tokens_fit (reset_when a p t) ts s h = subst AllFit (sym s.2) (fit_both s.0 _ (tokens_fit a s.0 s.1 h.0) (method_fits ResetWhenWord (pick_tokens p ++ test_tokens t) (fit_both (pick_tokens p) (test_tokens t) (pick_fits p) (refl, (not_huge_from t.than h.1, tt)))))
+tokens_fit (leaf l) ts s h = leaf_tokens_fit l ts s h
+tokens_fit (two p a b) ts s h = subst AllFit (sym s.4) (infix_fits s.0 s.1 (pairing_mark p) (tokens_fit a s.0 s.2 h.0) (tokens_fit b s.1 s.3 h.1))
+tokens_fit (over a m) ts s h = subst AllFit (sym s.2) (fit_both s.0 _ (tokens_fit a s.0 s.1 h.0) (modifier_tokens_fit m h.1))
 
 -- a text that spells a term whose numbers fit has no number above 2 ^ 64 - 1
 pub none_too_large : (text : List ℕ) (t : Schedule) → TextSpells text t → HasFittingNumbers t → first_huge (lexed text).tokens ≡ None

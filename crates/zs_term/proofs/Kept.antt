@@ -5,10 +5,10 @@ use Rattle.std.proofs.lemmas.Bool.Decides.{nat_tests}
 use Rattle.zs_term.specs.Saturating.{saturated}
 use Rattle.zs_term.specs.declared.term.Func.{Func}
 use Rattle.zs_term.specs.declared.term.Func.TheVariants.{First, Second, Size, Merge, Const, Add, Mul}
-use Rattle.zs_term.specs.Schedule.{Schedule, forever, recurs, spaced, fixed, exponential, fibonacci, identity, elapsed, linear, windowed, both, either, and_then, while_input, while_output, collect_all, mapped, reset_when, depth, weight, is_within_limits}
-use Rattle.zs_term.specs.Number.{fit, FuncFits, HasFittingNumbers}
+use Rattle.zs_term.specs.Schedule.{Schedule, leaf, two, over, Leaf, forever, recurs, spaced, fixed, exponential, fibonacci, identity, elapsed, linear, windowed, Pairing, both, either, and_then, Modifier, while_input, while_output, collect_all, mapped, reset_when, times, depth, weight, is_within_limits}
+use Rattle.zs_term.specs.Number.{fit, FuncFits, LeafFits, ModifierFits, HasFittingNumbers}
 use Rattle.zs_term.specs.Token.{lexed}
-use Rattle.zs_term.specs.Machine.{value, apply_func}
+use Rattle.zs_term.specs.Machine.{infix_schedule, leaf_value, pairing_infix, modifier_value, value, apply_func}
 use Rattle.zs_term.specs.Parts.{Kept, keep, one_more, with_both}
 use Rattle.zs_term.specs.Causes.{TextSpells, first_huge}
 use Rattle.zs_term.proofs.Fitting.{fits_in}
@@ -20,6 +20,9 @@ depth_over a d e = omega arith
 -- a form over one part weighs one more
 weight_over : (a w : ℕ) → a ≡ saturated w → one_more a ≡ saturated (1 + w)
 weight_over a w e = omega arith
+
+weight_once : (a w : ℕ) → a ≡ saturated w → one_more a ≡ saturated (1 + 1 * w)
+weight_once a w e = omega arith
 
 -- a form that may be reset weighs its part twice
 weight_twice : (a w : ℕ) → a ≡ saturated w → one_more (saturated (a + a)) ≡ saturated (1 + 2 * w)
@@ -51,47 +54,38 @@ weight_map build (Const n) a w e = weight_over a.weight w e
 weight_map build (Add n) a w e = weight_over a.weight w e
 weight_map build (Mul n) a w e = weight_over a.weight w e
 
+-- a leaf's sizes
+leaf_kept : (build : Bool) (l : Leaf) → ((leaf_value (keep build) l).depth ≡ 1) × ((leaf_value (keep build) l).weight ≡ 1)
+leaf_kept build forever = (refl, refl)
+leaf_kept build _ = (refl, refl)
+
+-- the depth of a modifier over a part
+depth_modified : (build : Bool) (m : Modifier) (a : Kept) (d : ℕ) → a.depth ≡ saturated d → (modifier_value (keep build) a m).depth ≡ saturated (1 + d)
+depth_modified build (while_input t) a d e = depth_over a.depth d e
+depth_modified build (while_output p t) a d e = depth_over a.depth d e
+depth_modified build collect_all a d e = depth_over a.depth d e
+depth_modified build (mapped f) a d e = depth_map build f a d e
+depth_modified build (reset_when p t) a d e = depth_over a.depth d e
+
+-- the weight of a modifier over a part
+weight_modified : (build : Bool) (m : Modifier) (a : Kept) (w : ℕ) → a.weight ≡ saturated w → (modifier_value (keep build) a m).weight ≡ saturated (1 + times m * w)
+weight_modified build (while_input t) a w e = weight_once a.weight w e
+weight_modified build (while_output p t) a w e = weight_once a.weight w e
+weight_modified build collect_all a w e = weight_once a.weight w e
+weight_modified build (mapped f) a w e = weight_map build f a w e ∙ ap saturated (omega arith)
+weight_modified build (reset_when p t) a w e = weight_twice a.weight w e
+
 -- the depth that is kept
 depth_kept : (build : Bool) (t : Schedule) → (value (keep build) t).depth ≡ saturated (depth t)
-depth_kept build forever = refl
-depth_kept build (recurs n) = refl
-depth_kept build (spaced n) = refl
-depth_kept build (fixed n) = refl
-depth_kept build (exponential b f) = refl
-depth_kept build (fibonacci n) = refl
-depth_kept build identity = refl
-depth_kept build elapsed = refl
-depth_kept build (linear n) = refl
-depth_kept build (windowed n) = refl
-depth_kept build (both a b) = depth_both _ _ (depth a) (depth b) (depth_kept build a) (depth_kept build b)
-depth_kept build (either a b) = depth_both _ _ (depth a) (depth b) (depth_kept build a) (depth_kept build b)
-depth_kept build (and_then a b) = depth_both _ _ (depth a) (depth b) (depth_kept build a) (depth_kept build b)
-depth_kept build (while_input a t) = depth_over _ (depth a) (depth_kept build a)
-depth_kept build (while_output a p t) = depth_over _ (depth a) (depth_kept build a)
-depth_kept build (collect_all a) = depth_over _ (depth a) (depth_kept build a)
-depth_kept build (mapped a f) = depth_map build f (value (keep build) a) (depth a) (depth_kept build a)
-depth_kept build (reset_when a p t) = depth_over _ (depth a) (depth_kept build a)
+depth_kept build (leaf l) = (leaf_kept build l).0
+depth_kept build (two p a b) = depth_both _ _ (depth a) (depth b) (depth_kept build a) (depth_kept build b)
+depth_kept build (over s m) = depth_modified build m (value (keep build) s) (depth s) (depth_kept build s)
 
 -- the weight that is kept
 weight_kept : (build : Bool) (t : Schedule) → (value (keep build) t).weight ≡ saturated (weight t)
-weight_kept build forever = refl
-weight_kept build (recurs n) = refl
-weight_kept build (spaced n) = refl
-weight_kept build (fixed n) = refl
-weight_kept build (exponential b f) = refl
-weight_kept build (fibonacci n) = refl
-weight_kept build identity = refl
-weight_kept build elapsed = refl
-weight_kept build (linear n) = refl
-weight_kept build (windowed n) = refl
-weight_kept build (both a b) = weight_both _ _ (weight a) (weight b) (weight_kept build a) (weight_kept build b)
-weight_kept build (either a b) = weight_both _ _ (weight a) (weight b) (weight_kept build a) (weight_kept build b)
-weight_kept build (and_then a b) = weight_both _ _ (weight a) (weight b) (weight_kept build a) (weight_kept build b)
-weight_kept build (while_input a t) = weight_over _ (weight a) (weight_kept build a)
-weight_kept build (while_output a p t) = weight_over _ (weight a) (weight_kept build a)
-weight_kept build (collect_all a) = weight_over _ (weight a) (weight_kept build a)
-weight_kept build (mapped a f) = weight_map build f (value (keep build) a) (weight a) (weight_kept build a)
-weight_kept build (reset_when a p t) = weight_twice _ (weight a) (weight_kept build a)
+weight_kept build (leaf l) = (leaf_kept build l).1
+weight_kept build (two p a b) = weight_both _ _ (weight a) (weight b) (weight_kept build a) (weight_kept build b)
+weight_kept build (over s m) = weight_modified build m (value (keep build) s) (weight s) (weight_kept build s)
 
 fits_test : (n : ℕ) → n < 2 ^ 64 → nat_lt n (2 ^ 64) ≡ true
 fits_test n h = grind (arith, nat_tests)
@@ -104,35 +98,46 @@ fit_is n h = let e = fits_test n h in rw e refl
 two_kept : {X Y Z : Type 0} (f : X → Y → Z) (o : Option X) (q : Option Y) (x : X) (y : Y) → o ≡ Some x → q ≡ Some y → with_both f o q ≡ Some (f x y)
 two_kept f o q x y h k = ap (λ u. with_both f u q) h ∙ ap (with_both f (Some x)) k
 
-schedule_map : (f : Func) (a : Schedule) → FuncFits f → (value (keep true) a).schedule ≡ Some a → (apply_func (keep true) (value (keep true) a) f).schedule ≡ Some (mapped a f)
-schedule_map First a h p = ap (option_map (λ t. mapped t First)) p
-schedule_map Second a h p = ap (option_map (λ t. mapped t Second)) p
-schedule_map Size a h p = ap (option_map (λ t. mapped t Size)) p
-schedule_map Merge a h p = ap (option_map (λ t. mapped t Merge)) p
-schedule_map (Const n) a h p = two_kept (λ t k. mapped t (Const k)) _ (fit n) a n p (fit_is n h)
-schedule_map (Add n) a h p = two_kept (λ t k. mapped t (Add k)) _ (fit n) a n p (fit_is n h)
-schedule_map (Mul n) a h p = two_kept (λ t k. mapped t (Mul k)) _ (fit n) a n p (fit_is n h)
+schedule_map : (f : Func) (a : Schedule) → FuncFits f → (value (keep true) a).schedule ≡ Some a → (apply_func (keep true) (value (keep true) a) f).schedule ≡ Some (over a (mapped f))
+schedule_map First a h p = ap (option_map (λ t. over t (mapped First))) p
+schedule_map Second a h p = ap (option_map (λ t. over t (mapped Second))) p
+schedule_map Size a h p = ap (option_map (λ t. over t (mapped Size))) p
+schedule_map Merge a h p = ap (option_map (λ t. over t (mapped Merge))) p
+schedule_map (Const n) a h p = two_kept (λ t k. over t (mapped (Const k))) _ (fit n) a n p (fit_is n h)
+schedule_map (Add n) a h p = two_kept (λ t k. over t (mapped (Add k))) _ (fit n) a n p (fit_is n h)
+schedule_map (Mul n) a h p = two_kept (λ t k. over t (mapped (Mul k))) _ (fit n) a n p (fit_is n h)
+
+-- the leaf that is kept
+leaf_built : (l : Leaf) → LeafFits l → (leaf_value (keep true) l).schedule ≡ Some (leaf l)
+leaf_built forever h = refl
+leaf_built (recurs n) h = ap (option_map (λ k. leaf (recurs k))) (fit_is n h)
+leaf_built (spaced n) h = ap (option_map (λ k. leaf (spaced k))) (fit_is n h)
+leaf_built (fixed n) h = ap (option_map (λ k. leaf (fixed k))) (fit_is n h)
+leaf_built (exponential b f) h = two_kept (λ x y. leaf (exponential x y)) (fit b) (fit f) b f (fit_is b h.0) (fit_is f h.1)
+leaf_built (fibonacci n) h = ap (option_map (λ k. leaf (fibonacci k))) (fit_is n h)
+leaf_built identity h = refl
+leaf_built elapsed h = refl
+leaf_built (linear n) h = ap (option_map (λ k. leaf (linear k))) (fit_is n h)
+leaf_built (windowed n) h = ap (option_map (λ k. leaf (windowed k))) (fit_is n h)
+
+pair_built : (p : Pairing) (a b : Schedule) → infix_schedule (pairing_infix p) a b ≡ two p a b
+pair_built both a b = refl
+pair_built either a b = refl
+pair_built and_then a b = refl
+
+-- the modifier that is kept
+modifier_built : (m : Modifier) (a : Schedule) → ModifierFits m → (value (keep true) a).schedule ≡ Some a → (modifier_value (keep true) (value (keep true) a) m).schedule ≡ Some (over a m)
+modifier_built (while_input t) a h p = two_kept (λ x k. over x (while_input (record { cmp = t.cmp; than = k }))) _ (fit t.than) a t.than p (fit_is t.than h)
+modifier_built (while_output k t) a h p = two_kept (λ x n. over x (while_output k (record { cmp = t.cmp; than = n }))) _ (fit t.than) a t.than p (fit_is t.than h)
+modifier_built collect_all a h p = ap (option_map (λ x. over x collect_all)) p
+modifier_built (mapped f) a h p = schedule_map f a h p
+modifier_built (reset_when k t) a h p = two_kept (λ x n. over x (reset_when k (record { cmp = t.cmp; than = n }))) _ (fit t.than) a t.than p (fit_is t.than h)
 
 -- the term that is kept, where terms are built and its numbers fit
 schedule_kept : (t : Schedule) → HasFittingNumbers t → (value (keep true) t).schedule ≡ Some t
-schedule_kept forever h = refl
-schedule_kept (recurs n) h = ap (option_map recurs) (fit_is n h)
-schedule_kept (spaced n) h = ap (option_map spaced) (fit_is n h)
-schedule_kept (fixed n) h = ap (option_map fixed) (fit_is n h)
-schedule_kept (exponential b f) h = two_kept exponential (fit b) (fit f) b f (fit_is b h.0) (fit_is f h.1)
-schedule_kept (fibonacci n) h = ap (option_map fibonacci) (fit_is n h)
-schedule_kept identity h = refl
-schedule_kept elapsed h = refl
-schedule_kept (linear n) h = ap (option_map linear) (fit_is n h)
-schedule_kept (windowed n) h = ap (option_map windowed) (fit_is n h)
-schedule_kept (both a b) h = two_kept both _ _ a b (schedule_kept a h.0) (schedule_kept b h.1)
-schedule_kept (either a b) h = two_kept either _ _ a b (schedule_kept a h.0) (schedule_kept b h.1)
-schedule_kept (and_then a b) h = two_kept and_then _ _ a b (schedule_kept a h.0) (schedule_kept b h.1)
-schedule_kept (while_input a t) h = two_kept (λ x k. while_input x (record { cmp = t.cmp; than = k })) _ (fit t.than) a t.than (schedule_kept a h.0) (fit_is t.than h.1)
-schedule_kept (while_output a p t) h = two_kept (λ x k. while_output x p (record { cmp = t.cmp; than = k })) _ (fit t.than) a t.than (schedule_kept a h.0) (fit_is t.than h.1)
-schedule_kept (collect_all a) h = ap (option_map collect_all) (schedule_kept a h)
-schedule_kept (mapped a f) h = schedule_map f a h.1 (schedule_kept a h.0)
-schedule_kept (reset_when a p t) h = two_kept (λ x k. reset_when x p (record { cmp = t.cmp; than = k })) _ (fit t.than) a t.than (schedule_kept a h.0) (fit_is t.than h.1)
+schedule_kept (leaf l) h = leaf_built l h
+schedule_kept (two p a b) h = two_kept (infix_schedule (pairing_infix p)) _ _ a b (schedule_kept a h.0) (schedule_kept b h.1) ∙ ap Some (pair_built p a b)
+schedule_kept (over s m) h = modifier_built m s h.1 (schedule_kept s h.0)
 
 le_test : (m n : ℕ) → m ≤ n → nat_le m n ≡ true
 le_test m n h = grind (arith, nat_tests)

@@ -6,7 +6,7 @@ use Rattle.zs_term.specs.declared.term.Pick.TheVariants.{Whole}
 use Rattle.zs_term.specs.declared.term.Func.TheVariants.{First}
 use Rattle.zs_term.specs.declared.term.Cmp.TheVariants.{Lt, Eq, Ge}
 use Rattle.zs_term.specs.declared.fault.TermFault.TheVariants.{NoTerm, BadNumber, BadFactor, NoKind, BadWindow}
-use Rattle.zs_term.specs.Schedule.{Schedule, forever, recurs, spaced, exponential, identity, linear, windowed, both, either, while_output, mapped, reset_when, weight}
+use Rattle.zs_term.specs.Schedule.{Schedule, leaf, two, over, forever, recurs, spaced, exponential, identity, linear, windowed, both, either, while_output, mapped, reset_when, weight}
 use Rattle.zs_term.specs.Output.{number, pair, left, listed, more, none}
 use Rattle.zs_term.specs.Token.{lex}
 use Rattle.zs_term.specs.Canonical.{canonical_text, exponential_text, while_output_text, reset_when_text}
@@ -39,7 +39,7 @@ large_number : verdict_of (codes "recurs(18446744073709551616)") ≡ Err (BadNum
 unfolding lex
 large_number = refl
 
-greatest_number : verdict_of (codes "recurs(18446744073709551615)") ≡ Ok (recurs 18446744073709551615)
+greatest_number : verdict_of (codes "recurs(18446744073709551615)") ≡ Ok (leaf (recurs 18446744073709551615))
 unfolding lex
 greatest_number = refl
 
@@ -67,33 +67,33 @@ reset_misfit : verdict_of (codes "recurs(1).resetWhen(_1 = 0)") ≡ Err NoKind
 unfolding lex
 reset_misfit = refl
 
-spaces : verdict_of (codes "( recurs(3)&&spaced( 5 ) ).map( _1 )") ≡ Ok (mapped (both (recurs 3) (spaced 5)) First)
+spaces : verdict_of (codes "( recurs(3)&&spaced( 5 ) ).map( _1 )") ≡ Ok (over (two both (leaf (recurs 3)) (leaf (spaced 5))) (mapped First))
 unfolding lex
 spaces = refl
 
-doubling : verdict_of (codes "exponential(10)") ≡ Ok (exponential 10 2)
+doubling : verdict_of (codes "exponential(10)") ≡ Ok (leaf (exponential 10 2))
 unfolding lex
 doubling = refl
 
-reset : verdict_of (codes "identity.resetWhen(>= 5)") ≡ Ok (reset_when identity Whole (record { cmp = Ge; than = 5 }))
+reset : verdict_of (codes "identity.resetWhen(>= 5)") ≡ Ok (over (leaf identity) (reset_when Whole (record { cmp = Ge; than = 5 })))
 unfolding lex
 reset = refl
 
 -- ---- canonical spellings
 
-spelled_with_spaces : canonical_text (mapped (both (recurs 3) (spaced 5)) First) ≡ codes "(recurs(3) && spaced(5)).map(_1)"
+spelled_with_spaces : canonical_text (over (two both (leaf (recurs 3)) (leaf (spaced 5))) (mapped First)) ≡ codes "(recurs(3) && spaced(5)).map(_1)"
 unfolding digits
 spelled_with_spaces = refl
 
-spelled_with_factor : canonical_text (exponential 10 2) ≡ codes "exponential(10, 2)"
+spelled_with_factor : canonical_text (leaf (exponential 10 2)) ≡ codes "exponential(10, 2)"
 unfolding exponential_text digits
 spelled_with_factor = refl
 
-spelled_test : canonical_text (while_output identity Whole (record { cmp = Lt; than = 5 })) ≡ codes "identity.whileOutput(< 5)"
+spelled_test : canonical_text (over (leaf identity) (while_output Whole (record { cmp = Lt; than = 5 }))) ≡ codes "identity.whileOutput(< 5)"
 unfolding while_output_text digits
 spelled_test = refl
 
-spelled_reset : canonical_text (reset_when (either (linear 3) (windowed 4)) Whole (record { cmp = Eq; than = 0 })) ≡ codes "(linear(3) || windowed(4)).resetWhen(= 0)"
+spelled_reset : canonical_text (over (two either (leaf (linear 3)) (leaf (windowed 4))) (reset_when Whole (record { cmp = Eq; than = 0 }))) ≡ codes "(linear(3) || windowed(4)).resetWhen(= 0)"
 unfolding reset_when_text digits
 spelled_reset = refl
 
@@ -110,10 +110,10 @@ the_empty_list = refl
 
 -- a schedule that begins anew at 0
 abbrev again : Schedule → Schedule
-again s = reset_when s Whole (record { cmp = Eq; than = 0 })
+again s = over s (reset_when Whole (record { cmp = Eq; than = 0 }))
 
-eight_resets : weight (again (again (again (again (again (again (again (again forever)))))))) ≡ 511
+eight_resets : weight (again (again (again (again (again (again (again (again (leaf forever))))))))) ≡ 511
 eight_resets = refl
 
-nine_resets : weight (again (again (again (again (again (again (again (again (again forever))))))))) ≡ 1023
+nine_resets : weight (again (again (again (again (again (again (again (again (again (leaf forever)))))))))) ≡ 1023
 nine_resets = refl

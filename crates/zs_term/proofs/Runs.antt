@@ -1,9 +1,9 @@
 -- The state after some tokens says just which tokens may come.
 use Rattle.std.proofs.Common.{◌≡◌, ℕ, List, [], ◌∷◌, ◌++◌, Some, None, refl, sym, ap, ◌∙◌}
-use Rattle.zs_term.specs.Schedule.{Schedule, forever, recurs, spaced, fixed, exponential, fibonacci, identity, elapsed, both, either, and_then, while_input, while_output, collect_all, mapped, linear, windowed, reset_when}
+use Rattle.zs_term.specs.Schedule.{Schedule, leaf, two, over, Leaf, forever, recurs, spaced, fixed, exponential, fibonacci, identity, elapsed, linear, windowed, Pairing, both, either, and_then, Modifier, while_input, while_output, collect_all, mapped, reset_when}
 use Rattle.zs_term.specs.Token.{Token, number, mark}
 use Rattle.zs_term.specs.Grammar.{Spells, IsOpen}
-use Rattle.zs_term.specs.Machine.{Make, Frame, left, right, Mode, start, opening, counting, exp_opening, exp_counting, based, factored, closing, after, dotted, method, picking, testing, comparing, mapping, scaling, State, at, argument, run, apply_func, value, plant}
+use Rattle.zs_term.specs.Machine.{Make, Frame, left, right, Mode, start, opening, counting, exp_opening, exp_counting, based, factored, closing, after, dotted, method, picking, testing, comparing, mapping, scaling, State, at, argument, run, apply_func, leaf_value, pairing_infix, modifier_value, value, infix_schedule, plant}
 use Rattle.zs_term.specs.declared.token.Mark.TheVariants.{ForeverWord, CollectAllWord, Open, Close, AndAnd, Less, Plus}
 use Rattle.zs_term.specs.declared.term.Cmp.{Cmp}
 use Rattle.zs_term.specs.declared.term.Cmp.TheVariants.{Lt}
@@ -96,34 +96,36 @@ module _ {A N : Type 0} (make : Make A N) where
       let never : None ≡ Some (at [] (after (value make o.1))) = sym n ∙ e in
       cc
 
+planted_leaf : (l : Leaf) → leaf_value plant l ≡ leaf l
+planted_leaf forever = refl
+planted_leaf _ = refl
+
+planted_pair : (p : Pairing) (a b : Schedule) → infix_schedule (pairing_infix p) a b ≡ two p a b
+planted_pair both a b = refl
+planted_pair either a b = refl
+planted_pair and_then a b = refl
+
+planted_map : (f : Func) (a : Schedule) → apply_func plant a f ≡ over a (mapped f)
+planted_map First a = refl
+planted_map Second a = refl
+planted_map Size a = refl
+planted_map Merge a = refl
+planted_map (Const n) a = refl
+planted_map (Add n) a = refl
+planted_map (Mul n) a = refl
+
+planted_modifier : (m : Modifier) (a : Schedule) → modifier_value plant a m ≡ over a m
+planted_modifier (while_input t) a = refl
+planted_modifier (while_output p t) a = refl
+planted_modifier collect_all a = refl
+planted_modifier (mapped f) a = planted_map f a
+planted_modifier (reset_when p t) a = refl
+
 -- a term put together as a term is itself
 pub planted : (t : Schedule) → value plant t ≡ t
-planted forever = refl
-planted (recurs n) = refl
-planted (spaced n) = refl
-planted (fixed n) = refl
-planted (exponential b f) = refl
-planted (fibonacci n) = refl
-planted identity = refl
-planted elapsed = refl
-planted (linear n) = refl
-planted (windowed n) = refl
-planted (both a b) = ap (λ v. both v (value plant b)) (planted a) ∙ ap (both a) (planted b)
-planted (either a b) = ap (λ v. either v (value plant b)) (planted a) ∙ ap (either a) (planted b)
-planted (and_then a b) = ap (λ v. and_then v (value plant b)) (planted a) ∙ ap (and_then a) (planted b)
-planted (while_input a t) = ap (λ v. while_input v t) (planted a)
-planted (while_output a p t) = ap (λ v. while_output v p t) (planted a)
-planted (reset_when a p t) = ap (λ v. reset_when v p t) (planted a)
-planted (collect_all a) = ap collect_all (planted a)
-planted (mapped a f) = planted_map f ∙ ap (λ v. mapped v f) (planted a) where
-  planted_map : (f : Func) → apply_func plant (value plant a) f ≡ mapped (value plant a) f
-  planted_map First = refl
-  planted_map Second = refl
-  planted_map Size = refl
-  planted_map Merge = refl
-  planted_map (Const n) = refl
-  planted_map (Add n) = refl
-  planted_map (Mul n) = refl
+planted (leaf l) = planted_leaf l
+planted (two p a b) = planted_pair p (value plant a) (value plant b) ∙ ap (λ v. two p v (value plant b)) (planted a) ∙ ap (two p a) (planted b)
+planted (over s m) = planted_modifier m (value plant s) ∙ ap (λ v. over v m) (planted s)
 
 -- no token list spells two terms
 pub spells_one : (ts : List Token) (a b : Schedule) → Spells ts a → Spells ts b → a ≡ b

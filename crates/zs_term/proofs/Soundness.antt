@@ -1,7 +1,7 @@
 -- What leads to the state behind a whole term spells it.
 use Rattle.std.proofs.Common.{◌≡◌, ℕ, List, [], ◌∷◌, ◌++◌, Option, Some, None, refl, sym, ap, ◌∙◌, subst, append_assoc, inl, inr}
 use Rattle.std.specs.Prelude.{option_map}
-use Rattle.zs_term.specs.Schedule.{Schedule, forever, recurs, spaced, fixed, exponential, fibonacci, identity, elapsed, both, either, and_then, while_input, while_output, collect_all, mapped, linear, windowed, reset_when}
+use Rattle.zs_term.specs.Schedule.{Schedule, leaf, two, over, forever, recurs, spaced, fixed, exponential, fibonacci, identity, elapsed, linear, windowed, both, either, and_then, while_input, while_output, collect_all, mapped, reset_when}
 use Rattle.zs_term.specs.Token.{Token, number, mark}
 use Rattle.zs_term.specs.Grammar.{with_number, with_numbers, with_infix, with_method, test_tokens, pick_tokens, func_tokens, cmp_mark, Spells}
 use Rattle.zs_term.specs.Machine.{is_open, is_close, is_comma, is_dot, is_collect, is_exponential, plain_of, unary_of, infix_of, method_of, cmp_of, pick_of, func_of, scale_of, Make, Frame, left, right, Mode, start, opening, counting, exp_opening, exp_counting, based, factored, closing, after, dotted, method, picking, testing, comparing, mapping, scaling, State, at, argument, begin_leaf, inner_mark, inner_number, join_mark, step_mark, step, run, apply_func, value}
@@ -72,33 +72,33 @@ module _ {A N : Type 0} (make : Make A N) where
   Since (scaling a g) ts = Follows a (mark Dot ∷ mark MapWord ∷ mark Open ∷ mark (scale_mark g) ∷ []) ts
 
   stands_plain : (p : Plain) → Stands (mark (plain_mark p) ∷ []) (make.plain p)
-  stands_plain OfForever = record { term = forever; spelled = refl; is = refl }
-  stands_plain OfIdentity = record { term = identity; spelled = refl; is = refl }
-  stands_plain OfElapsed = record { term = elapsed; spelled = refl; is = refl }
+  stands_plain OfForever = record { term = leaf forever; spelled = refl; is = refl }
+  stands_plain OfIdentity = record { term = leaf identity; spelled = refl; is = refl }
+  stands_plain OfElapsed = record { term = leaf elapsed; spelled = refl; is = refl }
 
   stands_leaf : (u : Unary) (n : ℕ) → Stands (with_number (unary_mark u) n) (make.leaf u (make.num n))
-  stands_leaf OfRecurs n = record { term = recurs n; spelled = refl; is = refl }
-  stands_leaf OfSpaced n = record { term = spaced n; spelled = refl; is = refl }
-  stands_leaf OfFixed n = record { term = fixed n; spelled = refl; is = refl }
-  stands_leaf OfFibonacci n = record { term = fibonacci n; spelled = refl; is = refl }
-  stands_leaf OfLinear n = record { term = linear n; spelled = refl; is = refl }
-  stands_leaf OfWindowed n = record { term = windowed n; spelled = refl; is = refl }
+  stands_leaf OfRecurs n = record { term = leaf (recurs n); spelled = refl; is = refl }
+  stands_leaf OfSpaced n = record { term = leaf (spaced n); spelled = refl; is = refl }
+  stands_leaf OfFixed n = record { term = leaf (fixed n); spelled = refl; is = refl }
+  stands_leaf OfFibonacci n = record { term = leaf (fibonacci n); spelled = refl; is = refl }
+  stands_leaf OfLinear n = record { term = leaf (linear n); spelled = refl; is = refl }
+  stands_leaf OfWindowed n = record { term = leaf (windowed n); spelled = refl; is = refl }
 
   stands_join : (i : Infix) (x y : List Token) (a b : A) → Stands x a → Stands y b → Stands (with_infix x (infix_mark i) y) (make.join i a b)
-  stands_join OfBoth x y a b h k = record { term = both h.term k.term; spelled = (x, y, h.spelled, k.spelled, refl); is = ap (λ v. make.join OfBoth v (value make k.term)) h.is ∙ ap (make.join OfBoth a) k.is }
-  stands_join OfEither x y a b h k = record { term = either h.term k.term; spelled = (x, y, h.spelled, k.spelled, refl); is = ap (λ v. make.join OfEither v (value make k.term)) h.is ∙ ap (make.join OfEither a) k.is }
-  stands_join OfAndThen x y a b h k = record { term = and_then h.term k.term; spelled = (x, y, h.spelled, k.spelled, refl); is = ap (λ v. make.join OfAndThen v (value make k.term)) h.is ∙ ap (make.join OfAndThen a) k.is }
+  stands_join OfBoth x y a b h k = record { term = two both h.term k.term; spelled = (x, y, h.spelled, k.spelled, refl); is = ap (λ v. make.join OfBoth v (value make k.term)) h.is ∙ ap (make.join OfBoth a) k.is }
+  stands_join OfEither x y a b h k = record { term = two either h.term k.term; spelled = (x, y, h.spelled, k.spelled, refl); is = ap (λ v. make.join OfEither v (value make k.term)) h.is ∙ ap (make.join OfEither a) k.is }
+  stands_join OfAndThen x y a b h k = record { term = two and_then h.term k.term; spelled = (x, y, h.spelled, k.spelled, refl); is = ap (λ v. make.join OfAndThen v (value make k.term)) h.is ∙ ap (make.join OfAndThen a) k.is }
 
   stands_test : (s : Subject) (x : List Token) (a : A) (c : Cmp) (n : ℕ) → Stands x a → Stands (x ++ (subject_tokens s ++ (mark (cmp_mark c) ∷ number n ∷ mark Close ∷ []))) (make.test a s c (make.num n))
-  stands_test Input x a c n h = record { term = while_input h.term (record { cmp = c; than = n }); spelled = (x, h.spelled, refl); is = ap (λ v. make.test v Input c (make.num n)) h.is }
-  stands_test (Picked Stopping p) x a c n h = record { term = while_output h.term p (record { cmp = c; than = n }); spelled = (x, h.spelled, ap (λ w. x ++ mark Dot ∷ mark WhileOutputWord ∷ mark Open ∷ w) (sym (append_assoc (pick_tokens p) (test_tokens (record { cmp = c; than = n })) (mark Close ∷ [])))); is = ap (λ v. make.test v (Picked Stopping p) c (make.num n)) h.is }
-  stands_test (Picked Resetting p) x a c n h = record { term = reset_when h.term p (record { cmp = c; than = n }); spelled = (x, h.spelled, ap (λ w. x ++ mark Dot ∷ mark ResetWhenWord ∷ mark Open ∷ w) (sym (append_assoc (pick_tokens p) (test_tokens (record { cmp = c; than = n })) (mark Close ∷ [])))); is = ap (λ v. make.test v (Picked Resetting p) c (make.num n)) h.is }
+  stands_test Input x a c n h = record { term = over h.term (while_input (record { cmp = c; than = n })); spelled = (x, h.spelled, refl); is = ap (λ v. make.test v Input c (make.num n)) h.is }
+  stands_test (Picked Stopping p) x a c n h = record { term = over h.term (while_output p (record { cmp = c; than = n })); spelled = (x, h.spelled, ap (λ w. x ++ mark Dot ∷ mark WhileOutputWord ∷ mark Open ∷ w) (sym (append_assoc (pick_tokens p) (test_tokens (record { cmp = c; than = n })) (mark Close ∷ [])))); is = ap (λ v. make.test v (Picked Stopping p) c (make.num n)) h.is }
+  stands_test (Picked Resetting p) x a c n h = record { term = over h.term (reset_when p (record { cmp = c; than = n })); spelled = (x, h.spelled, ap (λ w. x ++ mark Dot ∷ mark ResetWhenWord ∷ mark Open ∷ w) (sym (append_assoc (pick_tokens p) (test_tokens (record { cmp = c; than = n })) (mark Close ∷ [])))); is = ap (λ v. make.test v (Picked Resetting p) c (make.num n)) h.is }
 
   stands_collect : (x : List Token) (a : A) → Stands x a → Stands (x ++ mark Dot ∷ mark CollectAllWord ∷ []) (make.collect a)
-  stands_collect x a h = record { term = collect_all h.term; spelled = (x, h.spelled, refl); is = ap make.collect h.is }
+  stands_collect x a h = record { term = over h.term collect_all; spelled = (x, h.spelled, refl); is = ap make.collect h.is }
 
   stands_map : (f : Func) (x : List Token) (a : A) → Stands x a → Stands (x ++ with_method MapWord (func_tokens f)) (apply_func make a f)
-  stands_map f x a h = record { term = mapped h.term f; spelled = (x, h.spelled, refl); is = ap (λ v. apply_func make v f) h.is }
+  stands_map f x a h = record { term = over h.term (mapped f); spelled = (x, h.spelled, refl); is = ap (λ v. apply_func make v f) h.is }
 
   stands_scale : (g : Scale) (n : ℕ) (x : List Token) (a : A) → Stands x a → Stands (x ++ mark Dot ∷ mark MapWord ∷ mark Open ∷ mark (scale_mark g) ∷ number n ∷ mark Close ∷ []) (make.scale a g (make.num n))
   stands_scale ByConst n x a h = stands_map (Const n) x a h
@@ -106,10 +106,10 @@ module _ {A N : Type 0} (make : Make A N) where
   stands_scale ByMul n x a h = stands_map (Mul n) x a h
 
   stands_growing : (b f : ℕ) → Stands (with_numbers ExponentialWord b f) (make.growing (make.num b) (make.num f))
-  stands_growing b f = record { term = exponential b f; spelled = inr refl; is = refl }
+  stands_growing b f = record { term = leaf (exponential b f); spelled = inr refl; is = refl }
 
   stands_doubling : (b : ℕ) → Stands (with_number ExponentialWord b) (make.growing (make.num b) (make.num 2))
-  stands_doubling b = record { term = exponential b 2; spelled = inl (refl, refl); is = refl }
+  stands_doubling b = record { term = leaf (exponential b 2); spelled = inl (refl, refl); is = refl }
 
   -- one more token behind a term
   longer : (a : A) (tail ts : List Token) (t : Token) → Follows a tail ts → Follows a (tail ++ t ∷ []) (ts ++ t ∷ [])

@@ -1,7 +1,7 @@
 -- The one canonical spelling of a term.
 use Rattle.std.specs.Prelude.{ℕ, List, [], ◌++◌, codes}
 use Rattle.std.specs.Fmt.{decimal}
-use Rattle.zs_term.specs.Schedule.{Schedule, forever, recurs, spaced, fixed, exponential, fibonacci, identity, elapsed, both, either, and_then, while_input, while_output, collect_all, mapped, linear, windowed, reset_when}
+use Rattle.zs_term.specs.Schedule.{Schedule, leaf, two, over, Leaf, forever, recurs, spaced, fixed, exponential, fibonacci, identity, elapsed, linear, windowed, Pairing, both, either, and_then, Modifier, while_input, while_output, collect_all, mapped, reset_when}
 use Rattle.zs_term.specs.declared.term.Test.{Test}
 use Rattle.zs_term.specs.declared.term.Cmp.{Cmp}
 use Rattle.zs_term.specs.declared.term.Cmp.TheVariants.{Lt, Le, Eq, Ne, Gt, Ge}
@@ -19,7 +19,7 @@ cmp_text Ne = codes "!= "
 cmp_text Gt = codes "> "
 cmp_text Ge = codes ">= "
 
--- a pick and the space behind it, where one is canonical_text
+-- a pick and the space behind it, where one is written
 abbrev pub pick_text : Pick → List ℕ
 pick_text PickWhole = []
 pick_text PickFirst = codes "_1 "
@@ -64,23 +64,35 @@ while_output_text = codes ".whileOutput("
 unfoldable pub reset_when_text : List ℕ
 reset_when_text = codes ".resetWhen("
 
+-- the spelling of a leaf
+abbrev pub leaf_text : Leaf → List ℕ
+leaf_text forever = codes "forever"
+leaf_text (recurs n) = number_text (codes "recurs(") n
+leaf_text (spaced n) = number_text (codes "spaced(") n
+leaf_text (fixed n) = number_text (codes "fixed(") n
+leaf_text (exponential b f) = exponential_text ++ (decimal b ++ (codes ", " ++ (decimal f ++ codes ")")))
+leaf_text (fibonacci n) = number_text (codes "fibonacci(") n
+leaf_text identity = codes "identity"
+leaf_text elapsed = codes "elapsed"
+leaf_text (linear n) = number_text (codes "linear(") n
+leaf_text (windowed n) = number_text (codes "windowed(") n
+
+-- what stands between two schedules
+abbrev pub pairing_text : Pairing → List ℕ
+pairing_text both = codes " && "
+pairing_text either = codes " || "
+pairing_text and_then = and_then_text
+
+-- what stands behind a schedule
+abbrev pub modifier_text : Modifier → List ℕ
+modifier_text (while_input t) = while_input_text ++ test_text t
+modifier_text (while_output p t) = while_output_text ++ (pick_text p ++ test_text t)
+modifier_text collect_all = codes ".collectAll"
+modifier_text (mapped f) = codes ".map(" ++ (func_text f ++ codes ")")
+modifier_text (reset_when p t) = reset_when_text ++ (pick_text p ++ test_text t)
+
 -- the spelling that `write` gives
 abbrev pub canonical_text : Schedule → List ℕ
-canonical_text forever = codes "forever"
-canonical_text (recurs n) = number_text (codes "recurs(") n
-canonical_text (spaced n) = number_text (codes "spaced(") n
-canonical_text (fixed n) = number_text (codes "fixed(") n
-canonical_text (exponential b f) = exponential_text ++ (decimal b ++ (codes ", " ++ (decimal f ++ codes ")")))
-canonical_text (fibonacci n) = number_text (codes "fibonacci(") n
-canonical_text identity = codes "identity"
-canonical_text elapsed = codes "elapsed"
-canonical_text (linear n) = number_text (codes "linear(") n
-canonical_text (windowed n) = number_text (codes "windowed(") n
-canonical_text (both a b) = infix_text (canonical_text a) (codes " && ") (canonical_text b)
-canonical_text (either a b) = infix_text (canonical_text a) (codes " || ") (canonical_text b)
-canonical_text (and_then a b) = infix_text (canonical_text a) and_then_text (canonical_text b)
-canonical_text (while_input a t) = canonical_text a ++ (while_input_text ++ test_text t)
-canonical_text (while_output a p t) = canonical_text a ++ (while_output_text ++ (pick_text p ++ test_text t))
-canonical_text (collect_all a) = canonical_text a ++ codes ".collectAll"
-canonical_text (mapped a f) = canonical_text a ++ (codes ".map(" ++ (func_text f ++ codes ")"))
-canonical_text (reset_when a p t) = canonical_text a ++ (reset_when_text ++ (pick_text p ++ test_text t))
+canonical_text (leaf l) = leaf_text l
+canonical_text (two p a b) = infix_text (canonical_text a) (pairing_text p) (canonical_text b)
+canonical_text (over s m) = canonical_text s ++ modifier_text m

@@ -1,6 +1,6 @@
 -- Which token lists spell which terms: one line for each form, with numbers of any size.
 use Rattle.std.specs.Prelude.{◌≡◌, ℕ, List, [], ◌∷◌, ◌++◌, ◌⊎◌}
-use Rattle.zs_term.specs.Schedule.{Schedule, forever, recurs, spaced, fixed, exponential, fibonacci, identity, elapsed, both, either, and_then, while_input, while_output, collect_all, mapped, linear, windowed, reset_when}
+use Rattle.zs_term.specs.Schedule.{Schedule, leaf, two, over, Leaf, forever, recurs, spaced, fixed, exponential, fibonacci, identity, elapsed, linear, windowed, Pairing, both, either, and_then, Modifier, while_input, while_output, collect_all, mapped, reset_when}
 use Rattle.zs_term.specs.Token.{Token, number, mark}
 use Rattle.zs_term.specs.declared.token.Mark.{Mark}
 use Rattle.zs_term.specs.declared.token.Mark.TheVariants.{ForeverWord, RecursWord, SpacedWord, FixedWord, ExponentialWord, FibonacciWord, IdentityWord, ElapsedWord, AndThenWord, WhileInputWord, WhileOutputWord, CollectAllWord, MapWord, SizeWord, MergeWord, AsWord, LinearWord, WindowedWord, ResetWhenWord, FirstPart, SecondPart, Open, Close, Comma, Dot, AndAnd, OrOr, Less, LessOrEqual, Equal, NotEqual, Greater, GreaterOrEqual, Plus, Times}
@@ -67,26 +67,38 @@ IsInfix Left operator Right tokens =
 abbrev pub IsFollowed : (List Token → Type 0) → List Token → List Token → Type 0
 IsFollowed Front behind tokens = (front : List Token) × Front front × (tokens ≡ front ++ behind)
 
+-- the tokens spell the leaf
+abbrev pub SpellsLeaf : List Token → Leaf → Type 0
+SpellsLeaf tokens forever = tokens ≡ mark ForeverWord ∷ []
+SpellsLeaf tokens (recurs n) = tokens ≡ with_number RecursWord n
+SpellsLeaf tokens (spaced n) = tokens ≡ with_number SpacedWord n
+SpellsLeaf tokens (fixed n) = tokens ≡ with_number FixedWord n
+SpellsLeaf tokens (exponential b f) = ((tokens ≡ with_number ExponentialWord b) × (f ≡ 2)) ⊎ (tokens ≡ with_numbers ExponentialWord b f)
+SpellsLeaf tokens (fibonacci n) = tokens ≡ with_number FibonacciWord n
+SpellsLeaf tokens identity = tokens ≡ mark IdentityWord ∷ []
+SpellsLeaf tokens elapsed = tokens ≡ mark ElapsedWord ∷ []
+SpellsLeaf tokens (linear n) = tokens ≡ with_number LinearWord n
+SpellsLeaf tokens (windowed n) = tokens ≡ with_number WindowedWord n
+
+-- the token between two schedules
+abbrev pub pairing_mark : Pairing → Mark
+pairing_mark both = AndAnd
+pairing_mark either = OrOr
+pairing_mark and_then = AndThenWord
+
+-- the tokens behind a schedule
+abbrev pub modifier_tokens : Modifier → List Token
+modifier_tokens (while_input t) = with_method WhileInputWord (test_tokens t)
+modifier_tokens (while_output p t) = with_method WhileOutputWord (pick_tokens p ++ test_tokens t)
+modifier_tokens collect_all = mark Dot ∷ mark CollectAllWord ∷ []
+modifier_tokens (mapped f) = with_method MapWord (func_tokens f)
+modifier_tokens (reset_when p t) = with_method ResetWhenWord (pick_tokens p ++ test_tokens t)
+
 -- the tokens spell the term
 abbrev pub Spells : List Token → Schedule → Type 0
-Spells tokens forever = tokens ≡ mark ForeverWord ∷ []
-Spells tokens (recurs n) = tokens ≡ with_number RecursWord n
-Spells tokens (spaced n) = tokens ≡ with_number SpacedWord n
-Spells tokens (fixed n) = tokens ≡ with_number FixedWord n
-Spells tokens (exponential b f) = ((tokens ≡ with_number ExponentialWord b) × (f ≡ 2)) ⊎ (tokens ≡ with_numbers ExponentialWord b f)
-Spells tokens (fibonacci n) = tokens ≡ with_number FibonacciWord n
-Spells tokens identity = tokens ≡ mark IdentityWord ∷ []
-Spells tokens elapsed = tokens ≡ mark ElapsedWord ∷ []
-Spells tokens (linear n) = tokens ≡ with_number LinearWord n
-Spells tokens (windowed n) = tokens ≡ with_number WindowedWord n
-Spells tokens (both a b) = IsInfix (λ x. Spells x a) AndAnd (λ y. Spells y b) tokens
-Spells tokens (either a b) = IsInfix (λ x. Spells x a) OrOr (λ y. Spells y b) tokens
-Spells tokens (and_then a b) = IsInfix (λ x. Spells x a) AndThenWord (λ y. Spells y b) tokens
-Spells tokens (while_input a t) = IsFollowed (λ x. Spells x a) (with_method WhileInputWord (test_tokens t)) tokens
-Spells tokens (while_output a p t) = IsFollowed (λ x. Spells x a) (with_method WhileOutputWord (pick_tokens p ++ test_tokens t)) tokens
-Spells tokens (collect_all a) = IsFollowed (λ x. Spells x a) (mark Dot ∷ mark CollectAllWord ∷ []) tokens
-Spells tokens (mapped a f) = IsFollowed (λ x. Spells x a) (with_method MapWord (func_tokens f)) tokens
-Spells tokens (reset_when a p t) = IsFollowed (λ x. Spells x a) (with_method ResetWhenWord (pick_tokens p ++ test_tokens t)) tokens
+Spells tokens (leaf l) = SpellsLeaf tokens l
+Spells tokens (two p a b) = IsInfix (λ x. Spells x a) (pairing_mark p) (λ y. Spells y b) tokens
+Spells tokens (over s m) = IsFollowed (λ x. Spells x s) (modifier_tokens m) tokens
 
 -- the tokens are the front of a spelling, or a whole one
 abbrev pub IsOpen : List Token → Type 0

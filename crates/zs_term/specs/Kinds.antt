@@ -6,7 +6,7 @@ use Rattle.zs_term.specs.declared.term.Func.{Func}
 use Rattle.zs_term.specs.declared.term.Func.TheVariants.{First, Second, Size, Merge, Const, Add, Mul}
 use Rattle.zs_term.specs.declared.kind.Kind.{Kind}
 use Rattle.zs_term.specs.OutputKind.{OutputKind, output_kind_of, num, pair_of, sum_of, list_of, is_same_kind}
-use Rattle.zs_term.specs.Schedule.{Schedule, is_within_limits, has_factors, has_windows, forever, recurs, spaced, fixed, exponential, fibonacci, identity, elapsed, linear, windowed, both, either, and_then, while_input, while_output, collect_all, mapped, reset_when}
+use Rattle.zs_term.specs.Schedule.{Schedule, leaf, two, over, Pairing, both, either, and_then, Modifier, while_input, while_output, collect_all, mapped, reset_when, is_within_limits, has_factors, has_windows}
 
 -- whether a kind is that of numbers
 abbrev pub is_num : OutputKind → Bool
@@ -86,26 +86,25 @@ abbrev pub mapped_kind : Func → Option OutputKind → Option OutputKind
 mapped_kind f (Some a) = answers f a
 mapped_kind f None = None
 
--- the kind of a term, where it has one
+-- the kind of two schedules' outputs
+abbrev pub pairing_kind : Pairing → OutputKind → OutputKind → OutputKind
+pairing_kind both a b = pair_of a b
+pairing_kind either a b = pair_of a b
+pairing_kind and_then a b = sum_of a b
+
+-- the kind of a modifier's outputs over a part
+abbrev pub modifier_kind : Modifier → Option OutputKind → Option OutputKind
+modifier_kind (while_input t) a = a
+modifier_kind (while_output k t) a = where_fits k a
+modifier_kind collect_all a = list_kind a
+modifier_kind (mapped f) a = mapped_kind f a
+modifier_kind (reset_when k t) a = where_fits k a
+
+-- the kind of a term, where it has one; each leaf's outputs are numbers
 abbrev pub kind_of : Schedule → Option OutputKind
-kind_of forever = Some num
-kind_of (recurs n) = Some num
-kind_of (spaced n) = Some num
-kind_of (fixed n) = Some num
-kind_of (exponential b f) = Some num
-kind_of (fibonacci n) = Some num
-kind_of identity = Some num
-kind_of elapsed = Some num
-kind_of (linear n) = Some num
-kind_of (windowed n) = Some num
-kind_of (both a b) = joined pair_of (kind_of a) (kind_of b)
-kind_of (either a b) = joined pair_of (kind_of a) (kind_of b)
-kind_of (and_then a b) = joined sum_of (kind_of a) (kind_of b)
-kind_of (while_input s t) = kind_of s
-kind_of (while_output s k t) = where_fits k (kind_of s)
-kind_of (collect_all s) = list_kind (kind_of s)
-kind_of (mapped s f) = mapped_kind f (kind_of s)
-kind_of (reset_when s k t) = where_fits k (kind_of s)
+kind_of (leaf l) = Some num
+kind_of (two p a b) = joined (pairing_kind p) (kind_of a) (kind_of b)
+kind_of (over s m) = modifier_kind m (kind_of s)
 
 -- a term that is a schedule: it is within the limits, has factors of at least 1, a kind, and windows of at least 1
 pub record IsSchedule (t : Schedule) : Type 0 where

@@ -1,6 +1,6 @@
 -- The state after some tokens: what is still open, and what may come next.
 use Rattle.std.specs.Prelude.{ℕ, List, [], ◌∷◌, Bool, true, false, if◌then◌else◌, Option, Some, None, option_map}
-use Rattle.zs_term.specs.Schedule.{Schedule, forever, recurs, spaced, fixed, exponential, fibonacci, identity, elapsed, both, either, and_then, while_input, while_output, collect_all, mapped, linear, windowed, reset_when}
+use Rattle.zs_term.specs.Schedule.{Schedule, leaf, two, over, Leaf, forever, recurs, spaced, fixed, exponential, fibonacci, identity, elapsed, linear, windowed, Pairing, both, either, and_then, while_input, while_output, collect_all, mapped, reset_when, Modifier}
 use Rattle.zs_term.specs.Token.{Token, number, mark}
 use Rattle.zs_term.specs.declared.token.Mark.{Mark}
 use Rattle.zs_term.specs.declared.token.Mark.TheVariants.{ForeverWord, RecursWord, SpacedWord, FixedWord, ExponentialWord, FibonacciWord, IdentityWord, ElapsedWord, AndThenWord, WhileInputWord, WhileOutputWord, CollectAllWord, MapWord, SizeWord, MergeWord, AsWord, LinearWord, WindowedWord, ResetWhenWord, FirstPart, SecondPart, Open, Close, Comma, Dot, AndAnd, OrOr, Less, LessOrEqual, Equal, NotEqual, Greater, GreaterOrEqual, Plus, Times}
@@ -86,7 +86,7 @@ cmp_of Greater = Some Gt
 cmp_of GreaterOrEqual = Some Ge
 cmp_of _ = None
 
--- a pick that is canonical_text
+-- a pick that is written
 abbrev pub pick_of : Mark → Option Pick
 pick_of FirstPart = Some PickFirst
 pick_of SecondPart = Some PickSecond
@@ -242,50 +242,64 @@ apply_func make a Second = make.apply a Second
 apply_func make a Size = make.apply a Size
 apply_func make a Merge = make.apply a Merge
 
+-- the value of a leaf
+abbrev pub leaf_value : {A N : Type 0} → Make A N → Leaf → A
+leaf_value make forever = make.plain OfForever
+leaf_value make (recurs n) = make.leaf OfRecurs (make.num n)
+leaf_value make (spaced n) = make.leaf OfSpaced (make.num n)
+leaf_value make (fixed n) = make.leaf OfFixed (make.num n)
+leaf_value make (exponential b f) = make.growing (make.num b) (make.num f)
+leaf_value make (fibonacci n) = make.leaf OfFibonacci (make.num n)
+leaf_value make identity = make.plain OfIdentity
+leaf_value make elapsed = make.plain OfElapsed
+leaf_value make (linear n) = make.leaf OfLinear (make.num n)
+leaf_value make (windowed n) = make.leaf OfWindowed (make.num n)
+
+abbrev pub pairing_infix : Pairing → Infix
+pairing_infix both = OfBoth
+pairing_infix either = OfEither
+pairing_infix and_then = OfAndThen
+
+-- the value of a modifier over a part
+abbrev pub modifier_value : {A N : Type 0} → Make A N → A → Modifier → A
+modifier_value make a (while_input t) = make.test a Input t.cmp (make.num t.than)
+modifier_value make a (while_output p t) = make.test a (Picked Stopping p) t.cmp (make.num t.than)
+modifier_value make a collect_all = make.collect a
+modifier_value make a (mapped f) = apply_func make a f
+modifier_value make a (reset_when p t) = make.test a (Picked Resetting p) t.cmp (make.num t.than)
+
 -- the value of a whole term
 abbrev pub value : {A N : Type 0} → Make A N → Schedule → A
-value make forever = make.plain OfForever
-value make (recurs n) = make.leaf OfRecurs (make.num n)
-value make (spaced n) = make.leaf OfSpaced (make.num n)
-value make (fixed n) = make.leaf OfFixed (make.num n)
-value make (exponential b f) = make.growing (make.num b) (make.num f)
-value make (fibonacci n) = make.leaf OfFibonacci (make.num n)
-value make identity = make.plain OfIdentity
-value make elapsed = make.plain OfElapsed
-value make (linear n) = make.leaf OfLinear (make.num n)
-value make (windowed n) = make.leaf OfWindowed (make.num n)
-value make (both a b) = make.join OfBoth (value make a) (value make b)
-value make (either a b) = make.join OfEither (value make a) (value make b)
-value make (and_then a b) = make.join OfAndThen (value make a) (value make b)
-value make (while_input a t) = make.test (value make a) Input t.cmp (make.num t.than)
-value make (while_output a p t) = make.test (value make a) (Picked Stopping p) t.cmp (make.num t.than)
-value make (collect_all a) = make.collect (value make a)
-value make (mapped a f) = apply_func make (value make a) f
-value make (reset_when a p t) = make.test (value make a) (Picked Resetting p) t.cmp (make.num t.than)
+value make (leaf l) = leaf_value make l
+value make (two p a b) = make.join (pairing_infix p) (value make a) (value make b)
+value make (over s m) = modifier_value make (value make s) m
 
 -- terms put together as terms
 abbrev pub plain_schedule : Plain → Schedule
-plain_schedule OfForever = forever
-plain_schedule OfIdentity = identity
-plain_schedule OfElapsed = elapsed
+plain_schedule OfForever = leaf forever
+plain_schedule OfIdentity = leaf identity
+plain_schedule OfElapsed = leaf elapsed
 
 abbrev pub unary_schedule : Unary → ℕ → Schedule
-unary_schedule OfRecurs n = recurs n
-unary_schedule OfSpaced n = spaced n
-unary_schedule OfFixed n = fixed n
-unary_schedule OfFibonacci n = fibonacci n
-unary_schedule OfLinear n = linear n
-unary_schedule OfWindowed n = windowed n
+unary_schedule OfRecurs n = leaf (recurs n)
+unary_schedule OfSpaced n = leaf (spaced n)
+unary_schedule OfFixed n = leaf (fixed n)
+unary_schedule OfFibonacci n = leaf (fibonacci n)
+unary_schedule OfLinear n = leaf (linear n)
+unary_schedule OfWindowed n = leaf (windowed n)
+
+abbrev pub growing_schedule : ℕ → ℕ → Schedule
+growing_schedule b f = leaf (exponential b f)
 
 abbrev pub infix_schedule : Infix → Schedule → Schedule → Schedule
-infix_schedule OfBoth a b = both a b
-infix_schedule OfEither a b = either a b
-infix_schedule OfAndThen a b = and_then a b
+infix_schedule OfBoth a b = two both a b
+infix_schedule OfEither a b = two either a b
+infix_schedule OfAndThen a b = two and_then a b
 
 abbrev pub test_schedule : Subject → Schedule → Cmp → ℕ → Schedule
-test_schedule Input a c n = while_input a (record { cmp = c; than = n })
-test_schedule (Picked Stopping p) a c n = while_output a p (record { cmp = c; than = n })
-test_schedule (Picked Resetting p) a c n = reset_when a p (record { cmp = c; than = n })
+test_schedule Input a c n = over a (while_input (record { cmp = c; than = n }))
+test_schedule (Picked Stopping p) a c n = over a (while_output p (record { cmp = c; than = n }))
+test_schedule (Picked Resetting p) a c n = over a (reset_when p (record { cmp = c; than = n }))
 
 -- terms put together as terms
 abbrev pub plant : Make Schedule ℕ
@@ -293,10 +307,10 @@ plant = record {
   num = λ n. n;
   plain = plain_schedule;
   leaf = unary_schedule;
-  growing = exponential;
+  growing = growing_schedule;
   join = infix_schedule;
   test = λ a s c n. test_schedule s a c n;
-  collect = collect_all;
-  apply = mapped;
-  scale = λ a g n. mapped a (scale_by g n);
+  collect = λ a. over a collect_all;
+  apply = λ a f. over a (mapped f);
+  scale = λ a g n. over a (mapped (scale_by g n));
 }

@@ -1,9 +1,9 @@
 -- What the code keeps of the terms that it has read.
 use Rattle.std.specs.Prelude.{ℕ, ◌+◌, max, Bool, List, [], ◌∷◌, Option, Some, None, option_map, if◌then◌else◌}
-use Rattle.zs_term.specs.Schedule.{Schedule, exponential, collect_all, mapped, schedule_of}
+use Rattle.zs_term.specs.Schedule.{Schedule, over, collect_all, mapped, schedule_of}
 use Rattle.zs_term.specs.Saturating.{saturated}
 use Rattle.zs_term.specs.Number.{fit}
-use Rattle.zs_term.specs.Machine.{Make, Frame, left, right, Mode, start, opening, counting, exp_opening, exp_counting, based, factored, closing, after, dotted, method, picking, testing, comparing, mapping, scaling, plain_schedule, unary_schedule, infix_schedule, test_schedule, scale_by}
+use Rattle.zs_term.specs.Machine.{Make, Frame, left, right, Mode, start, opening, counting, exp_opening, exp_counting, based, factored, closing, after, dotted, method, picking, testing, comparing, mapping, scaling, plain_schedule, unary_schedule, growing_schedule, infix_schedule, test_schedule, scale_by}
 use Rattle.zs_term.specs.declared.term.Cmp.{Cmp}
 use Rattle.zs_term.specs.declared.term.Func.{Func}
 use Rattle.zs_term.specs.declared.forms.Infix.{Infix}
@@ -61,15 +61,15 @@ keep_test a s c n = keep_over a (test_weight s a.weight) (with_both (λ t k. tes
 
 -- a part under `collectAll`
 abbrev pub keep_collect : Kept → Kept
-keep_collect a = keep_over a (one_more a.weight) (option_map collect_all a.schedule)
+keep_collect a = keep_over a (one_more a.weight) (option_map (λ t. over t collect_all) a.schedule)
 
 -- a part under a function without a number
 abbrev pub keep_apply : Kept → Func → Kept
-keep_apply a f = keep_over a (one_more a.weight) (option_map (λ t. mapped t f) a.schedule)
+keep_apply a f = keep_over a (one_more a.weight) (option_map (λ t. over t (mapped f)) a.schedule)
 
 -- a part under a function with a number
 abbrev pub keep_scale : Kept → Scale → Option ℕ → Kept
-keep_scale a g n = keep_over a (one_more a.weight) (with_both (λ t k. mapped t (scale_by g k)) a.schedule n)
+keep_scale a g n = keep_over a (one_more a.weight) (with_both (λ t k. over t (mapped (scale_by g k))) a.schedule n)
 
 -- the sizes of terms, and the terms where they are built
 abbrev pub keep : Bool → Make Kept (Option ℕ)
@@ -77,7 +77,7 @@ keep build = record {
   num = fit;
   plain = λ p. keep_leaf build (Some (plain_schedule p));
   leaf = λ u n. keep_leaf build (option_map (unary_schedule u) n);
-  growing = λ b f. keep_leaf build (with_both exponential b f);
+  growing = λ b f. keep_leaf build (with_both growing_schedule b f);
   join = keep_join;
   test = keep_test;
   collect = keep_collect;

@@ -13,6 +13,7 @@ use crate::limits::{has_factors, has_windows, is_within_limits};
 use crate::term::Term;
 use std::alloc::Global;
 use std::marker::Model;
+use std::mem::drop;
 
 /// A schedule: a term within the limits, with factors of at least 1, a kind, and windows of at least 1. Contracts see it as the term.
 #[derive(Drop)]
@@ -65,18 +66,35 @@ pub fn check(alloc: Global, term: Term) -> Result<Checked, TermFault>
     ensures too_big { result ≡ Err TermFault.TooBig ↔ is_within_limits (schedule_of term) ≡ false }
     ensures bad_factor { result ≡ Err TermFault.BadFactor ↔ ((is_within_limits (schedule_of term) ≡ true) × (has_factors (schedule_of term) ≡ false)) }
 {
-    if !is_within_limits(&term) {
+    match judged(alloc, &term) {
+        Ok(kind) => Ok(Checked { term, kind }),
+        Err(fault) => {
+            drop(term);
+            Err(fault)
+        }
+    }
+}
+
+// The kind of a term that is a schedule, or its first fault.
+fn judged(alloc: Global, term: &Term) -> Result<Kind, TermFault>
+    ensures schedule { IfOk result (λ kind. IsSchedule (schedule_of term.now)) }
+    ensures kind { IfOk result (λ kind. kind_of (schedule_of term.now) ≡ Some (output_kind_of kind)) }
+    ensures err { IfErr result (IsTermCause (schedule_of term.now)) }
+    ensures too_big { result ≡ Err TermFault.TooBig ↔ is_within_limits (schedule_of term.now) ≡ false }
+    ensures bad_factor { result ≡ Err TermFault.BadFactor ↔ ((is_within_limits (schedule_of term.now) ≡ true) × (has_factors (schedule_of term.now) ≡ false)) }
+{
+    if !is_within_limits(term) {
         return Err(TermFault::TooBig);
     }
-    if !has_factors(&term) {
+    if !has_factors(term) {
         return Err(TermFault::BadFactor);
     }
-    match kind_of(alloc, &term) {
+    match kind_of(alloc, term) {
         Err(_) => Err(TermFault::Memory),
         Ok(None) => Err(TermFault::NoKind),
         Ok(Some(kind)) => {
-            if has_windows(&term) {
-                Ok(Checked { term, kind })
+            if has_windows(term) {
+                Ok(kind)
             } else {
                 Err(TermFault::BadWindow)
             }

@@ -2,8 +2,8 @@
 
 ghost use Rattle.std.specs.Prelude.{◌≡◌, Some, None, IfOk, if◌then◌else◌};
 ghost use Rattle.zs_term.specs.Schedule.{schedule_of};
-ghost use Rattle.zs_term.specs.OutputKind.{output_kind_of, is_same_kind, num};
-ghost use Rattle.zs_term.specs.Kinds.{kind_of, answers, fits, is_num, found_kind_of};
+ghost use Rattle.zs_term.specs.OutputKind.{output_kind_of, is_same_kind, num, pair_of, sum_of};
+ghost use Rattle.zs_term.specs.Kinds.{kind_of, answers, fits, is_num, found_kind_of, joined, where_fits, list_kind, mapped_kind};
 
 use crate::kind::Kind;
 use crate::term::{Func, Pick, Term};
@@ -14,66 +14,16 @@ pub(crate) fn kind_of(alloc: Global, term: &Term) -> Result<Option<Kind>, AllocE
     ensures value { IfOk result (λ k. found_kind_of k ≡ kind_of (schedule_of term.now)) }
 {
     match term {
-        Term::Both(a, b) => {
-            let Some(x) = kind_of(alloc, a)? else {
-                return Ok(None)
-            };
-            let Some(y) = kind_of(alloc, b)? else {
-                return Ok(None)
-            };
-            Ok(Some(Kind::Pair(boxed(alloc, x)?, boxed(alloc, y)?)))
+        Term::Both(a, b) | Term::Either(a, b) => {
+            pair_kind(alloc, kind_of(alloc, a)?, kind_of(alloc, b)?)
         }
-        Term::Either(a, b) => {
-            let Some(x) = kind_of(alloc, a)? else {
-                return Ok(None)
-            };
-            let Some(y) = kind_of(alloc, b)? else {
-                return Ok(None)
-            };
-            Ok(Some(Kind::Pair(boxed(alloc, x)?, boxed(alloc, y)?)))
-        }
-        Term::AndThen(a, b) => {
-            let Some(x) = kind_of(alloc, a)? else {
-                return Ok(None)
-            };
-            let Some(y) = kind_of(alloc, b)? else {
-                return Ok(None)
-            };
-            Ok(Some(Kind::Sum(boxed(alloc, x)?, boxed(alloc, y)?)))
-        }
+        Term::AndThen(a, b) => sum_kind(alloc, kind_of(alloc, a)?, kind_of(alloc, b)?),
         Term::WhileInput(s, _test) => kind_of(alloc, s),
-        Term::WhileOutput(s, pick, _test) => {
-            let Some(x) = kind_of(alloc, s)? else {
-                return Ok(None)
-            };
-            if fits(*pick, &x) {
-                Ok(Some(x))
-            } else {
-                Ok(None)
-            }
+        Term::WhileOutput(s, pick, _test) | Term::ResetWhen(s, pick, _test) => {
+            Ok(where_fits(*pick, kind_of(alloc, s)?))
         }
-        Term::ResetWhen(s, pick, _test) => {
-            let Some(x) = kind_of(alloc, s)? else {
-                return Ok(None)
-            };
-            if fits(*pick, &x) {
-                Ok(Some(x))
-            } else {
-                Ok(None)
-            }
-        }
-        Term::CollectAll(s) => {
-            let Some(x) = kind_of(alloc, s)? else {
-                return Ok(None)
-            };
-            Ok(Some(Kind::Items(boxed(alloc, x)?)))
-        }
-        Term::Map(s, func) => {
-            let Some(x) = kind_of(alloc, s)? else {
-                return Ok(None)
-            };
-            Ok(kind_after(*func, x))
-        }
+        Term::CollectAll(s) => list_kind(alloc, kind_of(alloc, s)?),
+        Term::Map(s, func) => Ok(mapped_kind(*func, kind_of(alloc, s)?)),
         Term::Forever
         | Term::Recurs(_)
         | Term::Spaced(_)
@@ -85,6 +35,59 @@ pub(crate) fn kind_of(alloc: Global, term: &Term) -> Result<Option<Kind>, AllocE
         | Term::Linear(_)
         | Term::Windowed(_) => Ok(Some(Kind::Num)),
     }
+}
+
+// The kind of pairs, where both parts have one.
+fn pair_kind(
+    alloc: Global,
+    first: Option<Kind>,
+    second: Option<Kind>,
+) -> Result<Option<Kind>, AllocError>
+    ensures value { IfOk result (λ k. found_kind_of k ≡ joined pair_of (found_kind_of first) (found_kind_of second)) }
+{
+    match (first, second) {
+        (Some(x), Some(y)) => Ok(Some(Kind::Pair(boxed(alloc, x)?, boxed(alloc, y)?))),
+        _ => Ok(None),
+    }
+}
+
+// The kind of either, where both parts have one.
+fn sum_kind(
+    alloc: Global,
+    first: Option<Kind>,
+    second: Option<Kind>,
+) -> Result<Option<Kind>, AllocError>
+    ensures value { IfOk result (λ k. found_kind_of k ≡ joined sum_of (found_kind_of first) (found_kind_of second)) }
+{
+    match (first, second) {
+        (Some(x), Some(y)) => Ok(Some(Kind::Sum(boxed(alloc, x)?, boxed(alloc, y)?))),
+        _ => Ok(None),
+    }
+}
+
+// The kind of lists of a part's outputs, where the part has one.
+fn list_kind(alloc: Global, part: Option<Kind>) -> Result<Option<Kind>, AllocError>
+    ensures value { IfOk result (λ k. found_kind_of k ≡ list_kind (found_kind_of part)) }
+{
+    match part {
+        Some(x) => Ok(Some(Kind::Items(boxed(alloc, x)?))),
+        None => Ok(None),
+    }
+}
+
+// The kind of a part, where the pick fits it.
+fn where_fits(pick: Pick, part: Option<Kind>) -> Option<Kind>
+    ensures value { found_kind_of result ≡ where_fits pick (found_kind_of part) }
+{
+    let x = part?;
+    if fits(pick, &x) { Some(x) } else { None }
+}
+
+// The kind of a function's answers over a part, where the part has one.
+fn mapped_kind(func: Func, part: Option<Kind>) -> Option<Kind>
+    ensures value { found_kind_of result ≡ mapped_kind func (found_kind_of part) }
+{
+    kind_after(func, part?)
 }
 
 // A kind on the heap.

@@ -3,6 +3,7 @@
 ghost use Rattle.std.specs.Prelude.{◌≡◌, ℕ, ◌+◌, ◌*◌, ◌<◌, ◌≤◌, length, take_while, slice_index, drop, ◌≢◌, MatchOption, None, true, nat_lt, ◌&&◌, ◌==◌};
 ghost use Rattle.std.specs.Char.{is_ascii_alphabetic, is_ascii_digit, digit_value};
 ghost use Rattle.std.specs.Int.{IsInRange};
+ghost use Rattle.std.specs.Str.{bytes_eq};
 ghost use Rattle.std.specs.Str.Parse.{AllDigits, digits_value};
 ghost use Rattle.zs_term.specs.Token.{word_mark, pair_mark, single_mark, number_at, token_at, lex};
 ghost use Rattle.zs_term.specs.Scan.{IsFoundAs, Scans};
@@ -42,65 +43,72 @@ fn digits(bytes: &[u8]) -> &[u8]
     &bytes[..digit_count(bytes)]
 }
 
+// Whether letters are those of a word.
+fn is_word(letters: &[u8], word: &str) -> bool
+    ensures value { result ≡ bytes_eq letters.now word.now }
+{
+    letters == word.as_bytes()
+}
+
 // The word of these letters.
 fn word(letters: &[u8]) -> Mark
     ensures value { result ≡ word_mark letters.now }
 {
-    if letters == b"forever".as_slice() {
+    if is_word(letters, "forever") {
         return Mark::ForeverWord;
     }
-    if letters == b"recurs".as_slice() {
+    if is_word(letters, "recurs") {
         return Mark::RecursWord;
     }
-    if letters == b"spaced".as_slice() {
+    if is_word(letters, "spaced") {
         return Mark::SpacedWord;
     }
-    if letters == b"fixed".as_slice() {
+    if is_word(letters, "fixed") {
         return Mark::FixedWord;
     }
-    if letters == b"exponential".as_slice() {
+    if is_word(letters, "exponential") {
         return Mark::ExponentialWord;
     }
-    if letters == b"fibonacci".as_slice() {
+    if is_word(letters, "fibonacci") {
         return Mark::FibonacciWord;
     }
-    if letters == b"identity".as_slice() {
+    if is_word(letters, "identity") {
         return Mark::IdentityWord;
     }
-    if letters == b"elapsed".as_slice() {
+    if is_word(letters, "elapsed") {
         return Mark::ElapsedWord;
     }
-    if letters == b"andThenEither".as_slice() {
+    if is_word(letters, "andThenEither") {
         return Mark::AndThenWord;
     }
-    if letters == b"whileInput".as_slice() {
+    if is_word(letters, "whileInput") {
         return Mark::WhileInputWord;
     }
-    if letters == b"whileOutput".as_slice() {
+    if is_word(letters, "whileOutput") {
         return Mark::WhileOutputWord;
     }
-    if letters == b"collectAll".as_slice() {
+    if is_word(letters, "collectAll") {
         return Mark::CollectAllWord;
     }
-    if letters == b"map".as_slice() {
+    if is_word(letters, "map") {
         return Mark::MapWord;
     }
-    if letters == b"size".as_slice() {
+    if is_word(letters, "size") {
         return Mark::SizeWord;
     }
-    if letters == b"merge".as_slice() {
+    if is_word(letters, "merge") {
         return Mark::MergeWord;
     }
-    if letters == b"as".as_slice() {
+    if is_word(letters, "as") {
         return Mark::AsWord;
     }
-    if letters == b"linear".as_slice() {
+    if is_word(letters, "linear") {
         return Mark::LinearWord;
     }
-    if letters == b"windowed".as_slice() {
+    if is_word(letters, "windowed") {
         return Mark::WindowedWord;
     }
-    if letters == b"resetWhen".as_slice() {
+    if is_word(letters, "resetWhen") {
         return Mark::ResetWhenWord;
     }
     Mark::OtherWord

@@ -27,13 +27,13 @@ fn room_left(term: &Term, levels: u64, nodes: u64) -> Option<u64>
         return None;
     }
     match term {
-        Term::Both(a, b) => room_left(b, levels - 1, room_left(a, levels - 1, nodes - 1)?),
-        Term::Either(a, b) => room_left(b, levels - 1, room_left(a, levels - 1, nodes - 1)?),
-        Term::AndThen(a, b) => room_left(b, levels - 1, room_left(a, levels - 1, nodes - 1)?),
-        Term::WhileInput(s, _test) => room_left(s, levels - 1, nodes - 1),
-        Term::WhileOutput(s, _pick, _test) => room_left(s, levels - 1, nodes - 1),
-        Term::CollectAll(s) => room_left(s, levels - 1, nodes - 1),
-        Term::Map(s, _func) => room_left(s, levels - 1, nodes - 1),
+        Term::Both(a, b) | Term::Either(a, b) | Term::AndThen(a, b) => {
+            room_left(b, levels - 1, room_left(a, levels - 1, nodes - 1)?)
+        }
+        Term::WhileInput(s, _)
+        | Term::WhileOutput(s, _, _)
+        | Term::CollectAll(s)
+        | Term::Map(s, _) => room_left(s, levels - 1, nodes - 1),
         Term::ResetWhen(s, _pick, _test) => room_left(
             s,
             levels - 1,
@@ -58,14 +58,13 @@ pub(crate) fn has_factors(term: &Term) -> bool
 {
     match term {
         Term::Exponential(_base, factor) => *factor >= 1,
-        Term::Both(a, b) => has_factors(a) && has_factors(b),
-        Term::Either(a, b) => has_factors(a) && has_factors(b),
-        Term::AndThen(a, b) => has_factors(a) && has_factors(b),
-        Term::WhileInput(s, _test) => has_factors(s),
-        Term::WhileOutput(s, _pick, _test) => has_factors(s),
-        Term::CollectAll(s) => has_factors(s),
-        Term::Map(s, _func) => has_factors(s),
-        Term::ResetWhen(s, _pick, _test) => has_factors(s),
+        Term::Both(a, b) | Term::Either(a, b) | Term::AndThen(a, b) => has_factors(a)
+            && has_factors(b),
+        Term::WhileInput(s, _)
+        | Term::WhileOutput(s, _, _)
+        | Term::CollectAll(s)
+        | Term::Map(s, _)
+        | Term::ResetWhen(s, _, _) => has_factors(s),
         Term::Forever
         | Term::Recurs(_)
         | Term::Spaced(_)
@@ -84,14 +83,13 @@ pub(crate) fn has_windows(term: &Term) -> bool
 {
     match term {
         Term::Windowed(window) => *window >= 1,
-        Term::Both(a, b) => has_windows(a) && has_windows(b),
-        Term::Either(a, b) => has_windows(a) && has_windows(b),
-        Term::AndThen(a, b) => has_windows(a) && has_windows(b),
-        Term::WhileInput(s, _test) => has_windows(s),
-        Term::WhileOutput(s, _pick, _test) => has_windows(s),
-        Term::CollectAll(s) => has_windows(s),
-        Term::Map(s, _func) => has_windows(s),
-        Term::ResetWhen(s, _pick, _test) => has_windows(s),
+        Term::Both(a, b) | Term::Either(a, b) | Term::AndThen(a, b) => has_windows(a)
+            && has_windows(b),
+        Term::WhileInput(s, _)
+        | Term::WhileOutput(s, _, _)
+        | Term::CollectAll(s)
+        | Term::Map(s, _)
+        | Term::ResetWhen(s, _, _) => has_windows(s),
         Term::Forever
         | Term::Recurs(_)
         | Term::Spaced(_)

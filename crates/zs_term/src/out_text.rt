@@ -1,10 +1,12 @@
 // The text of outputs.
 
 ghost use Rattle.std.specs.Prelude.{◌≡◌, ◌++◌, IfOk, OnOk, string_bytes};
+ghost use Rattle.std.specs.Fmt.{decimal};
 ghost use Rattle.zs_term.specs.Output.{output_of, outputs_of};
 ghost use Rattle.zs_term.specs.OutputText.{output_text, outputs_text, comma_before};
 
 use crate::outputs::Out;
+use itoa::Buffer;
 use std::alloc::{AllocError, Global};
 
 /// Memory ran out.
@@ -25,7 +27,7 @@ pub fn append_out(text: &mut String, out: &Out) -> Result<(), NoMemory>
     ensures ok { OnOk result (string_bytes text.new ≡ string_bytes text.old ++ output_text (output_of out.now)) }
 {
     match out {
-        Out::Num(n) => write!(text, "{n}"),
+        Out::Num(n) => append_number(text, *n),
         Out::Pair(a, b) => {
             text.push_str("(")?;
             append_out(text, a)?;
@@ -49,6 +51,14 @@ pub fn append_out(text: &mut String, out: &Out) -> Result<(), NoMemory>
             text.push_str("]")
         }
     }
+}
+
+// Adds the digits of a number behind a text.
+fn append_number(text: &mut String, n: u64) -> Result<(), NoMemory>
+    ensures ok { OnOk result (string_bytes text.new ≡ string_bytes text.old ++ decimal n) }
+{
+    let mut buffer = Buffer::new();
+    text.push_str(buffer.format(n))
 }
 
 // Adds the texts of outputs, with a comma between two.

@@ -5,7 +5,7 @@ ghost use Rattle.std.specs.Fmt.{decimal};
 ghost use Rattle.zs_term.specs.Schedule.{schedule_of, exponential};
 ghost use Rattle.zs_term.specs.Number.{HasFittingNumbers, FuncFits};
 ghost use Rattle.zs_term.specs.Causes.{SpellsSchedule};
-ghost use Rattle.zs_term.specs.Canonical.{canonical_text, cmp_text, pick_text, func_text, test_text, and_then_text, while_input_text, while_output_text, reset_when_text, exponential_text};
+ghost use Rattle.zs_term.specs.Canonical.{canonical_text, leaf_text, cmp_text, pick_text, func_text, test_text, and_then_text, while_input_text, while_output_text, reset_when_text, exponential_text, number_text, infix_text};
 
 use crate::checked::Checked;
 use crate::out_text::NoMemory;
@@ -25,51 +25,31 @@ pub fn write(alloc: Global, checked: &Checked) -> Result<String, NoMemory>
 }
 
 // Adds the canonical spelling of a term.
+#[cycle(spelling)]
 fn append(text: &mut String, term: &Term) -> Result<(), AllocError>
     ensures text { OnOk result (string_bytes text.new ≡ string_bytes text.old ++ canonical_text (schedule_of term.now)) }
 {
     match term {
         Term::Forever => text.push_str("forever"),
-        Term::Recurs(n) => write!(text, "recurs({n})"),
-        Term::Spaced(n) => write!(text, "spaced({n})"),
-        Term::Fixed(n) => write!(text, "fixed({n})"),
+        Term::Recurs(n) => append_number(text, "recurs(", *n),
+        Term::Spaced(n) => append_number(text, "spaced(", *n),
+        Term::Fixed(n) => append_number(text, "fixed(", *n),
         Term::Exponential(b, f) => append_exponential(text, *b, *f),
-        Term::Fibonacci(n) => write!(text, "fibonacci({n})"),
+        Term::Fibonacci(n) => append_number(text, "fibonacci(", *n),
         Term::Identity => text.push_str("identity"),
         Term::Elapsed => text.push_str("elapsed"),
-        Term::Linear(n) => write!(text, "linear({n})"),
-        Term::Windowed(n) => write!(text, "windowed({n})"),
-        Term::Both(a, b) => {
-            text.push_str("(")?;
-            append(text, a)?;
-            text.push_str(" && ")?;
-            append(text, b)?;
-            text.push_str(")")
-        }
-        Term::Either(a, b) => {
-            text.push_str("(")?;
-            append(text, a)?;
-            text.push_str(" || ")?;
-            append(text, b)?;
-            text.push_str(")")
-        }
-        Term::AndThen(a, b) => {
-            text.push_str("(")?;
-            append(text, a)?;
-            append_and_then(text)?;
-            append(text, b)?;
-            text.push_str(")")
-        }
+        Term::Linear(n) => append_number(text, "linear(", *n),
+        Term::Windowed(n) => append_number(text, "windowed(", *n),
+        Term::Both(a, b) => append_infix(text, a, " && ", b),
+        Term::Either(a, b) => append_infix(text, a, " || ", b),
+        Term::AndThen(a, b) => append_infix(text, a, and_then_word(), b),
         Term::WhileInput(a, test) => {
             append(text, a)?;
-            append_input(text)?;
-            append_test(text, *test)
+            append_tested(text, while_input_word(), *test)
         }
         Term::WhileOutput(a, pick, test) => {
             append(text, a)?;
-            append_output(text)?;
-            text.push_str(pick_text(*pick))?;
-            append_test(text, *test)
+            append_picked(text, while_output_word(), *pick, *test)
         }
         Term::CollectAll(a) => {
             append(text, a)?;
@@ -77,22 +57,38 @@ fn append(text: &mut String, term: &Term) -> Result<(), AllocError>
         }
         Term::Map(a, func) => {
             append(text, a)?;
-            text.push_str(".map(")?;
-            append_func(text, *func)?;
-            text.push_str(")")
+            append_map(text, *func)
         }
         Term::ResetWhen(a, pick, test) => {
             append(text, a)?;
-            append_reset(text)?;
-            text.push_str(pick_text(*pick))?;
-            append_test(text, *test)
+            append_picked(text, reset_when_word(), *pick, *test)
         }
     }
 }
 
+// Adds two terms with an operator between them.
+#[cycle(spelling)]
+fn append_infix(text: &mut String, a: &Term, operator: &str, b: &Term) -> Result<(), AllocError>
+    ensures text { OnOk result (string_bytes text.new ≡ string_bytes text.old ++ infix_text (canonical_text (schedule_of a.now)) operator.now (canonical_text (schedule_of b.now))) }
+{
+    text.push_str("(")?;
+    append(text, a)?;
+    text.push_str(operator)?;
+    append(text, b)?;
+    text.push_str(")")
+}
+
+// Adds a word with its parenthesis, a number and the parenthesis behind it.
+fn append_number(text: &mut String, word: &str, number: u64) -> Result<(), AllocError>
+    ensures text { OnOk result (string_bytes text.new ≡ string_bytes text.old ++ number_text word.now number) }
+{
+    text.push_str(word)?;
+    write!(text, "{number})")
+}
+
 // Adds an exponential.
 fn append_exponential(text: &mut String, base: u64, factor: u64) -> Result<(), AllocError>
-    ensures text { OnOk result (string_bytes text.new ≡ string_bytes text.old ++ canonical_text (exponential base factor)) }
+    ensures text { OnOk result (string_bytes text.new ≡ string_bytes text.old ++ leaf_text (exponential base factor)) }
 {
     append_exponential_word(text)?;
     write!(text, "{base}, ")?;
@@ -116,36 +112,62 @@ fn append_test(text: &mut String, test: Test) -> Result<(), AllocError>
     write!(text, "{than})")
 }
 
-// Adds the operator of two schedules in turn.
+// The operator of two schedules in turn.
 #[tactic(auto, unfolding(crate::specs::Canonical::and_then_text))]
-fn append_and_then(text: &mut String) -> Result<(), AllocError>
-    ensures text { OnOk result (string_bytes text.new ≡ string_bytes text.old ++ and_then_text) }
+fn and_then_word() -> &'static str
+    ensures text { result.now ≡ and_then_text }
 {
-    text.push_str(" andThenEither ")
+    " andThenEither "
 }
 
-// Adds what stands before the test of an input.
+// What stands before the test of an input.
 #[tactic(auto, unfolding(crate::specs::Canonical::while_input_text))]
-fn append_input(text: &mut String) -> Result<(), AllocError>
-    ensures text { OnOk result (string_bytes text.new ≡ string_bytes text.old ++ while_input_text) }
+fn while_input_word() -> &'static str
+    ensures text { result.now ≡ while_input_text }
 {
-    text.push_str(".whileInput(")
+    ".whileInput("
 }
 
-// Adds what stands before the test of an output.
+// What stands before the test of an output.
 #[tactic(auto, unfolding(crate::specs::Canonical::while_output_text))]
-fn append_output(text: &mut String) -> Result<(), AllocError>
-    ensures text { OnOk result (string_bytes text.new ≡ string_bytes text.old ++ while_output_text) }
+fn while_output_word() -> &'static str
+    ensures text { result.now ≡ while_output_text }
 {
-    text.push_str(".whileOutput(")
+    ".whileOutput("
 }
 
-// Adds what stands before the test of a reset.
+// What stands before the test of a reset.
 #[tactic(auto, unfolding(crate::specs::Canonical::reset_when_text))]
-fn append_reset(text: &mut String) -> Result<(), AllocError>
-    ensures text { OnOk result (string_bytes text.new ≡ string_bytes text.old ++ reset_when_text) }
+fn reset_when_word() -> &'static str
+    ensures text { result.now ≡ reset_when_text }
 {
-    text.push_str(".resetWhen(")
+    ".resetWhen("
+}
+
+// Adds a word and a pick with its test.
+fn append_picked(text: &mut String, word: &str, pick: Pick, test: Test) -> Result<(), AllocError>
+    ensures text { OnOk result (string_bytes text.new ≡ string_bytes text.old ++ (word.now ++ (pick_text pick ++ test_text test))) }
+{
+    text.push_str(word)?;
+    text.push_str(pick_text(pick))?;
+    append_test(text, test)
+}
+
+// Adds a word and a test.
+fn append_tested(text: &mut String, word: &str, test: Test) -> Result<(), AllocError>
+    ensures text { OnOk result (string_bytes text.new ≡ string_bytes text.old ++ (word.now ++ test_text test)) }
+{
+    text.push_str(word)?;
+    append_test(text, test)
+}
+
+// Adds the change by a function.
+fn append_map(text: &mut String, func: Func) -> Result<(), AllocError>
+    ensures text { OnOk result (string_bytes text.new ≡ string_bytes text.old ++ (codes ".map(" ++ (func_text func ++ codes ")"))) }
+{
+    text.push_str(".map(")?;
+    append_func(text, func)?;
+    text.push_str(")")
 }
 
 // A comparison and the space behind it.
@@ -194,36 +216,22 @@ fn numbers_fit(term: &Term)
     ensures value { HasFittingNumbers (schedule_of term.now) }
 {
     match term {
-        Term::Forever => {}
-        Term::Recurs(n) => in_range(*n),
-        Term::Spaced(n) => in_range(*n),
-        Term::Fixed(n) => in_range(*n),
+        Term::Forever | Term::Identity | Term::Elapsed => {}
+        Term::Recurs(n)
+        | Term::Spaced(n)
+        | Term::Fixed(n)
+        | Term::Fibonacci(n)
+        | Term::Linear(n)
+        | Term::Windowed(n) => in_range(*n),
         Term::Exponential(b, f) => {
             in_range(*b);
             in_range(*f);
         }
-        Term::Fibonacci(n) => in_range(*n),
-        Term::Identity => {}
-        Term::Elapsed => {}
-        Term::Linear(n) => in_range(*n),
-        Term::Windowed(n) => in_range(*n),
-        Term::Both(a, b) => {
+        Term::Both(a, b) | Term::Either(a, b) | Term::AndThen(a, b) => {
             numbers_fit(a);
             numbers_fit(b);
         }
-        Term::Either(a, b) => {
-            numbers_fit(a);
-            numbers_fit(b);
-        }
-        Term::AndThen(a, b) => {
-            numbers_fit(a);
-            numbers_fit(b);
-        }
-        Term::WhileInput(a, test) => {
-            numbers_fit(a);
-            in_range(test.than);
-        }
-        Term::WhileOutput(a, _pick, test) => {
+        Term::WhileInput(a, test) | Term::WhileOutput(a, _, test) | Term::ResetWhen(a, _, test) => {
             numbers_fit(a);
             in_range(test.than);
         }
@@ -231,10 +239,6 @@ fn numbers_fit(term: &Term)
         Term::Map(a, func) => {
             numbers_fit(a);
             func_fits(*func);
-        }
-        Term::ResetWhen(a, _pick, test) => {
-            numbers_fit(a);
-            in_range(test.than);
         }
     }
 }
