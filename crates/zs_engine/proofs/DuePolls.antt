@@ -12,7 +12,7 @@ use Rattle.zs_step.specs.declared.decision.Decision.TheVariants.{Stop, Next}
 use Rattle.zs_drive.specs.declared.record.Ending.{Ending}
 use Rattle.zs_drive.specs.Clocks.{first_tick_from, AllBefore}
 use Rattle.zs_drive.specs.Values.{JobRecord, AttemptedValue}
-use Rattle.zs_drive.specs.Timeline.{Timeline, number_of, ending_by_outcome, waiting, running, before, beat_after, by_answer, by_outcome, from_wait, from_begin, from, timeline_of, moments_of, with_moment, poll_moments}
+use Rattle.zs_drive.specs.Timeline.{Timeline, number_of, ending_by_outcome, waiting, running, beat_after, by_answer, by_outcome, from_wait, from_begin, from, timeline_of, moments_of, with_moment, poll_moments}
 use Rattle.std.proofs.lemmas.Bool.Decides.{nat_tests}
 use Rattle.zs_drive.proofs.Ticks.{lt_cases}
 use Rattle.zs_drive.proofs.Moments.{moments-one, moments-two}

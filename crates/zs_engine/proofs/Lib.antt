@@ -6,3 +6,4 @@ pub mod SlotLemmas
 pub mod Settling
 pub mod Finishing
 pub mod EngineLemmas
+pub mod SlotPolls

@@ -1,4 +1,4 @@
-ghost use Rattle.std.specs.Prelude.{◌≡◌, ◌≤◌, ◌<◌, [], ◌∷◌, ◌++◌, length, Some, None, slice_set, OnOk, IfOk};
+ghost use Rattle.std.specs.Prelude.{◌≡◌, ℕ, ◌≤◌, ◌<◌, List, [], ◌∷◌, ◌++◌, length, Some, None, slice_set, OnOk, IfOk};
 ghost use Rattle.std.specs.FinMap.{empty, get};
 ghost use Rattle.zs_term.specs.Saturating.{max_moment};
 ghost use Rattle.zs_drive.specs.Tasks.{current_timeline};
@@ -11,12 +11,14 @@ use crate::answer::Answer;
 use crate::fault::{EngineFault, refused_round};
 use crate::slots::{into_tasks, take_tasks};
 use crate::timers::set_timer;
+use futures::task::Context;
 use std::alloc::Global;
+use std::mem::drop;
 use std::sync::Wait;
 use std::thread::Threads;
 use zs_agenda::{Agenda, Clock};
 use zs_drive::{Job, Task};
-use zs_pool::{Cut, Gate, Tally, TallySeat, round};
+use zs_pool::{Cut, Gate, Poller, Tally, TallySeat, poll_one, round};
 
 // A run of jobs: each job's task in a slot of its own, a timer for each task that waits for a tick, and the tally of the polls.
 #[derive(Drop)]
@@ -67,7 +69,13 @@ impl Engine {
         ensures new { OnOk result (IsNew self.old.clock (jobs_in self.old.slots.items ++ job_of job ∷ []) self.new) }
     {
         let task = Task::new(self.alloc, self.slots.len() as u64, job)?;
-        set_timer(&self.clock, &mut self.agenda, &task)?;
+        match set_timer(&self.clock, &mut self.agenda, &task) {
+            Ok(()) => {}
+            Err(refused) => {
+                drop(task);
+                return Err(refused);
+            }
+        }
         self.slots.push(Some(task))?;
         Ok(())
     }
@@ -82,14 +90,63 @@ impl Engine {
         ensures clock { OnOk result ((self.new.clock ≡ self.old.clock) × (self.new.horizon ≡ self.old.horizon)) }
         ensures tally { OnOk result ((self.new.tally ≡ self.old.tally) × (self.new.seat ≡ self.old.seat)) }
     {
-        set_timer(&self.clock, &mut self.agenda, &task)?;
+        match set_timer(&self.clock, &mut self.agenda, &task) {
+            Ok(()) => {}
+            Err(refused) => {
+                drop(task);
+                return Err(refused);
+            }
+        }
         let number = task.number() as usize;
-        self.slots[number] = Some(task);
+        drop(self.slots[number].replace(task));
         Ok(())
     }
 
-    // One round: the tasks that are due at `now` are taken out, polled, and put back.
-    fn run_round<G: Gate, R: Threads + Wait + Sync>(
+    // The due poll of the task in this slot, where it stays; then its timer is armed again.
+    fn poll_slot<G: Gate>(
+        &mut self,
+        gate: &G,
+        now: u64,
+        number: u64,
+        cx: &mut Context<'_>,
+    ) -> Result<(), EngineFault>
+        requires few { length (jobs_in self.old.slots.items) ≤ 10000 }
+        requires due { (left : List ℕ) × IsDueWith self.old.clock (jobs_in self.old.slots.items) now (number ∷ left) self.old }
+        ensures onward { OnOk result ((left : List ℕ) → IsDueWith self.old.clock (jobs_in self.old.slots.items) now (number ∷ left) self.old
+            → IsDueWith self.old.clock (jobs_in self.old.slots.items) now left self.new) }
+    {
+        let Some(task) = &mut self.slots[number as usize] else {
+            unreachable!();
+        };
+        poll_one(gate, &self.tally, &mut self.seat, now, cx, task);
+        if task.broken() {
+            return Err(EngineFault::Memory);
+        }
+        set_timer(&self.clock, &mut self.agenda, task)?;
+        Ok(())
+    }
+
+    // A round of the calling thread alone: the tasks that are due at `now` are polled in their slots.
+    fn poll_round<G: Gate>(
+        &mut self,
+        gate: &G,
+        now: u64,
+        numbers: &[u64],
+        cx: &mut Context<'_>,
+    ) -> Result<(), EngineFault>
+        requires few { length (jobs_in self.old.slots.items) ≤ 10000 }
+        requires due { IsDueWith self.old.clock (jobs_in self.old.slots.items) now numbers.now self.old }
+        ensures rests { OnOk result (RestsWith self.old.clock (jobs_in self.old.slots.items) self.new) }
+        ensures taken { OnOk result (self.new.agenda.last_taken ≡ Some now) }
+    {
+        for number in numbers {
+            self.poll_slot(gate, now, *number, cx)?;
+        }
+        Ok(())
+    }
+
+    // A round that several workers share: the tasks that are due at `now` are taken out, polled, and put back.
+    fn share_round<G: Gate, R: Threads + Wait + Sync>(
         &mut self,
         rt: &R,
         cut: Cut,
@@ -122,6 +179,47 @@ impl Engine {
         Ok(())
     }
 
+    // One round: the tasks that are due at `now` are polled, by this thread alone where one worker or one batch is all there is.
+    fn run_round<G: Gate, R: Threads + Wait + Sync>(
+        &mut self,
+        rt: &R,
+        cut: Cut,
+        gate: &G,
+        now: u64,
+        numbers: &[u64],
+        cx: &mut Context<'_>,
+    ) -> Result<(), EngineFault>
+        requires few { length (jobs_in self.old.slots.items) ≤ 10000 }
+        requires due { IsDueWith self.old.clock (jobs_in self.old.slots.items) now numbers.now self.old }
+        ensures rests { OnOk result (RestsWith self.old.clock (jobs_in self.old.slots.items) self.new) }
+        ensures taken { OnOk result (self.new.agenda.last_taken ≡ Some now) }
+    {
+        if cut.workers() == 1 || numbers.len() as u64 <= cut.grain() {
+            self.poll_round(gate, now, numbers, cx)
+        } else {
+            self.share_round(rt, cut, gate, now, numbers)
+        }
+    }
+
+    // The rounds, under one context.
+    fn run_all<G: Gate, R: Threads + Wait + Sync>(
+        &mut self,
+        rt: &R,
+        cut: Cut,
+        gate: &G,
+        cx: &mut Context<'_>,
+    ) -> Result<(), EngineFault>
+        requires few { length (jobs_in self.old.slots.items) ≤ 10000 }
+        requires rests { RestsWith self.old.clock (jobs_in self.old.slots.items) self.old }
+        ensures rests { OnOk result (RestsWith self.old.clock (jobs_in self.old.slots.items) self.new) }
+        ensures over { OnOk result (self.new.agenda.moments ≡ empty) }
+    {
+        while let Some((now, numbers)) = self.agenda.take()? {
+            self.run_round(rt, cut, gate, now, &numbers, cx)?;
+        }
+        Ok(())
+    }
+
     // The rounds, until no task waits for a tick.
     pub fn run_rounds<G: Gate, R: Threads + Wait + Sync>(
         &mut self,
@@ -134,10 +232,11 @@ impl Engine {
         ensures rests { OnOk result (RestsWith self.old.clock (jobs_in self.old.slots.items) self.new) }
         ensures over { OnOk result (self.new.agenda.moments ≡ empty) }
     {
-        while let Some((now, numbers)) = self.agenda.take()? {
-            self.run_round(rt, cut, gate, now, &numbers)?;
-        }
-        Ok(())
+        let poller = Poller::new(self.alloc)?;
+        let mut cx = poller.solo().begin();
+        let done = self.run_all(rt, cut, gate, &mut cx);
+        cx.cancel();
+        done
     }
 
     // The tasks in job order, with the closed tally.

@@ -41,9 +41,9 @@ fn add_task(
         waiting.push(task)?;
         return Ok(waiting);
     }
-    add_batch(batches, waiting)?;
     let mut next = Vec::new(alloc);
     next.push(task)?;
+    add_batch(batches, waiting)?;
     Ok(next)
 }
 

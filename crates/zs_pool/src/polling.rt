@@ -27,6 +27,27 @@ fn poll_at(task: &mut Task, now: u64, cx: &mut Context<'_>)
     let _answer = task.poll(cx);
 }
 
+/// Polls one task at `now`, and counts it. A poll that finds no memory breaks the task.
+pub fn poll_one<G: Gate>(
+    gate: &G,
+    tally: &Tally,
+    seat: &mut TallySeat,
+    now: u64,
+    cx: &mut Context<'_>,
+    task: &mut Task,
+)
+    requires tally { seat.old.tally ≡ tally.now }
+    requires allowance { 1 ≤ seat.old.allowance }
+    requires pollable { IsPollable now task.old }
+    ensures polled { IsPolled now task.old task.new }
+    ensures counted { Counts seat.old 1 seat.new }
+{
+    let done = tally.seen(seat);
+    gate.pass(task.number(), now, done);
+    poll_at(task, now, cx);
+    tally.count(seat);
+}
+
 fn poll_each<G: Gate>(
     gate: &G,
     tally: &Tally,
@@ -45,10 +66,7 @@ fn poll_each<G: Gate>(
     ensures saw { AllSaw now tasks.new }
 {
     for task in tasks.iter_mut() {
-        let done = tally.seen(seat);
-        gate.pass(task.number(), now, done);
-        poll_at(task, now, cx);
-        tally.count(seat);
+        poll_one(gate, tally, seat, now, cx, task);
     }
 }
 

@@ -17,6 +17,7 @@ use crate::shelf::Shelf;
 use crate::tally::Tally;
 use crate::worker::{Worked, Worker, WorkerPromise, work};
 use std::alloc::Global;
+use std::mem::drop;
 use std::snapshot::Snapshot;
 use std::sync::Wait;
 use std::thread::{Scope, Threads};
@@ -49,7 +50,10 @@ fn start<'s, E, G: Gate, R: Wait + Sync>(
     { work(rt, alloc, gate, board, shelf, tally, now, rights) };
     match scope.spawn_with(promise, run) {
         Ok(worker) => Ok(worker),
-        Err(_) => Err(PoolFault::NoThread),
+        Err(refused) => {
+            drop(refused);
+            Err(PoolFault::NoThread)
+        }
     }
 }
 
@@ -59,8 +63,9 @@ fn wait_for<R: Threads>(rt: &R, workers: Vec<Worker>) -> Result<(), PoolFault>
 {
     let mut refused = false;
     for worker in workers {
-        let Worked { rights: _, kept } = worker.join(rt);
-        refused = refused || kept.is_err();
+        let worked = worker.join(rt);
+        refused = refused || worked.kept.is_err();
+        drop(worked);
     }
     if refused {
         return Err(PoolFault::Memory);
@@ -107,6 +112,7 @@ pub fn start_all<'s, E, G: Gate, R: Threads + Wait + Sync>(
                 };
             }
             Err(refused) => {
+                drop(rights);
                 wait_for(rt, workers)?;
                 return Err(refused);
             }

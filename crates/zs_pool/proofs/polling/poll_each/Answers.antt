@@ -6,27 +6,26 @@ use Rattle.zs_pool.specs.Rounds.{IsPollable}
 use Rattle.zs_pool.proofs.Zips.{zip_write, zip_whole, saw_all}
 use Rattle.zs_pool.proofs.polling.poll_each.Goals as goal
 
-pub poll_at-requires : goal.poll_at-requires
-poll_at-requires g c =
+pub poll_one-requires-clause-pollable : goal.poll_one-requires-clause-pollable
+poll_one-requires-clause-pollable g c κs within =
     let i = c.loop-task.task-index in let d = c.task-item.result in
     let same = c.loop-task.invariant.1 i d (omega arith) in
     let may : IsPollable c.args.now (get_or c.args.tasks.now i d) = c.requires.pollable i d (omega arith) in
     let P : TaskValue → Type 0 = IsPollable c.args.now in
-    let now : P (get_or c.loop-task.tasks i d) = subst P (sym same) may in
-    record { pollable = now }
+    subst P (sym same) may
 
 pub loop-task-preserved : goal.loop-task-preserved
 loop-task-preserved g c =
     let i = c.loop-task.task-index in let d = c.task-item.result in
     let same = c.loop-task.invariant.1 i d (omega arith) in
-    let P : TaskValue → Type 0 = λ t. IsPolled c.args.now t c.poll_at.new.task in
-    let here : P (get_or c.args.tasks.now i d) = subst P same c.poll_at.ensures.polled in
-    let counted = c.count.ensures.counted in let seen = c.seen-done.ensures.kept in (
-      zip_write (IsPolled c.args.now) c.args.tasks.now c.loop-task.tasks i d c.poll_at.new.task (omega arith) (omega arith) c.loop-task.invariant.0 here,
-      (λ k e past. let ne : k ≢ i = omega arith in get_or-set_other c.loop-task.tasks i k c.poll_at.new.task e ne ∙ c.loop-task.invariant.1 k e (omega arith)),
-      ap (λ s. s.tally) counted,
-      omega (arith, ap (λ s. s.count) counted, ap (λ s. s.count) seen, c.loop-task.invariant.3),
-      omega (arith, ap (λ s. s.allowance) counted, ap (λ s. s.allowance) seen, c.loop-task.invariant.4, c.requires.allowance),
+    let P : TaskValue → Type 0 = λ t. IsPolled c.args.now t c.poll_one.new.task in
+    let here : P (get_or c.args.tasks.now i d) = subst P same c.poll_one.ensures.polled in
+    let counted = c.poll_one.ensures.counted in (
+      zip_write (IsPolled c.args.now) c.args.tasks.now c.loop-task.tasks i d c.poll_one.new.task (omega arith) (omega arith) c.loop-task.invariant.0 here,
+      (λ k e past. let ne : k ≢ i = omega arith in get_or-set_other c.loop-task.tasks i k c.poll_one.new.task e ne ∙ c.loop-task.invariant.1 k e (omega arith)),
+      counted.0 ∙ c.loop-task.invariant.2,
+      omega (arith, counted.1, c.loop-task.invariant.3),
+      omega (arith, counted.2, c.loop-task.invariant.4),
     )
 
 pub returns : goal.returns

@@ -7,5 +7,5 @@ pub returns : goal.returns
 returns c = record {
   new =
       IsNew-add c.args.self.now _ (job_of c.args.job) c.in_ok-task.task c.len.result c.requires.new (record { clock = refl; horizon = refl; tally = refl }) refl
-      (c.len.ensures ∙ c.args.self.now.slots.ok.0) c.in_ok-task.ensures.made c.in_ok-task.ensures.script c.in_ok-push.ensures.items c.in_ok-set_timer.ensures.ok;
+      (c.len.ensures ∙ c.args.self.now.slots.ok.0) c.in_ok-task.ensures.made c.in_ok-task.ensures.script c.in_ok-push.ensures.items c.in-Ok.ensures.ok;
 }

@@ -3,7 +3,7 @@ use Rattle.zs_agenda.specs.Timers.{Timers, Takes}
 use Rattle.zs_engine.specs.Rounds.{jobs_in}
 use Rattle.zs_engine.proofs.RoundLemmas.{rounds_left-falls, none-of_not_some, from_none}
 use Rattle.zs_engine.proofs.EngineLemmas.{IsDueWith-taken, taken-within, RestsWith-own, RestsWith-as}
-use Rattle.zs_engine.proofs.engine.Engine.run_rounds.Goals as goal
+use Rattle.zs_engine.proofs.engine.Engine.run_all.Goals as goal
 
 pub run_round-requires-clause-few : goal.run_round-requires-clause-few
 run_round-requires-clause-few g c = λ _ _. rw c.loop-now.invariant.runs.same_jobs c.requires.few

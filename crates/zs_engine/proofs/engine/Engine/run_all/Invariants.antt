@@ -2,7 +2,7 @@ use Rattle.zs_agenda.specs.Ticks.{horizon}
 use Rattle.zs_engine.specs.Rounds.{jobs_in}
 use Rattle.zs_engine.specs.Engine.{RestsWith}
 use Rattle.zs_engine.proofs.RoundLemmas.{rounds_left}
-use Rattle.zs_engine.proofs.engine.Engine.run_rounds.Given as goal
+use Rattle.zs_engine.proofs.engine.Engine.run_all.Given as goal
 
 abbrev pub invariant-loop-now : goal.invariant-loop-now
 invariant-loop-now g l = RestsWith l.fn.self.clock (jobs_in l.fn.self.slots.items) l.self

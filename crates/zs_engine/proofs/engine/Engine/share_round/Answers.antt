@@ -6,7 +6,7 @@ use Rattle.zs_engine.specs.Times.{ticks_of}
 use Rattle.zs_engine.specs.Rounds.{jobs_in}
 use Rattle.zs_engine.proofs.EngineLemmas.{due-filled, due-distinct, due-rising, due-pollable, due-few, due-room, due-polled, due-settled}
 use Rattle.zs_engine.proofs.Settling.{Next, settling-at}
-use Rattle.zs_engine.proofs.engine.Engine.run_round.Goals as goal
+use Rattle.zs_engine.proofs.engine.Engine.share_round.Goals as goal
 
 pub take_tasks-requires-clause-filled : goal.take_tasks-requires-clause-filled
 take_tasks-requires-clause-filled g c = due-filled c.args.self.now c.args.now c.args.numbers.now c.requires.due

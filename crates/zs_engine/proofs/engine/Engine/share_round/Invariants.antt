@@ -5,7 +5,7 @@ use Rattle.zs_engine.specs.Times.{ticks_of}
 use Rattle.zs_engine.specs.Rounds.{jobs_in}
 use Rattle.zs_engine.proofs.EngineLemmas.{Keeps}
 use Rattle.zs_engine.proofs.Settling.{Settling}
-use Rattle.zs_engine.proofs.engine.Engine.run_round.Given as goal
+use Rattle.zs_engine.proofs.engine.Engine.share_round.Given as goal
 
 abbrev pub invariant-loop-task : goal.invariant-loop-task
 invariant-loop-task g l = record {
