@@ -6,7 +6,7 @@ use Rattle.std.specs.Fmt.{digits}
 use Rattle.serde_json.proofs.OnLiterals.{serde_json_on_literals}
 use Rattle.zs_agenda.specs.Ticks.{every_ms, listed}
 use Rattle.zs_term.specs.Token.{lex}
-use Rattle.zs_term.specs.Schedule.{recurs, both, exponential}
+use Rattle.zs_term.specs.Schedule.{leaf, two, recurs, both, exponential}
 use Rattle.zs_term.specs.declared.fault.TermFault.TheVariants as terms
 use Rattle.zs_drive.specs.declared.job.Mode.TheVariants as modes
 use Rattle.zs_drive.specs.Timeline.{timeline_of, from, from_begin, from_wait, by_outcome, by_answer, poll_moments}
@@ -315,7 +315,7 @@ one_retry_job = record {
   jobs = record {
     name = codes "a";
     mode = modes.Retry;
-    schedule = recurs 3;
+    schedule = leaf (recurs 3);
     start = 0;
     script = record { ms = 5; outcome = Bad 7 } ∷ record { ms = 5; outcome = Good 1 } ∷ [];
   } ∷ [];
@@ -342,7 +342,7 @@ one_repeat_job = record {
   jobs = record {
     name = codes "b";
     mode = modes.Repeat;
-    schedule = both (exponential 10 2) (recurs 3);
+    schedule = two both (leaf (exponential 10 2)) (leaf (recurs 3));
     start = 7;
     script = record { ms = 1; outcome = Good 0 } ∷ [];
   } ∷ [];

@@ -1,11 +1,13 @@
 //! Reports.
 ghost use Rattle.std.specs.Prelude.{◌≡◌, ◌++◌, ◌+◌, ◌≤◌, ◌<◌, ◌^◌, ℕ, length, codes, [], OnOk, IfOk, None, Some, map, option_map, string_bytes};
+ghost use Rattle.std.specs.Fmt.{decimal};
 ghost use Rattle.std.specs.List.{flat_map};
 ghost use Rattle.zs_drive.specs.Values.{attempted_of, ended_of, step_of};
 ghost use Rattle.zs_drive.specs.Tasks.{current_timeline};
 ghost use Rattle.zs_run.specs.Report.{attempt_lines, attempts_lines, decision_text, end_line, ended_lines, ending_text, job_lines, last_moment, last_output, mode_text, outcome_text, report_text, step_lines, step_output};
 ghost use Rattle.zs_run.specs.ReportView.{task_report};
 
+use itoa::Buffer;
 use std::alloc::{AllocError, Global};
 use zs_drive::{Attempted, Ended, Ending, Mode, Task};
 use zs_effect::Outcome;
@@ -13,13 +15,27 @@ use zs_engine::Answer;
 use zs_step::Decision;
 use zs_term::{Out, append_out};
 
+// Adds the digits of a number.
+fn push_number(text: &mut String, n: u64) -> Result<(), AllocError>
+    ensures text { OnOk result (string_bytes text.new ≡ string_bytes text.old ++ decimal n) }
+{
+    let mut buffer = Buffer::new();
+    text.push_str(buffer.format(n))
+}
+
 // Adds how an attempt ended.
 fn push_outcome(text: &mut String, outcome: Outcome) -> Result<(), AllocError>
     ensures text { OnOk result (string_bytes text.new ≡ string_bytes text.old ++ outcome_text outcome) }
 {
     match outcome {
-        Outcome::Good(value) => write!(text, "ok {value}"),
-        Outcome::Bad(code) => write!(text, "err {code}"),
+        Outcome::Good(value) => {
+            text.push_str("ok ")?;
+            push_number(text, value)
+        }
+        Outcome::Bad(code) => {
+            text.push_str("err ")?;
+            push_number(text, code)
+        }
     }
 }
 
@@ -28,8 +44,11 @@ fn push_decision(text: &mut String, decision: Decision) -> Result<(), AllocError
     ensures text { OnOk result (string_bytes text.new ≡ string_bytes text.old ++ decision_text decision) }
 {
     match decision {
-        Decision::Stop => write!(text, "done"),
-        Decision::Next(at) => write!(text, "next {at}"),
+        Decision::Stop => text.push_str("done"),
+        Decision::Next(at) => {
+            text.push_str("next ")?;
+            push_number(text, at)
+        }
     }
 }
 
@@ -44,11 +63,13 @@ fn push_step(
     match step {
         None => Ok(()),
         Some((out, decision)) => {
-            write!(text, "step {number} out ")?;
+            text.push_str("step ")?;
+            push_number(text, number)?;
+            text.push_str(" out ")?;
             append_out(text, out)?;
-            write!(text, " ")?;
+            text.push_str(" ")?;
             push_decision(text, *decision)?;
-            writeln!(text)
+            text.push_str("\n")
         }
     }
 }
@@ -58,12 +79,13 @@ fn push_ended(text: &mut String, number: u64, ended: &Option<Ended>) -> Result<(
     ensures text { OnOk result (string_bytes text.new ≡ string_bytes text.old ++ ended_lines number (ended_of ended.now)) }
 {
     match ended {
-        None => writeln!(text, " running"),
+        None => text.push_str(" running\n"),
         Some(ended) => {
             let at = ended.at;
-            write!(text, "{at} ")?;
+            push_number(text, at)?;
+            text.push_str(" ")?;
             push_outcome(text, ended.outcome)?;
-            writeln!(text)?;
+            text.push_str("\n")?;
             push_step(text, number, &ended.step)
         }
     }
@@ -74,7 +96,11 @@ fn push_attempt(text: &mut String, number: u64, attempt: &Attempted) -> Result<(
     ensures text { OnOk result (string_bytes text.new ≡ string_bytes text.old ++ attempt_lines number (attempted_of attempt.now)) }
 {
     let begun = attempt.begun;
-    write!(text, "attempt {number} {begun}..")?;
+    text.push_str("attempt ")?;
+    push_number(text, number)?;
+    text.push_str(" ")?;
+    push_number(text, begun)?;
+    text.push_str("..")?;
     push_ended(text, number, &attempt.ended)
 }
 
