@@ -140,14 +140,18 @@ def many_jobs(workers, grain):
     return plan(jobs, '"horizon":1', f',"workers":{workers},"grain":{grain}'), report.encode()
 
 
-def test(count):
-    """All tests of this file."""
+def refused():
+    """All plans that are refused: a name, the bytes, and the text of the fault."""
     cases = refused_documents()
     cases += [(name, plan(jobs), fault) for name, jobs, fault in refused_jobs()]
     cases += [(f"schedule {text[:60]}", plan([job(schedule=text)]), f"job 0: schedule: {fault}")
               for text, fault in refused_schedules()]
-    cases += [(f"a plan cut at {end}", ONE_JOB[:end], NOT_JSON) for end in range(len(ONE_JOB))]
-    for name, text, fault in cases:
+    return cases + [(f"a plan cut at {end}", ONE_JOB[:end], NOT_JSON) for end in range(len(ONE_JOB))]
+
+
+def test(count):
+    """All tests of this file."""
+    for name, text, fault in refused():
         count.test(name, run(ZSCHED, text, seconds=20), (2, b"", f"zsched: {fault}\n".encode()))
     for name, text, report in accepted_plans():
         count.test(name, run(ZSCHED, text, seconds=20), (0, report, b""))

@@ -1,0 +1,137 @@
+#!/usr/bin/env python3
+"""The quick gate: proves what changed over kept proofs, and runs the plans on the program as it stands, unproved.
+
+A crate whose files changed since it was last seen proved here is checked again; where more than bodies of functions
+changed (a definition, a contract, a type), so are the crates above it. Beside that the program is run unproved, with
+checks, on the plans of examples/ and tests/plans/ and on the hostile plans. It shows no proof from nothing, no edit that
+must fail and no test of the crates: ./check does. The last line is 'N passed, M failed'."""
+import hashlib
+import os
+import pathlib
+import re
+import subprocess
+import sys
+import tempfile
+
+sys.dont_write_bytecode = True
+
+import hostile_plans
+from program import TOP, Count
+
+CRATES = TOP / "crates"
+# A plan of more bytes is left to the built program: the unproved run is slow.
+LARGE = 10000
+# A line of a source that callers may lean on: an import, an item's head, a clause or an attribute.
+HEAD = re.compile(r"^\s*(pub\b|fn\b|requires\b|ensures\b|struct\b|enum\b|impl\b|trait\b|ghost\b|use\b|mod\b|const\b|#)")
+
+
+def crates():
+    """The crates of the program, lowest first, each with those that it stands on."""
+    lines = (TOP / "crates.txt").read_text().splitlines()
+    listed = {line.split(":")[0].split()[0]: line.split(":")[1].split() for line in lines if ":" in line and line[0] != "#"}
+    wanted = [*listed["zsched"], "zsched"]
+    return {name: [it for it in listed[name] if it in listed] for name in listed if name in wanted}
+
+
+def sums(name):
+    """A checksum of all files of a crate, and one of what the crates above it may lean on."""
+    whole, heads = hashlib.sha256(), hashlib.sha256()
+    for part in ["src", "specs", "proofs"]:
+        for file in sorted((CRATES / name / part).rglob("*")):
+            if not file.is_file():
+                continue
+            text = file.read_text(encoding="utf-8")
+            whole.update(f"{file.relative_to(TOP)}\n{text}".encode())
+            if part == "specs":
+                heads.update(text.encode())
+            elif part == "src":
+                heads.update("\n".join(line for line in text.splitlines() if HEAD.match(line)).encode())
+    return [whole.hexdigest(), heads.hexdigest()]
+
+
+def kept(name):
+    """The sums of a crate at its last check here that passed, where there was one."""
+    try:
+        return (CRATES / name / "out" / "quick").read_text().split()
+    except FileNotFoundError:
+        return ["", ""]
+
+
+def changed(listed):
+    """The crates that have to be checked, lowest first."""
+    found, moved = [], set()
+    for name, below in listed.items():
+        now, before = sums(name), kept(name)
+        if now[1] != before[1]:
+            moved.add(name)
+        if now != before or moved & set(below):
+            found.append(name)
+    return found
+
+
+def prove(count, listed):
+    """Checks the crates that changed, over what earlier checks kept."""
+    for name in changed(listed):
+        now = sums(name)
+        ended = subprocess.run(["rt", "check"], cwd=CRATES / name, capture_output=True, text=True, errors="replace")
+        count.test(f"rt check in crates/{name}", ended.returncode, 0)
+        if ended.returncode:
+            print("\n".join(ended.stdout.splitlines()[-30:]))
+            return
+        (CRATES / name / "out" / "quick").write_text(" ".join(now))
+
+
+def write_cases(folder):
+    """Writes the plans with reports, and the hostile plans, as files; answers what each has to end with."""
+    wanted = {}
+    for plan in sorted([*TOP.glob("examples/*.json"), *TOP.glob("tests/plans/*.json")]):
+        (folder / plan.name).write_bytes(plan.read_bytes())
+        (folder / f"{plan.name}.stdout").write_bytes(plan.with_suffix(".json.stdout").read_bytes())
+        wanted[plan.name] = ("0", "")
+    small = [(text, fault) for _name, text, fault in hostile_plans.refused() if len(text) <= LARGE]
+    for number, (text, fault) in enumerate(small, 1):
+        case = f"hostile_{number:03}.json"
+        (folder / case).write_bytes(text)
+        wanted[case] = ("2", f"zsched: {fault}")
+    return wanted
+
+
+def judge(count, wanted, said):
+    """Tests the lines that the unproved run said of each case."""
+    before = ""
+    for line in said.splitlines():
+        case = re.match(r"case=(\S+) run=(\S+)(?: status=(\d+))?(.*)", line)
+        if not case:
+            before = line if line.startswith("zsched: ") else before
+            continue
+        name = case[1]
+        status, text = wanted.pop(name)
+        is_same = "output=expected" in case[4] or status != "0"
+        count.test(f"{name}, unproved", (case[3], before, is_same), (status, text, True))
+        before = ""
+    for name in wanted:
+        count.test(f"{name}, unproved", "no run", "a run")
+
+
+def main():
+    """Both halves side by side."""
+    count = Count()
+    with tempfile.TemporaryDirectory() as room:
+        folder = pathlib.Path(room)
+        wanted = write_cases(folder)
+        with open(folder.with_suffix(".said"), "w+", errors="replace") as said:
+            words = ["rt", "try", "--cases", room]
+            running = subprocess.Popen(words, cwd=CRATES / "zsched", stdin=subprocess.DEVNULL, stdout=subprocess.DEVNULL, stderr=said)
+            try:
+                prove(count, crates())
+                running.wait()
+            finally:
+                running.kill()
+            said.seek(0)
+            judge(count, wanted, said.read())
+        os.remove(folder.with_suffix(".said"))
+    return count.close()
+
+
+if __name__ == "__main__":
+    sys.exit(main())
