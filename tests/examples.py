@@ -1,8 +1,8 @@
 #!/usr/bin/env python3
-"""Runs the program on each plan of examples/ and tests/plans/, and compares its report with the one that lies beside it.
+"""Runs the program on each plan of examples/ and tests/plans/, and compares its report with the one beside it.
 
-Each plan runs as it stands, and then under twelve cuts: 1, 2, 7 and 64 workers, each with a grain of 1, 3 and 10000. The
-report has to be the same. The reports were worked out by hand or by another program, and are never written by zsched.
+Each plan runs as it stands, and then under twelve cuts: 1, 2, 7 and 64 workers, each with a grain of 1, 3 and 10000.
+The report has to be the same. The reports were worked out by hand or by another program, never written by zsched.
 
     python3 tests/examples.py [PLAN.json ..]      these plans alone
 
@@ -38,8 +38,8 @@ def cuts_of(plan):
 
 
 def fault_of(zsched, plan, wanted):
-    """What is wrong with the run of a plan, or None: it has to print the report, to end with status 0 and to say nothing
-    on standard error."""
+    """What is wrong with the run of a plan, or None: it has to print the report, end with status 0, and say nothing on
+    standard error."""
     try:
         status, report, errors = program.run(zsched, plan, SECONDS)
     except subprocess.TimeoutExpired:
