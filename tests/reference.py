@@ -479,6 +479,7 @@ JSON_SPACE = re.compile(r"[ \t\n\r]*")
 JSON_TEXT = re.compile(r'"((?:[^"\\\x00-\x1f]++|\\(?:["\\/bfnrt]|u[0-9a-fA-F]{4}))*+)"')
 JSON_NUMBER = re.compile(r"-?(?:0|[1-9][0-9]*+)(?:\.[0-9]++)?(?:[eE][+-]?[0-9]++)?")
 JSON_WORD = re.compile(r"true|false|null")
+JSON_WORDS = {"t": True, "f": False, "n": None}
 JSON_ESCAPE = re.compile(r"\\(?:u([dD][89abAB][0-9a-fA-F]{2})\\u([dD][c-fC-F][0-9a-fA-F]{2})|u([0-9a-fA-F]{4})|(.))")
 ESCAPED = {"b": "\b", "f": "\f", "n": "\n", "r": "\r", "t": "\t", '"': '"', "\\": "\\", "/": "/"}
 NO_JSON = "plan is not JSON"
@@ -491,51 +492,53 @@ class Json:
         self.text = text
         self.at = 0
 
-    def match(self, pattern):
-        """Takes what fits a pattern, or answers None."""
-        found = pattern.match(self.text, self.at)
-        self.at = found.end() if found else self.at
-        return found
-
-    def next_is(self, *signs):
-        """Whether one of these signs comes next after white space. The sign isn't taken."""
-        self.match(JSON_SPACE)
-        return self.text[self.at:self.at + 1] in signs
+    def sign(self):
+        """The sign that comes next after white space, or "" at the end. It isn't taken."""
+        self.at = JSON_SPACE.match(self.text, self.at).end()
+        return self.text[self.at:self.at + 1]
 
     def take(self, *signs):
         """Takes one of these signs after white space."""
-        if not self.next_is(*signs):
+        sign = self.sign()
+        if sign not in signs:
             raise Fault(NO_JSON)
-        self.at += 1
-        return self.text[self.at - 1]
+        self.at += len(sign)
+        return sign
+
+    def match(self, pattern):
+        """Takes what fits a pattern."""
+        found = pattern.match(self.text, self.at)
+        if not found:
+            raise Fault(NO_JSON)
+        self.at = found.end()
+        return found
 
     def document(self):
         """The value that the whole text is."""
         value = self.value(0)
-        if not self.next_is(""):
-            raise Fault(NO_JSON)
+        self.take("")
         return value
 
     def value(self, depth):
         """Reads a value that stands in so many lists and objects."""
-        if depth == 127 and self.next_is("[", "{"):
+        sign = self.sign()
+        if depth == 127 and sign in ("[", "{"):
             raise Fault(NO_JSON)
-        if self.next_is("["):
+        if sign == "[":
             return list(self.members("[", "]", lambda: self.value(depth + 1)))
-        if self.next_is("{"):
+        if sign == "{":
             return dict(self.members("{", "}", lambda: self.pair(depth + 1)))
-        if self.next_is('"'):
+        if sign == '"':
             return self.string()
-        if found := self.match(JSON_NUMBER):
-            return json_number(found[0])
-        if found := self.match(JSON_WORD):
-            return {"true": True, "false": False, "null": None}[found[0]]
-        raise Fault(NO_JSON)
+        if sign in JSON_WORDS:
+            self.match(JSON_WORD)
+            return JSON_WORDS[sign]
+        return json_number(self.match(JSON_NUMBER)[0])
 
     def members(self, begin, end, member):
         """Reads members with commas between, from one sign to another."""
         self.take(begin)
-        if self.next_is(end):
+        if self.sign() == end:
             self.take(end)
             return
         yield member()
@@ -544,18 +547,14 @@ class Json:
 
     def pair(self, depth):
         """Reads a key and its value."""
-        if not self.next_is('"'):
-            raise Fault(NO_JSON)
+        self.sign()
         key = self.string()
         self.take(":")
         return key, self.value(depth)
 
     def string(self):
         """Reads a text."""
-        found = self.match(JSON_TEXT)
-        if not found:
-            raise Fault(NO_JSON)
-        return JSON_ESCAPE.sub(unescaped, found[1])
+        return JSON_ESCAPE.sub(unescaped, self.match(JSON_TEXT)[1])
 
 
 def unescaped(found):
