@@ -476,6 +476,7 @@ def report(jobs, clock, most=None):
 # A whole number becomes an int and every other number a float; an object becomes a dict, a list a list, a text a str.
 
 JSON_SPACE = re.compile(r"[ \t\n\r]*")
+JSON_SPACES = {" ", "\t", "\n", "\r"}
 JSON_TEXT = re.compile(r'"((?:[^"\\\x00-\x1f]++|\\(?:["\\/bfnrt]|u[0-9a-fA-F]{4}))*+)"')
 JSON_NUMBER = re.compile(r"-?(?:0|[1-9][0-9]*+)(?:\.[0-9]++)?(?:[eE][+-]?[0-9]++)?")
 JSON_WORD = re.compile(r"true|false|null")
@@ -494,7 +495,8 @@ class Json:
 
     def sign(self):
         """The sign that comes next after white space, or "" at the end. It isn't taken."""
-        self.at = JSON_SPACE.match(self.text, self.at).end()
+        if self.text[self.at:self.at + 1] in JSON_SPACES:
+            self.at = JSON_SPACE.match(self.text, self.at).end()
         return self.text[self.at:self.at + 1]
 
     def take(self, *signs):
