@@ -3,9 +3,9 @@
 
     python3 tests/large_plans.py
 
-The plans have many attempts, items, ticks, rounds, jobs or bytes. A machine that runs this has the memory and the threads
-for them, so a status 4 fails. The last line is 'N passed, M failed'; the exit status is 0 where M is 0, 1 where it isn't, and
-2 where there is no program."""
+The plans have many attempts, items, ticks, rounds, jobs or bytes. A machine that runs this has the memory and the
+threads for them, so a status 4 fails. The last line is 'N passed, M failed'; the exit status is 0 where M is 0, 1 where
+it isn't, and 2 where there is no program."""
 import argparse
 import json
 import os
@@ -28,7 +28,8 @@ LEAVES = ["forever", "recurs(600)", "spaced(3)", "fixed(7)", "windowed(7)", "exp
 def job(number, schedule, values=(0,), ms=1, mode="repeat"):
     """A job that the schedule alone ends."""
     how = "ok" if mode == "repeat" else "err"
-    return {"name": f"j{number}", "mode": mode, "schedule": schedule, "script": [{"ms": ms, how: value} for value in values]}
+    script = [{"ms": ms, how: value} for value in values]
+    return {"name": f"j{number}", "mode": mode, "schedule": schedule, "script": script}
 
 
 def plan(jobs, **more):
@@ -45,11 +46,13 @@ def attempts_over_each_leaf(mode):
 def attempts_over_each_operator():
     """Jobs of 500 attempts, an operator over growing parts each."""
     schedules = ["(forever && identity)", "(recurs(3) || elapsed)", "(recurs(250) andThenEither identity)",
-                 "identity.whileInput(< 1000)", "(identity && elapsed).whileOutput(_2 < 2000)", "identity.map(+ 5).map(* 7)",
+                 "identity.whileInput(< 1000)", "(identity && elapsed).whileOutput(_2 < 2000)",
+                 "identity.map(+ 5).map(* 7)",
                  "recurs(900).resetWhen(= 7)", "(recurs(2) andThenEither recurs(3)).map(merge).resetWhen(= 3)",
                  "identity.collectAll.resetWhen(size = 9)", "identity.collectAll.map(size)",
                  "(linear(1) && forever.collectAll.map(size)).resetWhen(_1 > 50).resetWhen(_2 = 9)"]
-    return plan([job(number, schedule, range(9), 2) for number, schedule in enumerate(schedules)], horizon=1100, workers=2)
+    jobs = [job(number, schedule, range(9), 2) for number, schedule in enumerate(schedules)]
+    return plan(jobs, horizon=1100, workers=2)
 
 
 def collected(length, value):
@@ -67,7 +70,8 @@ def many_ticks():
 
 def many_rounds(workers):
     """A job of 20,000 attempts, with two jobs beside it."""
-    return plan([job(0, "forever"), job(1, "spaced(99)"), job(2, "(spaced(1) && recurs(5000))")], horizon=20000, workers=workers)
+    jobs = [job(0, "forever"), job(1, "spaced(99)"), job(2, "(spaced(1) && recurs(5000))")]
+    return plan(jobs, horizon=20000, workers=workers)
 
 
 def many_jobs(count, workers, grain):
@@ -98,7 +102,8 @@ def plans():
 def main():
     """The command line."""
     arguments = argparse.ArgumentParser(description=__doc__, formatter_class=argparse.RawDescriptionHelpFormatter)
-    arguments.add_argument("--zsched", default=os.environ.get("ZSCHED", ZSCHED), help="the program (the built one, or ZSCHED)")
+    arguments.add_argument("--zsched", default=os.environ.get("ZSCHED", ZSCHED),
+                           help="the program (the one in the variable ZSCHED, or else the built one)")
     given = arguments.parse_args()
     if not os.access(given.zsched, os.X_OK):
         arguments.error(f"{given.zsched}: no program stands here")
