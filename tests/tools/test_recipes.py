@@ -164,6 +164,7 @@ class Recipes(unittest.TestCase):
 
     def test_there_are_enough(self):
         self.assertGreaterEqual(len(SECTIONS), 15)
+        self.assertIn(f"has {len(SECTIONS)} tasks", (TOP / "README.md").read_text())
 
     def test_each_task_is_listed_at_the_top(self):
         titles = [section.splitlines()[0] for section in SECTIONS]
