@@ -151,6 +151,16 @@ def first_difference(schedule, steps):
     return None
 
 
+def after_calm(schedule, calm):
+    """The schedule, which begins anew at a step that comes so long after the step before it."""
+    def step(now, given, state):
+        last, inner = state
+        begins_anew = last is not None and now - last >= calm
+        inner, out, after = schedule.step(now, given, schedule.initial if begins_anew else inner)
+        return (now, inner), out, after
+    return zio.Schedule((None, schedule.initial), step)
+
+
 class Recipes(unittest.TestCase):
     """The sections of the page."""
 
@@ -197,6 +207,22 @@ class Recipes(unittest.TestCase):
             for plan, report in self.plans_of(section):
                 with self.subTest(section.splitlines()[0]):
                     self.assertEqual(program.run(zsched, plan, 60), (0, report, b""))
+
+
+    def test_a_calm_is_the_time_between_two_failures(self):
+        example = json.loads((TOP / "examples" / "start_over_after_calm.json").read_bytes())
+        schedule = after_calm(zio.either(zio.exponential(100), zio.spaced(2000)), 5000)
+        chance = random.Random(3)
+        times = [10, 50, 2950, 2999, 3000, 3001, 4899, 4900, 4901, 6000]
+        jobs = [{"name": f"j{number}", "mode": "retry", "schedule": example["jobs"][0]["schedule"],
+                 "script": [{"ms": chance.choice(times), "err": 1} for _ in range(30)] + [{"ms": 1, "ok": 0}]}
+                for number in range(100)]
+        plan = json.dumps({"horizon": 1000000, "jobs": jobs}).encode()
+        status, report, _ = program.run(program.find(), plan, 60)
+        self.assertEqual(status, 0)
+        found = steps_of(report.decode())
+        self.assertEqual([len(steps) for steps in found], [30] * 100)
+        self.assertEqual([first_difference(schedule, steps) for steps in found], [None] * 100)
 
 
 class ForZio(unittest.TestCase):
