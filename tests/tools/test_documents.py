@@ -1,5 +1,4 @@
-"""The documents: their links lead somewhere, the README is short, and the plans that they show have the reports that they
-show."""
+"""The documents: their links lead somewhere, the README is short, and the plans shown have the reports shown."""
 import json
 import pathlib
 import re
