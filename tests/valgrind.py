@@ -6,6 +6,7 @@
 Each report has to be the right one. memcheck has to name no error and no lost memory. helgrind and drd may name only reads
 of a queue's places by the queue itself, as docs/GUARANTEES.md explains. It isn't part of ./check, since it needs valgrind.
 The last line is 'N passed, M failed'."""
+import json
 import pathlib
 import shutil
 import sys
@@ -18,9 +19,12 @@ from program import TOP, ZSCHED, Count, equal_jobs, job, plan, run
 
 PLANS = [
     "backoff_with_a_cap_on_tries", "collected_inputs", "a_done_part_goes_on_again", "attempts_end_at_listed_ticks",
-    "fixed_runs_behind", "windows_wait_when_behind", "no_jobs", "seven_jobs_workers_1_grain_1",
-    "seven_jobs_workers_2_grain_1", "seven_jobs_workers_2_grain_3", "seven_jobs_workers_7_grain_1",
-    "seven_jobs_on_listed_ticks_workers_64_grain_1",
+    "fixed_runs_behind", "windows_wait_when_behind", "no_jobs", "seven_jobs",
+]
+
+# Plans, each with a number of workers and a grain of its own.
+CUTS = [
+    ("seven_jobs", 1, 1), ("seven_jobs", 2, 1), ("seven_jobs", 7, 1), ("seven_jobs_on_listed_ticks", 64, 1),
 ]
 
 TOOLS = {
@@ -33,10 +37,23 @@ TOOLS = {
 QUEUE = "crossbeam_queue::"
 
 
+def path_of(name):
+    """Where a plan lies."""
+    return TOP / "tests" / "plans" / f"{name}.json"
+
+
+def report_of(name):
+    """The report that lies beside a plan."""
+    return path_of(name).with_suffix(".json.stdout").read_bytes()
+
+
 def cases():
     """Names, plans, and how they have to end."""
-    listed = [(name, TOP / "tests" / "plans" / f"{name}.json") for name in PLANS]
-    found = [(name, path.read_bytes(), (0, path.with_suffix(".json.stdout").read_bytes())) for name, path in listed]
+    found = [(name, path_of(name).read_bytes(), (0, report_of(name))) for name in PLANS]
+    for name, workers, grain in CUTS:
+        tree = json.loads(path_of(name).read_bytes())
+        tree.update(workers=workers, grain=grain)
+        found.append((f"{name}, {workers} workers, grain {grain}", json.dumps(tree).encode(), (0, report_of(name))))
     text, report = equal_jobs([f"job{number}" for number in range(100)], 4, 5)
     found.append(("a hundred jobs, 4 workers, grain 5", text, (0, report)))
     found.append(("a schedule that is none", plan([job(schedule="(recurs(1) && recurs(2)")]), (2, b"")))

@@ -1,0 +1,210 @@
+#!/usr/bin/env python3
+"""Compares zsched with tests/reference.py on plans that are made at random, one for each seed.
+
+    python3 tests/compare.py --seeds 0..2000
+    nice -n 15 python3 tests/compare.py --seeds 0..1000000 --processes 3
+
+Output, standard error and exit status have to be equal, byte for byte. The reference has no memory or threads to run
+out of, so a status 4 fails as well as a signal does. A plan with a difference is made small before it is told, and is
+kept in a file whose name is printed. The last line is 'N passed, M failed'; the exit status is 0 where M is 0, 1 where
+it isn't, and 2 where the arguments are wrong or there is no program."""
+import argparse
+import importlib.util
+import json
+import multiprocessing
+import os
+import pathlib
+import random
+import sys
+import tempfile
+import time
+
+from generator import json_text, plan_of
+from program import ZSCHED, run, shown
+
+HERE = pathlib.Path(__file__).resolve().parent
+MOST_ATTEMPTS = 2100
+MOST_TRIES = 400
+PATIENCE = 30
+CHUNK = 100
+
+
+def loaded(path):
+    """The module at a path."""
+    spec = importlib.util.spec_from_file_location("reference", path)
+    module = importlib.util.module_from_spec(spec)
+    spec.loader.exec_module(module)
+    return module
+
+
+class Comparer:
+    """The program and the reference."""
+
+    def __init__(self, zsched, reference):
+        self.zsched = str(zsched)
+        self.reference = loaded(reference)
+
+    def difference(self, plan):
+        """What the program and the reference answer where that isn't the same, else None."""
+        wanted = self.reference.answer(plan, MOST_ATTEMPTS)
+        found = run(self.zsched, plan, seconds=PATIENCE)
+        return None if found == wanted else (found, wanted)
+
+    def differs(self, plan):
+        """Whether the answers differ on a plan that was made smaller. One that runs for long is none."""
+        try:
+            return self.difference(plan) is not None
+        except self.reference.TooManyAttempts:
+            return False
+
+
+# ---- Making a plan small
+
+def smaller_numbers(number):
+    """Numbers below one, the least first."""
+    return [other for other in dict.fromkeys([0, 1, 2, number // 2, number - 1]) if other < number]
+
+
+def smaller_texts(text):
+    """Shorter texts, which leave out a piece."""
+    length = len(text)
+    while length > 1:
+        length = (length + 1) // 2
+        yield from (text[:at] + text[at + length:] for at in range(0, len(text), max(1, length // 2)))
+        if length == 1:
+            return
+
+
+def smaller_schedules(reference, text):
+    """The parts of a schedule, and then shorter texts."""
+    try:
+        term = reference.read_spelled(reference.Tokens(text.encode())).term
+        yield from sorted({written(part) for part in reference.every_part(term)[1:]}, key=len)
+    except (reference.Fault, UnicodeEncodeError):
+        pass
+    yield from smaller_texts(text)
+
+
+def written(term):
+    """The text of a term of the reference."""
+    form, *rest = term
+    if form in ("&&", "||", "andThenEither"):
+        return f"({written(rest[0])} {form} {written(rest[1])})"
+    parts = [written(part) for part in rest if isinstance(part, tuple)]
+    words = [str(word) for word in rest if not isinstance(word, tuple) and word is not None]
+    if not parts:
+        return form + (f"({', '.join(words)})" if words else "")
+    return parts[0] + "." + form + (f"({' '.join(words)})" if words else "")
+
+
+def smaller_trees(reference, tree, key=None):
+    """Documents that are a little smaller than one."""
+    if isinstance(tree, dict):
+        for its_key in tree:
+            yield {other: value for other, value in tree.items() if other != its_key}
+        for its_key, value in tree.items():
+            yield from ({**tree, its_key: smaller} for smaller in smaller_trees(reference, value, its_key))
+    elif isinstance(tree, list):
+        length = len(tree)
+        while length:
+            yield from (tree[:at] + tree[at + length:] for at in range(0, len(tree), length))
+            length //= 2
+        for at, value in enumerate(tree[:20]):
+            yield from (tree[:at] + [smaller] + tree[at + 1:] for smaller in smaller_trees(reference, value))
+    elif type(tree) is int:
+        yield from smaller_numbers(tree)
+    elif isinstance(tree, str):
+        yield from smaller_schedules(reference, tree) if key == "schedule" else smaller_texts(tree)
+
+
+def as_bytes(tree):
+    """The bytes of a document."""
+    return json_text(random.Random(1), tree).encode()
+
+
+def small(comparer, plan):
+    """A plan with a difference still, as small as it gets in so many tries."""
+    tries = 0
+    try:
+        tree = json.loads(plan)
+        is_tree = comparer.differs(as_bytes(tree))
+    except (ValueError, RecursionError):
+        is_tree = False
+    current = tree if is_tree else plan
+    smaller = (lambda it: smaller_trees(comparer.reference, it)) if is_tree else smaller_texts
+    made = as_bytes if is_tree else bytes
+    again = True
+    while again:
+        again = False
+        for candidate in smaller(current):
+            tries += 1
+            if tries > MOST_TRIES:
+                return made(current)
+            if comparer.differs(made(candidate)):
+                current, again = candidate, True
+                break
+    return made(current)
+
+
+# ---- Many plans
+
+def told(comparer, seed, plan):
+    """The text of a difference, with the small plan in a file."""
+    plan = small(comparer, plan)
+    found, wanted = comparer.difference(plan)
+    with tempfile.NamedTemporaryFile(prefix=f"zsched-compare-{seed}-", suffix=".json", delete=False) as file:
+        file.write(plan)
+    return f"seed {seed}: {file.name}: {shown(plan)}\n  wanted {shown(wanted)}\n  found  {shown(found)}"
+
+
+def compared(words):
+    """Compares on some seeds: how many passed, and the texts of the differences."""
+    zsched, reference, seeds = words
+    comparer = Comparer(zsched, reference)
+    texts = []
+    for seed in seeds:
+        plan = plan_of(seed)
+        if comparer.difference(plan):
+            texts.append(told(comparer, seed, plan))
+    return len(seeds) - len(texts), texts
+
+
+def seeds_from(text):
+    """The seeds A to B - 1 of the text A..B."""
+    begin, end = text.split("..")
+    return range(int(begin), int(end))
+
+
+def main():
+    """The command line."""
+    arguments = argparse.ArgumentParser(description=__doc__, formatter_class=argparse.RawDescriptionHelpFormatter)
+    arguments.add_argument("--seeds", type=seeds_from, default=range(2000), metavar="A..B",
+                           help="the seeds from A on, without B (0..2000)")
+    arguments.add_argument("--processes", type=int, default=1, help="how many processes compare (1)")
+    arguments.add_argument("--zsched", default=os.environ.get("ZSCHED", ZSCHED),
+                           help="the program (the one in the variable ZSCHED, or else the built one)")
+    arguments.add_argument("--reference", default=HERE / "reference.py",
+                           help="another reference, to see that a wrong one is caught")
+    given = arguments.parse_args()
+    if not os.access(given.zsched, os.X_OK):
+        arguments.error(f"{given.zsched}: no program stands here")
+    begun = time.monotonic()
+    seeds = given.seeds
+    chunks = [(given.zsched, given.reference, seeds[at:at + CHUNK]) for at in range(0, len(seeds), CHUNK)]
+    passed = failed = 0
+    with multiprocessing.Pool(given.processes) as pool:
+        for number, texts in pool.imap(compared, chunks):
+            passed += number
+            failed += len(texts)
+            print("".join(f"{text}\n" for text in texts), end="", flush=True)
+            if (passed + failed) % 10000 == 0:
+                told_so_far = f"compare: {passed + failed} plans, {failed} failed, {time.monotonic() - begun:.0f} s"
+                print(told_so_far, file=sys.stderr, flush=True)
+    print(f"compare: seeds {seeds.start}..{seeds.stop}, {time.monotonic() - begun:.0f} s")
+    print(f"{passed} passed, {failed or not passed:d} failed")
+    return 1 if failed or not passed else 0
+
+
+if __name__ == "__main__":
+    sys.dont_write_bytecode = True
+    sys.exit(main())

@@ -1,0 +1,66 @@
+"""The documents: their links lead somewhere, the README is short, and the plans shown have the reports shown."""
+import json
+import pathlib
+import re
+import unittest
+
+from zsched_tools import program
+
+TOP = pathlib.Path(__file__).resolve().parents[2]
+PAGES = sorted([*TOP.glob("*.md"), *TOP.glob("docs/*.md")])
+README = (TOP / "README.md").read_text()
+FORMATS = (TOP / "docs" / "FORMATS.md").read_text()
+
+
+def anchors_of(page):
+    """The anchors of a page's headings."""
+    outside = re.sub(r"^```.*?^```$", "", page.read_text(), flags=re.MULTILINE | re.DOTALL)
+    titles = re.findall(r"^#+ (.*)$", outside, re.MULTILINE)
+    return {re.sub(r"[^a-z0-9_ -]", "", title.lower()).replace(" ", "-") for title in titles}
+
+
+def links_of(page):
+    """The links of a page that lead into the repository: pairs of a file's path and an anchor, which may be empty."""
+    for target in re.findall(r"\]\(([^)\s]+)\)", page.read_text()):
+        if "://" not in target:
+            path, _, anchor = target.partition("#")
+            yield target, page.parent / path if path else page, anchor
+
+
+class Documents(unittest.TestCase):
+    """All pages."""
+
+    def test_links_lead_somewhere(self):
+        for page in PAGES:
+            for target, path, anchor in links_of(page):
+                with self.subTest(f"{page.relative_to(TOP)}: {target}"):
+                    self.assertTrue(path.exists(), "there is no such file")
+                    self.assertTrue(not anchor or anchor in anchors_of(path), "there is no such heading")
+
+    def test_the_readme_is_short(self):
+        lines = README.splitlines()
+        self.assertLessEqual(len(lines), 90)
+        self.assertEqual([line for line in lines if len(line) > 140], [])
+
+    def test_the_readme_names_tools_that_are_there(self):
+        named = set(re.findall(r"`\.?/?((?:tools/[a-z-]+)|run|check)\b", README))
+        self.assertGreaterEqual(len(named), 7)
+        self.assertEqual([name for name in sorted(named) if not (TOP / name).is_file()], [])
+
+    def test_the_readme_shows_the_sample(self):
+        plan, report = re.search(r"```json\n(.*?)```\n```\n(.*?)```", README, re.DOTALL).groups()
+        sample = TOP / "examples" / "retry_until_success.json"
+        self.assertEqual(json.loads(plan), json.loads(sample.read_bytes()))
+        self.assertEqual(report, sample.with_suffix(".json.stdout").read_text())
+        self.assertEqual(program.run(program.find(), plan.encode(), 60), (0, report.encode(), b""))
+
+    def test_formats_shows_a_plan_and_its_report(self):
+        plan = re.search(r"```json\n(.*?)```", FORMATS, re.DOTALL).group(1)
+        report = re.search(r"```text\n(job .*?)```", FORMATS, re.DOTALL).group(1)
+        polls = report.split()[-1]
+        wanted = f"{report}polls {polls}\n".encode()
+        self.assertEqual(program.run(program.find(), plan.encode(), 60), (0, wanted, b""))
+
+
+if __name__ == "__main__":
+    unittest.main()
