@@ -7,7 +7,6 @@ import re
 import shutil
 import signal
 import subprocess
-import time
 
 from wrong_edits import PARTS, cycles_of
 
@@ -310,20 +309,18 @@ def last_line(log):
     return lines[-1] if lines else ""
 
 
-def lock(crates):
-    """Waits until no other check works in these crates' folders, and keeps others out until the list is let go."""
+def lock(crates, say):
+    """Waits until no other check works in these crates' folders, and keeps others out until the files are closed."""
     held = []
     for folder in sorted({it.folder for crate in crates for it in [crate, *crate.below]}):
         number = os.open(folder, os.O_RDONLY)
         held.append(number)
         try:
+            fcntl.flock(number, fcntl.LOCK_EX | fcntl.LOCK_NB)
+        except BlockingIOError:
+            say(f"waiting for another check in {folder}")
             fcntl.flock(number, fcntl.LOCK_EX)
         except OSError:
             # Some file systems have no locks.
             pass
     return held
-
-
-def now():
-    """Seconds on a clock that only goes forward."""
-    return time.monotonic()

@@ -2,10 +2,13 @@
 """Shows that tests/wrong_bodies.py can fail: a crate of four functions with wrong bodies that the prover refuses, and with
 edits that must be told by name, none of which hides another. It needs the toolchain, and takes about a minute. The last
 line is 'N passed, M failed'."""
+import os
 import pathlib
+import signal
 import subprocess
 import sys
 import tempfile
+import time
 
 sys.dont_write_bytecode = True
 
@@ -145,11 +148,42 @@ def test_words(count):
         count.test(f"no traceback of {words}", "Traceback" in ended.stdout + ended.stderr, False)
 
 
+def working_in(folder):
+    """The processes that work below a folder."""
+    found = []
+    for process in pathlib.Path("/proc").glob("[0-9]*"):
+        try:
+            if os.readlink(process / "cwd").startswith(folder):
+                found.append(process.name)
+        except OSError:
+            pass
+    return found
+
+
+def test_end(count):
+    """A runner that is ended leaves no process and no folder behind; one that is killed no process."""
+    for number, status, left in [(signal.SIGTERM, 128 + signal.SIGTERM, 0), (signal.SIGKILL, -signal.SIGKILL, 1)]:
+        with tempfile.TemporaryDirectory() as folder, tempfile.TemporaryDirectory() as rooms:
+            make_crate(pathlib.Path(folder))
+            words = [sys.executable, RUNNER, "--top", folder]
+            started = subprocess.Popen(words, stdout=subprocess.DEVNULL, env={**os.environ, "TMPDIR": rooms})
+            until = time.monotonic() + 30
+            while not working_in(rooms) and time.monotonic() < until:
+                time.sleep(0.1)
+            count.test("a check has begun", bool(working_in(rooms)), True)
+            started.send_signal(number)
+            count.test(f"status after signal {number}", started.wait(30), status)
+            time.sleep(0.5)
+            count.test(f"processes after signal {number}", working_in(rooms), [])
+            count.test(f"folders after signal {number}", len(os.listdir(rooms)), left)
+
+
 def main():
     """All tests."""
     count = Count()
     test_places(count)
     test_words(count)
+    test_end(count)
     test_runner(count)
     return count.close()
 

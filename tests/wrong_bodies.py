@@ -17,10 +17,11 @@ import signal
 import sys
 import tempfile
 import threading
+import time
 
 sys.dont_write_bytecode = True
 
-from prover import Room, Toolchain, Unusable, crates_of, lock, now
+from prover import Room, Toolchain, Unusable, crates_of, lock
 from wrong_edits import BadEdit, Edit, edited, texts_of
 
 TOP = pathlib.Path(__file__).resolve().parent.parent
@@ -70,7 +71,7 @@ class Trial:
 
     def run(self, toolchain, folder, lanes):
         """Tries all edits, in as many rounds as they need."""
-        begun, self.jobs = now(), lanes.jobs
+        begun, self.jobs = time.monotonic(), lanes.jobs
         texts = texts_of(self.crate.folder)
         room = Room(toolchain, self.crate, folder, texts)
         whole = room.check({}, self.jobs())
@@ -92,7 +93,7 @@ class Trial:
         """Tells the crate's sum."""
         passed = sum(self.found.values())
         say(f"{self.crate.name}: {passed} of {len(self.found)} wrong bodies refused, {self.rounds} rounds, "
-            f"{room.seconds:.0f} processor seconds in {now() - begun:.0f} s")
+            f"{room.seconds:.0f} processor seconds in {time.monotonic() - begun:.0f} s")
         return self.found
 
     def is_good(self, edit, texts, whole):
@@ -238,7 +239,7 @@ def run(options, toolchain, folder):
     trials = trials_of(options, crates_of(pathlib.Path(options.top).resolve()))
     number = lanes_of(options)
     build(toolchain, [it.crate for it in trials], number, folder)
-    held = lock([it.crate for it in trials])
+    held = lock([it.crate for it in trials], say)
     lanes, found = Lanes(number, len(trials)), []
     with concurrent.futures.ThreadPoolExecutor(number) as pool:
         try:
