@@ -1,0 +1,326 @@
+"""The prover of the Rattle toolchain: which crates there are, how a copy of one is checked, and what a check says."""
+import dataclasses
+import fcntl
+import os
+import pathlib
+import re
+import shutil
+import signal
+import subprocess
+
+from wrong_edits import PARTS, cycles_of
+
+VERDICT = re.compile(r"(fn|struct|enum|union|trait|type|impl) (\S+): (.*)")
+GOAL_NOTE = re.compile(r"note: (?:\./)?src/\S+:\d+:\d+: .*\(`([^`]*)`\)")
+REFUSED_PROOF = re.compile(r"(?:\./)?proofs/(\S+)/\w+\.antt:\d+:\d+: error: (?:`([^`]*)`: )?(.*)")
+REFUSED_TEXT = re.compile(r"(?:\./)?((?:src|specs)/[^\s:]+):(\d+):\d+: (?:error|.*: error)\b.*")
+UNPROVED_GOALS = re.compile(r"`search` did not prove ((?:`[^`]*`(?:, | and )?)+)")
+QUOTED = re.compile(r"`([^`]*)`")
+# A proof file's error that says only that it names what the edit took away.
+WEAK = re.compile(r"has no field|is not in scope|has no `|was not admitted")
+
+
+class Unusable(Exception):
+    """What these checks need isn't there. The text says what."""
+
+
+@dataclasses.dataclass
+class Reason:
+    """A goal of a function's own that is open, and the line that says so."""
+    goal: str
+    line: str
+
+    def is_weak(self):
+        """Whether it says only that a proof file names what the edit took away."""
+        return bool(WEAK.search(self.line))
+
+
+class Crate:
+    """A crate of the repository: its folder and the libraries that it names."""
+
+    def __init__(self, top, name, libraries):
+        self.name = name
+        self.folder = top / "crates" / name
+        self.rlib = self.folder / "out" / "rlib" / f"{name}.rlib"
+        self.kept = self.folder / "out" / "incremental"
+        self.libraries = libraries
+        self.below = []
+
+    def sources(self):
+        """The files that a check of the crate reads."""
+        return [path for part in PARTS for path in (self.folder / part).rglob("*") if path.is_file()]
+
+    def size(self):
+        """The bytes of those files, by which the crates are ordered."""
+        return sum(path.stat().st_size for path in self.sources())
+
+    def is_built(self):
+        """Whether its library is there, and nothing that it is made from is newer."""
+        head = self.rlib / "format"
+        if not head.exists():
+            return False
+        made = head.stat().st_mtime_ns
+        older = self.sources() + [it.rlib / "format" for it in self.below]
+        return all(path.exists() and path.stat().st_mtime_ns <= made for path in older)
+
+
+def crates_of(top):
+    """The crates that crates.txt lists, by name, lowest first."""
+    try:
+        lines = (top / "crates.txt").read_text(encoding="utf-8").splitlines()
+    except OSError as fault:
+        raise Unusable(f"crates.txt can't be read: {fault}") from None
+    crates = {}
+    for line in lines:
+        head, colon, libraries = line.partition("#")[0].partition(":")
+        if colon:
+            name = head.split()[0]
+            crates[name] = Crate(top, name, libraries.split())
+    for crate in crates.values():
+        for name in crate.libraries:
+            if name in crates:
+                crate.below += [it for it in [*crates[name].below, crates[name]] if it not in crate.below]
+    return crates
+
+
+class Toolchain:
+    """The toolchain on this machine. What it starts ends with this program, however that ends."""
+
+    def __init__(self):
+        command = shutil.which("rt")
+        if not command:
+            raise Unusable("the Rattle toolchain (the command 'rt') isn't on this machine")
+        self.kit = pathlib.Path(os.path.realpath(command)).parent.parent
+        ends, self.held = os.pipe()
+        self.guard = subprocess.Popen(["sh", "-c", "read _; kill -9 0"], stdin=ends, process_group=0)
+        os.close(ends)
+        self.is_stopped = False
+
+    def stop(self):
+        """Ends all that was started."""
+        self.is_stopped = True
+        try:
+            os.killpg(self.guard.pid, signal.SIGKILL)
+        except OSError:
+            pass
+        self.guard.wait()
+
+    def run(self, words, folder, log):
+        """Runs a command to its end, with its output in the log: its status, and the processor seconds that it took."""
+        if self.is_stopped:
+            raise Unusable("stopped")
+        with open(log, "wb") as out:
+            ran = subprocess.Popen([str(it) for it in words], cwd=folder, stdin=subprocess.DEVNULL, stdout=out,
+                                   stderr=subprocess.STDOUT, process_group=self.guard.pid)
+            _, status, used = os.wait4(ran.pid, 0)
+            ran.returncode = os.waitstatus_to_exitcode(status)
+        if self.is_stopped:
+            raise Unusable("stopped")
+        return ran.returncode, used.ru_utime + used.ru_stime
+
+    def build(self, crate, jobs, log):
+        """Builds a crate's library, and those below it, as far as they aren't built."""
+        status, _ = self.run(["rt", "lib", "--jobs", jobs], crate.folder, log)
+        if status:
+            raise Unusable(f"{crate.name} can't be built: {last_line(log)}")
+
+    def check_words(self, crate, jobs):
+        """The words of a check of a copy of the crate, over the kept work beside it."""
+        words = [self.kit / "bin" / "rattle", "check", "--crate-name", crate.name, "src/lib.rt"]
+        named = {it.name: it.rlib for it in crate.below}
+        for name in ["std", *crate.libraries]:
+            words += ["--extern", f"{name}={named.get(name, self.kit / 'rlibs' / f'{name}.rlib')}"]
+        for folder in [self.kit / "rlibs", *[it.rlib.parent for it in crate.below]]:
+            words += ["-L", f"dependency={folder}"]
+        words += ["--antt-project", self.kit / "rattle" / "logic" / "antt-project.json"]
+        words += ["--logic-built", self.kit / "logic_built", "--incremental", "kept", "--jobs", jobs]
+        return words
+
+
+class Room:
+    """A copy of a crate's texts and of its kept work, in which it is checked with wrong bodies."""
+
+    def __init__(self, toolchain, crate, folder, texts):
+        self.toolchain, self.crate, self.folder, self.texts = toolchain, crate, folder, texts
+        self.kept = folder / "kept"
+        self.checks, self.seconds = 0, 0.0
+        for path, text in texts.items():
+            (folder / path).parent.mkdir(parents=True, exist_ok=True)
+            (folder / path).write_text(text, encoding="utf-8")
+        if crate.kept.is_dir():
+            shutil.copytree(crate.kept, self.kept)
+
+    def check(self, changed, jobs):
+        """Checks the copy with these texts in place of its own, and puts the own ones back."""
+        log = self.folder / f"check_{self.checks}.log"
+        for path, text in changed.items():
+            (self.folder / path).write_text(text, encoding="utf-8")
+        status, seconds = self.toolchain.run(self.toolchain.check_words(self.crate, jobs), self.folder, log)
+        if status == -signal.SIGKILL:
+            # most likely for memory
+            status, seconds = self.toolchain.run(self.toolchain.check_words(self.crate, 1), self.folder, log)
+        for path in changed:
+            (self.folder / path).write_text(self.texts[path], encoding="utf-8")
+        self.checks += 1
+        self.seconds += seconds
+        return Said(log.read_text(encoding="utf-8", errors="replace"), self.crate.name, self.texts)
+
+    def keep(self):
+        """Gives the crate what a check of it as it stands kept."""
+        copy_changed(self.kept, self.crate.kept)
+
+    def restore(self):
+        """Takes the kept work as it was before a round: a round's own would hide what is right."""
+        copy_changed(self.crate.kept, self.kept)
+
+
+def copy_changed(source, target):
+    """Makes the target folder equal to the source, by the files whose time or size differ."""
+    wanted, found = files_in(source), files_in(target)
+    for path in found.keys() - wanted.keys():
+        (target / path).unlink()
+    for path, stamp in wanted.items():
+        if found.get(path) != stamp:
+            (target / path).parent.mkdir(parents=True, exist_ok=True)
+            shutil.copy2(source / path, target / path)
+
+
+def files_in(folder):
+    """The files below a folder, with their time and size."""
+    found = {}
+    for at, _, names in os.walk(folder):
+        for name in names:
+            stamp = os.stat(f"{at}/{name}")
+            found[os.path.relpath(f"{at}/{name}", folder)] = (stamp.st_mtime_ns, stamp.st_size)
+    return found
+
+
+class Said:
+    """What a check said: of each function whether it is proved, and if not, which goals of its own are open."""
+
+    def __init__(self, text, crate, texts):
+        self.lines = text.rstrip("\n").split("\n")
+        self.crate = crate
+        self.verdicts, self.reasons, self.kinds = {}, {}, {}
+        self.refused_texts = []
+        self.cycles = cycles_of(texts)
+        notes, proofs = [], []
+        for line in self.lines:
+            verdict, note = VERDICT.match(line), GOAL_NOTE.match(line)
+            proof, refused = REFUSED_PROOF.match(line), REFUSED_TEXT.match(line)
+            if verdict:
+                kind, name, said = verdict.groups()
+                name = name.removeprefix(f"{crate}::")
+                self.verdicts[name], self.kinds[name] = said, kind
+                self.reasons[name] = notes + [Reason(goal, line) for goal in goals_in(said)]
+                notes = []
+            elif note:
+                notes.append(Reason(note[1], line))
+            elif proof:
+                proofs.append((proof[1], Reason(proof[2] or "", line)))
+            elif refused and not line.startswith(("note:", "warning:")):
+                self.refused_texts.append((refused[1], int(refused[2]), line))
+        for folder, reason in proofs:
+            for name in self.proved_in(folder):
+                self.reasons[name].append(reason)
+        self.part_cycles()
+
+    def is_read(self):
+        """Whether the check came to the proofs."""
+        return bool(self.verdicts) and not self.refused_texts
+
+    def is_proved(self):
+        """Whether the whole crate is proved."""
+        return self.lines[-1].startswith("logic=proved")
+
+    def is_open(self, name):
+        """Whether a function has no proof."""
+        return not self.verdicts[name].startswith(("proved", "assumed"))
+
+    def proved_in(self, folder):
+        """The functions whose proof lies in a folder of proofs/: one, or those of a cycle of calls."""
+        module, _, last = folder.replace("/", "::").rpartition("::")
+        if not last.startswith("+"):
+            names = {(module, last)}
+        elif (module, last[1:]) in self.cycles:
+            names = {(module, name) for name in self.cycles[module, last[1:]]}
+        else:
+            # a function that calls itself
+            names = {(module, last[1:])}
+        return [name for module, last in names for name in [f"{module}::{last}".removeprefix("::")] if name in self.verdicts]
+
+    def part_cycles(self):
+        """Leaves each function of a cycle of calls its own goals, which begin with its name: all are told of each."""
+        for (module, _), members in self.cycles.items():
+            for last in members if len(members) > 1 else []:
+                name = f"{module}::{last}".removeprefix("::")
+                if name in self.reasons:
+                    self.reasons[name] = [it for it in self.reasons[name] if it.goal.startswith(f"{last}-")]
+
+    def owner(self, name):
+        """Of a closure the function that it is written in, and any other function itself."""
+        if "fn" not in name.split("::"):
+            return name
+        path = name.replace("fn::", "", 1).split("::")
+        for end in range(len(path) - 1, 0, -1):
+            if "::".join(path[:end]) in self.verdicts:
+                return "::".join(path[:end])
+        return name
+
+    def parts_of(self, function):
+        """A function and its closures."""
+        return {name for name in self.verdicts if self.owner(name) == function}
+
+    def own_goals(self, function):
+        """The goals of a function's own that are open."""
+        names = [name for name in sorted(self.parts_of(function), key=lambda it: it != function) if self.is_open(name)]
+        return [reason for name in names for reason in self.reasons[name]]
+
+    def waits_for(self, function):
+        """The functions that a function without a proof calls and waits for, through others too."""
+        found, left = set(), [function]
+        while left:
+            for part in self.parts_of(left.pop()):
+                if self.is_open(part):
+                    new = {self.owner(it.removeprefix(f"{self.crate}::")) for it in QUOTED.findall(self.verdicts[part])}
+                    new = {it for it in new if it in self.verdicts} - found - {function}
+                    found |= new
+                    left += new
+        return found
+
+    def open_of_their_own(self):
+        """All that has no proof and doesn't only wait for another's."""
+        return [name for name in self.verdicts if self.is_open(name) and self.reasons[name]]
+
+    def unsure(self, function):
+        """Whether the prover could not tell of a function."""
+        return any(self.verdicts[name].startswith("could not tell") for name in self.parts_of(function))
+
+
+def goals_in(verdict):
+    """The goals that a verdict says were not proved."""
+    found = UNPROVED_GOALS.search(verdict)
+    return QUOTED.findall(found[1]) if found else []
+
+
+def last_line(log):
+    """The last line of a log."""
+    lines = log.read_text(encoding="utf-8", errors="replace").strip().split("\n")
+    return lines[-1] if lines else ""
+
+
+def lock(crates, say):
+    """Waits until no other check works in these crates' folders, and keeps others out until the files are closed."""
+    held = []
+    for folder in sorted({it.folder for crate in crates for it in [crate, *crate.below]}):
+        number = os.open(folder, os.O_RDONLY)
+        held.append(number)
+        try:
+            fcntl.flock(number, fcntl.LOCK_EX | fcntl.LOCK_NB)
+        except BlockingIOError:
+            say(f"waiting for another check in {folder}")
+            fcntl.flock(number, fcntl.LOCK_EX)
+        except OSError:
+            # Some file systems have no locks.
+            pass
+    return held

@@ -1,0 +1,192 @@
+#!/usr/bin/env python3
+"""Shows that tests/wrong_bodies.py can fail: a crate of four functions with wrong bodies that the prover refuses, and with
+edits that must be told by name, none of which hides another. It needs the toolchain, and takes about a minute. The last
+line is 'N passed, M failed'."""
+import os
+import pathlib
+import signal
+import subprocess
+import sys
+import tempfile
+import time
+
+sys.dont_write_bytecode = True
+
+from program import Count
+from wrong_edits import BadEdit, Edit, edited
+
+RUNNER = pathlib.Path(__file__).resolve().parent / "wrong_bodies.py"
+
+SOURCE = """//! Two numbers.
+#![tactic(auto)]
+
+ghost use Rattle.std.specs.Prelude.{◌≡◌, ◌≤◌};
+
+/// The greater of two numbers.
+pub fn greater(a: u64, b: u64) -> u64
+    ensures first { a ≤ result }
+    ensures second { b ≤ result }
+{
+    if a < b { b } else { a }
+}
+
+/// The number, or 10 where it is more.
+pub fn up_to_ten(a: u64) -> u64
+    ensures limit { result ≤ 10 }
+    ensures value { a ≤ 10 → result ≡ a }
+{
+    if a < 10 { a } else { 10 }
+}
+
+/// The greater of two numbers, or 10 where it is more.
+pub fn greater_up_to_ten(a: u64, b: u64) -> u64
+    ensures limit { result ≤ 10 }
+{
+    up_to_ten(greater(a, b))
+}
+
+/// Nothing.
+pub fn zero() -> u64
+    ensures value { result ≡ 0 }
+{
+    0
+}
+"""
+
+# Each edit: its name, its lines, and how it is told. Those that pass are told as refused.
+EDITS = [
+    ("the_lesser", ["function: greater", "old: if a < b { b }", "new: if b < a { b }"], "refused by greater"),
+    ("no_limit", ["function: up_to_ten", "goal: returns-else", "old: else { 10 }", "new: else { a }"],
+     "refused by up_to_ten: returns-else"),
+    ("nothing_below_ten", ["function: up_to_ten", "goal: returns-then", "old: if a < 10 { a }", "new: if a < 10 { 0 }"],
+     "refused by up_to_ten: returns-then"),
+    ("no_limit_above", ["function: greater_up_to_ten", "old: up_to_ten(greater(a, b))", "new: greater(a, up_to_ten(b))"],
+     "refused by greater_up_to_ten"),
+    ("a_right_body", ["function: zero", "old:     0", "new:     1 - 1"], "NOT REFUSED"),
+    ("does_not_apply", ["function: zero", "old: if a > b", "new: if true"], "src/lib.rt 0 times"),
+    ("does_not_compile", ["function: zero", "old:     0", "new:     nothing"], "it doesn't compile: src/lib.rt:"),
+    ("of_another_type", ["function: zero", "old:     0", "new:     true"], "it doesn't compile: src/lib.rt:"),
+    ("elsewhere", ["function: zero", "old: if a < b { b } else { a }", "new: if a < b { a } else { b }"],
+     "refused elsewhere: greater is left open"),
+    ("another_goal", ["function: zero", "goal: requires", "old:     0", "new:     1"], "the goal requires is not open"),
+    ("no_such_function", ["function: one", "old:     0", "new:     1"], "names one"),
+    ("no_function", ["old:     0", "new:     1"], "it has no line 'function:'"),
+]
+
+
+def make_crate(top):
+    """Writes a repository of the one crate, with its edits."""
+    folder = top / "crates" / "two_numbers"
+    (folder / "src").mkdir(parents=True)
+    (folder / "wrong-bodies").mkdir()
+    (top / "crates.txt").write_text("two_numbers:\n", encoding="utf-8")
+    (folder / "src" / "lib.rt").write_text(SOURCE, encoding="utf-8")
+    for name, lines, _ in EDITS:
+        text = "\n".join(["file: src/lib.rt", *lines])
+        (folder / "wrong-bodies" / f"{name}.edit").write_text(text + "\n", encoding="utf-8")
+
+
+def test_runner(count):
+    """The whole runner on that crate."""
+    with tempfile.TemporaryDirectory() as folder:
+        make_crate(pathlib.Path(folder))
+        ended = subprocess.run([sys.executable, RUNNER, "--top", folder], capture_output=True, text=True, timeout=900)
+    lines = ended.stdout.split("\n")
+    print(ended.stdout + ended.stderr, end="")
+    for name, _, told in EDITS:
+        of_it = [line for line in lines if f"/{name}.edit:" in line or f"/{name}:" in line]
+        count.test(f"{name} is told once", len(of_it), 1)
+        count.test(f"{name} is told as what it is", [told in line for line in of_it], [True])
+    passed = sum(told.startswith("refused by") for _, _, told in EDITS)
+    count.test("last line", lines[-2:], [f"{passed} passed, {len(EDITS) - passed} failed", ""])
+    count.test("status", ended.returncode, 1)
+
+
+def edit_of(folder, lines):
+    """An edit with these lines, read."""
+    path = pathlib.Path(folder) / "an.edit"
+    path.write_text("\n".join(["function: f", "file: src/a.rt", *lines]), encoding="utf-8")
+    edit = Edit(path)
+    edit.read()
+    return edit
+
+
+def made_by(folder, text, edits):
+    """The text with these edits made together, or why one can't be."""
+    try:
+        made = [edit_of(folder, lines) for lines in edits]
+        for edit in made:
+            edit.place({"src/a.rt": text})
+        return edited({"src/a.rt": text}, made)[0]["src/a.rt"]
+    except BadEdit as fault:
+        return str(fault)
+
+
+def test_places(count):
+    """Edits are made by place, whatever text another edit brings."""
+    text = "fn f() { one(two) }\nfn g() { three }\n"
+    with tempfile.TemporaryDirectory() as folder:
+        made = lambda *edits: made_by(folder, text, edits)
+        first, second = ["old: one(two)", "new: three"], ["old: three", "new: one(two), 3"]
+        count.test("two edits", made(first, second), "fn f() { three }\nfn g() { one(two), 3 }\n")
+        count.test("in the other order", made(second, first), "fn f() { three }\nfn g() { one(two), 3 }\n")
+        count.test("a second pair", made(["old: one(", "new: ((one, ", "old: two", "new: 2)"]),
+                   "fn f() { ((one, 2)) }\nfn g() { three }\n")
+        count.test("a pair in what the first wrote", made(["old: one", "new: four(5)", "old: 5", "new: 6"]),
+                   "fn f() { four(6)(two) }\nfn g() { three }\n")
+        count.test("a pair that makes one place", made(["old: one(two)", "new: 1", "old: fn g", "new: fn h"]),
+                   "fn f() { 1 }\nfn h() { three }\n")
+        count.test("a text that stands twice", "2 times" in made(["old: fn ", "new: fn"]), True)
+        count.test("a text over a pair's edge", "join the pairs" in made(["old: one", "new: 1", "old: 1(two", "new: 2"]), True)
+
+
+def test_words(count):
+    """Words that name nothing, and the help."""
+    for words, status in [(["--help"], 0), (["--crate", "zs_none"], 2), (["--edit", "none"], 2), (["--none"], 2)]:
+        ended = subprocess.run([sys.executable, RUNNER, *words], capture_output=True, text=True, timeout=60)
+        count.test(f"status of {words}", ended.returncode, status)
+        count.test(f"no traceback of {words}", "Traceback" in ended.stdout + ended.stderr, False)
+
+
+def working_in(folder):
+    """The processes that work below a folder."""
+    found = []
+    for process in pathlib.Path("/proc").glob("[0-9]*"):
+        try:
+            if os.readlink(process / "cwd").startswith(folder):
+                found.append(process.name)
+        except OSError:
+            pass
+    return found
+
+
+def test_end(count):
+    """A runner that is ended leaves no process and no folder behind; one that is killed no process."""
+    for number, status, left in [(signal.SIGTERM, 128 + signal.SIGTERM, 0), (signal.SIGKILL, -signal.SIGKILL, 1)]:
+        with tempfile.TemporaryDirectory() as folder, tempfile.TemporaryDirectory() as rooms:
+            make_crate(pathlib.Path(folder))
+            words = [sys.executable, RUNNER, "--top", folder]
+            started = subprocess.Popen(words, stdout=subprocess.DEVNULL, env={**os.environ, "TMPDIR": rooms})
+            until = time.monotonic() + 30
+            while not working_in(rooms) and time.monotonic() < until:
+                time.sleep(0.1)
+            count.test("a check has begun", bool(working_in(rooms)), True)
+            started.send_signal(number)
+            count.test(f"status after signal {number}", started.wait(30), status)
+            time.sleep(0.5)
+            count.test(f"processes after signal {number}", working_in(rooms), [])
+            count.test(f"folders after signal {number}", len(os.listdir(rooms)), left)
+
+
+def main():
+    """All tests."""
+    count = Count()
+    test_places(count)
+    test_words(count)
+    test_end(count)
+    test_runner(count)
+    return count.close()
+
+
+if __name__ == "__main__":
+    sys.exit(main())
