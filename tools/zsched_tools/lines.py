@@ -7,27 +7,36 @@ import json
 from zsched_tools.command import Refused
 from zsched_tools.report import Attempt, Ending, Reader, records, shown, text_lines
 
-_encode = json.JSONEncoder(separators=(",", ":")).encode
 _decode = json.JSONDecoder(parse_float=str).decode
 
 
-def object_of(job, record):
-    """The JSON object of a record."""
+_ordered = json.JSONEncoder(sort_keys=True).encode
+
+
+def _json(value):
+    """A number, a word of a report (none of which has a letter that JSON escapes) or None, as JSON."""
+    if value is None:
+        return "null"
+    return f'"{value}"' if isinstance(value, str) else value
+
+
+def json_line(job, record):
+    """The JSON object of a record, without a newline."""
     if isinstance(record, Attempt):
-        return {"type": "attempt", "job": job.name, "mode": job.mode, "attempt": record.number, "begin": record.begin,
-                "end": record.end, "outcome": record.outcome, "value": record.value, "waited": record.waited,
-                "out": record.out, "next": record.next}
+        return (f'{{"type":"attempt","job":"{job.name}","mode":"{job.mode}","attempt":{record.number},'
+                f'"begin":{record.begin},"end":{_json(record.end)},"outcome":"{record.outcome}",'
+                f'"value":{_json(record.value)},"waited":{_json(record.waited)},"out":{_json(record.out)},'
+                f'"next":{_json(record.next)}}}')
     if isinstance(record, Ending):
-        return {"type": "end", "job": job.name, "mode": job.mode, "ending": record.how, "value": record.value,
-                "out": record.out, "at": record.at, "polls": record.polls}
-    return {"type": "total", "polls": record.polls}
+        return (f'{{"type":"end","job":"{job.name}","mode":"{job.mode}","ending":"{record.how}",'
+                f'"value":{_json(record.value)},"out":{_json(record.out)},"at":{record.at},"polls":{record.polls}}}')
+    return f'{{"type":"total","polls":{record.polls}}}'
 
 
 def write_lines(source, write):
     """Writes a report's JSON lines, each as soon as it is known."""
     for job, record in records(source):
-        write(_encode(object_of(job, record)))
-        write("\n")
+        write(json_line(job, record) + "\n")
 
 
 def _attempt_lines(item):
@@ -59,8 +68,9 @@ def report_lines(item, is_open):
     raise KeyError(item["type"])
 
 
-def _again(reader, item):
-    """The report's lines of an object, which is refused where it isn't the very object of these lines."""
+def _again(reader, line):
+    """The report's lines of a JSON line, which is refused where it isn't the object of just these lines."""
+    item = _decode(line)
     job, record = reader.job, None
     texts = report_lines(item, job is not None)
     for text in texts:
@@ -68,8 +78,9 @@ def _again(reader, item):
             raise ValueError(text)
         record = reader.take(text)
         job = job or reader.job
-    if record is None or object_of(job, record) != item:
-        raise ValueError(item)
+    again = None if record is None else json_line(job, record)
+    if again is None or (again != line and _ordered(_decode(again)) != _ordered(item)):
+        raise ValueError(line)
     return texts
 
 
@@ -79,7 +90,7 @@ def write_report(source, write):
     reader, number = Reader(), 0
     for number, line in enumerate(text_lines(source), 1):
         try:
-            texts = _again(reader, _decode(line))
+            texts = _again(reader, line)
         except Refused as refused:
             raise Refused(f"line {number}, made into a report: {refused}") from None
         except (ValueError, KeyError, TypeError, AttributeError, RecursionError):

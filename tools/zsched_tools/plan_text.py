@@ -217,5 +217,7 @@ class LinesText:
             raise Refused(f"line {number}: the text is no UTF-8") from None
         except RecursionError:
             raise Refused(f"line {number}: a value is nested too deeply") from None
+        except json.JSONDecodeError as fault:
+            raise Refused(f"line {number}, column {fault.colno}: no JSON: {fault.msg}") from None
         except ValueError as fault:
             raise Refused(f"line {number}: no JSON: {fault}") from None

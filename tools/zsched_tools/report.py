@@ -19,6 +19,7 @@ _NUMBER = "(?:0|[1-9][0-9]{0,19})"
 _OUTPUT = r"[0-9A-Za-z(),\[\]]+"
 # A part of an output that was looked at before is written as #.
 _PART = f"(?:#|{_NUMBER})"
+_SHORT_OUTPUT = re.compile(rf"{_NUMBER}|\({_NUMBER},{_NUMBER}\)")
 _INNERMOST = re.compile(rf"\({_PART},{_PART}\)|(?:Left|Right)\({_PART}\)|\[(?:{_PART}(?:,{_PART})*+)?\]")
 _WHOLE_OUTPUT = re.compile(_PART)
 _TWENTY_DIGITS = re.compile("[0-9]{20}")
@@ -65,7 +66,9 @@ class Total:
 def is_output(text):
     """Whether a text is an output of a schedule: its innermost pairs, sides and lists are taken away until a number is
     left."""
-    if len(text) >= 20 and any(int(digits) > MOST for digits in _TWENTY_DIGITS.findall(text)):
+    if len(text) < 20 and _SHORT_OUTPUT.fullmatch(text):
+        return True
+    if any(int(digits) > MOST for digits in _TWENTY_DIGITS.findall(text)):
         return False
     for _ in range(DEEPEST_OUTPUT):
         if _WHOLE_OUTPUT.fullmatch(text):
@@ -89,6 +92,7 @@ class Reader:
         self.line = 0
         self.job = None
         self.attempt = None
+        self.is_step_due = False
         self.total = None
         self.polls = 0
         self.polls_of_all = 0
@@ -99,11 +103,11 @@ class Reader:
         """Takes the next line without its newline. Answers the record that is whole with it: an attempt, where no step
         is due after it, or with its step; an ending; the total; else None."""
         self.line += 1
-        form, taker = _FORMS.get(text[:1], (None, None))
-        match = form and form.fullmatch(text)
+        form, taker = _FORMS.get(text[:1], _NO_FORM)
+        match = form.fullmatch(text)
         if self.total is not None:
             self._refuse("stands after the last line", text)
-        if not match:
+        if match is None:
             self._refuse("is no line of a report", text)
         return taker(self, match)
 
@@ -124,16 +128,11 @@ class Reader:
             return "a job or the last line"
         if last is None:
             return "attempt 1 or an end"
-        if self._is_step_due():
+        if self.is_step_due:
             return f"step {last.number}"
         if last.next is not None:
             return f"attempt {last.number + 1} or an end"
         return "an end"
-
-    def _is_step_due(self):
-        """Whether the last attempt is one after which its mode asks the schedule, and the step isn't there yet."""
-        last = self.attempt
-        return last is not None and last.out is None and last.outcome == _ASKS_AFTER[self.job.mode]
 
     def _misplaced(self, match):
         self._refuse(f"stands where {self._due()} is due", match[0])
@@ -153,36 +152,39 @@ class Reader:
         self.polls = 0
 
     def _take_attempt(self, match):
-        last = self.attempt
+        number, begin, end, outcome, value = match.groups()
+        last, begin = self.attempt, int(begin)
         wanted = 1 if last is None else last.number + 1
-        if self.job is None or (last is not None and last.next is None) or match[1] != str(wanted):
+        if self.job is None or (last is not None and last.next is None) or number != str(wanted):
             self._misplaced(match)
-        begin = self._number(match[2], match)
-        if last is not None and begin < max(last.end, last.next):
-            self._refuse("begins before the schedule goes on", match[0])
         waited = None if last is None else begin - last.end
+        if last is not None and (waited < 0 or begin < last.next):
+            self._refuse("begins before the schedule goes on", match[0])
         self.polls += waited != 0
-        if match[3] is None:
-            self.attempt = Attempt(wanted, begin, None, "running", None, waited)
+        if end is None:
+            self.attempt = Attempt(wanted, self._number(begin, match), None, "running", None, waited)
             return self.attempt
-        end = self._number(match[3], match)
+        end = self._number(end, match)
         if end <= begin:
             self._refuse("ends before it began", match[0])
         self.polls += 1
-        self.attempt = Attempt(wanted, begin, end, match[4], self._number(match[5], match), waited)
-        return None if self._is_step_due() else self.attempt
+        self.attempt = Attempt(wanted, begin, end, outcome, self._number(value, match), waited)
+        self.is_step_due = outcome == _ASKS_AFTER[self.job.mode]
+        return None if self.is_step_due else self.attempt
 
     def _take_step(self, match):
-        if self.job is None or not self._is_step_due() or match[1] != str(self.attempt.number):
+        number, out, following = match.groups()
+        if not self.is_step_due or number != str(self.attempt.number):
             self._misplaced(match)
-        if not is_output(match[2]):
+        if not is_output(out):
             self._refuse("has no output of a schedule", match[0])
-        self.attempt.out = match[2]
-        self.attempt.next = None if match[3] is None else self._number(match[3], match)
+        self.attempt.out = out
+        self.attempt.next = None if following is None else self._number(following, match)
+        self.is_step_due = False
         return self.attempt
 
     def _take_end(self, match):
-        if self.job is None or self._is_step_due():
+        if self.job is None or self.is_step_due:
             self._misplaced(match)
         ending = Ending(match[1] or ("finished" if match[3] else "unfinished"),
                         None if match[2] is None else self._number(match[2], match), match[3],
@@ -239,6 +241,9 @@ _FORMS = {
                      f" polls ({_NUMBER})"), Reader._take_end),
     "p": (re.compile("polls (0|[1-9][0-9]*)"), Reader._take_total),
 }
+
+
+_NO_FORM = (re.compile("(?!)"), None)
 
 
 def text_lines(source, longest=LONGEST_LINE):
