@@ -13,14 +13,18 @@ LONGEST_PLAN = 16_777_216
 PIECE = 2**18
 
 _SPACE = re.compile(r"[ \t\n\r]*")
+_REST_OF_NUMBER = re.compile("[-+.0-9eE]*")
+
+
+class Number(str):
+    """A number as it was written. Nothing reads numbers here, so that no digit is lost."""
 
 
 def _no_number(word):
     raise ValueError(f"{word} is no number")
 
 
-# Numbers stay texts: nothing reads them here, and no digit is lost.
-_DECODER = json.JSONDecoder(parse_constant=_no_number, parse_float=str, parse_int=str)
+_DECODER = json.JSONDecoder(parse_constant=_no_number, parse_float=Number, parse_int=Number)
 
 
 class JobText(NamedTuple):
@@ -84,12 +88,13 @@ class Source:
         return space + self.text[self.at - 1]
 
     def value(self):
-        """Takes a JSON value. Answers its text, and what it stands for, with its numbers as texts."""
+        """Takes a JSON value, and answers its text and what it stands for."""
         while True:
             try:
                 value, end = _DECODER.raw_decode(self.text, self.at)
                 # A number may go on in the next piece.
-                if end < len(self.text) or not self._more():
+                is_open = isinstance(value, Number) and _REST_OF_NUMBER.match(self.text, end).end() == len(self.text)
+                if not is_open or not self._more():
                     break
             except RecursionError:
                 self.refuse("a value is nested too deeply")
@@ -116,7 +121,7 @@ class Source:
 
 def _job(text, value, line):
     """A job with its name. What isn't an object with a name is refused."""
-    if not isinstance(value, dict) or not isinstance(value.get("name"), str):
+    if not isinstance(value, dict) or type(value.get("name")) is not str:
         raise Refused(f"line {line}: the job that begins here isn't an object with a name")
     return JobText(text, value["name"], line)
 
@@ -154,7 +159,7 @@ class PlanText:
         """Takes a key of the document, with the colon and the white space after it. Answers the text and the key."""
         space = self.source.space()
         text, key = self.source.value()
-        if not isinstance(key, str):
+        if type(key) is not str:
             self.source.refuse("a key of the document isn't a text")
         return space + text + self.source.symbol(":") + self.source.space(), key
 
