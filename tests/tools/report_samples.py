@@ -1,5 +1,6 @@
-"""Reports for the tests of zsched-report, and their lines of the summary, which were worked out by hand from the reports'
-texts: busy is the sum of all ends less begins, waited that of all begins less the ends before them, both up to the horizon."""
+"""Reports for the tests of zsched-report, and their lines of the summary, which were worked out by hand from the
+reports' texts: busy is the sum of all ends less begins, waited that of all begins less the ends before them, both up
+to the horizon."""
 
 RETRIED = """job a retry
 attempt 1 0..5 err 7
@@ -92,8 +93,8 @@ SUMMARIES = {
     "waiting": ([["beat", "repeat", "unfinished", "4 s", "3", "3", "0", "2.5 s", "1.5 s", "1 s"],
                  ["broken", "repeat", "failed 9", "170 ms", "2", "1", "1", "20 ms", "100 ms", "100 ms"]],
                 "2 jobs: 1 unfinished, 1 failed; 5 attempts; 9 polls", "most attempts at once: 2, first at 50 ms"),
-    "greatest": ([["edge", "retry", "unfinished", "213503982334 d 14 h 25 min 51.615 s", "2", "0", "1", "100 ms", "1 ms",
-                   "1 ms"]],
+    "greatest": ([["edge", "retry", "unfinished", "213503982334 d 14 h 25 min 51.615 s", "2", "0", "1", "100 ms",
+                   "1 ms", "1 ms"]],
                  "1 job: 1 unfinished; 2 attempts; 3 polls",
                  "most attempts at once: 1, first at 213503982334 d 14 h 25 min 51.514 s"),
 }
@@ -130,7 +131,8 @@ NO_REPORTS = [
     ("job a retry\nattempt 1 0..5 err 1\nstep 1 out 18446744073709551616 done\n", "line 3 has no output"),
     ("job a retry\nattempt 1 0..5 err 1\nstep 1 out 1(2,3) done\n", "line 3 has no output"),
     ("job a retry\nattempt 1 0..5 err 1\nstep 1 out [1,02] done\n", "line 3 has no output"),
-    ("job a retry\nattempt 1 0..5 err 1\nstep 1 out " + "Left(" * 999 + "0" + ")" * 999 + " done\n", "line 3 has no output"),
+    ("job a retry\nattempt 1 0..5 err 1\nstep 1 out " + "Left(" * 999 + "0" + ")" * 999 + " done\n",
+     "line 3 has no output"),
     ("job a retry\nattempt 1 0..5 err 1\nstep 1 out # done\n", "line 3 is no line"),
     ("job a retry\nattempt 1 0..5 err 1\nstep 1 out 0 next 9\nattempt 2 8..10 ok 1\n", "line 4 begins before"),
     ("job a retry\nattempt 1 0..5 err 1\nstep 1 out 0 done\nattempt 2 8..10 ok 1\n", "line 4 stands where an end"),
@@ -142,7 +144,8 @@ NO_REPORTS = [
     ("job a retry\nattempt 1 0..5 ok 1\nend unfinished at 9 polls 2\n", "line 3 is not the end"),
     ("job a repeat\nattempt 1 0..5 ok 1\nstep 1 out 0 done\nend finished 1 at 5 polls 2\n", "line 4 is not the end"),
     ("job a retry\nattempt 1 9.. running\nend unfinished at 8 polls 1\n", "line 3 is not the end"),
-    ("job a retry\nend unfinished at 8 polls 0\njob b retry\nend unfinished at 9 polls 0\n", "line 4 has another horizon"),
+    ("job a retry\nend unfinished at 8 polls 0\njob b retry\nend unfinished at 9 polls 0\n",
+     "line 4 has another horizon"),
     ("job a retry\nend unfinished at 4 polls 0\njob b retry\nattempt 1 0..5 ok 1\nend succeeded 1 at 5 polls 2\n",
      "line 5 is at odds with a horizon of 4"),
 ]
@@ -154,7 +157,8 @@ def long_report(attempts):
     for number in range(1, attempts + 1):
         begin = 10 * (number - 1)
         lines.append(f"attempt {number} {begin}..{begin + 7} err 503")
-        lines.append(f"step {number} out ({begin},{number - 1}) " + (f"next {begin + 10}" if number < attempts else "done"))
+        following = f"next {begin + 10}" if number < attempts else "done"
+        lines.append(f"step {number} out ({begin},{number - 1}) {following}")
     polls = 2 * attempts
     return "\n".join(lines + [f"end failed 503 at {10 * attempts - 3} polls {polls}", f"polls {polls}", ""])
 

@@ -13,6 +13,7 @@ import unittest
 from unittest import mock
 
 import program
+from measured import measured
 from zsched_tools import plan_text
 from zsched_tools import program as zsched
 from zsched_tools.command import Refused
@@ -22,9 +23,11 @@ from zsched_tools.split import write_parts
 TOOL = program.TOP / "tools" / "zsched-plan"
 RANDOM_PLANS = 200
 
-JOBS = ['{"name":"a","x":1e400}', '{ "name" : "b" , "y" : 1.0 }', '{"name":"c","z":[1,{"jobs":[]}],"text":"\\u0061 ]},{ \\"é"}',
+JOBS = ['{"name":"a","x":1e400}', '{ "name" : "b" , "y" : 1.0 }',
+        '{"name":"c","z":[1,{"jobs":[]}],"text":"\\u0061 ]},{ \\"é"}',
         '{"name":"\\u0064"}', '{"name":"e","n":18446744073709551616000000000001}']
-WHOLE = '{ "horizon" : 1e3,\n "jobs": [' + ",".join(f"\n  {job}\t" for job in JOBS) + '],\n"workers":1.0, "horizon":2 }\n'
+WHOLE = ('{ "horizon" : 1e3,\n "jobs": [' + ",".join(f"\n  {job}\t" for job in JOBS)
+         + '],\n"workers":1.0, "horizon":2 }\n')
 LINES = '{"horizon":1e3,"workers":1.0}\n' + "".join(f"{job}\n" for job in JOBS)
 
 
@@ -74,8 +77,8 @@ class Parts(InFolder):
 
     def test_json_lines_become_the_same_jobs(self):
         found = self.parts(LINES, 2, is_lines=True)
-        self.assertEqual(found, ['{"horizon":1e3,"workers":1.0,"jobs":[\n' + ",\n".join(JOBS[first:first + 2]) + "\n]}\n"
-                                 for first in [0, 2, 4]])
+        self.assertEqual(found, ['{"horizon":1e3,"workers":1.0,"jobs":[\n' + ",\n".join(group) + "\n]}\n"
+                                 for group in [JOBS[:2], JOBS[2:4], JOBS[4:]]])
         self.assertEqual(self.parts(' { } \n{"name":"a"}\n', 1, is_lines=True), ['{ "jobs":[\n{"name":"a"}\n]}\n'])
         self.assertEqual(self.parts('{"horizon":5}\n', 1, is_lines=True), ['{"horizon":5,"jobs":[\n]}\n'])
 
@@ -105,11 +108,9 @@ class Parts(InFolder):
             file.write('{"horizon":1000}\n')
             file.writelines(f'{{"name":"job-{number:07}","mode":"retry","schedule":"recurs(3)",{program.SCRIPT}}}\n'
                             for number in range(60_000))
-        started = subprocess.Popen([sys.executable, TOOL, "split", "10000", "--lines", path, "-o", self.folder / "p"],
-                                   stdout=subprocess.DEVNULL)
-        _, started.returncode, used = os.wait4(started.pid, 0)
-        self.assertEqual((started.returncode, len(list((self.folder / "p").iterdir()))), (0, 6))
-        self.assertLess(used.ru_maxrss, 40_000, "kilobytes at most")
+        status, kilobytes, _ = measured(TOOL, "split", 10_000, "--lines", path, "-o", self.folder / "p", out=os.devnull)
+        self.assertEqual((status, len(list((self.folder / "p").iterdir()))), (0, 6))
+        self.assertLess(kilobytes, 40_000)
 
 
 # What is no plan to be cut, and what is said of it.
@@ -137,7 +138,8 @@ NO_PLANS = [
     ('{"jobs":[],\n"\\u006aobs":[]}', "line 2: the key 'jobs' stands twice"),
     ('{"jobs":[],\n7:1}', "line 2: a key of the document isn't a text"),
     ('{"horizon":[1,\n2 3],"jobs":[]}', "line 2: no JSON: Expecting ',' delimiter"),
-    ('{"jobs":[\n{"name":"a"},\n{"name":"b"},\n{"name":"\\u0061"}]}', "line 4: the name a stands in the job on line 2 too"),
+    ('{"jobs":[\n{"name":"a"},\n{"name":"b"},\n{"name":"\\u0061"}]}',
+     "line 4: the name a stands in the job on line 2 too"),
     ('{"jobs":[\n' + "[" * 100_000, "line 2: a value is nested too deeply"),
     (b'{"jobs":[\n{"name":"a"},\n{"name":"\xff"}]}', "line 3: the text is no UTF-8"),
 ]
@@ -185,14 +187,15 @@ class Refusals(InFolder):
     def test_a_part_that_no_run_would_take(self):
         job = '{"name":"%d","x":"' + "x" * 6_000_000 + '"}'
         text = '{"jobs":[' + ",".join(job % number for number in range(3)) + "]}"
-        with self.assertRaisesRegex(Refused, r"part 1 has 18000070 bytes, and a plan has at most 16777216: take a smaller N"):
+        said = "part 1 has 18000070 bytes, and a plan has at most 16777216: take a smaller N"
+        with self.assertRaisesRegex(Refused, said):
             write_parts(self.plan(text), False, 3, self.folder / "parts")
         self.assertEqual(len(self.parts(text, 2)), 2)
 
     def test_the_command_tells_the_place_and_ends_with_2(self):
         path = self.plan('{"jobs":[\n7]}')
-        self.assertEqual(tool("split", 5, path, "-o", self.folder / "p"),
-                         (2, "", f"zsched-plan: {path}: line 2: the job that begins here isn't an object with a name\n"))
+        said = "line 2: the job that begins here isn't an object with a name"
+        self.assertEqual(tool("split", 5, path, "-o", self.folder / "p"), (2, "", f"zsched-plan: {path}: {said}\n"))
         self.assertEqual(tool("split", 5, self.folder / "none", "-o", self.folder / "p"),
                          (3, "", f"zsched-plan: {self.folder / 'none'}: No such file or directory\n"))
         self.assertEqual(tool("split", 5, "/dev/null", "-o", self.folder / "p"),
@@ -275,11 +278,11 @@ class Whole(InFolder):
         self.assertGreater(attempts, 10 * RANDOM_PLANS)
 
 
-def recipe(title):
-    """The commands of a section of docs/SCALE.md."""
+def recipe(title, language="sh"):
+    """The blocks of commands in a section of docs/SCALE.md."""
     text = (program.TOP / "docs" / "SCALE.md").read_text()
     section = re.search(rf"^## {title}\n(.*?)(?=^## |\Z)", text, re.MULTILINE | re.DOTALL)[1]
-    return re.findall(r"^```sh\n(.*?)^```", section, re.MULTILINE | re.DOTALL)
+    return re.findall(rf"^```{language}\n(.*?)^```", section, re.MULTILINE | re.DOTALL)
 
 
 class Recipes(InFolder):
@@ -302,9 +305,7 @@ class Recipes(InFolder):
 
     def population(self, count):
         """A plan of so many jobs, in the folder."""
-        jobs = [f'{{"name":"job-{number}","mode":"retry","schedule":"recurs(3)",{program.SCRIPT}}}' for number in range(count)]
-        text = '{"horizon":1000,"jobs":[' + ",".join(jobs) + "]}"
-        return self.plan(text, "plan.json")
+        return self.plan(program.plan([program.job(f"job-{number}") for number in range(count)]), "plan.json")
 
     def whole(self, plan):
         """The report of a plan in one run."""
@@ -324,7 +325,8 @@ class Recipes(InFolder):
         broken.write_text(good.replace("recurs", "recur"))
         status, errors = self.run_in_folder(run)
         self.assertEqual((status, errors), (1, "zsched: job 0: schedule: no term at byte 0\n"))
-        self.assertEqual(self.run_in_folder(join), (2, "zsched-report: parts/part-000002.report: is empty, and no report\n"))
+        self.assertEqual(self.run_in_folder(join),
+                         (2, "zsched-report: parts/part-000002.report: is empty, and no report\n"))
         broken.write_text(good)
         self.assertEqual(self.run_in_folder(run), (0, ""))
         self.assertEqual(self.run_in_folder(join), (0, ""))
@@ -336,8 +338,7 @@ class Recipes(InFolder):
         if shutil.which("make") is None:
             self.skipTest("GNU make isn't on this machine")
         self.population(25)
-        makefile = re.search(r"^```make\n(.*?)^```", (program.TOP / "docs" / "SCALE.md").read_text(), re.MULTILINE | re.DOTALL)[1]
-        self.plan(makefile, "Makefile")
+        self.plan(*recipe("GNU make", "make"), "Makefile")
         split, run = recipe("GNU make")[:2]
         self.assertEqual(self.run_in_folder(split.replace("10000", "10")), (0, ""))
         broken = self.folder / "parts" / "part-000002.json"

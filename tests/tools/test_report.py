@@ -11,6 +11,7 @@ import unittest
 import xml.etree.ElementTree
 
 import program
+from measured import measured
 from report_samples import GREATEST, NO_REPORTS, REPORTS, RETRIED, RUNNING, SUMMARIES, WAITING, long_report, wide_report
 from zsched_tools import lines
 from zsched_tools.command import Refused
@@ -24,7 +25,8 @@ FORMS = ["lines", "summary", "svg", "html"]
 
 def tool(*words, text=""):
     """Runs the command: status, standard output, standard error."""
-    ended = subprocess.run([sys.executable, TOOL, *words], input=text.encode("latin-1"), capture_output=True, check=False)
+    ended = subprocess.run([sys.executable, TOOL, *words], input=text.encode("latin-1"), capture_output=True,
+                           check=False)
     return ended.returncode, ended.stdout.decode(), ended.stderr.decode()
 
 
@@ -71,11 +73,12 @@ class JsonLines(unittest.TestCase):
     def test_each_record_is_one_object(self):
         objects = [json.loads(line) for line in lines_of(RETRIED).splitlines()]
         self.assertEqual(objects, [
-            {"type": "attempt", "job": "a", "mode": "retry", "attempt": 1, "begin": 0, "end": 5, "outcome": "err", "value": 7,
-             "waited": None, "out": "0", "next": 5},
-            {"type": "attempt", "job": "a", "mode": "retry", "attempt": 2, "begin": 5, "end": 10, "outcome": "ok", "value": 1,
-             "waited": 0, "out": None, "next": None},
-            {"type": "end", "job": "a", "mode": "retry", "ending": "succeeded", "value": 1, "out": None, "at": 10, "polls": 3},
+            {"type": "attempt", "job": "a", "mode": "retry", "attempt": 1, "begin": 0, "end": 5, "outcome": "err",
+             "value": 7, "waited": None, "out": "0", "next": 5},
+            {"type": "attempt", "job": "a", "mode": "retry", "attempt": 2, "begin": 5, "end": 10, "outcome": "ok",
+             "value": 1, "waited": 0, "out": None, "next": None},
+            {"type": "end", "job": "a", "mode": "retry", "ending": "succeeded", "value": 1, "out": None, "at": 10,
+             "polls": 3},
             {"type": "total", "polls": 3}])
 
     def test_greatest_numbers_are_exact(self):
@@ -93,7 +96,7 @@ class JsonLines(unittest.TestCase):
         self.assertEqual(tool("from-lines", text=lines_of(WAITING)), (0, WAITING, ""))
 
     def test_other_white_space_and_another_order_of_keys_are_the_same_lines(self):
-        others = "".join(json.dumps(dict(sorted(json.loads(line).items()))) + "\n" for line in lines_of(WAITING).splitlines())
+        others = "".join(json.dumps(json.loads(line), sort_keys=True) + "\n" for line in lines_of(WAITING).splitlines())
         self.assertNotEqual(others, lines_of(WAITING))
         self.assertEqual(report_of(others), WAITING)
 
@@ -102,8 +105,9 @@ class JsonLines(unittest.TestCase):
         for old, new, line in [('"end":5', '"end":6', 2), ('"end":5', '"end":5.0', 1), ('"end":5', '"end":"5"', 1),
                                ('"waited":0', '"waited":1', 2), ('"waited":0', '"waited":false', 2),
                                ('"attempt":2', '"attempt":3', 2), ('"attempt":1', '"attempt":true', 1),
-                               ('"out":"0"', '"out":null', 1), ('"out":"0"', '"out":0', 1), ('"mode":"retry"', '"mode":"x"', 1),
-                               ('"type":"end"', '"type":"x"', 3), ('"type":"end",', "", 3), ('"polls":3}\n{', '"polls":3}{', 3),
+                               ('"out":"0"', '"out":null', 1), ('"out":"0"', '"out":0', 1),
+                               ('"mode":"retry"', '"mode":"x"', 1), ('"type":"end"', '"type":"x"', 3),
+                               ('"type":"end",', "", 3), ('"polls":3}\n{', '"polls":3}{', 3),
                                ('"job":"a"', '"job":"a\\nb"', 1), ('"begin":0', '"begin":NaN', 1), ("{", "[", 1),
                                ('"value":7', '"value":7,"more":1', 1), ('"polls":3}\n', '"polls":4}\n', 3)]:
             with self.subTest(f"{old} becomes {new}"):
@@ -121,15 +125,11 @@ class JsonLines(unittest.TestCase):
         with tempfile.TemporaryDirectory() as folder:
             path = pathlib.Path(folder) / "long"
             path.write_text(long_report(50_000))
-            with open(path.with_suffix(".lines"), "wb") as out:
-                started = subprocess.Popen([sys.executable, TOOL, "lines", path], stdout=out)
-                _, status, used = os.wait4(started.pid, 0)
-                started.returncode = status
-            with open(path.with_suffix(".lines"), "rb") as out:
-                self.assertEqual(sum(1 for _ in out), 50_002)
+            status, kilobytes, seconds = measured(TOOL, "lines", path, out=path.with_suffix(".lines"))
+            self.assertEqual(path.with_suffix(".lines").read_bytes().count(b"\n"), 50_002)
         self.assertEqual(status, 0)
-        self.assertLess(used.ru_maxrss, 50_000, "kilobytes at most")
-        self.assertLess(used.ru_utime + used.ru_stime, 10, "seconds of processor time")
+        self.assertLess(kilobytes, 40_000)
+        self.assertLess(seconds, 10)
 
 
 class Refusals(unittest.TestCase):
@@ -170,8 +170,9 @@ class Refusals(unittest.TestCase):
             for form in FORMS:
                 for words, text, place in [([file.name], "", file.name), ([], cut, "standard input")]:
                     status, out, errors = tool(form, *words, text=text)
-                    self.assertEqual((status, errors), (2, f"zsched-report: {place}: ends after line 12, where an end is due, "
-                                                           "and has no last line 'polls TOTAL'\n"))
+                    self.assertEqual((status, errors),
+                                     (2, f"zsched-report: {place}: ends after line 12, where an end is due, "
+                                         "and has no last line 'polls TOTAL'\n"))
                     self.assertEqual(out, "" if form != "lines" else "".join(
                         line + "\n" for line in lines_of(WAITING).splitlines()[:-2]))
 
@@ -236,6 +237,7 @@ SVG = "{http://www.w3.org/2000/svg}"
 def corners(element, size):
     """The places that an element reaches, by its numbers alone. A text is taken as 0.55 of its size a letter."""
     def number(name):
+        """A number of the element; 0 where it has none."""
         return float(element.get(name, "0"))
     kind = element.tag.removeprefix(SVG)
     if kind == "rect":
@@ -309,7 +311,10 @@ class Pictures(unittest.TestCase):
                 root = picture_of(text, title="A title & <more>")
                 _, _, width, height = map(float, root.get("viewBox").split())
                 size_of = sizes(root)
-                for element in [*root, *root.iterfind(f"{SVG}g/*")]:
+                drawn_in_patterns = list(root.iterfind(f"{SVG}defs//*"))
+                for element in root.iterfind(".//*"):
+                    if element in drawn_in_patterns:
+                        continue
                     styles = element.get("class", "").split()
                     for x, y in corners(element, max([size_of.get(style, 0) for style in styles], default=0)):
                         self.assertTrue(0 <= x <= width and 0 <= y <= height,
@@ -327,7 +332,8 @@ class Pictures(unittest.TestCase):
 
     def test_attempts_that_are_near_each_other_share_a_block(self):
         root = picture_of(long_report(5_000))
-        told = [re.match(r"attempts (\d+) to (\d+) of hammer: (\d+)\.\.(\d+) ms, 0 ok, (\d+) err$", it) for it in titles(root)]
+        form = re.compile(r"attempts (\d+) to (\d+) of hammer: (\d+)\.\.(\d+) ms, 0 ok, (\d+) err")
+        told = [form.fullmatch(title) for title in titles(root)]
         self.assertLess(len(told), 120)
         self.assertEqual(sum(int(match[5]) for match in told), 5_000)
         self.assertEqual([int(match[1]) for match in told[1:]], [int(match[2]) + 1 for match in told[:-1]])
@@ -356,8 +362,9 @@ class Pictures(unittest.TestCase):
 
     def test_jobs_are_chosen_by_name_and_more_than_200_are_refused(self):
         many = wide_report(201, 2)
-        self.assertEqual(tool("svg", text=many), (2, "", "zsched-report: standard input: has 201 jobs to draw, and a picture "
-                                                         "has room for 200: choose some with --job NAME\n"))
+        self.assertEqual(tool("svg", text=many),
+                         (2, "", "zsched-report: standard input: has 201 jobs to draw, and a picture has room for 200: "
+                                 "choose some with --job NAME\n"))
         told = titles(picture_of(many, ["service-200", "service-007"]))
         self.assertEqual({it.split(" of ")[1].split(":")[0] for it in told}, {"service-007", "service-200"})
         self.assertEqual(tool("html", "--job", "x", text=many),
@@ -443,8 +450,8 @@ class Join(unittest.TestCase):
         first, second = self.part("first", RUNNING), self.part("second", WAITING)
         self.assertEqual(self.refused(first, second), "second: line 8 has another horizon than a job before it, 10000: "
                                                       "'end unfinished at 4000 polls 5'")
-        self.assertTrue(self.refused(self.part("late", RETRIED.replace("5..10", "5..10000").replace("at 10", "at 10000")),
-                                     second).startswith("second: line 8 is at odds with a horizon of 4000"))
+        late = self.part("late", RETRIED.replace("5..10", "5..10000").replace("at 10", "at 10000"))
+        self.assertTrue(self.refused(late, second).startswith("second: line 8 is at odds with a horizon of 4000"))
 
     def test_what_is_no_file_is_refused(self):
         self.assertEqual(self.refused("/dev/null"), "/dev/null: is no regular file, and a part is read twice")
@@ -459,6 +466,7 @@ class Join(unittest.TestCase):
         written = []
 
         def write(piece):
+            """Keeps a piece, and cuts the other part."""
             written.append(piece)
             os.truncate(other, 0)
         other = self.part("b", WAITING)
@@ -470,15 +478,12 @@ class Join(unittest.TestCase):
         parts = []
         for number in range(40):
             parts.append(self.part(f"part-{number:03}", wide_report(500, 2).replace("job service", f"job s{number}")))
-        with open(os.path.join(self.folder.name, "whole"), "wb") as out:
-            started = subprocess.Popen([sys.executable, TOOL, "join", *parts], stdout=out)
-            _, status, used = os.wait4(started.pid, 0)
-            started.returncode = status
+        whole = pathlib.Path(self.folder.name) / "whole"
+        status, kilobytes, _ = measured(TOOL, "join", *parts, out=whole)
         self.assertEqual(status, 0)
-        with open(out.name, encoding="ascii") as whole:
-            self.assertEqual(whole.read(), "".join(
-                pathlib.Path(part).read_text().removesuffix("polls 2000\n") for part in parts) + "polls 80000\n")
-        self.assertLess(used.ru_maxrss, 40_000, "kilobytes at most")
+        self.assertEqual(whole.read_text(), "".join(
+            pathlib.Path(part).read_text().removesuffix("polls 2000\n") for part in parts) + "polls 80000\n")
+        self.assertLess(kilobytes, 40_000)
 
 
 if __name__ == "__main__":

@@ -49,11 +49,12 @@ def labels(scale):
 
 
 def shown_moments(attempts, horizon):
-    """The first and the last moment that a picture of some jobs' attempts shows. The time before the first attempt is left
-    out where it would take more than a quarter of the room, and the horizon where it would leave the attempts less than a
-    quarter."""
+    """The first and the last moment that a picture of some jobs' attempts shows. The time before the first attempt is
+    left out where it would take more than a quarter of the room, and the horizon where it would leave the attempts
+    less than a quarter."""
     first = min([listed[0].begin for listed in attempts if listed], default=0)
-    last = max([listed[-1].begin if listed[-1].end is None else listed[-1].end for listed in attempts if listed], default=0)
+    lasts = [listed[-1] for listed in attempts if listed]
+    last = max([attempt.begin if attempt.end is None else attempt.end for attempt in lasts], default=0)
     if horizon is not None and (first == last or horizon - first <= 4 * (last - first)):
         last = max(last, horizon)
     if 4 * first < last:

@@ -1,15 +1,15 @@
 """The shapes of a picture: attempts that stand apart, blocks of many, and the marks of endings.
 
-An outcome is told by its shape as well as by its colour: an attempt that succeeded is tall and round, one that failed is
-low and square."""
+An outcome is told by its shape as well as by its colour: an attempt that succeeded is tall and round, one that failed
+is low and square."""
 from dataclasses import dataclass
 
 from zsched_tools.drawing import path, place, rectangle, titled
 from zsched_tools.durations import duration
 from zsched_tools.report import Attempt
 
-# In pixels: an attempt as wide as ALONE is always drawn alone, and none is drawn narrower than NARROWEST. Narrow ones that
-# are nearer than NEAR share a block, up to the width BLOCK.
+# In pixels: an attempt as wide as ALONE is always drawn alone, and none is drawn narrower than NARROWEST. Narrow ones
+# that are nearer than NEAR share a block, up to the width BLOCK. No shape is made narrower than LEAST for the next one.
 ALONE = 4.0
 NARROWEST = 3.0
 NEAR = 1.5
@@ -81,8 +81,8 @@ def shape_title(shape, name):
     """What a shape stands for, in words."""
     if shape.count == 1:
         return attempt_title(shape.first, name)
-    return (f"attempts {shape.first.number} to {shape.last.number} of {name}: {shape.first.begin}..{shape.last.end} ms, "
-            f"{shape.count - shape.failed} ok, {shape.failed} err")
+    return (f"attempts {shape.first.number} to {shape.last.number} of {name}: {shape.first.begin}..{shape.last.end} "
+            f"ms, {shape.count - shape.failed} ok, {shape.failed} err")
 
 
 def draw_shape(shape, middle, height, name):

@@ -1,7 +1,8 @@
 """A report as JSON lines, and the report made again from them.
 
-Each attempt is an object of type `attempt`, each job's ending one of type `end`, and the last line one of type `total`.
-Numbers are JSON numbers, up to 2^64 - 1 (the total has no bound); outputs of schedules are texts, as the report has them."""
+Each attempt is an object of type `attempt`, each job's ending one of type `end`, and the last line one of type
+`total`. Numbers are JSON numbers, up to 2^64 - 1 (the total has no bound); outputs of schedules are texts, as the
+report has them."""
 import json
 
 from zsched_tools.command import Refused

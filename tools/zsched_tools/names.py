@@ -32,8 +32,8 @@ class Names:
 
 
 def first_repeat(repeats, named):
-    """The first name that stands a second time, with both places; None where no name does. `named` gives all names again,
-    each with its place."""
+    """The first name that stands a second time, with both places; None where no name does. `named` gives all names
+    again, each with its place."""
     places = {}
     for name, place in named:
         if _mark(name) in repeats:

@@ -16,7 +16,9 @@ main{{flex:1;overflow:auto}}
 main svg{{display:block;width:100%;height:auto}}
 </style>
 <header>
-<button id="in" aria-label="larger">+</button><button id="out" aria-label="smaller">−</button><button id="all">whole width</button>
+<button id="in" aria-label="larger">+</button>
+<button id="out" aria-label="smaller">−</button>
+<button id="all">whole width</button>
 <span>Ctrl and the wheel zoom too. What an attempt was is told where the pointer rests on it.</span>
 </header>
 <main tabindex="0">
@@ -27,18 +29,28 @@ FOOT = """
 <script>
 "use strict";
 const view = document.querySelector("main"), picture = view.querySelector("svg");
+const names = document.getElementById("names"), moments = document.getElementById("moments");
 let zoom = 1;
+function keepInSight() {
+  if (!names) return;
+  const scale = picture.getBoundingClientRect().width / picture.viewBox.baseVal.width;
+  const above = view.scrollTop / scale - moments.getBBox().y;
+  names.setAttribute("transform", `translate(${view.scrollLeft / scale} 0)`);
+  moments.setAttribute("transform", `translate(0 ${Math.max(0, above)})`);
+}
 function zoomTo(wanted, x, y) {
   const next = Math.min(64, Math.max(1, wanted)), factor = next / zoom;
   const left = (view.scrollLeft + x) * factor - x, top = (view.scrollTop + y) * factor - y;
   zoom = next;
   picture.style.width = 100 * zoom + "%";
   view.scrollTo(left, top);
+  keepInSight();
 }
 function zoomInMiddle(wanted) { zoomTo(wanted, view.clientWidth / 2, view.clientHeight / 2); }
 document.getElementById("in").onclick = () => zoomInMiddle(zoom * 1.5);
 document.getElementById("out").onclick = () => zoomInMiddle(zoom / 1.5);
 document.getElementById("all").onclick = () => zoomInMiddle(1);
+view.addEventListener("scroll", keepInSight);
 view.addEventListener("wheel", event => {
   if (!event.ctrlKey) return;
   event.preventDefault();

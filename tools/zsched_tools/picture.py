@@ -24,11 +24,13 @@ WAIT_SIZE = 10
 STYLE = """text{font-family:"DejaVu Sans",Verdana,Geneva,sans-serif;fill:#1f2933}
 .title{font-size:16px;font-weight:bold}.large{font-size:13px}.small,.axis,.legend{font-size:11px}.wide{font-size:10px}
 .axis,.legend,.mode,.wide{fill:#616e7c}.mode{font-size:10px}
-.page{fill:#fff}.band{fill:#f5f7fa}.grid{stroke:#d9dee4}.edge{stroke:#7b8794}.horizon{stroke:#52606d;stroke-dasharray:6 3 1 3}
+.page{fill:#fff}.band{fill:#f5f7fa}.grid{stroke:#d9dee4}.edge{stroke:#7b8794}
+.horizon{stroke:#52606d;stroke-dasharray:6 3 1 3}
 .ok{fill:#0a8f6a}.err{fill:#d1495b}.good{fill:#087456}.bad{fill:#b8304a}.open{fill:#616e7c}
 .running{fill:url(#running);stroke:#8a6fc1}.hatch{fill:#e2dbf0}.line{stroke:#8a6fc1;stroke-width:3}
 .many{fill:url(#many)}.stripe{fill:#fff;fill-opacity:.55}
-.wait,.arrow{fill:none;stroke:#7b8794}.wait{stroke-dasharray:2 3}.sign{fill:none;stroke:#fff;stroke-width:1.6}.hole{fill:#fff}"""
+.wait,.arrow{fill:none;stroke:#7b8794}.wait{stroke-dasharray:2 3}
+.sign{fill:none;stroke:#fff;stroke-width:1.6}.hole{fill:#fff}"""
 
 PATTERNS = ('<pattern id="running" width="6" height="6" patternUnits="userSpaceOnUse" patternTransform="rotate(45)">'
             '<rect class="hatch" width="6" height="6"/><path class="line" d="M0 0V6"/></pattern>'
@@ -53,8 +55,8 @@ class Row:
 
 
 def rows_of(source, chosen):
-    """The jobs of a report with their attempts: the chosen ones, or all. More than a picture has room for are refused, and
-    so is a name that no job has."""
+    """The jobs of a report with their attempts: the chosen ones, or all. More than a picture has room for are
+    refused, and so is a name that no job has."""
     rows, attempts, jobs, missing = [], [], 0, set(chosen)
     for job, record in records(source):
         is_chosen = job is not None and (not chosen or job.name in chosen)
@@ -103,29 +105,41 @@ class Layout:
         return self.top + (number + 0.5) * self.row
 
 
-def draw_axis(layout, count):
-    """The bands of the rows, the moments with their lines, and the horizon."""
+def draw_bands(layout, count, right):
+    """The grey bands behind every other row."""
     for number in range(0, count, 2):
         top = layout.top + number * layout.row
-        yield rectangle(8, top, WIDTH - 8, top + layout.row, "band")
-    if layout.base:
-        words = f"time since moment {layout.base} ms"
-        yield text(layout.left, layout.top - 28, words, "axis")
+        yield rectangle(8, top, right, top + layout.row, "band")
+
+
+def draw_grid(layout, count):
+    """The moments' lines, their labels below many rows, and the horizon."""
     for moment, label in layout.labels:
         x = layout.scale.at(moment)
         yield path(f"M{place(x)} {place(layout.top - 5)}V{place(layout.bottom)}", "grid")
-        yield text(x, layout.top - 10, label, "axis", "middle")
         if count > 16:
             yield text(x, layout.bottom + 16, label, "axis", "middle")
-    yield path(f"M{place(layout.left)} {place(layout.top)}H{place(layout.right)}", "edge")
     if layout.horizon is not None and layout.horizon <= layout.scale.last:
         x = layout.scale.at(layout.horizon)
-        yield path(f"M{place(x)} {place(layout.top)}V{place(layout.bottom)}", "horizon", f"horizon, {layout.horizon} ms")
+        title = f"horizon, {layout.horizon} ms"
+        yield path(f"M{place(x)} {place(layout.top)}V{place(layout.bottom)}", "horizon", title)
+
+
+def draw_moments(layout):
+    """The labels of the moments above the rows."""
+    yield rectangle(0, layout.top - 24 - (18 if layout.base else 0), WIDTH, layout.top, "page")
+    if layout.base:
+        yield text(layout.left, layout.top - 28, f"time since moment {layout.base} ms", "axis")
+    for moment, label in layout.labels:
+        x = layout.scale.at(moment)
+        yield path(f"M{place(x)} {place(layout.top - 5)}V{place(layout.top)}", "grid")
+        yield text(x, layout.top - 10, label, "axis", "middle")
+    yield path(f"M{place(layout.left)} {place(layout.top)}H{place(layout.right)}", "edge")
 
 
 def waits_of(row, shapes, right):
-    """The waits of a job that are long enough to be seen: from where to where, and how long; that of one which goes on at
-    the horizon isn't told."""
+    """The waits of a job that are long enough to be seen: from where to where, and how long; that of one which goes
+    on at the horizon isn't told."""
     for before, after in zip(shapes, shapes[1:]):
         if after.left - before.right >= 2:
             yield before.right, after.left, after.first.begin - before.last.end
@@ -145,12 +159,20 @@ def draw_waits(layout, waits, middle):
         yield path("".join(f"M{place(left)} {place(middle)}H{place(right)}" for left, right, _ in waits), "wait")
 
 
+def draw_names(layout, rows):
+    """The jobs' names and modes."""
+    yield rectangle(0, layout.top, layout.left - 2, layout.bottom, "page")
+    yield from draw_bands(layout, len(rows), layout.left - 2)
+    for number, row in enumerate(rows):
+        base = layout.middle(number) + layout.size * 0.35
+        name = cut_text(row.job.name, layout.size, layout.name_room)
+        yield text(MARGIN, base, name, layout.style, title=row.job.name if name != row.job.name else None)
+        yield text(layout.left - 10, base, row.job.mode, "mode", "end")
+
+
 def draw_row(layout, number, row):
-    """A job: its name and mode, its attempts, how it ended."""
-    middle, base = layout.middle(number), layout.middle(number) + layout.size * 0.35
-    name = cut_text(row.job.name, layout.size, layout.name_room)
-    yield text(MARGIN, base, name, layout.style, title=row.job.name if name != row.job.name else None)
-    yield text(layout.left - 10, base, row.job.mode, "mode", "end")
+    """A job's attempts, and how it ended."""
+    middle = layout.middle(number)
     shapes = layout.shapes[number]
     yield from draw_waits(layout, layout.waits[number], middle)
     for shape in shapes:
@@ -160,6 +182,7 @@ def draw_row(layout, number, row):
         yield from mark(row.ending.how, shapes[-1].right + size + 3, middle, size)
     verdict = cut_text(row.verdict(layout.base), layout.size, layout.verdict_room)
     style = {"failed": "bad", "unfinished": "open"}.get(row.ending.how, "good")
+    base = middle + layout.size * 0.35
     yield text(layout.right + AFTER_PLOT, base, verdict, f"{layout.style} {style}", title=verdict_title(row))
 
 
@@ -222,10 +245,21 @@ def draw(rows, title, namespace=' xmlns="http://www.w3.org/2000/svg"'):
     if title:
         yield text(MARGIN, 27, cut_text(title, TITLE_SIZE * 1.1, WIDTH - 2 * MARGIN), "title")
     if rows:
-        yield from draw_axis(layout, len(rows))
-    for number, row in enumerate(rows):
-        yield from draw_row(layout, number, row)
-    if not rows:
+        yield from draw_jobs(layout, rows)
+    else:
         yield text(MARGIN, layout.middle(0) + 4, "a report without jobs", "legend")
     yield from entries
     yield "</svg>"
+
+
+def draw_jobs(layout, rows):
+    """All jobs, with the axis. Names and moments are groups of their own, which a page keeps in sight."""
+    yield from draw_bands(layout, len(rows), WIDTH - 8)
+    yield from draw_grid(layout, len(rows))
+    for number, row in enumerate(rows):
+        yield from draw_row(layout, number, row)
+    yield '<g id="names">'
+    yield from draw_names(layout, rows)
+    yield '</g><g id="moments">'
+    yield from draw_moments(layout)
+    yield "</g>"

@@ -127,8 +127,8 @@ def _job(text, value, line):
 
 
 class PlanText:
-    """A plan as one JSON document. `before` is the text up to the jobs, and known when the first is given; `after` is the
-    text after them, and known when all were given."""
+    """A plan as one JSON document. `before` is the text up to the jobs, and known when the first is given; `after` is
+    the text after them, and known when all were given."""
 
     def __init__(self, file):
         self.source = Source(file)

@@ -116,7 +116,8 @@ class Reader:
         if self.line == 0:
             raise Refused("is empty, and no report")
         if self.total is None:
-            raise Refused(f"ends after line {self.line}, where {self._due()} is due, and has no last line 'polls TOTAL'")
+            raise Refused(f"ends after line {self.line}, where {self._due()} is due, "
+                          "and has no last line 'polls TOTAL'")
 
     def _refuse(self, why, text):
         raise Refused(f"line {self.line} {why}: {shown(text)}")
@@ -259,8 +260,8 @@ def text_lines(source, longest=LONGEST_LINE):
 
 
 def records(source, reader=None):
-    """The records of a report, each with its job: attempts and ending of each job, and last the total without a job. What
-    was read before a fault has been given before the fault is told."""
+    """The records of a report, each with its job: attempts and ending of each job, and last the total without a job.
+    What was read before a fault has been given before the fault is told."""
     reader = reader or Reader()
     for text in text_lines(source):
         job = reader.job

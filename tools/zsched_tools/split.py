@@ -1,8 +1,8 @@
 """Cuts a plan by its jobs into plans of at most so many jobs, in order.
 
-The document around the jobs, and each job, stand in a part as they were written. The parts are made in a folder of another
-name, which gets its own when the whole plan is known to be good. Besides the document around the jobs, one job at a time is
-kept in memory."""
+The document around the jobs, and each job, stand in a part as they were written. The parts are made in a folder of
+another name, which gets its own when the whole plan is known to be good. Besides the document around the jobs, one
+job at a time is kept in memory."""
 import os
 import pathlib
 import shutil
@@ -17,8 +17,8 @@ MOST_PARTS = 999_999
 
 
 class Parts:
-    """The parts that are written so far. A part is a file with the text before the jobs, its jobs, and, once all jobs were
-    written, the text after them."""
+    """The parts that are written so far. A part is a file with the text before the jobs, its jobs, and, once all jobs
+    were written, the text after them."""
 
     def __init__(self, folder, most):
         self.folder, self.most = folder, most
@@ -94,8 +94,8 @@ def _write_parts(path, form, parts):
 
 
 def write_parts(path, is_lines, most, folder):
-    """Makes a folder with the parts of a plan, and answers how many parts and jobs there are. Where the plan is refused, no
-    folder is made."""
+    """Makes a folder with the parts of a plan, and answers how many parts and jobs there are. Where the plan is
+    refused, no folder is made."""
     folder = pathlib.Path(folder)
     if folder.exists() and (not folder.is_dir() or any(folder.iterdir())):
         raise Refused(f"{folder}: is there, and isn't an empty folder")
