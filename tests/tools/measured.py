@@ -1,0 +1,26 @@
+"""How much memory and processor time a command of tools/ takes."""
+import subprocess
+import sys
+
+# The command runs inside of this program, which then tells the most memory that its own process held. (What the parent
+# of a process is told counts the parent's own memory too, from before the process began its program.)
+_INSIDE = """import resource, runpy, sys
+sys.argv = sys.argv[1:]
+try:
+    runpy.run_path(sys.argv[0], run_name="__main__")
+finally:
+    with open("/proc/self/status", encoding="ascii") as file:
+        memory = next(line.split()[1] for line in file if line.startswith("VmHWM:"))
+    used = resource.getrusage(resource.RUSAGE_SELF)
+    print("measured", memory, used.ru_utime + used.ru_stime, file=sys.stderr)
+"""
+
+
+def measured(tool, *words, out):
+    """Runs a command with its standard output to a file: its status, the most kilobytes that it held, and its seconds
+    of processor time."""
+    with open(out, "wb") as file:
+        ended = subprocess.run([sys.executable, "-c", _INSIDE, str(tool), *map(str, words)], stdout=file,
+                               stderr=subprocess.PIPE, text=True, check=False)
+    _, memory, time = ended.stderr.splitlines()[-1].split()
+    return ended.returncode, int(memory), float(time)

@@ -1,0 +1,179 @@
+"""Reports for the tests of zsched-report, and their lines of the summary, which were worked out by hand from the
+reports' texts: busy is the sum of all ends less begins, waited that of all begins less the ends before them, both up
+to the horizon."""
+
+RETRIED = """job a retry
+attempt 1 0..5 err 7
+step 1 out 0 next 5
+attempt 2 5..10 ok 1
+end succeeded 1 at 10 polls 3
+polls 3
+"""
+RUNNING = """job nightly-export retry
+attempt 1 0..700 err 500
+step 1 out 1000 next 1700
+attempt 2 1700..2400 err 500
+step 2 out 1000 next 3400
+attempt 3 3400..4100 err 500
+step 3 out 2000 next 6100
+attempt 4 6100..6800 err 500
+step 4 out 3000 next 9800
+attempt 5 9800.. running
+end unfinished at 10000 polls 9
+polls 9
+"""
+COARSE = """job probe-disk repeat
+attempt 1 0..250 ok 1
+step 1 out 0 next 550
+attempt 2 750..1000 ok 1
+step 2 out 1 next 1300
+attempt 3 1500..2000 ok 1
+step 3 out 2 next 2300
+attempt 4 3000..5000 ok 1
+step 4 out 3 next 5300
+end unfinished at 5000 polls 8
+job warm-cache retry
+attempt 1 500..750 err 5
+step 1 out (100,0) next 850
+attempt 2 1000..1250 err 5
+step 2 out (200,1) next 1450
+attempt 3 1500..3000 ok 1
+end succeeded 1 at 3000 polls 6
+polls 14
+"""
+NEVER = """job never retry
+end unfinished at 90000 polls 0
+job drain repeat
+attempt 1 0..20 ok 17
+step 1 out [] next 20
+attempt 2 20..40 ok 9
+step 2 out [17] next 40
+attempt 3 40..60 ok 0
+step 3 out [17,9] done
+end finished [17,9] at 60 polls 4
+polls 4
+"""
+WAITING = """job beat repeat
+attempt 1 0..100 ok 0
+step 1 out 0 next 1100
+attempt 2 1100..3400 ok 0
+step 2 out 1 next 3400
+attempt 3 3400..3500 ok 0
+step 3 out 2 next 4100
+end unfinished at 4000 polls 5
+job broken repeat
+attempt 1 50..60 ok 1
+step 1 out Left((0,[Right(1),Right(2)])) next 160
+attempt 2 160..170 err 9
+end failed 9 at 170 polls 4
+polls 9
+"""
+GREATEST = """job edge retry
+attempt 1 18446744073709551514..18446744073709551614 err 18446744073709551615
+step 1 out 18446744073709551615 next 18446744073709551615
+attempt 2 18446744073709551615.. running
+end unfinished at 18446744073709551615 polls 3
+polls 3
+"""
+REPORTS = {"retried": RETRIED, "running": RUNNING, "coarse": COARSE, "never": NEVER, "waiting": WAITING,
+           "greatest": GREATEST}
+
+# job, mode, ending, at, attempts, ok, err, busy, waited, longest wait
+SUMMARIES = {
+    "retried": ([["a", "retry", "succeeded 1", "10 ms", "2", "1", "1", "10 ms", "0 ms", "0 ms"]],
+                "1 job: 1 succeeded; 2 attempts; 3 polls", "most attempts at once: 1, first at 0 ms"),
+    "running": ([["nightly-export", "retry", "unfinished", "10 s", "5", "0", "4", "3 s", "7 s", "3 s"]],
+                "1 job: 1 unfinished; 5 attempts; 9 polls", "most attempts at once: 1, first at 0 ms"),
+    "coarse": ([["probe-disk", "repeat", "unfinished", "5 s", "4", "4", "0", "3 s", "2 s", "1 s"],
+                ["warm-cache", "retry", "succeeded 1", "3 s", "3", "1", "2", "2 s", "500 ms", "250 ms"]],
+               "2 jobs: 1 unfinished, 1 succeeded; 7 attempts; 14 polls", "most attempts at once: 2, first at 1.5 s"),
+    "never": ([["never", "retry", "unfinished", "1 min 30 s", "0", "0", "0", "0 ms", "0 ms", "0 ms"],
+               ["drain", "repeat", "finished [17,9]", "60 ms", "3", "3", "0", "60 ms", "0 ms", "0 ms"]],
+              "2 jobs: 1 unfinished, 1 finished; 3 attempts; 4 polls", "most attempts at once: 1, first at 0 ms"),
+    "waiting": ([["beat", "repeat", "unfinished", "4 s", "3", "3", "0", "2.5 s", "1.5 s", "1 s"],
+                 ["broken", "repeat", "failed 9", "170 ms", "2", "1", "1", "20 ms", "100 ms", "100 ms"]],
+                "2 jobs: 1 unfinished, 1 failed; 5 attempts; 9 polls", "most attempts at once: 2, first at 50 ms"),
+    "greatest": ([["edge", "retry", "unfinished", "213503982334 d 14 h 25 min 51.615 s", "2", "0", "1", "100 ms",
+                   "1 ms", "1 ms"]],
+                 "1 job: 1 unfinished; 2 attempts; 3 polls",
+                 "most attempts at once: 1, first at 213503982334 d 14 h 25 min 51.514 s"),
+}
+
+# What is no report, and the beginning of what is said of it.
+NO_REPORTS = [
+    ("", "is empty"),
+    ("\n", "line 1 is no line"),
+    ("hello\n", "line 1 is no line"),
+    ("polls 0", "line 1 is cut"),
+    ("polls 00\n", "line 1 is no line"),
+    ("polls 1\n", "line 1 is not the sum"),
+    ("polls 0\n\n", "line 2 stands after"),
+    ("polls 0\npolls 0\n", "line 2 stands after"),
+    ("polls 0\r\n", "line 1 is no line"),
+    ("job a b retry\n", "line 1 is no line"),
+    ("job \u00e9 retry\n", "line 1 is no line"),
+    ("job a loop\n", "line 1 is no line"),
+    ("job a retry\njob b retry\n", "line 2 stands where attempt 1 or an end is due"),
+    ("job a retry\npolls 0\n", "line 2 stands where attempt 1 or an end is due"),
+    ("attempt 1 0..5 ok 1\n", "line 1 stands where a job or the last line is due"),
+    ("end unfinished at 5 polls 0\n", "line 1 stands where a job"),
+    ("job a retry\nstep 1 out 0 done\n", "line 2 stands where attempt 1"),
+    ("job a retry\nattempt 2 0..5 ok 1\n", "line 2 stands where attempt 1"),
+    ("job a retry\nattempt 01 0..5 ok 1\n", "line 2 is no line"),
+    ("job a retry\nattempt 1 5..5 ok 1\n", "line 2 ends before"),
+    ("job a retry\nattempt 1 0..5 ok 18446744073709551616\n", "line 2 has a number above"),
+    ("job a retry\nattempt 1 0..5 ok 100000000000000000000\n", "line 2 is no line"),
+    ("job a retry\nattempt 1 18446744073709551616.. running\n", "line 2 has a number above"),
+    ("job a retry\nattempt 1 0..5 ok 1\nstep 1 out 0 done\n", "line 3 stands where an end"),
+    ("job a retry\nattempt 1 0..5 err 1\nend failed 1 at 5 polls 2\n", "line 3 stands where step 1"),
+    ("job a retry\nattempt 1 0..5 err 1\nstep 2 out 0 done\n", "line 3 stands where step 1"),
+    ("job a retry\nattempt 1 0..5 err 1\nstep 1 out (0,) done\n", "line 3 has no output"),
+    ("job a retry\nattempt 1 0..5 err 1\nstep 1 out 18446744073709551616 done\n", "line 3 has no output"),
+    ("job a retry\nattempt 1 0..5 err 1\nstep 1 out 1(2,3) done\n", "line 3 has no output"),
+    ("job a retry\nattempt 1 0..5 err 1\nstep 1 out [1,02] done\n", "line 3 has no output"),
+    ("job a retry\nattempt 1 0..5 err 1\nstep 1 out " + "Left(" * 999 + "0" + ")" * 999 + " done\n",
+     "line 3 has no output"),
+    ("job a retry\nattempt 1 0..5 err 1\nstep 1 out # done\n", "line 3 is no line"),
+    ("job a retry\nattempt 1 0..5 err 1\nstep 1 out 0 next 9\nattempt 2 8..10 ok 1\n", "line 4 begins before"),
+    ("job a retry\nattempt 1 0..5 err 1\nstep 1 out 0 done\nattempt 2 8..10 ok 1\n", "line 4 stands where an end"),
+    ("job a retry\nattempt 1 0.. running\nattempt 2 8..10 ok 1\n", "line 3 stands where an end"),
+    ("job a retry\nattempt 1 0..5 ok 1\nend succeeded 2 at 5 polls 2\n", "line 3 is not the end"),
+    ("job a retry\nattempt 1 0..5 ok 1\nend succeeded 1 at 6 polls 2\n", "line 3 is not the end"),
+    ("job a retry\nattempt 1 0..5 ok 1\nend succeeded 1 at 5 polls 3\n", "line 3 has other polls"),
+    ("job a retry\nattempt 1 0..5 ok 1\nend failed 1 at 5 polls 2\n", "line 3 is not the end"),
+    ("job a retry\nattempt 1 0..5 ok 1\nend unfinished at 9 polls 2\n", "line 3 is not the end"),
+    ("job a repeat\nattempt 1 0..5 ok 1\nstep 1 out 0 done\nend finished 1 at 5 polls 2\n", "line 4 is not the end"),
+    ("job a retry\nattempt 1 9.. running\nend unfinished at 8 polls 1\n", "line 3 is not the end"),
+    ("job a retry\nend unfinished at 8 polls 0\njob b retry\nend unfinished at 9 polls 0\n",
+     "line 4 has another horizon"),
+    ("job a retry\nend unfinished at 4 polls 0\njob b retry\nattempt 1 0..5 ok 1\nend succeeded 1 at 5 polls 2\n",
+     "line 5 is at odds with a horizon of 4"),
+]
+
+
+def long_report(attempts):
+    """A retry of so many attempts, one each ten milliseconds, all of which fail."""
+    lines = ["job hammer retry"]
+    for number in range(1, attempts + 1):
+        begin = 10 * (number - 1)
+        lines.append(f"attempt {number} {begin}..{begin + 7} err 503")
+        following = f"next {begin + 10}" if number < attempts else "done"
+        lines.append(f"step {number} out ({begin},{number - 1}) {following}")
+    polls = 2 * attempts
+    return "\n".join(lines + [f"end failed 503 at {10 * attempts - 3} polls {polls}", f"polls {polls}", ""])
+
+
+def wide_report(jobs, attempts):
+    """Retries that start apart, each with so many attempts and growing waits."""
+    lines, polls = [], 0
+    for job in range(jobs):
+        lines.append(f"job service-{job:03} retry")
+        begin = 37 * job
+        for number in range(1, attempts):
+            lines.append(f"attempt {number} {begin}..{begin + 30 + job} err 503")
+            begin += 30 + job + 100 * number
+            lines.append(f"step {number} out {100 * number} next {begin}")
+        lines.append(f"attempt {attempts} {begin}..{begin + 50} ok {job}")
+        lines.append(f"end succeeded {job} at {begin + 50} polls {2 * attempts}")
+        polls += 2 * attempts
+    return "\n".join(lines + [f"polls {polls}", ""])

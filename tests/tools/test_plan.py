@@ -1,0 +1,358 @@
+"""zsched-plan split: the texts of the parts, what is refused, and the report of the whole from those of its parts."""
+import io
+import json
+import os
+import pathlib
+import random
+import re
+import shutil
+import subprocess
+import sys
+import tempfile
+import unittest
+from unittest import mock
+
+import program
+from measured import measured
+from zsched_tools import plan_text
+from zsched_tools import program as zsched
+from zsched_tools.command import Refused
+from zsched_tools.join import write_joined
+from zsched_tools.split import write_parts
+
+TOOL = program.TOP / "tools" / "zsched-plan"
+RANDOM_PLANS = 200
+
+JOBS = ['{"name":"a","x":1e400}', '{ "name" : "b" , "y" : 1.0 }',
+        '{"name":"c","z":[1,{"jobs":[]}],"text":"\\u0061 ]},{ \\"é"}',
+        '{"name":"\\u0064"}', '{"name":"e","n":18446744073709551616000000000001}']
+WHOLE = ('{ "horizon" : 1e3,\n "jobs": [' + ",".join(f"\n  {job}\t" for job in JOBS)
+         + '],\n"workers":1.0, "horizon":2 }\n')
+LINES = '{"horizon":1e3,"workers":1.0}\n' + "".join(f"{job}\n" for job in JOBS)
+
+
+def tool(*words):
+    """Runs the command: status, standard output, standard error."""
+    ended = subprocess.run([sys.executable, TOOL, *map(str, words)], capture_output=True, check=False)
+    return ended.returncode, ended.stdout.decode(), ended.stderr.decode()
+
+
+class InFolder(unittest.TestCase):
+    """Tests with a folder of their own."""
+
+    def setUp(self):
+        folder = tempfile.TemporaryDirectory()
+        self.addCleanup(folder.cleanup)
+        self.folder = pathlib.Path(folder.name)
+
+    def plan(self, text, name="plan"):
+        """A plan's file."""
+        path = self.folder / name
+        path.write_bytes(text if isinstance(text, bytes) else text.encode())
+        return path
+
+    def parts(self, text, most, is_lines=False):
+        """The texts of a plan's parts, in the order of their names."""
+        write_parts(self.plan(text), is_lines, most, self.folder / "parts")
+        texts = [path.read_text() for path in sorted((self.folder / "parts").iterdir())]
+        shutil.rmtree(self.folder / "parts")
+        return texts
+
+
+class Parts(InFolder):
+    """All is kept as it was written."""
+
+    def test_a_part_has_its_jobs_and_the_document_as_they_were_written(self):
+        for most in range(1, 7):
+            found = self.parts(WHOLE, most)
+            groups = [JOBS[first:first + most] for first in range(0, len(JOBS), most)]
+            self.assertEqual(found, ['{ "horizon" : 1e3,\n "jobs": [' + ",".join(f"\n  {job}\t" for job in group)
+                                     + '],\n"workers":1.0, "horizon":2 }\n' for group in groups])
+
+    def test_a_plan_that_is_one_part_stays_the_same(self):
+        texts = [path.read_text() for path in sorted(program.TOP.glob("examples/*.json"))]
+        self.assertGreater(len(texts), 10)
+        for text in [WHOLE, *texts, '{"jobs":[]}', ' {"jobs" : [ ] , "horizon":5}\n\n']:
+            self.assertEqual(self.parts(text, 10_000), [text])
+
+    def test_json_lines_become_the_same_jobs(self):
+        found = self.parts(LINES, 2, is_lines=True)
+        self.assertEqual(found, ['{"horizon":1e3,"workers":1.0,"jobs":[\n' + ",\n".join(group) + "\n]}\n"
+                                 for group in [JOBS[:2], JOBS[2:4], JOBS[4:]]])
+        self.assertEqual(self.parts(' { } \n{"name":"a"}\n', 1, is_lines=True), ['{ "jobs":[\n{"name":"a"}\n]}\n'])
+        self.assertEqual(self.parts('{"horizon":5}\n', 1, is_lines=True), ['{"horizon":5,"jobs":[\n]}\n'])
+
+    def test_pieces_of_any_length_are_read_the_same(self):
+        wanted = self.parts(WHOLE, 2)
+        for length in [1, 2, 3, 5, 8, 13, 50]:
+            with mock.patch.object(plan_text, "PIECE", length):
+                self.assertEqual(self.parts(WHOLE, 2), wanted)
+
+    def test_names_of_files_sort_in_order(self):
+        text = '{"jobs":[' + ",".join(f'{{"name":"{number}"}}' for number in range(1100)) + "]}"
+        names = [json.loads(part)["jobs"][0]["name"] for part in self.parts(text, 1)]
+        self.assertEqual(names, [str(number) for number in range(1100)])
+        self.assertEqual(tool("split", 1000, self.plan(text), "-o", self.folder / "p"),
+                         (0, f"{self.folder / 'p'}: 2 parts, 1100 jobs\n", ""))
+        self.assertEqual(sorted(path.name for path in (self.folder / "p").iterdir()),
+                         ["part-000001.json", "part-000002.json"])
+
+    def test_a_folder_that_is_empty_is_taken(self):
+        (self.folder / "p").mkdir()
+        self.assertEqual(tool("split", 9, self.plan('{"jobs":[{"name":"a"}]}'), "-o", f"{self.folder / 'p'}/")[0], 0)
+        self.assertEqual([path.name for path in (self.folder / "p").iterdir()], ["part-000001.json"])
+
+    def test_a_large_plan_takes_little_memory(self):
+        path = self.folder / "large"
+        with open(path, "w", encoding="ascii") as file:
+            file.write('{"horizon":1000}\n')
+            file.writelines(f'{{"name":"job-{number:07}","mode":"retry","schedule":"recurs(3)",{program.SCRIPT}}}\n'
+                            for number in range(60_000))
+        status, kilobytes, _ = measured(TOOL, "split", 10_000, "--lines", path, "-o", self.folder / "p", out=os.devnull)
+        self.assertEqual((status, len(list((self.folder / "p").iterdir()))), (0, 6))
+        self.assertLess(kilobytes, 40_000)
+
+
+# What is no plan to be cut, and what is said of it.
+NO_PLANS = [
+    ("", "line 1: the text ends where { is due"),
+    ("\n\n[]", "line 3: { is due, and not '[]'"),
+    ("\ufeff{}", "line 1: { is due"),
+    ('{"horizon":1}', "line 1: the plan has no key 'jobs'"),
+    ("{}", "line 1: no JSON: Expecting value"),
+    ('{"jobs"', "line 1: the text ends where : is due"),
+    ('{"jobs":{}}', "line 1: [ is due, and not '{}}'"),
+    ('{"jobs":[\n{"name":"a"}', "line 2: the text ends where , or ] is due"),
+    ('{"jobs":[\n{"name":"a"},\n{"name":"b"', "line 3: the text ends in the middle of a value"),
+    ('{"jobs":[\n{"name":"a"},\n]}', "line 3: no JSON: Expecting value"),
+    ('{"jobs":[\n{"name":"a"}\n{"name":"b"}]}', "line 3: , or ] is due, and not '{\"name\":\"b\"}]}'"),
+    ('{"jobs":[\n{"name":a}]}', "line 2: no JSON: Expecting value"),
+    ('{"jobs":[\n{"name":"a\n"}]}', "line 2: no JSON: Invalid control character at"),
+    ('{"jobs":[\n{"name":"a","x":01}]}', "line 2: no JSON: Expecting ',' delimiter"),
+    ('{"jobs":[\n{"name":"a","x":NaN}]}', "line 2: no JSON: NaN is no number"),
+    ('{"jobs":[\n{"name":"a"},\n7]}', "line 3: the job that begins here isn't an object with a name"),
+    ('{"jobs":[\n{"name":"a"},\n{"mode":"retry"}]}', "line 3: the job that begins here isn't an object with a name"),
+    ('{"jobs":[{"name":7}]}', "line 1: the job that begins here isn't an object with a name"),
+    ('{"jobs":[{"name":"a"}]', "line 1: the text ends where , or } is due"),
+    ('{"jobs":[{"name":"a"}]}\n\nx', "line 3: something stands after the end of the plan"),
+    ('{"jobs":[],\n"\\u006aobs":[]}', "line 2: the key 'jobs' stands twice"),
+    ('{"jobs":[],\n7:1}', "line 2: a key of the document isn't a text"),
+    ('{"horizon":[1,\n2 3],"jobs":[]}', "line 2: no JSON: Expecting ',' delimiter"),
+    ('{"jobs":[\n{"name":"a"},\n{"name":"b"},\n{"name":"\\u0061"}]}',
+     "line 4: the name a stands in the job on line 2 too"),
+    ('{"jobs":[\n' + "[" * 100_000, "line 2: a value is nested too deeply"),
+    (b'{"jobs":[\n{"name":"a"},\n{"name":"\xff"}]}', "line 3: the text is no UTF-8"),
+]
+NO_LINES = [
+    ("", "is empty, where a plan's document without its jobs is due"),
+    ("7\n", "line 1: this isn't a plan's document without its jobs"),
+    ('{"jobs":[]}\n', "line 1: this isn't a plan's document without its jobs"),
+    ('{"horizon":1}', "line 1 is cut, since no newline ends it: '{\"horizon\":1}'"),
+    ('{}\n{"name":"a"}\n{"name":"b"', "line 3 is cut"),
+    ('{}\n{"name":"a"}\n{"name":"b"\n', "line 3, column 12: no JSON"),
+    ('{}\n{"name":"a"}\n\n', "line 3, column 1: no JSON"),
+    ('{}\n{"name":"a"}{"name":"b"}\n', "line 2, column 13: no JSON: Extra data"),
+    ('{}\n[]\n', "line 2: the job that begins here isn't an object with a name"),
+    ('{}\n{"name":"a","x":-Infinity}\n', "line 2: no JSON: -Infinity is no number"),
+    ('{}\n{"name":"a"}\n{"name":"a"}\n', "line 3: the name a stands in the job on line 2 too"),
+    ("{}\n" + "[" * 100_000 + "\n", "line 2: a value is nested too deeply"),
+    (b'{}\n{"name":"\xc3"}\n', "line 2: the text is no UTF-8"),
+]
+
+
+class Refusals(InFolder):
+    """What is refused is told with file and line, and nothing is made."""
+
+    def fault(self, text, is_lines):
+        """What is said of a plan, without its name."""
+        path = self.plan(text)
+        with self.assertRaises(Refused) as caught:
+            write_parts(path, is_lines, 2, self.folder / "parts")
+        self.assertEqual([it.name for it in self.folder.iterdir()], ["plan"])
+        told = str(caught.exception)
+        self.assertTrue(told.startswith(f"{path}: "), told)
+        return told.removeprefix(f"{path}: ")
+
+    def test_what_is_no_plan(self):
+        for is_lines, table in [(False, NO_PLANS), (True, NO_LINES)]:
+            for text, beginning in table:
+                with self.subTest(text[:80]):
+                    told = self.fault(text, is_lines)
+                    self.assertTrue(told.startswith(beginning), told)
+
+    def test_a_plan_cut_anywhere(self):
+        for end in range(len(WHOLE.rstrip())):
+            self.assertTrue(self.fault(WHOLE[:end], False).startswith("line "))
+
+    def test_a_part_that_no_run_would_take(self):
+        job = '{"name":"%d","x":"' + "x" * 6_000_000 + '"}'
+        text = '{"jobs":[' + ",".join(job % number for number in range(3)) + "]}"
+        said = "part 1 has 18000070 bytes, and a plan has at most 16777216: take a smaller N"
+        with self.assertRaisesRegex(Refused, said):
+            write_parts(self.plan(text), False, 3, self.folder / "parts")
+        self.assertEqual(len(self.parts(text, 2)), 2)
+
+    def test_the_command_tells_the_place_and_ends_with_2(self):
+        path = self.plan('{"jobs":[\n7]}')
+        said = "line 2: the job that begins here isn't an object with a name"
+        self.assertEqual(tool("split", 5, path, "-o", self.folder / "p"), (2, "", f"zsched-plan: {path}: {said}\n"))
+        self.assertEqual(tool("split", 5, self.folder / "none", "-o", self.folder / "p"),
+                         (3, "", f"zsched-plan: {self.folder / 'none'}: No such file or directory\n"))
+        self.assertEqual(tool("split", 5, "/dev/null", "-o", self.folder / "p"),
+                         (2, "", "zsched-plan: /dev/null: is no regular file, and a plan may be read twice\n"))
+        self.assertEqual([it.name for it in self.folder.iterdir()], ["plan"])
+
+    def test_folders_that_have_something_are_left_alone(self):
+        path = self.plan('{"jobs":[]}')
+        (self.folder / "parts").mkdir()
+        (self.folder / "parts" / "part-000001.json").write_text("mine")
+        self.assertEqual(tool("split", 5, path, "-o", self.folder / "parts"),
+                         (2, "", f"zsched-plan: {self.folder / 'parts'}: is there, and isn't an empty folder\n"))
+        (self.folder / "p.partial").mkdir()
+        (self.folder / "p.partial" / "kept").write_text("mine")
+        self.assertEqual(tool("split", 5, path, "-o", self.folder / "p")[0], 2)
+        self.assertTrue((self.folder / "p.partial" / "kept").exists())
+
+    def test_wrong_words_end_with_2(self):
+        path = self.plan('{"jobs":[]}')
+        for words in [[], ["split"], ["split", 0, path, "-o", "p"], ["split", 10_001, path, "-o", "p"],
+                      ["split", "1.5", path, "-o", "p"], ["split", "٣", path, "-o", "p"], ["split", 5, path]]:
+            status, out, errors = tool(*words)
+            self.assertEqual((status, out), (2, ""))
+            self.assertIn("usage: zsched-plan", errors)
+
+
+SCHEDULES = ["recurs(%d)", "spaced(%d)", "fixed(%d)", "exponential(%d)", "fibonacci(%d)", "linear(%d)", "windowed(1%d)",
+             "(recurs(3) && spaced(%d))", "(exponential(%d) || spaced(30))", "identity.whileInput(< %d)",
+             "(recurs(2) andThenEither spaced(%d)).map(merge)", "identity.collectAll.whileOutput(size < %d)",
+             "(forever && elapsed).resetWhen(_2 >= 5%d)"]
+
+
+def random_plan(rng):
+    """The text of a plan with up to 12 jobs."""
+    jobs = []
+    for number in range(rng.randint(0, 12)):
+        script = ",".join(f'{{"ms":{rng.randint(1, 40)},"{rng.choice(["ok", "err", "err"])}":{rng.randint(0, 3)}}}'
+                          for _ in range(rng.randint(1, 5)))
+        start = rng.choice(["", f'"start":{rng.randint(0, 900)},'])
+        jobs.append(f'{{"name":"job-{number}","mode":"{rng.choice(["retry", "repeat"])}",{start}'
+                    f'"schedule":"{rng.choice(SCHEDULES) % rng.randint(0, 9)}","script":[{script}]}}')
+    ticks = sorted(rng.sample(range(1000), rng.randint(1, 60)))
+    clock = rng.choice([f'"horizon":{rng.randint(0, 600)}', f'"ticks":{ticks}'])
+    cut = rng.choice(["", f',"workers":{rng.randint(1, 4)},"grain":{rng.randint(1, 5)}'])
+    return f'{{{clock}{cut},"jobs":[{",".join(jobs)}]}}'
+
+
+class Whole(InFolder):
+    """The report of a plan is the reports of its parts, joined."""
+
+    def setUp(self):
+        super().setUp()
+        try:
+            self.program = zsched.find()
+        except zsched.NoProgram as missing:
+            self.skipTest(str(missing))
+
+    def reports(self, plans):
+        """Files with the reports of plans, beside them."""
+        paths = []
+        for plan in plans:
+            status, report, errors = zsched.run(self.program, plan.read_bytes(), 20)
+            self.assertEqual((status, errors), (0, b""), plan.read_text())
+            paths.append(plan.with_suffix(".report"))
+            paths[-1].write_bytes(report)
+        return paths
+
+    def test_random_plans(self):
+        attempts = 0
+        for seed in range(RANDOM_PLANS):
+            rng = random.Random(seed)
+            folder = self.folder / str(seed)
+            whole = self.plan(random_plan(rng), f"{seed}.json")
+            write_parts(whole, False, rng.randint(1, 8), folder)
+            out = io.BytesIO()
+            write_joined(self.reports(sorted(folder.iterdir())), out.write)
+            wanted = self.reports([whole])[0].read_bytes()
+            self.assertEqual(out.getvalue(), wanted, f"seed {seed}")
+            attempts += wanted.count(b"\nattempt ")
+        self.assertGreater(attempts, 10 * RANDOM_PLANS)
+
+
+def recipe(title, language="sh"):
+    """The blocks of commands in a section of docs/SCALE.md."""
+    text = (program.TOP / "docs" / "SCALE.md").read_text()
+    section = re.search(rf"^## {title}\n(.*?)(?=^## |\Z)", text, re.MULTILINE | re.DOTALL)[1]
+    return re.findall(rf"^```{language}\n(.*?)^```", section, re.MULTILINE | re.DOTALL)
+
+
+class Recipes(InFolder):
+    """The recipes of docs/SCALE.md, run as they are written."""
+
+    def setUp(self):
+        super().setUp()
+        try:
+            built = pathlib.Path(zsched.find()).resolve().parent
+        except zsched.NoProgram as missing:
+            self.skipTest(str(missing))
+        path = f"{program.TOP / 'tools'}:{built}:/usr/local/bin:/usr/bin:/bin"
+        self.environment = {"PATH": path, "HOME": str(self.folder), "LC_ALL": "C"}
+
+    def run_in_folder(self, commands):
+        """Runs commands in the folder: status and errors."""
+        ended = subprocess.run(["bash", "-c", commands], cwd=self.folder, env=self.environment, capture_output=True,
+                               check=False, timeout=120)
+        return ended.returncode, ended.stderr.decode()
+
+    def population(self, count):
+        """A plan of so many jobs, in the folder."""
+        return self.plan(program.plan([program.job(f"job-{number}") for number in range(count)]), "plan.json")
+
+    def whole(self, plan):
+        """The report of a plan in one run."""
+        return zsched.run(self.environment["PATH"].split(":")[1] + "/zsched", plan.read_bytes())[1]
+
+    def test_gnu_parallel(self):
+        if shutil.which("parallel") is None or "GNU" not in subprocess.run(
+                ["parallel", "--version"], capture_output=True, text=True, check=False).stdout:
+            self.skipTest("GNU parallel isn't on this machine")
+        (self.folder / ".parallel").mkdir()
+        (self.folder / ".parallel" / "will-cite").touch()
+        split, run, join = recipe("GNU parallel")[:3]
+        plan = self.population(25)
+        self.assertEqual(self.run_in_folder(split.replace("10000", "10")), (0, ""))
+        broken = self.folder / "parts" / "part-000002.json"
+        good = broken.read_text()
+        broken.write_text(good.replace("recurs", "recur"))
+        status, errors = self.run_in_folder(run)
+        self.assertEqual((status, errors), (1, "zsched: job 0: schedule: no term at byte 0\n"))
+        self.assertEqual(self.run_in_folder(join),
+                         (2, "zsched-report: parts/part-000002.report: is empty, and no report\n"))
+        broken.write_text(good)
+        self.assertEqual(self.run_in_folder(run), (0, ""))
+        self.assertEqual(self.run_in_folder(join), (0, ""))
+        self.assertEqual((self.folder / "whole.report").read_bytes(), self.whole(plan))
+        ran = [line.split("\t")[-1].split()[2] for line in (self.folder / "parts.log").read_text().splitlines()[1:]]
+        self.assertEqual(sorted(ran), [f"parts/part-00000{number}.json" for number in [1, 2, 2, 3]])
+
+    def test_gnu_make(self):
+        if shutil.which("make") is None:
+            self.skipTest("GNU make isn't on this machine")
+        self.population(25)
+        self.plan(*recipe("GNU make", "make"), "Makefile")
+        split, run = recipe("GNU make")[:2]
+        self.assertEqual(self.run_in_folder(split.replace("10000", "10")), (0, ""))
+        broken = self.folder / "parts" / "part-000002.json"
+        good = broken.read_text()
+        broken.write_text(good.replace("recurs", "recur"))
+        status, errors = self.run_in_folder(run)
+        self.assertEqual((status, (self.folder / "whole.report").exists()), (2, False))
+        self.assertIn("zsched: job 0: schedule: no term at byte 0\n", errors)
+        self.assertEqual(sorted(it.name for it in (self.folder / "parts").glob("*.report")),
+                         ["part-000001.report", "part-000003.report"])
+        broken.write_text(good)
+        self.assertEqual(self.run_in_folder(run), (0, ""))
+        self.assertEqual((self.folder / "whole.report").read_bytes(), self.whole(self.folder / "plan.json"))
+
+
+if __name__ == "__main__":
+    unittest.main()

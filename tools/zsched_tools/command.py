@@ -1,0 +1,38 @@
+"""How a command ends: what it refuses, what the machine refuses it, and the exit status of each."""
+import os
+import sys
+
+REFUSED = 2
+FAILED = 3
+
+
+class Refused(Exception):
+    """What the user gave is refused. The text tells the place: a file, a line."""
+
+
+def run(tool, work):
+    """Does a command's work and answers its exit status: 0, 2 where what was given is refused, 3 where reading or
+    writing failed, 130 where the user broke it off. Each of these but 0 is told on standard error, in one line."""
+    try:
+        work()
+        sys.stdout.flush()
+        return 0
+    except Refused as refused:
+        return _told(tool, refused, REFUSED)
+    except BrokenPipeError:
+        # Python flushes standard output once more when it ends, and must find nothing closed there.
+        os.dup2(os.open(os.devnull, os.O_WRONLY), sys.stdout.fileno())
+        return _told(tool, "the reader of standard output went away", FAILED)
+    except OSError as failure:
+        place = f"{failure.filename}: " if failure.filename else ""
+        return _told(tool, f"{place}{failure.strerror or failure}", FAILED)
+    except MemoryError:
+        return _told(tool, "out of memory", FAILED)
+    except KeyboardInterrupt:
+        return _told(tool, "broken off", 130)
+
+
+def _told(tool, text, status):
+    """Says why a command ends, and answers its status."""
+    print(f"{tool}: {text}", file=sys.stderr)
+    return status

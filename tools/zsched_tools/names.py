@@ -1,0 +1,43 @@
+"""Names that stand twice among millions, found in little memory: 8 bytes a name."""
+from array import array
+
+_BUCKETS = 256
+_SIXTY_FOUR_BITS = 2**64 - 1
+
+
+def _mark(name):
+    """A number of 64 bits for a name: the same in all of this process, and rarely that of another name."""
+    return hash(name) & _SIXTY_FOUR_BITS
+
+
+class Names:
+    """A mark for each name that was added. Whether two names are the same is seen at a second look, at the names whose
+    marks stand twice: `repeats`, then `first_repeat` over the same names."""
+
+    def __init__(self):
+        self.buckets = [array("Q") for _ in range(_BUCKETS)]
+
+    def add(self, name):
+        """One name more."""
+        mark = _mark(name)
+        self.buckets[mark % _BUCKETS].append(mark)
+
+    def repeats(self):
+        """The marks that stand twice."""
+        found = set()
+        for bucket in self.buckets:
+            marks = sorted(bucket)
+            found.update(left for left, right in zip(marks, marks[1:]) if left == right)
+        return found
+
+
+def first_repeat(repeats, named):
+    """The first name that stands a second time, with both places; None where no name does. `named` gives all names
+    again, each with its place."""
+    places = {}
+    for name, place in named:
+        if _mark(name) in repeats:
+            if name in places:
+                return name, places[name], place
+            places[name] = place
+    return None

@@ -1,0 +1,265 @@
+"""A report as a picture: jobs from top to bottom, time from left to right."""
+import html
+from dataclasses import dataclass
+
+from zsched_tools.axis import Scale, labels, shown_moments
+from zsched_tools.bars import Shapes, draw_shape, mark
+from zsched_tools.command import Refused
+from zsched_tools.drawing import cut_text, path, place, rectangle, text, text_width
+from zsched_tools.durations import duration
+from zsched_tools.report import Attempt, Ending, Job, records
+from zsched_tools.summary import ending_text, plural
+
+MOST_JOBS = 200
+WIDTH = 1240
+MARGIN = 16
+WIDEST_NAME = 250
+WIDEST_VERDICT = 380
+AFTER_PLOT = 34
+LONGEST_RESULT = 24
+TITLE_SIZE = 16
+SMALL_SIZE = 11
+WAIT_SIZE = 10
+
+STYLE = """text{font-family:"DejaVu Sans",Verdana,Geneva,sans-serif;fill:#1f2933}
+.title{font-size:16px;font-weight:bold}.large{font-size:13px}.small,.axis,.legend{font-size:11px}.wide{font-size:10px}
+.axis,.legend,.mode,.wide{fill:#616e7c}.mode{font-size:10px}
+.page{fill:#fff}.band{fill:#f5f7fa}.grid{stroke:#d9dee4}.edge{stroke:#7b8794}
+.horizon{stroke:#52606d;stroke-dasharray:6 3 1 3}
+.ok{fill:#0a8f6a}.err{fill:#d1495b}.good{fill:#087456}.bad{fill:#b8304a}.open{fill:#616e7c}
+.running{fill:url(#running);stroke:#8a6fc1}.hatch{fill:#e2dbf0}.line{stroke:#8a6fc1;stroke-width:3}
+.many{fill:url(#many)}.stripe{fill:#fff;fill-opacity:.55}
+.wait,.arrow{fill:none;stroke:#7b8794}.wait{stroke-dasharray:2 3}
+.sign{fill:none;stroke:#fff;stroke-width:1.6}.hole{fill:#fff}"""
+
+PATTERNS = ('<pattern id="running" width="6" height="6" patternUnits="userSpaceOnUse" patternTransform="rotate(45)">'
+            '<rect class="hatch" width="6" height="6"/><path class="line" d="M0 0V6"/></pattern>'
+            '<pattern id="many" width="3" height="3" patternUnits="userSpaceOnUse">'
+            '<rect class="stripe" width="1" height="3"/></pattern>')
+
+
+@dataclass(slots=True)
+class Row:
+    """A job with all its attempts."""
+    job: Job
+    attempts: list
+    ending: Ending
+
+    def verdict(self, base):
+        """How the job ended, in words, and when, counted from a base."""
+        if not self.attempts:
+            return "unfinished · never began"
+        words = f"{ending_text(self.ending, LONGEST_RESULT)} · {plural(len(self.attempts), 'attempt')}"
+        when = ("+" if base else "") + duration(max(0, self.ending.at - base))
+        return words if self.ending.how == "unfinished" else f"{words} · {when}"
+
+
+def rows_of(source, chosen):
+    """The jobs of a report with their attempts: the chosen ones, or all. More than a picture has room for are
+    refused, and so is a name that no job has."""
+    rows, attempts, jobs, missing = [], [], 0, set(chosen)
+    for job, record in records(source):
+        is_chosen = job is not None and (not chosen or job.name in chosen)
+        if isinstance(record, Attempt):
+            if is_chosen and len(rows) < MOST_JOBS:
+                attempts.append(record)
+        elif isinstance(record, Ending):
+            jobs += is_chosen
+            missing.discard(job.name)
+            if is_chosen and len(rows) < MOST_JOBS:
+                rows.append(Row(job, attempts, record))
+                attempts = []
+    if missing:
+        raise Refused(f"has no job {min(missing)}")
+    if jobs > MOST_JOBS:
+        raise Refused(f"has {jobs} jobs to draw, and a picture has room for {MOST_JOBS}: choose some with --job NAME")
+    return rows
+
+
+class Layout:
+    """Where everything stands: rows by their number, the plot from left to right, and the words beside it."""
+
+    def __init__(self, rows, title):
+        count = max(1, len(rows))
+        self.row = 40 if count <= 6 else 30 if count <= 16 else 20
+        self.size = 13 if self.row >= 30 else SMALL_SIZE
+        self.style = "large" if self.row >= 30 else "small"
+        self.bar = self.row * 0.42
+        names = max([text_width(row.job.name, self.size) for row in rows], default=0)
+        self.name_room = min(WIDEST_NAME, names) + 1
+        self.left = MARGIN + self.name_room + 60
+        verdicts = max([text_width(row.verdict(0), self.size) for row in rows], default=0)
+        self.verdict_room = min(WIDEST_VERDICT, verdicts) + 1
+        self.right = WIDTH - MARGIN - self.verdict_room - AFTER_PLOT
+        self.horizon = next((row.ending.at for row in rows if row.ending.how == "unfinished"), None)
+        self.scale = Scale(*shown_moments([row.attempts for row in rows], self.horizon), self.left, self.right)
+        self.labels, self.base = labels(self.scale)
+        self.shapes = [Shapes(row.attempts, self.scale).found for row in rows]
+        self.waits = [list(waits_of(row, shapes, self.right)) for row, shapes in zip(rows, self.shapes)]
+        self.top = 34 + (30 if title else 0) + (18 if self.base else 0)
+        self.bottom = self.top + count * self.row
+        self.foot = self.bottom + (24 if count > 16 else 6)
+
+    def middle(self, number):
+        """The height at which a row's attempts stand."""
+        return self.top + (number + 0.5) * self.row
+
+
+def draw_bands(layout, count, right):
+    """The grey bands behind every other row."""
+    for number in range(0, count, 2):
+        top = layout.top + number * layout.row
+        yield rectangle(8, top, right, top + layout.row, "band")
+
+
+def draw_grid(layout, count):
+    """The moments' lines, their labels below many rows, and the horizon."""
+    for moment, label in layout.labels:
+        x = layout.scale.at(moment)
+        yield path(f"M{place(x)} {place(layout.top - 5)}V{place(layout.bottom)}", "grid")
+        if count > 16:
+            yield text(x, layout.bottom + 16, label, "axis", "middle")
+    if layout.horizon is not None and layout.horizon <= layout.scale.last:
+        x = layout.scale.at(layout.horizon)
+        title = f"horizon, {layout.horizon} ms"
+        yield path(f"M{place(x)} {place(layout.top)}V{place(layout.bottom)}", "horizon", title)
+
+
+def draw_moments(layout):
+    """The labels of the moments above the rows."""
+    yield rectangle(0, layout.top - 24 - (18 if layout.base else 0), WIDTH, layout.top, "page")
+    if layout.base:
+        yield text(layout.left, layout.top - 28, f"time since moment {layout.base} ms", "axis")
+    for moment, label in layout.labels:
+        x = layout.scale.at(moment)
+        yield path(f"M{place(x)} {place(layout.top - 5)}V{place(layout.top)}", "grid")
+        yield text(x, layout.top - 10, label, "axis", "middle")
+    yield path(f"M{place(layout.left)} {place(layout.top)}H{place(layout.right)}", "edge")
+
+
+def waits_of(row, shapes, right):
+    """The waits of a job that are long enough to be seen: from where to where, and how long; that of one which goes
+    on at the horizon isn't told."""
+    for before, after in zip(shapes, shapes[1:]):
+        if after.left - before.right >= 2:
+            yield before.right, after.left, after.first.begin - before.last.end
+    last = row.attempts[-1] if row.attempts else None
+    if row.ending.how == "unfinished" and last is not None and last.end is not None and right - shapes[-1].right >= 8:
+        yield shapes[-1].right, right, None
+
+
+def draw_waits(layout, waits, middle):
+    """The time between attempts, with its length where there is room."""
+    for left, right, time in waits:
+        if time is None:
+            yield path(f"M{place(right - 5)} {place(middle - 4)}l5 4l-5 4", "arrow")
+        elif layout.row >= 30 and text_width(duration(time), WAIT_SIZE) + 8 < right - left:
+            yield text((left + right) / 2, middle - 5, duration(time), "wide", "middle")
+    if waits:
+        yield path("".join(f"M{place(left)} {place(middle)}H{place(right)}" for left, right, _ in waits), "wait")
+
+
+def draw_names(layout, rows):
+    """The jobs' names and modes."""
+    yield rectangle(0, layout.top, layout.left - 2, layout.bottom, "page")
+    yield from draw_bands(layout, len(rows), layout.left - 2)
+    for number, row in enumerate(rows):
+        base = layout.middle(number) + layout.size * 0.35
+        name = cut_text(row.job.name, layout.size, layout.name_room)
+        yield text(MARGIN, base, name, layout.style, title=row.job.name if name != row.job.name else None)
+        yield text(layout.left - 10, base, row.job.mode, "mode", "end")
+
+
+def draw_row(layout, number, row):
+    """A job's attempts, and how it ended."""
+    middle = layout.middle(number)
+    shapes = layout.shapes[number]
+    yield from draw_waits(layout, layout.waits[number], middle)
+    for shape in shapes:
+        yield from draw_shape(shape, middle, layout.bar, row.job.name)
+    if shapes and row.ending.how != "unfinished":
+        size = min(layout.bar * 0.6, 7)
+        yield from mark(row.ending.how, shapes[-1].right + size + 3, middle, size)
+    verdict = cut_text(row.verdict(layout.base), layout.size, layout.verdict_room)
+    style = {"failed": "bad", "unfinished": "open"}.get(row.ending.how, "good")
+    base = middle + layout.size * 0.35
+    yield text(layout.right + AFTER_PLOT, base, verdict, f"{layout.style} {style}", title=verdict_title(row))
+
+
+def verdict_title(row):
+    """All of a job's ending, for the words that are cut."""
+    return f"{row.job.name}: {ending_text(row.ending, 200)} at {row.ending.at} ms, {plural(row.ending.polls, 'poll')}"
+
+
+def legend(layout, rows):
+    """What the shapes mean: a drawing and its words, for each that the picture has. Answers the elements and the height
+    that they take."""
+    drawn = list(legend_entries(layout, rows))
+    elements, left, height = [], float(MARGIN), 22
+    for draw, words in drawn:
+        width = 22 + text_width(words, SMALL_SIZE)
+        if left + width > WIDTH - MARGIN:
+            left, height = float(MARGIN), height + 22
+        middle = layout.foot + height - 4
+        elements += draw(left, middle)
+        elements.append(text(left + 22, middle + 4, words, "legend"))
+        left += width + 20
+    return elements, height + 12
+
+
+def legend_entries(layout, rows):
+    """The entries of the legend: how each is drawn at a place, and its words."""
+    outcomes = {attempt.outcome for row in rows for attempt in row.attempts}
+    endings = {row.ending.how for row in rows}
+    if "ok" in outcomes:
+        yield lambda x, y: [rectangle(x, y - 7, x + 16, y + 7, "ok", corner=3)], "attempt ok"
+    if "err" in outcomes:
+        yield lambda x, y: [rectangle(x, y - 1, x + 16, y + 7, "err")], "attempt err"
+    if "running" in outcomes:
+        yield lambda x, y: [rectangle(x, y - 7, x + 16, y + 7, "running")], "attempt still running"
+    if any(shape.count > 1 for shapes in layout.shapes for shape in shapes):
+        yield (lambda x, y: [rectangle(x, y - 7, x + 16, y - 1, "ok"), rectangle(x, y - 1, x + 16, y + 7, "err"),
+                             rectangle(x, y - 7, x + 16, y + 7, "many")]), "many attempts"
+    if any(layout.waits):
+        yield lambda x, y: [path(f"M{place(x)} {place(y)}h16", "wait")], "waiting"
+    for how, words in [("succeeded", "retry succeeded"), ("failed", "failed"), ("finished", "repeat finished")]:
+        if how in endings:
+            yield (lambda x, y, how=how: mark(how, x + 8, y, 6)), words
+    if layout.horizon is not None:
+        is_shown = layout.horizon <= layout.scale.last
+        words = f"horizon, {duration(layout.horizon)}" + ("" if is_shown else ", far to the right of this picture")
+        yield lambda x, y: [path(f"M{place(x + 8)} {place(y - 8)}v16", "horizon")], words
+
+
+def draw(rows, title, namespace=' xmlns="http://www.w3.org/2000/svg"'):
+    """The picture of some jobs as SVG, in lines. Inside of a page the namespace is left out."""
+    layout = Layout(rows, title)
+    entries, height = legend(layout, rows)
+    tall = place(layout.foot + height)
+    told = html.escape(title or "Timeline of a report of zsched")
+    yield (f'<svg{namespace} viewBox="0 0 {WIDTH} {tall}" width="{WIDTH}" height="{tall}" role="img" '
+           f'aria-label="{told}">')
+    yield f"<style>{STYLE}</style>"
+    yield f"<defs>{PATTERNS}</defs>"
+    yield f'<rect class="page" width="{WIDTH}" height="{tall}"/>'
+    if title:
+        yield text(MARGIN, 27, cut_text(title, TITLE_SIZE * 1.1, WIDTH - 2 * MARGIN), "title")
+    if rows:
+        yield from draw_jobs(layout, rows)
+    else:
+        yield text(MARGIN, layout.middle(0) + 4, "a report without jobs", "legend")
+    yield from entries
+    yield "</svg>"
+
+
+def draw_jobs(layout, rows):
+    """All jobs, with the axis. Names and moments are groups of their own, which a page keeps in sight."""
+    yield from draw_bands(layout, len(rows), WIDTH - 8)
+    yield from draw_grid(layout, len(rows))
+    for number, row in enumerate(rows):
+        yield from draw_row(layout, number, row)
+    yield '<g id="names">'
+    yield from draw_names(layout, rows)
+    yield '</g><g id="moments">'
+    yield from draw_moments(layout)
+    yield "</g>"

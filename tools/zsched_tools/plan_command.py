@@ -1,0 +1,53 @@
+"""The command zsched-plan: a large plan as many plans."""
+import argparse
+
+from zsched_tools import command
+from zsched_tools.split import MOST_JOBS, write_parts
+from zsched_tools.summary import plural
+
+TOOL = "zsched-plan"
+DESCRIPTION = """A plan cut into parts, for plans of more jobs than one run takes, or for more than one machine.
+
+  zsched-plan split 10000 plan.json -o parts"""
+SPLIT = """Cuts PLAN by its jobs into plans of at most N jobs, in order: FOLDER/part-000001.json, part-000002.json and
+so on. The other keys of the document stand in each part. All is kept as it was written. Where PLAN is refused,
+nothing is made. The report of PLAN is the reports of its parts, joined by `zsched-report join`; docs/SCALE.md has
+recipes."""
+EPILOG = """Exit status: 0, with the number of parts and jobs on standard output; 2 where the plan or the words are
+refused, with the file and the line on standard error; 3 where reading or writing fails."""
+
+
+def _jobs_of_a_part(word):
+    """The number N."""
+    number = int(word) if word.isascii() and word.isdigit() and len(word) < 9 else 0
+    if not 1 <= number <= MOST_JOBS:
+        raise argparse.ArgumentTypeError(f"{word} isn't a number of jobs from 1 to {MOST_JOBS}")
+    return number
+
+
+def _split(given):
+    parts, jobs = write_parts(given.plan, given.lines, given.jobs, given.folder)
+    print(f"{given.folder}: {plural(parts, 'part')}, {plural(jobs, 'job')}")
+
+
+def _arguments():
+    """The words of the command line."""
+    form = argparse.RawDescriptionHelpFormatter
+    parser = argparse.ArgumentParser(prog=TOOL, description=DESCRIPTION, epilog=EPILOG, formatter_class=form)
+    forms = parser.add_subparsers(required=True, metavar="FORM")
+    split = forms.add_parser("split", description=SPLIT, epilog=EPILOG, formatter_class=form,
+                             help="a plan cut by its jobs")
+    split.add_argument("jobs", metavar="N", type=_jobs_of_a_part, help=f"the most jobs of a part, 1 to {MOST_JOBS}")
+    split.add_argument("plan", metavar="PLAN", help="the plan's file")
+    split.add_argument("--lines", action="store_true",
+                       help="PLAN is JSON lines: the document without its key 'jobs', then a job a line")
+    split.add_argument("-o", dest="folder", metavar="FOLDER", required=True,
+                       help="a new folder for the parts, or an empty one")
+    split.set_defaults(work=_split)
+    return parser
+
+
+def main():
+    """The command line."""
+    given = _arguments().parse_args()
+    return command.run(TOOL, lambda: given.work(given))

@@ -1,0 +1,228 @@
+"""A plan's text, read piece by piece: the document around the jobs, and the jobs one by one, each as it was written.
+
+Texts are of single bytes (see `report.as_text`), so that what is written again is what was read. That they are UTF-8 is
+looked at where their values are read."""
+import json
+import re
+from typing import NamedTuple
+
+from zsched_tools.command import Refused
+from zsched_tools.report import shown, text_lines
+
+LONGEST_PLAN = 16_777_216
+PIECE = 2**18
+
+_SPACE = re.compile(r"[ \t\n\r]*")
+_REST_OF_NUMBER = re.compile("[-+.0-9eE]*")
+
+
+class Number(str):
+    """A number as it was written. Nothing reads numbers here, so that no digit is lost."""
+
+
+def _no_number(word):
+    raise ValueError(f"{word} is no number")
+
+
+_DECODER = json.JSONDecoder(parse_constant=_no_number, parse_float=Number, parse_int=Number)
+
+
+class JobText(NamedTuple):
+    """A job as it was written, with the white space around it; its name, and the line that it begins on."""
+    text: str
+    name: str
+    line: int
+
+
+class Source:
+    """The text of a file, of which pieces are taken in order."""
+
+    def __init__(self, file):
+        self.file = file
+        self.text = ""
+        self.at = 0
+        self.counted = 0
+        self.lines = 1
+
+    def line(self):
+        """The line of what is taken next."""
+        self.lines += self.text.count("\n", self.counted, self.at)
+        self.counted = self.at
+        return self.lines
+
+    def refuse(self, why):
+        """Refuses what would be taken next."""
+        raise Refused(f"line {self.line()}: {why}")
+
+    def _more(self):
+        """Reads on, and answers whether there was more to read. What was taken is let go."""
+        piece = self.file.read(max(PIECE, len(self.text) - self.at))
+        if piece:
+            self.line()
+            self.text = self.text[self.at:] + piece
+            self.at = self.counted = 0
+        return bool(piece)
+
+    def space(self):
+        """Takes white space, and answers it."""
+        found = ""
+        while True:
+            end = _SPACE.match(self.text, self.at).end()
+            found += self.text[self.at:end]
+            self.at = end
+            if end < len(self.text) or not self._more():
+                return found
+
+    def is_at_end(self):
+        """Whether all was taken."""
+        return self.at == len(self.text) and not self._more()
+
+    def symbol(self, wanted):
+        """Takes white space and one of some symbols, and answers them."""
+        space = self.space()
+        if self.is_at_end():
+            self.refuse(f"the text ends where {' or '.join(wanted)} is due")
+        if self.text[self.at] not in wanted:
+            self.refuse(f"{' or '.join(wanted)} is due, and not {shown(self.text[self.at:self.at + 20])}")
+        self.at += 1
+        return space + self.text[self.at - 1]
+
+    def value(self):
+        """Takes a JSON value, and answers its text and what it stands for."""
+        while True:
+            try:
+                value, end = _DECODER.raw_decode(self.text, self.at)
+                # A number may go on in the next piece.
+                is_open = isinstance(value, Number) and _REST_OF_NUMBER.match(self.text, end).end() == len(self.text)
+                if not is_open or not self._more():
+                    break
+            except RecursionError:
+                self.refuse("a value is nested too deeply")
+            except ValueError as fault:
+                if len(self.text) - self.at > LONGEST_PLAN or not self._more():
+                    self._refuse_value(fault)
+        text = self.text[self.at:end]
+        try:
+            text.encode("latin-1").decode("utf-8")
+        except UnicodeDecodeError as fault:
+            self.at += fault.start
+            self.refuse("the text is no UTF-8")
+        self.at = end
+        return text, value
+
+    def _refuse_value(self, fault):
+        """Refuses a value at the place where it is no JSON."""
+        is_at_place = isinstance(fault, json.JSONDecodeError)
+        self.at = fault.pos if is_at_place else self.at
+        if self.at >= len(self.text):
+            self.refuse("the text ends in the middle of a value")
+        self.refuse(f"no JSON: {fault.msg if is_at_place else fault}")
+
+
+def _job(text, value, line):
+    """A job with its name. What isn't an object with a name is refused."""
+    if not isinstance(value, dict) or type(value.get("name")) is not str:
+        raise Refused(f"line {line}: the job that begins here isn't an object with a name")
+    return JobText(text, value["name"], line)
+
+
+class PlanText:
+    """A plan as one JSON document. `before` is the text up to the jobs, and known when the first is given; `after` is
+    the text after them, and known when all were given."""
+
+    def __init__(self, file):
+        self.source = Source(file)
+        self.before = self.after = ""
+
+    def jobs(self):
+        """The jobs in order; the white space around a job counts as its own."""
+        source = self.source
+        self._read_before()
+        space = source.space()
+        if source.text[source.at:source.at + 1] == "]":
+            self.before += space
+            space = ""
+            end = source.symbol("]")
+        else:
+            end = ","
+        while end == ",":
+            space += source.space()
+            line = source.line()
+            text, value = source.value()
+            behind = source.symbol(",]")
+            end = behind[-1]
+            yield _job(space + text + behind[:-1], value, line)
+            space = ""
+        self._read_after()
+
+    def _key(self):
+        """Takes a key of the document, with the colon and the white space after it. Answers the text and the key."""
+        space = self.source.space()
+        text, key = self.source.value()
+        if type(key) is not str:
+            self.source.refuse("a key of the document isn't a text")
+        return space + text + self.source.symbol(":") + self.source.space(), key
+
+    def _read_before(self):
+        """The document up to its jobs."""
+        self.before = self.source.symbol("{")
+        while True:
+            text, key = self._key()
+            self.before += text
+            if key == "jobs":
+                self.before += self.source.symbol("[")
+                return
+            self.before += self.source.value()[0] + self.source.symbol(",}")
+            if self.before[-1] == "}":
+                self.source.refuse("the plan has no key 'jobs'")
+
+    def _read_after(self):
+        """The rest of the document, to the end of the file."""
+        self.after = "]" + self.source.symbol(",}")
+        while self.after[-1] == ",":
+            text, key = self._key()
+            if key == "jobs":
+                self.source.refuse("the key 'jobs' stands twice")
+            self.after += text + self.source.value()[0] + self.source.symbol(",}")
+        self.after += self.source.space()
+        if not self.source.is_at_end():
+            self.source.refuse("something stands after the end of the plan")
+
+
+class LinesText:
+    """A plan as JSON lines: the document without its jobs, then a job a line. It becomes one document as those of
+    `PlanText`, in which each job stands on a line of its own."""
+
+    def __init__(self, file):
+        self.file = file
+        self.before = ""
+        self.after = "\n]}\n"
+
+    def jobs(self):
+        """The jobs in order."""
+        number = 0
+        for number, text in enumerate(text_lines(self.file, LONGEST_PLAN), 1):
+            value = self._value(number, text)
+            if number > 1:
+                yield _job("\n" + text, value, number)
+            elif not isinstance(value, dict) or "jobs" in value:
+                raise Refused("line 1: this isn't a plan's document without its jobs")
+            else:
+                self.before = text.strip().removesuffix("}") + ("," if value else "") + '"jobs":['
+        if number == 0:
+            raise Refused("is empty, where a plan's document without its jobs is due")
+
+    @staticmethod
+    def _value(number, text):
+        """What a line stands for."""
+        try:
+            text.encode("latin-1").decode("utf-8")
+            return _DECODER.decode(text)
+        except UnicodeDecodeError:
+            raise Refused(f"line {number}: the text is no UTF-8") from None
+        except RecursionError:
+            raise Refused(f"line {number}: a value is nested too deeply") from None
+        except json.JSONDecodeError as fault:
+            raise Refused(f"line {number}, column {fault.colno}: no JSON: {fault.msg}") from None
+        except ValueError as fault:
+            raise Refused(f"line {number}: no JSON: {fault}") from None

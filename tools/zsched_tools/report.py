@@ -1,0 +1,281 @@
+"""Reads a report line by line into records, and refuses what is no whole report, with the line's number.
+
+docs/FORMATS.md has the form of a report. Besides the form of each line this reader holds the lines against each other:
+attempts are numbered from 1 and don't overlap, a step stands where the schedule was asked and only there, an ending is
+that of the last attempt, and the polls are the moments at which attempts began or ended. Numbers are whole and go up to
+2^64 - 1; the total of the last line has no bound, since a joined report may have any number of jobs."""
+import dataclasses
+import io
+import re
+import sys
+
+from zsched_tools.command import Refused
+
+MOST = 2**64 - 1
+DEEPEST_OUTPUT = 64
+LONGEST_LINE = 2**28
+
+_NUMBER = "(?:0|[1-9][0-9]{0,19})"
+_OUTPUT = r"[0-9A-Za-z(),\[\]]+"
+# A part of an output that was looked at before is written as #.
+_PART = f"(?:#|{_NUMBER})"
+_SHORT_OUTPUT = re.compile(rf"{_NUMBER}|\({_NUMBER},{_NUMBER}\)")
+_INNERMOST = re.compile(rf"\({_PART},{_PART}\)|(?:Left|Right)\({_PART}\)|\[(?:{_PART}(?:,{_PART})*+)?\]")
+_WHOLE_OUTPUT = re.compile(_PART)
+_TWENTY_DIGITS = re.compile("[0-9]{20}")
+
+
+@dataclasses.dataclass(slots=True)
+class Job:
+    """A job's first line."""
+    name: str
+    mode: str
+
+
+@dataclasses.dataclass(slots=True)
+class Attempt:
+    """An attempt with its step. One that runs at the horizon has no end and no value; `out` is None where the schedule
+    wasn't asked, and `next` where it wasn't asked or is done; `waited` is the time since the end of the attempt before,
+    and None for the first."""
+    number: int
+    begin: int
+    end: int | None
+    outcome: str
+    value: int | None
+    waited: int | None
+    out: str | None = None
+    next: int | None = None
+
+
+@dataclasses.dataclass(slots=True)
+class Ending:
+    """A job's last line: succeeded and failed have a value, finished has an output, unfinished has neither."""
+    how: str
+    value: int | None
+    out: str | None
+    at: int
+    polls: int
+
+
+@dataclasses.dataclass(slots=True)
+class Total:
+    """The last line of a report."""
+    polls: int
+
+
+def is_output(text):
+    """Whether a text is an output of a schedule: its innermost pairs, sides and lists are taken away until a number is
+    left."""
+    if len(text) < 20 and _SHORT_OUTPUT.fullmatch(text):
+        return True
+    if any(int(digits) > MOST for digits in _TWENTY_DIGITS.findall(text)):
+        return False
+    for _ in range(DEEPEST_OUTPUT):
+        if _WHOLE_OUTPUT.fullmatch(text):
+            return True
+        text, found = _INNERMOST.subn("#", text)
+        if not found:
+            return False
+    return False
+
+
+def shown(text):
+    """A line's beginning, for a message."""
+    return ascii(text if len(text) <= 60 else text[:60] + "..")
+
+
+class Reader:
+    """What is known of a report between two of its lines. A fault is told by the line's number alone; whoever knows the
+    file's name puts it before."""
+
+    def __init__(self):
+        self.line = 0
+        self.job = None
+        self.attempt = None
+        self.is_step_due = False
+        self.total = None
+        self.polls = 0
+        self.polls_of_all = 0
+        self.latest = 0
+        self.horizon = None
+
+    def take(self, text):
+        """Takes the next line without its newline. Answers the record that is whole with it: an attempt, where no step
+        is due after it, or with its step; an ending; the total; else None."""
+        self.line += 1
+        form, taker = _FORMS.get(text[:1], _NO_FORM)
+        match = form.fullmatch(text)
+        if self.total is not None:
+            self._refuse("stands after the last line", text)
+        if match is None:
+            self._refuse("is no line of a report", text)
+        return taker(self, match)
+
+    def close(self):
+        """Refuses a report that has no last line."""
+        if self.line == 0:
+            raise Refused("is empty, and no report")
+        if self.total is None:
+            raise Refused(f"ends after line {self.line}, where {self._due()} is due, "
+                          "and has no last line 'polls TOTAL'")
+
+    def _refuse(self, why, text):
+        raise Refused(f"line {self.line} {why}: {shown(text)}")
+
+    def _due(self):
+        """What may stand next, in words."""
+        last = self.attempt
+        if self.job is None:
+            return "a job or the last line"
+        if last is None:
+            return "attempt 1 or an end"
+        if self.is_step_due:
+            return f"step {last.number}"
+        if last.next is not None:
+            return f"attempt {last.number + 1} or an end"
+        return "an end"
+
+    def _misplaced(self, match):
+        self._refuse(f"stands where {self._due()} is due", match[0])
+
+    def _number(self, text, match):
+        """A number of a line, which is at most 2^64 - 1."""
+        number = int(text)
+        if number > MOST:
+            self._refuse("has a number above 18446744073709551615", match[0])
+        return number
+
+    def _take_job(self, match):
+        if self.job is not None:
+            self._misplaced(match)
+        self.job = Job(match[1], match[2])
+        self.attempt = None
+        self.polls = 0
+
+    def _take_attempt(self, match):
+        number, begin, end, outcome, value = match.groups()
+        last, begin = self.attempt, int(begin)
+        wanted = 1 if last is None else last.number + 1
+        if self.job is None or (last is not None and last.next is None) or number != str(wanted):
+            self._misplaced(match)
+        waited = None if last is None else begin - last.end
+        if last is not None and (waited < 0 or begin < last.next):
+            self._refuse("begins before the schedule goes on", match[0])
+        self.polls += waited != 0
+        if end is None:
+            self.attempt = Attempt(wanted, self._number(begin, match), None, "running", None, waited)
+            return self.attempt
+        end = self._number(end, match)
+        if end <= begin:
+            self._refuse("ends before it began", match[0])
+        self.polls += 1
+        self.attempt = Attempt(wanted, begin, end, outcome, self._number(value, match), waited)
+        self.is_step_due = outcome == _ASKS_AFTER[self.job.mode]
+        return None if self.is_step_due else self.attempt
+
+    def _take_step(self, match):
+        number, out, following = match.groups()
+        if not self.is_step_due or number != str(self.attempt.number):
+            self._misplaced(match)
+        if not is_output(out):
+            self._refuse("has no output of a schedule", match[0])
+        self.attempt.out = out
+        self.attempt.next = None if following is None else self._number(following, match)
+        self.is_step_due = False
+        return self.attempt
+
+    def _take_end(self, match):
+        if self.job is None or self.is_step_due:
+            self._misplaced(match)
+        ending = Ending(match[1] or ("finished" if match[3] else "unfinished"),
+                        None if match[2] is None else self._number(match[2], match), match[3],
+                        self._number(match[4], match), self._number(match[5], match))
+        if ending.polls != self.polls:
+            self._refuse(f"has other polls than its attempts, {self.polls}", match[0])
+        if not self._is_ending_of_last(ending):
+            self._refuse("is not the end of the attempts before it", match[0])
+        self._hold_horizon(ending, match)
+        self.polls_of_all += ending.polls
+        self.job = None
+        return ending
+
+    def _is_ending_of_last(self, ending):
+        """Whether an ending is one that the last attempt leads to."""
+        last = self.attempt
+        if ending.how == "unfinished":
+            is_open = last is None or last.end is None or last.next is not None
+            return is_open and (last is None or ending.at >= (last.begin if last.end is None else last.end))
+        if last is None or last.end is None or last.next is not None or ending.at != last.end:
+            return False
+        if ending.how == "finished":
+            return self.job.mode == "repeat" and last.outcome == "ok" and ending.out == last.out
+        outcome = "ok" if ending.how == "succeeded" else "err"
+        is_of_mode = self.job.mode == "retry" or ending.how == "failed"
+        return is_of_mode and last.outcome == outcome and ending.value == last.value
+
+    def _hold_horizon(self, ending, match):
+        """All unfinished jobs stand at one horizon, and no job ended after it."""
+        self.latest = max(self.latest, ending.at)
+        if ending.how == "unfinished":
+            if self.horizon not in [None, ending.at]:
+                self._refuse(f"has another horizon than a job before it, {self.horizon}", match[0])
+            self.horizon = ending.at
+        if self.horizon is not None and self.latest > self.horizon:
+            self._refuse(f"is at odds with a horizon of {self.horizon} and a job that ended at {self.latest}", match[0])
+
+    def _take_total(self, match):
+        if self.job is not None:
+            self._misplaced(match)
+        if match[1] != str(self.polls_of_all):
+            self._refuse(f"is not the sum of all polls, {self.polls_of_all}", match[0])
+        self.total = Total(self.polls_of_all)
+        return self.total
+
+
+_ASKS_AFTER = {"retry": "err", "repeat": "ok"}
+_FORMS = {
+    "j": (re.compile("job ([A-Za-z0-9._-]{1,64}) (retry|repeat)"), Reader._take_job),
+    "a": (re.compile(rf"attempt ({_NUMBER}) ({_NUMBER})\.\.(?:({_NUMBER}) (ok|err) ({_NUMBER})| running)"),
+          Reader._take_attempt),
+    "s": (re.compile(f"step ({_NUMBER}) out ({_OUTPUT}) (?:next ({_NUMBER})|done)"), Reader._take_step),
+    "e": (re.compile(f"end (?:(succeeded|failed) ({_NUMBER})|finished ({_OUTPUT})|unfinished) at ({_NUMBER})"
+                     f" polls ({_NUMBER})"), Reader._take_end),
+    "p": (re.compile("polls (0|[1-9][0-9]*)"), Reader._take_total),
+}
+
+
+_NO_FORM = (re.compile("(?!)"), None)
+
+
+def text_lines(source, longest=LONGEST_LINE):
+    """The lines of an open text file, without their newlines. A line that has none is refused."""
+    number = 0
+    while line := source.readline(longest):
+        number += 1
+        if line[-1] != "\n":
+            if len(line) == longest:
+                raise Refused(f"line {number} is longer than {longest - 1} characters")
+            raise Refused(f"line {number} is cut, since no newline ends it: {shown(line)}")
+        yield line[:-1]
+
+
+def records(source, reader=None):
+    """The records of a report, each with its job: attempts and ending of each job, and last the total without a job.
+    What was read before a fault has been given before the fault is told."""
+    reader = reader or Reader()
+    for text in text_lines(source):
+        job = reader.job
+        record = reader.take(text)
+        if record is not None:
+            yield job, record
+    reader.close()
+
+
+def as_text(binary):
+    """A binary file as text of single bytes, whose lines end at byte 10 alone."""
+    return io.TextIOWrapper(binary, encoding="latin-1", newline="\n")
+
+
+def standard_input():
+    """Standard input as such a text."""
+    return as_text(sys.stdin.buffer)
