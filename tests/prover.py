@@ -247,7 +247,8 @@ class Said:
         else:
             # a function that calls itself
             names = {(module, last[1:])}
-        return [name for module, last in names for name in [f"{module}::{last}".removeprefix("::")] if name in self.verdicts]
+        paths = [f"{module}::{name}".removeprefix("::") for module, name in names]
+        return [path for path in paths if path in self.verdicts]
 
     def part_cycles(self):
         """Leaves each function of a cycle of calls its own goals, which begin with its name: all are told of each."""

@@ -1,7 +1,7 @@
 #!/usr/bin/env python3
-"""Shows that tests/wrong_bodies.py can fail: a crate of four functions with wrong bodies that the prover refuses, and with
-edits that must be told by name, none of which hides another. It needs the toolchain, and takes about a minute. The last
-line is 'N passed, M failed'."""
+"""Shows that tests/wrong_bodies.py can fail: a crate of four functions with wrong bodies that the prover refuses, and
+with edits that must be told by name, none of which hides another. It needs the toolchain, and takes about a minute. The
+last line is 'N passed, M failed'."""
 import os
 import pathlib
 import signal
@@ -13,6 +13,7 @@ import time
 sys.dont_write_bytecode = True
 
 from program import Count
+from prover import Said
 from wrong_edits import BadEdit, Edit, edited
 
 RUNNER = pathlib.Path(__file__).resolve().parent / "wrong_bodies.py"
@@ -53,14 +54,30 @@ pub fn zero() -> u64
 }
 """
 
+# What a check says of a function with a goal of its own, of some that only wait, of a closure, and of a cycle of calls.
+SAID = """./proofs/m/+both/Answers.antt:4:5: error: `one-returns`: the two types differ
+note: src/lib.rt:9:1: it is not proved that what the function ensures holds when it returns (`returns-in-Ok`)
+fn a::f: no proof: expected answers in ./proofs/f/Answers.antt; `search` did not prove `returns-in-Ok`, `returns`
+fn a::g: no proof: it calls `a::f`, which is not proved
+fn a::h: no proof: the borrow checker's part in its proof is not made yet: a call of `a::g` has no contract yet
+note: src/lib.rt:30:1: it is not proved that what the function ensures holds when it returns (`returns`)
+fn a::fn::k::any: no proof: expected answers in ./proofs/fn/k/any/Answers.antt; `search` did not prove `returns`
+fn a::k: proved
+fn a::m::one: not proved; it calls `a::f`, which is not proved
+fn a::m::two: not proved; in `a::m::one`, of this cycle of calls: it calls `a::f`, which is not proved
+impl a::Thing: not proved; it waits for the proof of `k`
+logic=not-proved
+"""
+CYCLE = {"src/m.rt": "#[cycle(both)]\nfn one() {}\n#[cycle(both)]\nfn two() {}\n"}
+
 # Each edit: its name, its lines, and how it is told. Those that pass are told as refused.
 EDITS = [
     ("the_lesser", ["function: greater", "old: if a < b { b }", "new: if b < a { b }"], "refused by greater"),
-    ("no_limit", ["function: up_to_ten", "goal: returns-else", "old: else { 10 }", "new: else { a }"],
+    ("no_limit", ["function: up_to_ten", "goal: returns-else..", "old: else { 10 }", "new: else { a }"],
      "refused by up_to_ten: returns-else"),
-    ("nothing_below_ten", ["function: up_to_ten", "goal: returns-then", "old: if a < 10 { a }", "new: if a < 10 { 0 }"],
+    ("nothing_below_ten", ["function: up_to_ten", "goal: returns-then..", "old: < 10 { a }", "new: < 10 { 0 }"],
      "refused by up_to_ten: returns-then"),
-    ("no_limit_above", ["function: greater_up_to_ten", "old: up_to_ten(greater(a, b))", "new: greater(a, up_to_ten(b))"],
+    ("no_limit_above", ["function: greater_up_to_ten", "old: up_to_ten(greater(a, b))", "new: greater(a, b)"],
      "refused by greater_up_to_ten"),
     ("a_right_body", ["function: zero", "old:     0", "new:     1 - 1"], "NOT REFUSED"),
     ("does_not_apply", ["function: zero", "old: if a > b", "new: if true"], "src/lib.rt 0 times"),
@@ -137,7 +154,22 @@ def test_places(count):
         count.test("a pair that makes one place", made(["old: one(two)", "new: 1", "old: fn g", "new: fn h"]),
                    "fn f() { 1 }\nfn h() { three }\n")
         count.test("a text that stands twice", "2 times" in made(["old: fn ", "new: fn"]), True)
-        count.test("a text over a pair's edge", "join the pairs" in made(["old: one", "new: 1", "old: 1(two", "new: 2"]), True)
+        told = made(["old: one", "new: 1", "old: 1(two", "new: 2"])
+        count.test("a text over a pair's edge", "join the pairs" in told, True)
+
+
+def test_said(count):
+    """What is a goal of a function's own, and what only waits."""
+    said = Said(SAID, "a", CYCLE)
+    goals = lambda name: list(dict.fromkeys(it.goal for it in said.own_goals(name)))
+    count.test("goals of f", goals("f"), ["returns-in-Ok", "returns"])
+    count.test("goals of a function that waits", goals("g") + goals("h"), [])
+    count.test("what h waits for", said.waits_for("h"), {"f", "g"})
+    count.test("goals of a closure's function", goals("k"), ["returns"])
+    count.test("goals of a function of a cycle", goals("m::one"), ["one-returns"])
+    count.test("goals of the other function of the cycle", goals("m::two"), [])
+    count.test("what it waits for", said.waits_for("m::two"), {"f", "m::one"})
+    count.test("what is open of its own", said.open_of_their_own(), ["f", "fn::k::any", "m::one"])
 
 
 def test_words(count):
@@ -182,6 +214,7 @@ def main():
     """All tests."""
     count = Count()
     test_places(count)
+    test_said(count)
     test_words(count)
     test_end(count)
     test_runner(count)

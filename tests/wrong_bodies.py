@@ -1,14 +1,14 @@
 #!/usr/bin/env python3
 """Tries the wrong bodies in crates/NAME/wrong-bodies/: the prover must refuse each, and in the function that it names.
 
-Many edits are tried in one check of a copy of their crate: at most one to a function, or several where each names a goal
-of its own. An edit passes where its function is left open by a goal of that function's own, and nothing is open beside
-the functions that the round's edits name and those that call them. A function that only waits for another's proof says
-nothing: its edit is tried again in a later round. Whatever doesn't pass is tried alone before it is told.
+Many edits are tried in one check of a copy of their crate: at most one to a function, or several where each names a
+goal of its own. An edit passes where its function is left open by a goal of that function's own, and nothing is open
+beside the functions that the round's edits name and those that call them. A function that only waits for another's
+proof says nothing: its edit is tried again in a later round. What doesn't pass is tried alone before it is told.
 
-The libraries below a crate are taken as they are built; where one isn't, 'rt lib' builds it. Work that checks of the crate
-kept is used, which can only spare a proof that is known; where there is none, the crate is proved first, and out/
-keeps that. The last line is 'N passed, M failed', of one for each edit."""
+The libraries below a crate are taken as they are built; where one isn't, 'rt lib' builds it. Work that checks of the
+crate kept is used: it can spare a proof, and can leave nothing open. Where there is none, the crate is proved first,
+and out/ keeps that. The last line is 'N passed, M failed', one for each edit."""
 import argparse
 import concurrent.futures
 import os
@@ -25,8 +25,8 @@ from prover import Room, Toolchain, Unusable, crates_of, lock
 from wrong_edits import BadEdit, Edit, edited, texts_of
 
 TOP = pathlib.Path(__file__).resolve().parent.parent
-EPILOG = """exit status: 0 where each edit passed, 1 where one failed, 2 where nothing could be tried (no toolchain, a crate that
-isn't proved as it stands, words that name no crate or edit)."""
+EPILOG = """exit status: 0 where each edit passed; 1 where one failed, also since its crate isn't proved as it stands;
+2 where nothing could be tried (no toolchain, a library that can't be built, words that name no crate or edit)."""
 # What a check of a crate takes of the memory at most, but for rare ones.
 BYTES_OF_A_CHECK = 2_200_000_000
 
@@ -60,6 +60,7 @@ class Trial:
 
     def __init__(self, crate, edits):
         self.crate, self.edits = crate, edits
+        self.jobs = None
         self.found = {}
         self.clashes = set()
         self.rounds = 0
@@ -77,11 +78,13 @@ class Trial:
         whole = room.check({}, self.jobs())
         if not whole.is_proved():
             for edit in self.edits:
-                self.fail(edit, f"not tried: {self.crate.name} is not proved as it stands")
+                self.fail(edit, f"not tried: {self.crate.name} is not proved as it stands: {whole.lines[-1]}")
             lanes.end()
             return self.end(room, begun)
         room.keep()
-        left = [edit for edit in self.edits if self.is_good(edit, texts, whole)]
+        good = [edit for edit in self.edits if self.is_good(edit, texts, whole)]
+        # those that name a goal can share a round
+        left = sorted(good, key=lambda it: not it.goal)
         while left:
             some = self.pick(left)
             self.round(room, some)
@@ -159,7 +162,7 @@ class Trial:
 
     def judge(self, edit, said, strays, some):
         """Judges an edit by a check that it stood in."""
-        goals = [it for it in said.own_goals(edit.function) if it.goal.startswith(edit.goal)]
+        goals = [it for it in said.own_goals(edit.function) if edit.is_goal(it.goal)]
         strong = [it for it in goals if not it.is_weak()]
         waits = said.waits_for(edit.function)
         others = {it.function for it in some if it is not edit}
@@ -264,8 +267,8 @@ def options_of(words):
         formatter_class=argparse.RawDescriptionHelpFormatter)
     parser.add_argument("--crate", action="append", metavar="NAME", help="only this crate's edits (repeatable)")
     parser.add_argument("--edit", action="append", metavar="BELIEF", help="only this edit (repeatable)")
-    parser.add_argument("--must-fail", action="store_true", help="those in must-fail/ too, which 'rt ci' tries one by one")
-    parser.add_argument("--lanes", type=int, metavar="N", help="how many crates at once (a processor each, as memory holds)")
+    parser.add_argument("--must-fail", action="store_true", help="those in must-fail/ too, which 'rt ci' tries alone")
+    parser.add_argument("--lanes", type=int, metavar="N", help="crates at once (default: processors, as memory holds)")
     parser.add_argument("--top", default=TOP, metavar="FOLDER", help="the repository (default: the one of this file)")
     return parser.parse_args(words)
 

@@ -3,7 +3,7 @@
 An edit is a file crates/NAME/wrong-bodies/BELIEF.edit. Its lines, each '`word: text`':
 
     function: PATH    the function that the prover must leave open, as rt check names it, without the crate's name
-    goal: TEXT        optional: the name of the goal that must be left open, or how that name begins
+    goal: NAME        optional: the goal that must be left open; NAME.. is any whose name begins so
     file: PATH        a file of src/, specs/ or proofs/, for the pairs below it
     old: TEXT         a text that stands once in that file, with the pairs above made
     new: TEXT         what stands in its place"""
@@ -100,8 +100,15 @@ class Edit:
             return False
         if self.function != other.function:
             return not self.touched & other.touched
-        begin = [self.goal, other.goal]
-        return all(begin) and not any(one.startswith(two) for one, two in [begin, begin[::-1]])
+        if not self.goal or not other.goal:
+            return False
+        return not self.is_goal(other.goal.removesuffix("..")) and not other.is_goal(self.goal.removesuffix(".."))
+
+    def is_goal(self, name):
+        """Whether a goal is the one that the edit names; where it names none, each is."""
+        if self.goal.endswith(".."):
+            return name.startswith(self.goal.removesuffix(".."))
+        return name == self.goal or not self.goal
 
 
 def made(text, changes):
