@@ -1,0 +1,115 @@
+"""The command zsched-explain: runs the program on a plan, and tells where in the plan its fault is."""
+import argparse
+import subprocess
+import sys
+import unicodedata
+
+from zsched_tools import program
+from zsched_tools.cause import line_of, shown
+from zsched_tools.faults import MAX_BYTES, explained
+
+ABOUT = """Runs zsched on a plan, and tells where its fault is.
+
+The first line on standard error is the program's own. Of a plan that is refused these follow: the place as
+FILE:LINE:COLUMN, both counted from 1 and a column being a character; the line, cut where it is long; what is wrong there,
+and what to write where that is known; the name of the job. Of a plan without a fault nothing but 'FILE: no fault' is
+written, on standard output; the report is that of zsched itself."""
+STATUSES = """exit status: that of zsched: 0 (no fault), 2 (the plan is refused), 3 (reading failed, also of FILE), 4 (no memory or
+no thread), 128 and the signal that ended it; 1 where the command can't be run as it is written, or zsched isn't found."""
+WIDTH = 100
+
+
+class Words(argparse.ArgumentParser):
+    """The command's words; a wrong one ends with status 1, since 2 is that of a refused plan."""
+
+    def error(self, message):
+        self.exit(1, f"{self.prog}: {message}\n{self.format_usage()}")
+
+
+def words():
+    """What the command takes."""
+    found = Words(prog="zsched-explain", description=ABOUT, epilog=STATUSES,
+                  formatter_class=argparse.RawDescriptionHelpFormatter)
+    found.add_argument("plan", nargs="?", default="-", metavar="PLAN.json",
+                       help="the plan's file; - or none for standard input")
+    found.add_argument("--zsched", metavar="PATH", help="the program; else the variable ZSCHED, the built or the installed one")
+    return found
+
+
+def main(arguments=None):
+    """Runs the command, by default with the words that it was called with, and answers its exit status."""
+    taken = words().parse_args(arguments)
+    name = "standard input" if taken.plan == "-" else taken.plan
+    try:
+        zsched = program.find(taken.zsched)
+        data = _plan(taken.plan)
+    except program.NoProgram as missing:
+        print(f"zsched-explain: {missing}", file=sys.stderr)
+        return 1
+    except OSError as failed:
+        print(f"zsched-explain: {shown(name, WIDTH)}: {failed.strerror}", file=sys.stderr)
+        return 3
+    try:
+        status, line = refusal(zsched, data)
+    except OSError as failed:
+        print(f"zsched-explain: {zsched}: {failed.strerror}", file=sys.stderr)
+        return 1
+    except KeyboardInterrupt:
+        return 130
+    sys.stderr.write(line)
+    if status == 2:
+        sys.stderr.write(explanation(name, data, line))
+    elif status == 0:
+        print(f"{shown(name, WIDTH)}: no fault")
+    return status
+
+
+def _plan(name):
+    """The plan's bytes, as many as the program looks at."""
+    if name == "-":
+        return sys.stdin.buffer.read(MAX_BYTES + 1)
+    with open(name, "rb") as file:
+        return file.read(MAX_BYTES + 1)
+
+
+def refusal(zsched, data):
+    """Runs the program on a plan's bytes, and drops its report: its status and its line on standard error."""
+    ended = subprocess.run([zsched], input=data, stdout=subprocess.DEVNULL, stderr=subprocess.PIPE, check=False)
+    status = ended.returncode if ended.returncode >= 0 else 128 - ended.returncode
+    return status, ended.stderr.decode(errors="replace")
+
+
+def explanation(name, data, line):
+    """The lines that tell where the fault is of which the program wrote this line."""
+    found = explained(data, line.strip().removeprefix("zsched: "))
+    text, cause = found.text, found.cause
+    number, begin = line_of(text, cause.at), text.rfind("\n", 0, cause.at) + 1
+    source, mark = excerpt(text, begin, cause)
+    gutter = " " * len(str(number))
+    lines = [f"{gutter}--> {shown(name, WIDTH)}:{number}:{cause.at - begin + 1}", f"{gutter} |", f"{number} | {source}",
+             f"{gutter} | {mark} {cause.what}"]
+    if cause.help:
+        lines.append(f"{gutter} = help: {cause.help}")
+    if found.name is not None:
+        lines.append(f'{gutter} = job {found.job} is "{shown(found.name, 64)}"')
+    return "".join(line.rstrip() + "\n" for line in lines)
+
+
+def excerpt(text, begin, cause):
+    """The line of a cause, which begins there, cut where it is long, and the caret below it."""
+    end = text.find("\n", cause.at)
+    end = len(text) if end < 0 else end
+    first = begin if cause.at - begin <= WIDTH * 3 // 4 else cause.at - WIDTH // 2
+    last = min(end, first + WIDTH)
+    before, behind = shown(text[first:cause.at], WIDTH), shown(text[cause.at:last], WIDTH)
+    if first > begin:
+        before = ".. " + before.lstrip()
+    source = before + behind + (" .." if last < end else "")
+    size = max(1, min(cause.size, last - cause.at))
+    return source, " " * _columns(before) + "^" * max(1, _columns(behind[:size]))
+
+
+def _columns(text):
+    """How many columns of a terminal a text takes."""
+    wide = {"W": 2, "F": 2}
+    return sum(0 if unicodedata.combining(letter) else wide.get(unicodedata.east_asian_width(letter), 1) for letter in text)
