@@ -56,12 +56,7 @@ def main(arguments=None):
         return 1
     except KeyboardInterrupt:
         return 130
-    sys.stderr.write(line)
-    if status == 2:
-        sys.stderr.write(explanation(name, data, line))
-    elif status == 0:
-        print(f"{shown(name, WIDTH)}: no fault")
-    return status
+    return tell(name, data, status, line)
 
 
 def _plan(name):
@@ -72,11 +67,20 @@ def _plan(name):
         return file.read(MAX_BYTES + 1)
 
 
-def refusal(zsched, data):
-    """Runs the program on a plan's bytes, and drops its report: its status and its line on standard error."""
-    ended = subprocess.run([zsched], input=data, stdout=subprocess.DEVNULL, stderr=subprocess.PIPE, check=False)
-    status = ended.returncode if ended.returncode >= 0 else 128 - ended.returncode
-    return status, ended.stderr.decode(errors="replace")
+def refusal(zsched, data, seconds=None):
+    """Runs the program on a plan's bytes, and drops its report: its status and its line on standard error. Past the seconds it
+    is killed, and subprocess.TimeoutExpired is raised."""
+    ended = subprocess.run([zsched], input=data, stdout=subprocess.DEVNULL, stderr=subprocess.PIPE, timeout=seconds, check=False)
+    return ended.returncode if ended.returncode >= 0 else 128 - ended.returncode, ended.stderr.decode(errors="replace")
+
+
+def tell(name, data, status, line):
+    """Writes what is to be said about a plan on which the program ended with this status and line, and answers the status."""
+    if status == 0:
+        print(f"{shown(name, WIDTH)}: no fault")
+    else:
+        sys.stderr.write(line + (explanation(name, data, line) if status == 2 else ""))
+    return status
 
 
 def explanation(name, data, line):

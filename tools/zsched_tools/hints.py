@@ -25,7 +25,7 @@ _UNITS = {
     Fraction(86400000): "d day days",
 }
 UNITS = {unit: length for length, units in _UNITS.items() for unit in units.split()}
-_PART = re.compile(r"\s*(\d{1,18}(?:\.\d{1,9})?)[ .]*([A-Za-zµ]+)\s*")
+_PART = re.compile(r"\s*([0-9]{1,18}(?:\.[0-9]{1,9})?)[ .]*([A-Za-zµ]+)\s*")
 
 _OPPOSITE = "the opposite comparison (< for >=, = for !=)"
 _EFFECTS = "left out: a schedule here runs no effects of its own"
@@ -159,9 +159,9 @@ def milliseconds(text):
     text = text.strip()
     if len(text) > 60:
         return None
-    if re.fullmatch(r"\d{1,18}(\.\d{1,9})?", text):
+    if re.fullmatch(r"[0-9]{1,18}(\.[0-9]{1,9})?", text):
         return Fraction(text)
-    if re.fullmatch(r"P(\d+D)?(T.+)?", text):
+    if re.fullmatch(r"P([0-9]+D)?(T.+)?", text):
         text = text[1:].replace("T", "")
     parts = _PART.findall(text)
     units = [unit if unit in UNITS else unit.lower() for _, unit in parts]

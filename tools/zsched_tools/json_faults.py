@@ -101,7 +101,7 @@ def _bad_number(text, at):
     source = re.compile(r"[+-]?[0-9A-Za-z_.]*(?:(?<=[eE])[+-][0-9]*)?").match(text, at)[0] or text[at]
     if source[0] == "+":
         return Cause(at, len(source), "a number has no plus before it", f"write {shown(source[1:])}")
-    if re.fullmatch(r"-?\.\d+", source):
+    if re.fullmatch(r"-?\.[0-9]+", source):
         return Cause(at, len(source), "a number begins with a digit", "a plan has whole numbers alone")
     return Cause(at, len(source), "this is no number", "write digits alone")
 
@@ -200,6 +200,8 @@ def no_colon(document, at, end):
     if mark in ",}":
         return Cause(at, end - at, "a text alone, where a key and a value are expected",
                      'the parts of an object are written "key": value')
+    if rest == end and (mark.isalnum() or mark == "_"):
+        return _tail(text, end)
     return Cause(end, 1, "a colon is missing behind this key", "write :")
 
 
@@ -238,17 +240,20 @@ def _stray_colon(text, opened, at, is_object):
 def _tail(text, end):
     """Letters or digits stand right behind a number or a word."""
     begin = end
-    while begin > 0 and (text[begin - 1].isalnum() or text[begin - 1] in "+-."):
+    while begin > 0 and (text[begin - 1].isalnum() or text[begin - 1] in "+-._"):
         begin -= 1
-    tail = re.compile(r"[ ]?[A-Za-z0-9_.µ+-]+").match(text, end)[0]
+    tail = re.compile(r"[ ]?[\w.+-]+").match(text, end)[0]
     source = text[begin:end] + tail
     size = len(source)
+    if text[end - 1] == '"':
+        return Cause(end, len(tail), "this stands behind the quote that ends a text",
+                     'a quote is missing or too much; inside a text it is written \\"')
     if not text[begin:begin + 1].isdigit() and text[begin:begin + 1] != "-":
         return Cause(begin, size, "a text without quotes", f'write "{shown(source)}"')
-    if re.fullmatch(r"\d+(_\d+)+", source):
+    if re.fullmatch(r"[0-9]+(_[0-9]+)+", source):
         return Cause(begin, size, "no _ may stand in a number", f"write {shown(source.replace('_', ''))}")
-    if re.fullmatch(r"0\d+", source):
+    if re.fullmatch(r"0[0-9]+", source):
         return Cause(begin, size, "a number may not begin with 0", f"write {shown(source.lstrip('0') or '0')}")
-    if re.fullmatch(r"-?\d+\.", source):
+    if re.fullmatch(r"-?[0-9]+\.", source):
         return Cause(begin, size, "digits are missing behind the point", f"write {shown(source[:-1])}")
     return Cause(begin, size, "a number with letters behind it", in_milliseconds(source) or "write digits alone")

@@ -38,7 +38,7 @@ class Spot(NamedTuple):
 
 def cause_of(text, fault):
     """The cause of a text that isn't a schedule's: of 'no term at byte P' and 'number too large at byte P', else None."""
-    place = re.fullmatch(r"(no term|number too large) at byte (\d+)", fault)
+    place = re.fullmatch(r"(no term|number too large) at byte ([0-9]+)", fault)
     if not place:
         return None
     at = len(text.encode()[:int(place[2])].decode())
@@ -120,10 +120,10 @@ def _after_number(spot):
     unit = re.match(r"[ .]{0,3}([A-Za-zµ]+)", spot.rest)
     if unit and (unit[1] in UNITS or unit[1].lower() in UNITS):
         return spot.cause(unit.end(), "a number has no unit", in_milliseconds(count + unit[1]))
-    fraction = re.match(r"\.\d+", spot.rest)
+    fraction = re.match(r"\.[0-9]+", spot.rest)
     if fraction:
         return _fraction(spot, count + fraction[0], fraction.end())
-    digits = re.match(r"[_' ]?\d[\d_']*", spot.rest)
+    digits = re.match(r"[_' ]?[0-9][0-9_']*", spot.rest)
     if digits:
         return spot.cause(digits.end(), "a number is written in digits alone",
                           f"write {shown(re.sub('[^0-9]', '', count + digits[0]))}")
@@ -207,7 +207,7 @@ def _no_schedule(spot):
     if token in METHODS:
         return spot.cause(len(token), f"{token} follows a schedule", f"write S.{token}..")
     if spot.rest[0].isdigit():
-        number = re.match(r"\d+", spot.rest)[0]
+        number = re.match(r"[0-9]+", spot.rest)[0]
         return spot.cause(len(number), "a number alone is no schedule", f"write recurs({number}) or spaced({number})")
     if token == ")" and spot.last() == "(":
         return spot.cause(1, "there is no schedule in these parentheses", "write (A && B)")
@@ -286,12 +286,13 @@ def _no_open(spot):
 def _no_number(spot):
     """No number stands where one has to."""
     token = spot.token()
-    zeros = re.match(r"0\d+", spot.rest)
+    zeros = re.match(r"0[0-9]+", spot.rest)
     if zeros:
         return spot.cause(zeros.end(), "a number may not begin with 0", f"write {shown(zeros[0].lstrip('0') or '0')}")
     if token == ")":
-        return spot.cause(1, "a number is missing before this )", "an N, in milliseconds where it is a time")
-    return spot.cause(max(1, len(token)), "a number is missing here", "an N is a whole number in digits")
+        word = spot.last(2) if spot.last(2) in NUMBERED_LEAVES else ""
+        return spot.cause(1, "a number is missing before this )", f"write {word}(3)" if word else "write a whole number")
+    return spot.cause(max(1, len(token)), "a number is missing here", "write a whole number, in digits alone")
 
 
 def _no_test(spot, expected):

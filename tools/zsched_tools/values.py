@@ -104,7 +104,7 @@ def _whole_help(node, key):
         said = node.string()
         if key in TIMES and in_milliseconds(said):
             return in_milliseconds(said).replace(":", ", without quotes:", 1)
-        if re.fullmatch(r"0|[1-9]\d{0,18}", said.strip()):
+        if re.fullmatch(r"0|[1-9][0-9]{0,18}", said.strip()):
             return f"write {said.strip()}, without quotes"
         return "write a whole number, as 1: a code stands for a cause" if key in ("ok", "err") else "write a whole number"
     if node.kind == "null":
@@ -118,9 +118,9 @@ def _number_help(source, key):
     """What to write in place of a number that isn't whole."""
     if source.startswith("-"):
         return "write 0" if source == "-0" else "a number of a plan has no sign"
-    if re.fullmatch(r"\d+", source):
+    if re.fullmatch(r"[0-9]+", source):
         return f"the greatest number is {MAX_WHOLE}"
-    value = Fraction(source) if re.fullmatch(r"\d{1,20}(\.\d{1,20})?([eE][+-]?\d{1,2})?", source) else None
+    value = Fraction(source) if re.fullmatch(r"[0-9]{1,20}(\.[0-9]{1,20})?([eE][+-]?[0-9]{1,2})?", source) else None
     if value is None:
         return "write digits alone, without point and exponent"
     if value.denominator == 1 and value <= MAX_WHOLE:
