@@ -91,7 +91,7 @@ class Mistakes(unittest.TestCase):
     def test_a_wide_letter_takes_two_columns(self):
         plan = '{"horizon": 9, "jobs": [{"名前": 1, "x" 2}]}'.encode()
         _, _, errors = told(plan, 2, "zsched: plan is not JSON\n")
-        self.assertIn('1 | {"horizon": 9, "jobs": [{"名前": 1, "x" 2}]}\n' + "  | " + " " * 41 + "^ ", errors)
+        self.assertIn('1 | {"horizon": 9, "jobs": [{"名前": 1, "x" 2}]}\n' + "  | " + " " * 39 + "^ ", errors)
 
 
 class Changes(unittest.TestCase):

@@ -1,4 +1,5 @@
 """What is wrong with the document of a plan: its shape, its keys, its ranges."""
+import operator
 import re
 
 from zsched_tools.cause import Cause
@@ -11,7 +12,6 @@ MAX_TICKS = 1000000
 MAX_JOBS = 10000
 _FRAME = '{"horizon": 60000, "jobs": [ .. ]}'
 _WHOLES = re.compile(f"(?:(?:0|[1-9][0-9]{{0,18}}+){W},{W})*+")
-_ANY_ITEM = re.compile("")
 
 
 def shape(plan):
@@ -71,9 +71,10 @@ def _tick_cause(ticks):
     parts = ticks.source[1:-1].split(",")
     if not parts[0].strip():
         return over(ticks, "there are no ticks", "write at least one moment, as [0]")
-    moments = [int(part) for part in parts]
-    number = next((number for number in range(1, len(moments)) if moments[number] <= moments[number - 1]), None)
-    if number is not None:
+    moments = list(map(int, parts))
+    falls = list(map(operator.ge, moments, moments[1:]))
+    if True in falls:
+        number = falls.index(True) + 1
         what = f"this tick is not later than the one before it, {moments[number - 1]}"
         return _at_tick(ticks, parts, number, what, "write the ticks in their order, each once")
     if len(moments) > MAX_TICKS:
@@ -87,7 +88,7 @@ def _tick_cause(ticks):
 
 def _at_tick(ticks, parts, number, what, help):
     """A cause at the tick with this number."""
-    begin = ticks.at + 1 + sum(len(part) + 1 for part in parts[:number])
+    begin = ticks.at + 1 + sum(map(len, parts[:number])) + number
     part = parts[number]
     return Cause(begin + len(part) - len(part.lstrip()), len(part.strip()), what, help)
 

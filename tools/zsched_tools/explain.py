@@ -2,6 +2,7 @@
 import argparse
 import subprocess
 import sys
+import tempfile
 import unicodedata
 
 from zsched_tools import program
@@ -70,7 +71,10 @@ def _plan(name):
 def refusal(zsched, data, seconds=None):
     """Runs the program on a plan's bytes, and drops its report: its status and its line on standard error. Past the seconds it
     is killed, and subprocess.TimeoutExpired is raised."""
-    ended = subprocess.run([zsched], input=data, stdout=subprocess.DEVNULL, stderr=subprocess.PIPE, timeout=seconds, check=False)
+    with tempfile.TemporaryFile() as plan:
+        plan.write(data)
+        plan.seek(0)
+        ended = subprocess.run([zsched], stdin=plan, stdout=subprocess.DEVNULL, stderr=subprocess.PIPE, timeout=seconds, check=False)
     return ended.returncode if ended.returncode >= 0 else 128 - ended.returncode, ended.stderr.decode(errors="replace")
 
 

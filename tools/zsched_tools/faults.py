@@ -1,11 +1,11 @@
 """Where in a plan the fault is that the program tells, and what is wrong there. The rules are those of docs/FORMATS.md."""
 import re
 
-from zsched_tools import json_faults
+from zsched_tools import json_reading, not_json
 from zsched_tools.cause import Cause
 from zsched_tools.document_faults import DOCUMENT_FAULTS
 from zsched_tools.job_faults import JOB_FAULTS, schedule_fault, script_fault
-from zsched_tools.positions import Document, NotJson
+from zsched_tools.positions import Document
 
 MAX_BYTES = 16777216
 _OF_DOCUMENT = re.compile(r"plan: (?P<cause>wrong shape|unknown key|out of range)")
@@ -30,15 +30,13 @@ def explained(data, fault):
         text = data.decode(errors="replace")
         at = len(data[:bad.start].decode())
         if fault == "plan is not JSON":
-            return Explained(text, json_faults.no_utf8(data, text, at))
+            return Explained(text, not_json.no_utf8(data, text, at))
     if fault.startswith("plan is longer than"):
         at = len(data[:MAX_BYTES].decode(errors="ignore"))
         return Explained(text, Cause(at, 0, f"{MAX_BYTES} bytes end here, and a plan has no more", "make plans of fewer jobs"))
-    try:
-        plan = Document(text).read()
-    except NotJson as found:
-        return Explained(text, found.args[0])
-    return _in_document(plan, text, fault)
+    if fault == "plan is not JSON":
+        return Explained(text, json_reading.fault_of(text) or _unknown(0))
+    return _in_document(Document(text).root(), text, fault)
 
 
 def _in_document(plan, text, fault):

@@ -1,129 +1,82 @@
-"""JSON with places: a plan's text, read by the rules of the program's reader, which are those of serde_json.
-
-A value that is flat is passed by one regular expression, a run of such values by one too. Other values are looked at one by
-one, and the end of each is kept, so no text is passed twice."""
+"""The values of a text that is JSON, with their places. A list or object is read where it is asked for its parts, and is
+passed by its brackets alone elsewhere."""
 import json
 import re
 
-from zsched_tools import json_faults
-from zsched_tools.cause import Cause
-
-MAX_DEPTH = 127
 MAX_WHOLE = 2**64 - 1
 
 W = r"[ \t\n\r]*+"
-_ESCAPE = (r'\\(?:["\\/bfnrt]|u(?:(?![dD][89a-fA-F])[0-9a-fA-F]{4}'
-           r"|[dD][89abAB][0-9a-fA-F]{2}\\u[dD][c-fC-F][0-9a-fA-F]{2}))")
-_STRING = rf'"[^"\\\x00-\x1f]*+(?:{_ESCAPE}[^"\\\x00-\x1f]*+)*+"'
-# Numbers that a 64-bit float surely holds; the others are looked at closely.
-_SMALL = (r"(?:[1-9][0-9]{0,199}+|-?(?:0|[1-9][0-9]{0,199}+)(?:\.[0-9]++)?+(?:[eE][+-]?[0-9]{1,2}+)?+)"
-          r"(?![0-9.eE])")
-_SCALAR = f"(?:{_SMALL}|{_STRING}|true|false|null)"
-_MEMBER = f"{_STRING}{W}:{W}{_SCALAR}{W}"
-_FLAT = rf"(?:{_SCALAR}|\{{{W}(?:{_MEMBER}(?:,{W}{_MEMBER})*+)?+\}})"
+_STRING = r'"[^"\\]*+(?:\\.[^"\\]*+)*+"'
 
-SPACE = re.compile(W)
-STRING = re.compile(_STRING)
-NUMBER = re.compile(r"-?(?:0|[1-9][0-9]*+)(?:\.[0-9]++)?+(?:[eE][+-]?[0-9]++)?+")
-FLAT = re.compile(_FLAT)
-SCALAR = re.compile(_SCALAR)
-COLON = re.compile(f"{W}:{W}")
-ITEMS = re.compile(f"(?:{_FLAT}{W},{W})*+")
-MEMBERS = re.compile(f"(?:{_STRING}{W}:{W}{_FLAT}{W},{W})*+")
-DIGITS = re.compile(r"0|[1-9][0-9]{0,19}")
+_SPACE = re.compile(W)
+_TEXT = re.compile(_STRING)
+_WORD = re.compile(r"[^ \t\n\r,\]}]++")
+_COLON = re.compile(f"{W}:{W}")
+_TO_BRACKET = re.compile(rf'(?:[^\[\]{{}}"]++|{_STRING})*+')
+_KEPT_DEPTH = 4
+_DIGITS = re.compile(r"0|[1-9][0-9]{0,19}")
 _PIECE = re.compile(r"(?P<plain>[^\\]+)|(?P<pair>\\u[dD][89abAB][0-9a-fA-F]{2}\\u[0-9a-fA-F]{4})|\\u[0-9a-fA-F]{4}|\\.")
-
-KINDS = {"{": "object", "[": "list", '"': "text", "t": "true", "f": "false", "n": "null"}
-
-
-class NotJson(Exception):
-    """The text is no JSON document. Its argument is the Cause."""
+_KINDS = {"{": "object", "[": "list", '"': "text", "t": "true", "f": "false", "n": "null"}
 
 
 class Document:
-    """A text that is read as JSON."""
+    """A text that is JSON. The ends of its lists and objects are kept once they were looked for."""
 
     def __init__(self, text):
         self.text = text
-        self.open = []
         self.ends = {}
 
-    def read(self):
-        """The one value that the text is; raises NotJson."""
-        begin = self.skip(0)
-        if begin == len(self.text) or self.text.startswith("\ufeff"):
-            raise NotJson(json_faults.no_plan(self.text))
-        rest = self.skip(self.end_of(begin))
-        if rest < len(self.text):
-            raise NotJson(json_faults.more_text(self.text, rest))
-        return Node(self, begin)
+    def root(self):
+        """The value that the text is."""
+        return Node(self, self.skip(0))
 
     def skip(self, at):
         """The place behind the white space."""
-        return SPACE.match(self.text, at).end()
+        return _SPACE.match(self.text, at).end()
 
     def end_of(self, at):
         """The end of the value that begins here."""
-        if at in self.ends:
-            return self.ends[at]
-        flat = (FLAT if len(self.open) < MAX_DEPTH else SCALAR).match(self.text, at)
-        if flat:
-            return flat.end()
-        if self.text[at:at + 1] in ("{", "["):
-            self.ends[at] = end = self.end_of_container(at)
-            return end
-        return self.end_of_number(at)
+        mark = self.text[at]
+        if mark == '"':
+            quote = self.text.find('"', at + 1)
+            return quote + 1 if self.text[quote - 1] != "\\" else _TEXT.match(self.text, at).end()
+        if mark not in "{[":
+            return _WORD.match(self.text, at).end()
+        if at not in self.ends:
+            self._look_for_end(at)
+        return self.ends[at]
 
-    def end_of_number(self, at):
-        """The end of a number that may be too large for a float."""
-        number = NUMBER.match(self.text, at)
-        if not number:
-            raise NotJson(json_faults.no_value(self, at))
-        if float(number[0]) in (float("inf"), float("-inf")):
-            raise NotJson(Cause(at, number.end() - at, "this number is too large for any reader of JSON",
-                                f"the greatest number of a plan is {MAX_WHOLE}"))
-        return number.end()
+    def _look_for_end(self, at):
+        """Keeps the end of the list or object that begins here, and those of the ones in it, down to some depth."""
+        text, here, begins = self.text, at, []
+        while begins or here == at:
+            here = _TO_BRACKET.match(text, here).end()
+            begin = here if text[here] in "{[" else begins.pop()
+            here = self._end_of_shallow(here) if begin == here else here + 1
+            if not here:
+                begins.append(begin)
+                here = begin + 1
+            elif len(begins) < _KEPT_DEPTH:
+                self.ends[begin] = here
 
-    def end_of_container(self, at):
-        """The end of the list or object that begins here. The run of flat parts at its front is passed at once."""
-        text, is_object = self.text, self.text[at] == "{"
-        closing, run = ("}", MEMBERS) if is_object else ("]", ITEMS)
-        if len(self.open) == MAX_DEPTH:
-            raise NotJson(Cause(at, 1, f"this is nested deeper than {MAX_DEPTH}", "a plan has five levels"))
-        self.open.append(at)
-        here = self.skip(at + 1)
-        is_done = text[here:here + 1] == closing
-        while not is_done:
-            if len(self.open) < MAX_DEPTH:
-                here = run.match(text, here).end()
-            end = self.end_of(self.behind_key(here) if is_object else here)
-            here = self.skip(end)
-            is_done = text[here:here + 1] == closing
-            if not is_done:
-                if text[here:here + 1] != ",":
-                    raise NotJson(json_faults.no_comma(self, end, here))
-                here = self.skip(here + 1)
-        self.open.pop()
-        return here + 1
+    def _end_of_shallow(self, at):
+        """The end of a list that has no list in it, as far as its brackets and quotes alone tell it, else None."""
+        text, end = self.text, self.text.find("]", at)
+        is_list = text[at] == "[" and text.find("[", at + 1, end) < 0
+        return end + 1 if is_list and text.find("\\", at, end) < 0 and text.count('"', at, end) % 2 == 0 else None
 
     def behind_key(self, at):
         """The place of the value whose key begins here."""
-        key = STRING.match(self.text, at)
-        if not key:
-            raise NotJson(json_faults.no_key(self, at))
-        colon = COLON.match(self.text, key.end())
-        if not colon:
-            raise NotJson(json_faults.no_colon(self, at, key.end()))
-        return colon.end()
+        return _COLON.match(self.text, self.end_of(at)).end()
 
 
 class Node:
-    """A value of a document that was read."""
+    """A value of a document."""
 
     def __init__(self, document, at):
         self.document = document
         self.at = at
-        self.kind = KINDS.get(document.text[at], "number")
+        self.kind = _KINDS.get(document.text[at], "number")
 
     @property
     def end(self):
@@ -137,12 +90,13 @@ class Node:
 
     def string(self):
         """What a text says."""
-        return json.loads(self.source)
+        source = self.source
+        return json.loads(source) if "\\" in source else source[1:-1]
 
     def whole(self):
         """The number, where it is a whole one, else None."""
         source = self.source if self.kind == "number" else ""
-        return int(source) if DIGITS.fullmatch(source) and int(source) <= MAX_WHOLE else None
+        return int(source) if _DIGITS.fullmatch(source) and int(source) <= MAX_WHOLE else None
 
     def items(self, passing=None):
         """The items of a list. Those that stand in a run of this pattern are passed and not told: a pattern takes any number
@@ -155,11 +109,7 @@ class Node:
 
     def get(self, key):
         """The value at a key, the last where it stands twice; None where it doesn't stand."""
-        found = None
-        for name, value in self.members():
-            if name.string() == key:
-                found = value
-        return found
+        return next((value for name, value in reversed(self.members()) if name.string() == key), None)
 
     def _parts(self, passing):
         """The places of the items, or of the keys."""

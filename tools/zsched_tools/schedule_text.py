@@ -41,7 +41,7 @@ def cause_of(text, fault):
     place = re.fullmatch(r"(no term|number too large) at byte ([0-9]+)", fault)
     if not place:
         return None
-    at = len(text.encode()[:int(place[2])].decode())
+    at = int(place[2]) if text.isascii() else len(text.encode()[:int(place[2])].decode())
     if place[1] == "number too large":
         return Cause(at, len(TOKEN.match(text, at)[0]), "this number is too large", "the greatest is 18446744073709551615")
     before = list(TOKEN.finditer(text, max(0, at - WINDOW), at))

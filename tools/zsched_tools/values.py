@@ -42,6 +42,8 @@ def not_of_kind(node, kind, what, help=""):
 
 def meant_for(key, known):
     """The key of these that was meant by another one, perhaps."""
+    if len(key) > 40:
+        return None
     plain = key.lower()
     for meant in known:
         if plain in _ALIASES[meant]:

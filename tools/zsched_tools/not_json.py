@@ -41,6 +41,12 @@ def more_text(text, at):
     return _comment(text, at) or Cause(at, 1, "the plan has ended, and more follows", "take it out")
 
 
+def too_large(at, end):
+    """The number that stands from here to there is larger than any 64-bit float."""
+    return Cause(at, end - at, "this number is too large for any reader of JSON",
+                 "the greatest number of a plan is 18446744073709551615")
+
+
 def _comment(text, at):
     """The cause where a comment begins here, else None."""
     if not text.startswith(_COMMENTS, at):
@@ -49,36 +55,36 @@ def _comment(text, at):
     return Cause(at, (end if end >= 0 else len(text)) - at, "JSON has no comments", "take it out")
 
 
-def no_value(document, at):
+def no_value(reading, at):
     """No value begins here."""
-    text, mark = document.text, document.text[at:at + 1]
+    text, mark = reading.text, reading.text[at:at + 1]
     if not mark:
-        return _early_end(document, at)
+        return _early_end(reading, at)
     if mark == '"':
         return _bad_string(text, at)
     if mark in "]},:;=":
-        return _missing_value(document, at)
+        return _missing_value(reading, at)
     if mark in "+-." or mark.isdigit():
         return _bad_number(text, at)
     if mark in _QUOTES:
         return Cause(at, 1, "these are no quotes of JSON", 'write "')
     word = _WORD.match(text, at)
-    return _comment(text, at) or (_bare_word(document, at, word[0]) if word else _odd_letter(text, at))
+    return _comment(text, at) or (_bare_word(reading, at, word[0]) if word else _odd_letter(text, at))
 
 
-def _early_end(document, at):
+def _early_end(reading, at):
     """The text ends before a value does."""
-    if not document.open:
+    if not reading.open:
         return Cause(at, 0, "the plan ends here, too soon")
-    opened = document.open[-1]
-    mark = document.text[opened]
+    opened = reading.open[-1]
+    mark = reading.text[opened]
     return Cause(at, 0, "the plan ends here, too soon",
-                 f"{_CLOSING[mark]} is missing: the {mark} of line {line_of(document.text, opened)} is still open")
+                 f"{_CLOSING[mark]} is missing: the {mark} of line {line_of(reading.text, opened)} is still open")
 
 
-def _missing_value(document, at):
+def _missing_value(reading, at):
     """A mark stands where a value is expected."""
-    text, mark = document.text, document.text[at]
+    text, mark = reading.text, reading.text[at]
     before = at - 1
     while before >= 0 and text[before] in _SPACE:
         before -= 1
@@ -91,7 +97,7 @@ def _missing_value(document, at):
         return Cause(at, 1, f"a value is missing before this {mark}")
     if last == "[" and mark == ",":
         return Cause(at, 1, "a comma stands before the first item", "take it out")
-    if not document.open and mark in "]}":
+    if not reading.open and mark in "]}":
         return Cause(at, 1, f"this {mark} closes nothing", f"a plan begins as {SKETCH}")
     return Cause(at, 1, f"no value begins with {mark}")
 
@@ -106,16 +112,16 @@ def _bad_number(text, at):
     return Cause(at, len(source), "this is no number", "write digits alone")
 
 
-def _bare_word(document, at, word):
+def _bare_word(reading, at, word):
     """A word stands where a value is expected."""
-    text = document.text
-    if re.compile(r"[ \t]*:").match(text, at + len(word)) and not document.open:
+    text = reading.text
+    if re.compile(r"[ \t]*:").match(text, at + len(word)) and not reading.open:
         return Cause(at, len(word), "this looks like YAML, and a plan is JSON", f"write {SKETCH}")
     if word in _CONSTANTS:
         return Cause(at, len(word), f"JSON has no {word}", f"{_CONSTANTS[word]} is JSON's word, but no value of a plan")
     if word in ("NaN", "Infinity", "inf", "nan"):
         return Cause(at, len(word), f"JSON has no {word}", "write a whole number")
-    if not document.open:
+    if not reading.open:
         return Cause(at, len(word), "no plan begins like this", f"a plan begins as {SKETCH}")
     call = re.compile(r"\w+ *\([^\"\n{}\[\]]*\)").match(text, at)
     whole = call[0] if call else word
@@ -151,15 +157,15 @@ def _bad_string(text, at):
     return Cause(stop, 1, f"the character U+{ord(mark):04X} may not stand in a text", "take it out")
 
 
-def no_key(document, at):
+def no_key(reading, at):
     """No key in quotes begins here."""
-    text, mark = document.text, document.text[at:at + 1]
+    text, mark = reading.text, reading.text[at:at + 1]
     if not mark:
-        return _early_end(document, at)
+        return _early_end(reading, at)
     if mark == '"':
         return _bad_string(text, at)
     if mark in "]},:":
-        return _missing_key(document, at)
+        return _missing_key(reading, at)
     if mark in _QUOTES:
         return Cause(at, 1, "these are no quotes of JSON", 'write "')
     digits = re.compile(r"[0-9]+").match(text, at)
@@ -173,9 +179,9 @@ def no_key(document, at):
                                        'the parts of an object are written "key": value')
 
 
-def _missing_key(document, at):
+def _missing_key(reading, at):
     """A mark stands where a key is expected."""
-    text, mark = document.text, document.text[at]
+    text, mark = reading.text, reading.text[at]
     before = text[:at].rstrip(_SPACE) if at < 4096 else text[at - 4096:at].rstrip(_SPACE)
     if before.endswith(",") and mark == "}":
         place = at - (min(at, 4096) - len(before)) - 1
@@ -184,17 +190,17 @@ def _missing_key(document, at):
         return Cause(at, 1, "a second comma" if before.endswith(",") else "a comma stands before the first key", "take it out")
     if mark == "]":
         return Cause(at, 1, "a ] where a key or a } is expected",
-                     f"the {{ of line {line_of(text, document.open[-1])} is still open")
+                     f"the {{ of line {line_of(text, reading.open[-1])} is still open")
     return Cause(at, 1, f"a key is missing before this {mark}")
 
 
-def no_colon(document, at, end):
+def no_colon(reading, at, end):
     """No colon follows the key that stands from here to there."""
-    text = document.text
-    rest = document.skip(end)
+    text = reading.text
+    rest = reading.skip(end)
     mark = text[rest:rest + 1]
     if not mark:
-        return _early_end(document, rest)
+        return _early_end(reading, rest)
     if mark == "=":
         return Cause(rest, 1, "an = stands in the place of a colon", "write :")
     if mark in ",}":
@@ -205,14 +211,14 @@ def no_colon(document, at, end):
     return Cause(end, 1, "a colon is missing behind this key", "write :")
 
 
-def no_comma(document, end, at):
+def no_comma(reading, end, at):
     """No comma follows the value that ends there, but what stands here."""
-    text = document.text
-    opened = document.open[-1]
+    text = reading.text
+    opened = reading.open[-1]
     is_object, closing = text[opened] == "{", _CLOSING[text[opened]]
     mark = text[at:at + 1]
     if not mark:
-        return _early_end(document, at)
+        return _early_end(reading, at)
     if mark in "]}":
         return Cause(at, 1, f"a {mark} where {closing} is expected",
                      f"the {text[opened]} of line {line_of(text, opened)} is still open: write {closing} before it")
