@@ -1,4 +1,4 @@
-"""Plans with one mistake each. The sign » stands in a plan where the mistake is to be shown, and isn't part of the plan."""
+"""Plans with one mistake each. The sign » stands where the mistake is to be shown, and isn't part of the plan."""
 
 PLAN = """{{
   "horizon": 1000,
@@ -48,7 +48,6 @@ def in_document(members):
 
 
 NOT_JSON = "plan is not JSON"
-_TOO_DEEP = ".collectAll" * 62
 _DOUBLED = "recurs(1)" + ".resetWhen(= 0)" * 8 + "».resetWhen(= 0)"
 
 # What the mistake is, the plan, the program's line, and a word of the help.
@@ -110,7 +109,8 @@ DOCUMENTS = [
     ("jobs by name", '{"horizon": 9, "jobs": »{"a": ' + job() + "}}", "plan: wrong shape", "[ {"),
     ("a key misspelled", in_document('"horizon": 9, »"worker": 2'), "plan: unknown key", '"workers"'),
     ("a job's key in the plan", in_document('"horizon": 9, »"mode": "retry"'), "plan: unknown key", "a job"),
-    ("the key of a JSON schema", in_document('»"$schema": "plan.schema.json", "horizon": 9'), "plan: unknown key", "leave it out"),
+    ("the key of a JSON schema", in_document('»"$schema": "plan.schema.json", "horizon": 9'), "plan: unknown key",
+     "leave it out"),
     ("no workers", in_document('"horizon": 9, "workers": »0'), "plan: out of range", "workers"),
     ("a horizon in nanoseconds", in_document('"horizon": »1700000000000000000'), "plan: out of range", "60000"),
     ("a list of no ticks", in_document('"ticks": »[]'), "plan: out of range", "[0]"),
@@ -135,22 +135,26 @@ JOBS = [
     ("an entry with two ends", with_script('[»{"ms": 5, "ok": 1, "err": 2}]'), "job 0: wrong shape", "one way"),
     ("an entry with a cause in words", with_script('[{"ms": 5, "err": »"timeout"}]'), "job 0: wrong shape", "code"),
     ("an entry of truth", with_script('[{"ms": 5, "ok": »true}]'), "job 0: wrong shape", "1"),
-    ("an entry of half a millisecond", with_script('[{"ms": 5, "ok": 1},\n {"ms": »0.5, "ok": 1}]'), "job 0: wrong shape", "500"),
+    ("an entry of half a millisecond", with_script('[{"ms": 5, "ok": 1},\n {"ms": »0.5, "ok": 1}]'),
+     "job 0: wrong shape", "500"),
     ("a number with a unit in quotes", with_script('[{"ms": »"5ms", "ok": 1}]'), "job 0: wrong shape", "5"),
     ("a key of a job misspelled", with_member('»"strat": 5'), "job 0: unknown key", '"start"'),
     ("workers in a job", with_member('»"workers": 5'), "job 0: unknown key", "the plan"),
     ("retries in a job", with_member('»"retries": 5'), "job 0: unknown key", "recurs(N)"),
-    ("a comment in an entry", with_script('[{"ms": 5, "ok": 1}, {"ms": 5, "ok": 1, »"note": "x"}]'), "job 0: unknown key", "leave it out"),
+    ("a comment in an entry", with_script('[{"ms": 5, "ok": 1}, {"ms": 5, "ok": 1, »"note": "x"}]'),
+     "job 0: unknown key", "leave it out"),
     ("a mode in capitals", with_jobs(job().replace('"repeat"', '»"Repeat"')), "job 0: out of range", '"repeat"'),
     ("a mode that loops", with_jobs(job().replace('"repeat"', '»"loop"')), "job 0: out of range", '"repeat"'),
     ("a space in a name", with_jobs(job().replace("poll-queue", "poll» queue")), "job 0: bad name", '"poll-queue"'),
     ("an empty name", with_jobs(job().replace("poll-queue", "").replace('""', '»""')), "job 0: bad name", "letters"),
     ("a name too long", with_jobs(job().replace('"poll-queue"', '»"' + "a" * 65 + '"')), "job 0: bad name", "a" * 64),
-    ("two jobs of one name", with_jobs(job(), job().replace('"poll-queue"', '»"poll-queue"')), "job 1: name used before", "poll-queue-2"),
+    ("two jobs of one name", with_jobs(job(), job().replace('"poll-queue"', '»"poll-queue"')),
+     "job 1: name used before", "poll-queue-2"),
     ("a script without entries", with_script("»[]"), "job 0: script: empty", '"ms"'),
     ("a script too long", with_script("[" + '{"ms": 5, "ok": 1}, ' * 1000 + '»{"ms": 5, "ok": 1}]'),
      "job 0: script: more than 1000 entries", "repeats"),
-    ("an attempt of no time", with_script('[{"ms": 5, "ok": 1}, {"ok": 1, "ms": »0}]'), "job 0: script: an entry takes 0 ms", "1"),
+    ("an attempt of no time", with_script('[{"ms": 5, "ok": 1}, {"ok": 1, "ms": »0}]'),
+     "job 0: script: an entry takes 0 ms", "1"),
 ]
 
 
@@ -218,22 +222,32 @@ SCHEDULES = [
     _no_term("a point too few", "exponential(100) »map(+ 1)", ".map"),
     _no_term("a number alone", "»500", "spaced(500)"),
     _no_term("a space that isn't one", "(recurs(3) »\u00a0&& spaced(10))", "spaces"),
-    ("a line end in a schedule", with_schedule("(recurs(3)»\\n&& spaced(10))"), "job 0: schedule: no term at byte 10", "spaces"),
-    ("a fault behind an escape", with_schedule("(recurs(\\u0033) »\\u0026 spaced(10))"), "job 0: schedule: no term at byte 11", "&&"),
-    ("too deep", with_schedule("recurs(1).collectAll" + _TOO_DEEP + ".»collectAll"), "job 0: schedule: too big", "level"),
+    ("a line end in a schedule", with_schedule("(recurs(3)»\\n&& spaced(10))"),
+     "job 0: schedule: no term at byte 10", "spaces"),
+    ("a fault behind an escape", with_schedule("(recurs(\\u0033) »\\u0026 spaced(10))"),
+     "job 0: schedule: no term at byte 11", "&&"),
+    ("too deep", with_schedule("recurs(1)" + ".collectAll" * 63 + ".»collectAll"), "job 0: schedule: too big", "level"),
     ("too heavy", with_schedule(_DOUBLED.replace("».", ".»") + ".resetWhen(= 0)"), "job 0: schedule: too big", "twice"),
     ("a number too large", with_schedule("spaced(»18446744073709551616)"),
      "job 0: schedule: number too large at byte 7", "18446744073709551615"),
     ("a factor of 0", with_schedule("exponential(100, »0)"), "job 0: schedule: factor is 0", "2"),
     ("a window of 0", with_schedule("(windowed(1) && windowed(»0))"), "job 0: schedule: window is 0", "1"),
-    ("a pair that is compared", with_schedule("(recurs(3) && elapsed).»whileOutput(< 5)"), "job 0: schedule: no kind", "whileOutput(_1 < 5) or whileOutput(_2 < 5)"),
-    ("a list that is compared", with_schedule("forever.collectAll.»whileOutput(< 5)"), "job 0: schedule: no kind", "whileOutput(size < 5)"),
-    ("a part of a number", with_schedule("recurs(3).»map(_1)"), "job 0: schedule: no kind", "&&"),
-    ("a part of a part", with_schedule("((recurs(3) && elapsed) && forever).»resetWhen(_1 > 5)"), "job 0: schedule: no kind", ".map(_1)"),
-    ("a sum on a pair", with_schedule("(recurs(3) || elapsed).»map(+ 1)"), "job 0: schedule: no kind", "map(_1).map(+ 1)"),
-    ("a merge of two kinds", with_schedule("(recurs(3) andThenEither forever.collectAll).»map(merge)"), "job 0: schedule: no kind", "one kind"),
-    ("a merge of a pair", with_schedule("(recurs(3) && forever).»map(merge)"), "job 0: schedule: no kind", "andThenEither"),
-    ("the size of a number", with_schedule("recurs(3).»map(size)"), "job 0: schedule: no kind", "collectAll"),
 ]
 
-MISTAKES = DOCUMENTS + JOBS + SCHEDULES
+# A schedule without a kind, and a word of the help.
+NO_KINDS = [
+    ("a pair that is compared", "(recurs(3) && elapsed).»whileOutput(< 5)",
+     "whileOutput(_1 < 5) or whileOutput(_2 < 5)"),
+    ("a list that is compared", "forever.collectAll.»whileOutput(< 5)", "whileOutput(size < 5)"),
+    ("an either that is compared", "(recurs(3) andThenEither forever).»whileOutput(< 5)", ".map(merge)"),
+    ("a part of a number", "recurs(3).»map(_1)", "&&"),
+    ("a part of a part", "((recurs(3) && elapsed) && forever).»resetWhen(_1 > 5)", ".map(_1)"),
+    ("a sum on a pair", "(recurs(3) || elapsed).»map(+ 1)", "map(_1).map(+ 1)"),
+    ("a merge of two kinds", "(recurs(3) andThenEither forever.collectAll).»map(merge)", "one kind"),
+    ("a merge of a pair", "(recurs(3) && forever).»map(merge)", "andThenEither"),
+    ("the size of a number", "recurs(3).»map(size)", "collectAll"),
+    ("the size of a pair that is compared", "(recurs(3) && forever).»resetWhen(size = 5)", "collectAll"),
+]
+
+MISTAKES = DOCUMENTS + JOBS + SCHEDULES + [
+    (name, with_schedule(text), "job 0: schedule: no kind", help) for name, text, help in NO_KINDS]

@@ -182,8 +182,8 @@ class Use(unittest.TestCase):
         self.assertIn("--> plan.json:2:16777214\n", errors)
 
     def test_a_file_that_cannot_be_read(self):
-        self.assertEqual(self.run_command("none.json"), (3, "", "zsched-explain: none.json: No such file or directory\n"))
-        self.assertEqual(self.run_command("."), (3, "", "zsched-explain: .: Is a directory\n"))
+        for name, text in [("none.json", "No such file or directory"), (".", "Is a directory")]:
+            self.assertEqual(self.run_command(name), (3, "", f"zsched-explain: {name}: {text}\n"))
 
     def test_a_program_that_is_not_there(self):
         for arguments, environment in [(["--zsched", "/none"], {}), ([], {"ZSCHED": "/none"})]:

@@ -33,7 +33,7 @@ def _shape_causes(plan):
     if not jobs:
         yield missing(plan, "jobs", "the plan", DOCUMENT_KEYS)
     if horizon and ticks:
-        yield over(ticks, 'the plan has "ticks" and "horizon"', "leave one out: the horizon of ticks is the last of them")
+        yield over(ticks, 'the plan has "ticks" and "horizon"', "leave one out: the last tick is the horizon of ticks")
     for key in ("horizon", "workers", "grain"):
         value = plan.get(key)
         yield value and not_whole(value, key)
@@ -81,8 +81,8 @@ def _tick_cause(ticks):
         return _at_tick(ticks, parts, MAX_TICKS, f"this is one tick more than {MAX_TICKS}",
                         "a horizon has a tick at each millisecond")
     if moments[-1] > MAX_MOMENT:
-        return _at_tick(ticks, parts, len(parts) - 1, f"the last tick is {moments[-1]}, and may be at most {MAX_MOMENT}",
-                        "moments are milliseconds from the beginning of the plan")
+        what = f"the last tick is {moments[-1]}, and may be at most {MAX_MOMENT}"
+        return _at_tick(ticks, parts, len(parts) - 1, what, "moments are milliseconds from the beginning of the plan")
     return None
 
 

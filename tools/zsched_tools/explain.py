@@ -9,14 +9,20 @@ from zsched_tools import program
 from zsched_tools.cause import line_of, shown
 from zsched_tools.faults import MAX_BYTES, explained
 
-ABOUT = """Runs zsched on a plan, and tells where its fault is.
+ABOUT = """Runs zsched on a plan, and tells where the plan's fault is.
 
-The first line on standard error is the program's own. Of a plan that is refused these follow: the place as
-FILE:LINE:COLUMN, both counted from 1 and a column being a character; the line, cut where it is long; what is wrong there,
-and what to write where that is known; the name of the job. Of a plan without a fault nothing but 'FILE: no fault' is
-written, on standard output; the report is that of zsched itself."""
-STATUSES = """exit status: that of zsched: 0 (no fault), 2 (the plan is refused), 3 (reading failed, also of FILE), 4 (no memory or
-no thread), 128 and the signal that ended it; 1 where the command can't be run as it is written, or zsched isn't found."""
+The first line on standard error is the program's own. Where the plan is refused,
+these follow: the place as FILE:LINE:COLUMN, both counted from 1, a column being a
+character; the line, cut where it is long; what is wrong there, and what to write,
+where that is known; the name of the job. Where the plan is taken, 'FILE: no fault'
+is written to standard output. The report is left to zsched itself."""
+STATUSES = """exit status, that of zsched:
+  0  the plan has no fault
+  2  the plan is refused
+  3  reading failed, also that of PLAN.json
+  4  there was no memory or no thread
+  128 and more: a signal ended zsched
+and 1 where the words of the command are wrong, or zsched isn't found"""
 WIDTH = 100
 
 
@@ -33,7 +39,8 @@ def words():
                   formatter_class=argparse.RawDescriptionHelpFormatter)
     found.add_argument("plan", nargs="?", default="-", metavar="PLAN.json",
                        help="the plan's file; - or none for standard input")
-    found.add_argument("--zsched", metavar="PATH", help="the program; else the variable ZSCHED, the built or the installed one")
+    found.add_argument("--zsched", metavar="PATH",
+                       help="the program; else that of the variable ZSCHED, the built or the installed one")
     return found
 
 
@@ -69,17 +76,18 @@ def _plan(name):
 
 
 def refusal(zsched, data, seconds=None):
-    """Runs the program on a plan's bytes, and drops its report: its status and its line on standard error. Past the seconds it
-    is killed, and subprocess.TimeoutExpired is raised."""
+    """Runs the program on a plan's bytes, and drops its report: its status and its line on standard error. Past the
+    seconds it is killed, and subprocess.TimeoutExpired is raised."""
     with tempfile.TemporaryFile() as plan:
         plan.write(data)
         plan.seek(0)
-        ended = subprocess.run([zsched], stdin=plan, stdout=subprocess.DEVNULL, stderr=subprocess.PIPE, timeout=seconds, check=False)
+        ended = subprocess.run([zsched], stdin=plan, stdout=subprocess.DEVNULL, stderr=subprocess.PIPE, timeout=seconds,
+                               check=False)
     return ended.returncode if ended.returncode >= 0 else 128 - ended.returncode, ended.stderr.decode(errors="replace")
 
 
 def tell(name, data, status, line):
-    """Writes what is to be said about a plan on which the program ended with this status and line, and answers the status."""
+    """Writes what is to be said of a plan on which the program ended with this status and line; answers the status."""
     if status == 0:
         print(f"{shown(name, WIDTH)}: no fault")
     else:
@@ -119,5 +127,5 @@ def excerpt(text, begin, cause):
 
 def _columns(text):
     """How many columns of a terminal a text takes."""
-    wide = {"W": 2, "F": 2}
-    return sum(0 if unicodedata.combining(letter) else wide.get(unicodedata.east_asian_width(letter), 1) for letter in text)
+    wide = sum(unicodedata.east_asian_width(letter) in ("W", "F") for letter in text)
+    return len(text) + wide - sum(unicodedata.combining(letter) > 0 for letter in text)

@@ -1,4 +1,4 @@
-"""Where in a plan the fault is that the program tells, and what is wrong there. The rules are those of docs/FORMATS.md."""
+"""Where the fault of a plan is that the program tells, and what is wrong there, by the rules of docs/FORMATS.md."""
 import re
 
 from zsched_tools import json_reading, not_json
@@ -33,7 +33,8 @@ def explained(data, fault):
             return Explained(text, not_json.no_utf8(data, text, at))
     if fault.startswith("plan is longer than"):
         at = len(data[:MAX_BYTES].decode(errors="ignore"))
-        return Explained(text, Cause(at, 0, f"{MAX_BYTES} bytes end here, and a plan has no more", "make plans of fewer jobs"))
+        what = f"{MAX_BYTES} bytes end here, and a plan has no more"
+        return Explained(text, Cause(at, 0, what, "make plans of fewer jobs"))
     if fault == "plan is not JSON":
         return Explained(text, json_reading.fault_of(text) or _unknown(0))
     return _in_document(Document(text).root(), text, fault)

@@ -30,6 +30,7 @@ _PART = re.compile(r"\s*([0-9]{1,18}(?:\.[0-9]{1,9})?)[ .]*([A-Za-zµ]+)\s*")
 _OPPOSITE = "the opposite comparison (< for >=, = for !=)"
 _EFFECTS = "left out: a schedule here runs no effects of its own"
 _CALENDAR = "left out: there is no calendar; moments are milliseconds from the beginning of the plan"
+_DELAYS = "left out: a delay is that of spaced, linear, exponential or fibonacci"
 _AFTER = "write (A andThenEither B).map(merge)"
 _SHAPES = "left out: a step has one input, a whole number, which all parts of a schedule see"
 
@@ -73,9 +74,9 @@ ZIO = {
     "duration": "write (recurs(1) && spaced(D))",
     "fromDuration": "write (recurs(1) && spaced(D))",
     "fromDurations": "write ((recurs(1) && spaced(D)) andThenEither ((recurs(1) && spaced(E)) andThenEither ..))",
-    "delayed": "left out: a delay is that of spaced, linear, exponential or fibonacci, and && takes the later moment",
-    "addDelay": "left out: a delay is that of spaced, linear, exponential or fibonacci, and && takes the later moment",
-    "modifyDelay": "left out: a delay is that of spaced, linear, exponential or fibonacci; cap it by (S || spaced(CAP))",
+    "delayed": _DELAYS,
+    "addDelay": _DELAYS,
+    "modifyDelay": f"{_DELAYS}; (S || spaced(CAP)) caps it",
     "delays": "left out: exponential, fibonacci and linear answer their delay",
     "fold": "left out: collectAll, map and the pairs of && carry what a schedule answers",
     "unfold": "left out: collectAll, map and the pairs of && carry what a schedule answers",
@@ -146,8 +147,8 @@ def near(word, words):
 
 
 def zio(word):
-    """What to write for a name of ZIO; also for one that ends in ZIO or M, whose function is an effect. None where the word is
-    no such name."""
+    """What to write for a name of ZIO; also for one that ends in ZIO or M, whose function is an effect. None where the
+    word is no such name."""
     if word in ZIO:
         return ZIO[word]
     base = re.sub(r"(ZIO|M)$", "", word)

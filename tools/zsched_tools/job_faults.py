@@ -9,7 +9,8 @@ from zsched_tools.values import first, misnamed, missing, not_of_kind, not_whole
 
 MAX_ENTRIES = 1000
 MAX_NAME = 64
-_MODES = {"retry": ["error", "onerror", "fail", "backoff"], "repeat": ["loop", "poll", "forever", "periodic", "schedule", "cron"]}
+_MODES = {"retry": ["error", "onerror", "fail", "backoff"],
+          "repeat": ["loop", "poll", "forever", "periodic", "schedule", "cron"]}
 _ENTRY = '{"ms": 5, "ok": 1}'
 
 
@@ -71,7 +72,8 @@ def _entry_cause(entry):
 def _no_outcome(entry):
     """The cause of an entry that ends neither way."""
     found = first(misnamed(entry, key, "the entry", ENTRY_KEYS) for key in ("ok", "err"))
-    return found or Cause(entry.at, 1, 'the entry has neither "ok" nor "err"', 'write "ok": 1 for a success, "err": 1 for an error')
+    return found or Cause(entry.at, 1, 'the entry has neither "ok" nor "err"',
+                          'write "ok": 1 for a success, "err": 1 for an error')
 
 
 def keys(_jobs, job):
@@ -84,9 +86,10 @@ def mode(_jobs, job):
     """The mode is one of the two."""
     node = job.get("mode")
     said = node.string()
-    meant = near(said.strip(), list(_MODES)) or next((mode for mode, words in _MODES.items() if said.lower() in words), None)
-    help = f'did you mean "{meant}"?' if meant else 'write "retry" (again after each error) or "repeat" (again after each success)'
-    return over(node, f'there is no mode "{shown(said)}"', help)
+    like = next((of for of, words in _MODES.items() if said.lower() in words), None)
+    meant = near(said.strip(), list(_MODES)) or like
+    both = 'write "retry" (again after each error) or "repeat" (again after each success)'
+    return over(node, f'there is no mode "{shown(said)}"', f'did you mean "{meant}"?' if meant else both)
 
 
 def name(_jobs, job):
@@ -107,17 +110,18 @@ def name(_jobs, job):
 
 def same_name(jobs, job):
     """No earlier job has the name."""
-    node = job.get("name")
+    node, text = job.get("name"), job.document.text
     said = node.string()
-    names = []
-    for other in jobs.items():
-        if other.at == job.at:
-            break
-        names.append(other.get("name"))
-    used = {name.string(): name for name in reversed(names)}
-    line = line_of(job.document.text, used[said].at)
-    free = next(f"{said[:60]}-{number}" for number in range(2, 10002) if f"{said[:60]}-{number}" not in used)
+    first_one = next(other.get("name") for other in jobs.items() if _has_name(other, said))
+    line = line_of(text, first_one.at)
+    free = next(f"{said[:58]}-{number}" for number in range(2, 10002) if f'"{said[:58]}-{number}"' not in text)
     return over(node, f"the job of line {line} has this name too", f'write another name, as "{free}"')
+
+
+def _has_name(job, name):
+    """Whether a job has this name. A job in whose text it doesn't stand, nor an escape, isn't looked at."""
+    source = job.source
+    return (name in source or "\\" in source) and job.get("name").string() == name
 
 
 def script_fault(job, cause):
@@ -127,7 +131,7 @@ def script_fault(job, cause):
         return over(script, "the script is empty", f"write an entry for each attempt, as [ {_ENTRY} ]")
     if cause.startswith("more than"):
         extra = next(entry for number, entry in enumerate(script.items()) if number == MAX_ENTRIES)
-        return Cause(extra.at, 1, f"this is one entry more than {MAX_ENTRIES}", "leave it out: the last entry repeats for ever")
+        return Cause(extra.at, 1, f"this is one entry more than {MAX_ENTRIES}", "leave it out: the last entry repeats")
     for entry in script.items(_TIMED):
         ms = entry.get("ms")
         if ms.whole() == 0:
@@ -146,4 +150,5 @@ def schedule_fault(job, cause):
     return found._replace(at=at, size=node.place_in(found.at + found.size) - at)
 
 
-JOB_FAULTS = {"wrong shape": shape, "unknown key": keys, "out of range": mode, "bad name": name, "name used before": same_name}
+JOB_FAULTS = {"wrong shape": shape, "unknown key": keys, "out of range": mode, "bad name": name,
+              "name used before": same_name}

@@ -33,9 +33,9 @@ def more_text(text, at):
     """The document has ended, and more follows."""
     mark = text[at]
     if mark in "}]":
-        return Cause(at, 1, f"this {mark} closes nothing", "the plan has ended before it: take it out, or open what it closes")
+        return Cause(at, 1, f"this {mark} closes nothing", "take it out, or open before what it closes")
     if mark in "{[":
-        return Cause(at, 1, "a second document begins here", "a plan is one document: put all jobs into its one list of jobs")
+        return Cause(at, 1, "a second document begins here", "a plan is one document, with one list of jobs")
     if mark == ":" or re.match(r'\s*"?\w+"?\s*:', text):
         return Cause(at, 1, "the plan has ended, and more follows", f"a plan stands in braces: {SKETCH}")
     return _comment(text, at) or Cause(at, 1, "the plan has ended, and more follows", "take it out")
@@ -134,7 +134,7 @@ def _odd_letter(text, at):
     if letter.isspace() or not letter.isprintable():
         return Cause(at, 1, f"the character U+{ord(letter):04X} is no white space of JSON", "write a space")
     if letter == "(":
-        return Cause(at, 1, "JSON has no parentheses", "lists stand in [ ], objects in { }; a schedule is a text in quotes")
+        return Cause(at, 1, "JSON has no parentheses", "write [ ] or { }; a schedule is a text in quotes")
     return Cause(at, 1, f"no value begins with {letter}")
 
 
@@ -150,7 +150,7 @@ def _bad_string(text, at):
     if mark == "\\":
         escape = re.compile(r"\\(?:u[0-9a-fA-F]{0,4}|.?)", re.S).match(text, stop)[0]
         if re.fullmatch(r"\\u[dD][89a-fA-F][0-9a-fA-F]{2}", escape):
-            return Cause(stop, len(escape), f"{escape} is half a character", "write the character itself, or both halves")
+            return Cause(stop, len(escape), f"{escape} is half a character", "write the character, or both halves")
         return Cause(stop, len(escape), f"{shown(escape)} is no escape of JSON", "write \\\\ for a backslash")
     if mark == "\t":
         return Cause(stop, 1, "a tab may not stand in a text", "write a space, or \\t")
@@ -187,7 +187,8 @@ def _missing_key(reading, at):
         place = at - (min(at, 4096) - len(before)) - 1
         return Cause(place, 1, "a comma stands before }", "take it out: JSON has commas between parts alone")
     if mark == ",":
-        return Cause(at, 1, "a second comma" if before.endswith(",") else "a comma stands before the first key", "take it out")
+        what = "a second comma" if before.endswith(",") else "a comma stands before the first key"
+        return Cause(at, 1, what, "take it out")
     if mark == "]":
         return Cause(at, 1, "a ] where a key or a } is expected",
                      f"the {{ of line {line_of(text, reading.open[-1])} is still open")

@@ -1,5 +1,5 @@
-"""The values of a text that is JSON, with their places. A list or object is read where it is asked for its parts, and is
-passed by its brackets alone elsewhere."""
+"""The values of a text that is JSON, with their places. A list or object is read where it is asked for its parts;
+elsewhere it is passed by its brackets alone."""
 import json
 import re
 
@@ -61,9 +61,12 @@ class Document:
 
     def _end_of_shallow(self, at):
         """The end of a list that has no list in it, as far as its brackets and quotes alone tell it, else None."""
-        text, end = self.text, self.text.find("]", at)
-        is_list = text[at] == "[" and text.find("[", at + 1, end) < 0
-        return end + 1 if is_list and text.find("\\", at, end) < 0 and text.count('"', at, end) % 2 == 0 else None
+        text = self.text
+        if text[at] != "[":
+            return None
+        end = text.find("]", at)
+        is_plain = text.find("[", at + 1, end) < 0 and text.find("\\", at, end) < 0
+        return end + 1 if is_plain and text.count('"', at, end) % 2 == 0 else None
 
     def behind_key(self, at):
         """The place of the value whose key begins here."""
@@ -99,13 +102,14 @@ class Node:
         return int(source) if _DIGITS.fullmatch(source) and int(source) <= MAX_WHOLE else None
 
     def items(self, passing=None):
-        """The items of a list. Those that stand in a run of this pattern are passed and not told: a pattern takes any number
-        of items, each with the comma behind it."""
+        """The items of a list. Those that stand in a run of this pattern are passed and not told: a pattern takes any
+        number of items, each with the comma behind it."""
         return (Node(self.document, at) for at in self._parts(passing))
 
     def members(self):
         """The keys and values of an object, as pairs of nodes in their order."""
-        return [(Node(self.document, at), Node(self.document, self.document.behind_key(at))) for at in self._parts(None)]
+        document = self.document
+        return [(Node(document, at), Node(document, document.behind_key(at))) for at in self._parts(None)]
 
     def get(self, key):
         """The value at a key, the last where it stands twice; None where it doesn't stand."""

@@ -62,8 +62,8 @@ def _zero(text, word, place, what, help):
 
 
 def _too_big(text):
-    """The cause at the first piece by which the schedule passes its limits, or None. The parts that are read so far wait in a
-    list, as pairs of depth and weight; each open parenthesis is one level and one part more."""
+    """The cause at the first piece by which the schedule passes its limits, or None. The parts so far wait in a list,
+    as pairs of depth and weight; each open parenthesis is one level and one part more."""
     parts, opened = [], 0
     for piece in pieces(text):
         if piece.word in OPERATORS:
@@ -81,7 +81,7 @@ def _too_big(text):
             parts.append((depth + 1, 1 + (2 if piece.word == "resetWhen" else 1) * weight))
         if opened + (parts[-1][0] if parts else 1) > MAX_DEPTH:
             return Cause(piece.at, piece.end - piece.at, f"here the schedule gets deeper than {MAX_DEPTH}",
-                         "each method and each operator around a part is a level; join many parts as ((A && B) && (C && D))")
+                         "each method and operator around a part is a level; join parts as ((A && B) && (C && D))")
         if opened + sum(weight for _, weight in parts) > MAX_WEIGHT:
             return Cause(piece.at, piece.end - piece.at, f"here the schedule gets heavier than {MAX_WEIGHT}",
                          "each word and each operator weighs 1, and the part of a resetWhen counts twice")
@@ -89,7 +89,8 @@ def _too_big(text):
 
 
 def _no_kind(text):
-    """The cause at the first pick or function that doesn't fit, or None. The kinds of the parts so far wait in a list."""
+    """The cause at the first pick or function that doesn't fit, or None. The kinds of the parts so far wait in a
+    list."""
     kinds, operators = [], []
     try:
         for piece in pieces(text):

@@ -1,5 +1,5 @@
-"""Why no schedule is spelled at a place of a text, in words. The program tells the place; what may stand there follows from
-the tokens before it."""
+"""Why no schedule is spelled at a place of a text, in words. The program tells the place; what may stand there follows
+from the tokens before it."""
 import re
 from typing import NamedTuple
 
@@ -37,13 +37,14 @@ class Spot(NamedTuple):
 
 
 def cause_of(text, fault):
-    """The cause of a text that isn't a schedule's: of 'no term at byte P' and 'number too large at byte P', else None."""
+    """The cause of 'no term at byte P' and 'number too large at byte P', else None."""
     place = re.fullmatch(r"(no term|number too large) at byte ([0-9]+)", fault)
     if not place:
         return None
     at = int(place[2]) if text.isascii() else len(text.encode()[:int(place[2])].decode())
     if place[1] == "number too large":
-        return Cause(at, len(TOKEN.match(text, at)[0]), "this number is too large", "the greatest is 18446744073709551615")
+        size = len(TOKEN.match(text, at)[0])
+        return Cause(at, size, "this number is too large", "the greatest is 18446744073709551615")
     before = list(TOKEN.finditer(text, max(0, at - WINDOW), at))
     return _no_term(Spot(text, at, before, text[at:at + WINDOW]))
 
@@ -57,8 +58,9 @@ def _no_term(spot):
 
 
 def expectation(before):
-    """What has to follow on these tokens: 'schedule', 'more' (after a whole one), 'method', 'open' or 'close' (parenthesis),
-    'second' (a comma or the end of the arguments), or an argument: 'number', 'comparison', 'pick', 'function'."""
+    """What has to follow on these tokens: 'schedule', 'more' (after a whole one), 'method', 'open' or 'close' (of
+    parentheses), 'second' (a comma or the end of the arguments), or an argument: 'number', 'comparison', 'pick' (or a
+    comparison), 'function'."""
     spot = Spot("", 0, before, "")
     last, previous = spot.last(), spot.last(2)
     if last == "(":
@@ -78,8 +80,8 @@ def expectation(before):
 
 
 def innermost(before):
-    """The innermost pair of parentheses that is still open, around whole schedules: its token and its operator, or None for
-    each that isn't there."""
+    """The innermost pair of parentheses that is still open, around whole schedules: its token and its operator, or None
+    for each that isn't there."""
     depth, operator = 0, None
     for token in reversed(before):
         depth += (token[0] == ")") - (token[0] == "(")
@@ -109,7 +111,8 @@ def _ended(spot):
         return spot.cause(0, "the schedule ends here, too soon", f"{many} missing")
     wanted = {"schedule": "a schedule is", "method": f"a method ({', '.join(METHODS)}) is", "open": "a ( is",
               "number": "a number is", "function": f"a function ({_FUNCTIONS}) is"}
-    return spot.cause(0, "the schedule ends here, too soon", wanted.get(expected, "a comparison and a number are") + " missing")
+    missing = wanted.get(expected, "a comparison and a number are")
+    return spot.cause(0, "the schedule ends here, too soon", f"{missing} missing")
 
 
 def _after_number(spot):
@@ -136,7 +139,7 @@ def _fraction(spot, number, size):
     if unit and unit[1].lower() in UNITS:
         return spot.cause(size + unit.end(), "a number has no point and no unit", in_milliseconds(number + unit[1]))
     if spot.last(2) == "," and spot.last(4) == "(":
-        return spot.cause(size, "a factor is a whole number", "write 2, or take linear or fibonacci, which grow more slowly")
+        return spot.cause(size, "a factor is a whole number", "write 2, or take linear or fibonacci, which grow slower")
     if number.endswith((".0", ".00")):
         return spot.cause(size, "a number has no point", f"write {shown(number.split('.')[0])}")
     return spot.cause(size, "a number has no point", "times are whole milliseconds: write 1500 for 1.5 seconds")
@@ -152,8 +155,8 @@ def _in_scala(spot, expected):
     found = re.match(r"\w+ *=> *(?:\w+ *)?|_ *(?![12])", spot.rest)
     if not found:
         return None
-    return spot.cause(found.end(), "a function or test has no argument of its own",
-                      "write + 1, * 2 or as 0 alone" if expected == "function" else "write the comparison alone, as < 5")
+    help = "write + 1, * 2 or as 0 alone" if expected == "function" else "write the comparison alone, as < 5"
+    return spot.cause(found.end(), "a function or test has no argument of its own", help)
 
 
 def _foreign(spot):
@@ -247,7 +250,7 @@ def _second_operator(spot, token, opened, operator):
         alone = sum(spot.text.count(operator) for operator in OPERATORS) == 1
         if text.endswith(")") and text.count(")") > text.count("("):
             return spot.cause(len(token), f"this {token} stands in no parentheses", "a ( is missing at the beginning")
-        help = f"write ({text})" if alone and len(text) < 60 else "write ((A && B) && C), each operator in its own parentheses"
+        help = f"write ({text})" if alone and len(text) < 60 else "write ((A && B) && C), with ( ) for each operator"
         return spot.cause(len(token), f"this {token} stands in no parentheses", help)
     left = spot.text[opened.start():spot.at].strip() if opened else ""
     help = f"write ({left}) {token} ..)" if 0 < len(left) < 60 else "write ((A && B) && C)"
@@ -291,7 +294,8 @@ def _no_number(spot):
         return spot.cause(zeros.end(), "a number may not begin with 0", f"write {shown(zeros[0].lstrip('0') or '0')}")
     if token == ")":
         word = spot.last(2) if spot.last(2) in NUMBERED_LEAVES else ""
-        return spot.cause(1, "a number is missing before this )", f"write {word}(3)" if word else "write a whole number")
+        help = f"write {word}(3)" if word else "write a whole number"
+        return spot.cause(1, "a number is missing before this )", help)
     return spot.cause(max(1, len(token)), "a number is missing here", "write a whole number, in digits alone")
 
 
@@ -302,7 +306,8 @@ def _no_test(spot, expected):
         return spot.cause(len(token), "a comparison is missing before this number", f"write = {token}, < {token} ..")
     if expected == "comparison" and token in ("_1", "_2", "size") and spot.last() == "(":
         return spot.cause(len(token), "the input is a number, and has no parts", "write the comparison alone, as < 5")
-    return spot.cause(max(1, len(token)), f"{_TESTS[expected]} is missing here", f"the comparisons are {', '.join(COMPARISONS)}")
+    help = f"the comparisons are {', '.join(COMPARISONS)}"
+    return spot.cause(max(1, len(token)), f"{_TESTS[expected]}, is missing here", help)
 
 
 def _no_function(spot):
@@ -310,7 +315,8 @@ def _no_function(spot):
     token = spot.token()
     if token.isdigit():
         return spot.cause(len(token), "a number alone is no function", f"write as {token}, + {token} or * {token}")
-    return _misspelled(spot, ["size", "merge"]) or spot.cause(max(1, len(token)), "map takes a function", f"write {_FUNCTIONS}")
+    other = spot.cause(max(1, len(token)), "map takes a function", f"write {_FUNCTIONS}")
+    return _misspelled(spot, ["size", "merge"]) or other
 
 
 def _no_close(spot):
@@ -319,7 +325,7 @@ def _no_close(spot):
     if token in OPERATORS or token == ".":
         return spot.cause(len(token), f"a ) is missing before this {token}", "write )")
     if token == "," and word in NUMBERED_LEAVES:
-        return spot.cause(1, f"{word} takes one number", "write ) here; exponential alone takes a second one, its factor")
+        return spot.cause(1, f"{word} takes one number", "write ): exponential alone takes a second one, its factor")
     return _misspelled(spot, _WORDS) or spot.cause(max(1, len(token)), "a ) is missing here", "write )")
 
 

@@ -53,7 +53,8 @@ def meant_for(key, known):
 
 def missing(node, key, where, known):
     """The cause where an object lacks a key."""
-    return misnamed(node, key, where, known) or Cause(node.at, 1, f'{where} has no "{key}"', f'write "{key}": {_SAMPLES[key]}')
+    absent = Cause(node.at, 1, f'{where} has no "{key}"', f'write "{key}": {_SAMPLES[key]}')
+    return misnamed(node, key, where, known) or absent
 
 
 def misnamed(node, key, where, known):
@@ -61,7 +62,7 @@ def misnamed(node, key, where, known):
     for name, _ in node.members():
         said = name.string()
         if said not in known and meant_for(said, [key]):
-            return Cause(name.at, name.end - name.at, f'{where} has no "{key}", but this key', f'write "{key}"')
+            return over(name, f'{where} has no "{key}", but this key', f'write "{key}"')
     return None
 
 
@@ -70,7 +71,7 @@ def unknown_key(node, where, known):
     for name, _ in node.members():
         said = name.string()
         if said not in known:
-            return Cause(name.at, name.end - name.at, f'{where} has no key "{shown(said)}"', _key_help(said, where, known))
+            return over(name, f'{where} has no key "{shown(said)}"', _key_help(said, where, known))
     return None
 
 
@@ -108,9 +109,9 @@ def _whole_help(node, key):
             return in_milliseconds(said).replace(":", ", without quotes:", 1)
         if re.fullmatch(r"0|[1-9][0-9]{0,18}", said.strip()):
             return f"write {said.strip()}, without quotes"
-        return "write a whole number, as 1: a code stands for a cause" if key in ("ok", "err") else "write a whole number"
+        return "write a whole number" + (", as 1: a code stands for a cause" if key in ("ok", "err") else "")
     if node.kind == "null":
-        return "write a whole number" if key in ("horizon", "ticks", "ms") else "write a whole number, or leave the key out"
+        return "write a whole number" + ("" if key in ("horizon", "ticks", "ms") else ", or leave the key out")
     if node.kind in ("true", "false"):
         return f"write {1 if node.kind == 'true' else 0}"
     return "write a whole number"
