@@ -12,8 +12,8 @@ import unittest
 
 from changes import changed_plans
 from mistakes import MISTAKES
-from program import ONE_JOB, TOP
-from zsched_tools import explain, program
+from program import ONE_JOB, TOP, job, plan
+from zsched_tools import explain, hints, program
 
 COMMAND = TOP / "tools" / "zsched-explain"
 CHANGED = int(os.environ.get("CHANGED_PLANS", "2000"))
@@ -92,6 +92,27 @@ class Mistakes(unittest.TestCase):
         plan = '{"horizon": 9, "jobs": [{"名前": 1, "x" 2}]}'.encode()
         _, _, errors = told(plan, 2, "zsched: plan is not JSON\n")
         self.assertIn('1 | {"horizon": 9, "jobs": [{"名前": 1, "x" 2}]}\n' + "  | " + " " * 39 + "^ ", errors)
+
+
+class Hints(unittest.TestCase):
+    """What the command tells to write for names of ZIO."""
+
+    def test_the_program_takes_what_is_to_be_written(self):
+        texts = []
+        for help in [*hints.ZIO.values(), *hints.SYMBOLS.values()]:
+            found = re.match(r"write (\.?\(*[A-Za-z].*?)(?:,|;| with| or |$)", help)
+            if found:
+                texts.append(self.filled(found[1]))
+        self.assertGreater(len(texts), 40)
+        jobs = [job(f"j{number}", text, script='"script":[{"ms":1,"ok":1}]') for number, text in enumerate(texts)]
+        self.assertEqual(program.run(program.find(), plan(jobs, '"horizon":9'))[::2], (0, b""), texts)
+
+    @staticmethod
+    def filled(text):
+        """A schedule with its letters filled in: S, A, B are schedules, D, E, N, CAP numbers, C a comparison."""
+        text = text.replace("andThenEither ..)", "andThenEither forever)").replace("C N", "< 5").replace("..", "< 5")
+        text = re.sub(r"\b(S|A|B)\b", "forever", text).replace("map(F)", "map(+ 1)")
+        return ("forever" if text.startswith(".") else "") + re.sub(r"\b(D|E|N|CAP)\b", "5", text)
 
 
 class Changes(unittest.TestCase):
@@ -184,6 +205,13 @@ class Use(unittest.TestCase):
     def test_a_file_that_cannot_be_read(self):
         for name, text in [("none.json", "No such file or directory"), (".", "Is a directory")]:
             self.assertEqual(self.run_command(name), (3, "", f"zsched-explain: {name}: {text}\n"))
+
+    def test_standard_output_that_is_full(self):
+        with open("/dev/full", "w") as full:
+            ended = subprocess.run([sys.executable, COMMAND, "good.json", "--zsched", self.zsched], cwd=self.folder,
+                                   stdout=full, stderr=subprocess.PIPE, check=False)
+        wanted = b"zsched-explain: standard output: No space left on device\n"
+        self.assertEqual((ended.returncode, ended.stderr), (3, wanted))
 
     def test_a_program_that_is_not_there(self):
         for arguments, environment in [(["--zsched", "/none"], {}), ([], {"ZSCHED": "/none"})]:

@@ -1,5 +1,6 @@
 """The command zsched-explain: runs the program on a plan, and tells where in the plan its fault is."""
 import argparse
+import os
 import subprocess
 import sys
 import tempfile
@@ -19,7 +20,7 @@ is written to standard output. The report is left to zsched itself."""
 STATUSES = """exit status, that of zsched:
   0  the plan has no fault
   2  the plan is refused
-  3  reading failed, also that of PLAN.json
+  3  reading or writing failed, also that of the command itself
   4  there was no memory or no thread
   128 and more: a signal ended zsched
 and 1 where the words of the command are wrong, or zsched isn't found"""
@@ -30,6 +31,7 @@ class Words(argparse.ArgumentParser):
     """The command's words; a wrong one ends with status 1, since 2 is that of a refused plan."""
 
     def error(self, message):
+        """Ends the command, with what is wrong with its words."""
         self.exit(1, f"{self.prog}: {message}\n{self.format_usage()}")
 
 
@@ -47,24 +49,32 @@ def words():
 def main(arguments=None):
     """Runs the command, by default with the words that it was called with, and answers its exit status."""
     taken = words().parse_args(arguments)
-    name = "standard input" if taken.plan == "-" else taken.plan
     try:
-        zsched = program.find(taken.zsched)
-        data = _plan(taken.plan)
+        return _explain("standard input" if taken.plan == "-" else taken.plan, taken.plan, taken.zsched)
+    except KeyboardInterrupt:
+        return 130
+
+
+def _explain(name, plan, zsched):
+    """Explains the plan that has this name in what is written; answers the exit status."""
+    try:
+        zsched = program.find(zsched)
+        data = _plan(plan)
     except program.NoProgram as missing:
-        print(f"zsched-explain: {missing}", file=sys.stderr)
-        return 1
+        return _failed(str(missing), 1)
     except OSError as failed:
-        print(f"zsched-explain: {shown(name, WIDTH)}: {failed.strerror}", file=sys.stderr)
-        return 3
+        return _failed(f"{shown(name, WIDTH)}: {failed.strerror}", 3)
     try:
         status, line = refusal(zsched, data)
     except OSError as failed:
-        print(f"zsched-explain: {zsched}: {failed.strerror}", file=sys.stderr)
-        return 1
-    except KeyboardInterrupt:
-        return 130
+        return _failed(f"{zsched}: {failed.strerror}", 1)
     return tell(name, data, status, line)
+
+
+def _failed(what, status):
+    """Tells on standard error what failed, and answers the status."""
+    print(f"zsched-explain: {what}", file=sys.stderr)
+    return status
 
 
 def _plan(name):
@@ -88,11 +98,15 @@ def refusal(zsched, data, seconds=None):
 
 def tell(name, data, status, line):
     """Writes what is to be said of a plan on which the program ended with this status and line; answers the status."""
-    if status == 0:
-        print(f"{shown(name, WIDTH)}: no fault")
-    else:
+    if status != 0:
         sys.stderr.write(line + (explanation(name, data, line) if status == 2 else ""))
-    return status
+        return status
+    try:
+        print(f"{shown(name, WIDTH)}: no fault", flush=True)
+    except OSError as failed:
+        os.dup2(os.open(os.devnull, os.O_WRONLY), sys.stdout.fileno())
+        return _failed(f"standard output: {failed.strerror}", 3)
+    return 0
 
 
 def explanation(name, data, line):

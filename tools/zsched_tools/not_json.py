@@ -2,12 +2,12 @@
 import re
 
 from zsched_tools.cause import Cause, line_of, shown
-from zsched_tools.hints import DOCUMENT_KEYS, UNITS, in_milliseconds
+from zsched_tools.hints import UNITS, in_milliseconds
 
 SKETCH = '{"horizon": 60000, "jobs": [ .. ]}'
 _WORD = re.compile(r"[A-Za-z_$][A-Za-z0-9_$]*")
 _SPACE = " \t\n\r"
-_COMMENTS = ("//", "/*", "#", "--")
+_COMMENTS = ("//", "/*", "#")
 _CONSTANTS = {"True": "true", "False": "false", "None": "null", "nil": "null", "undefined": "null", "NULL": "null",
               "TRUE": "true", "FALSE": "false"}
 _QUOTES = "'`\u201c\u201d\u2018\u2019\u00ab\u00bb"
@@ -62,6 +62,8 @@ def no_value(reading, at):
         return _early_end(reading, at)
     if mark == '"':
         return _bad_string(text, at)
+    if not reading.open:
+        return _comment(text, at) or _no_beginning(text, at)
     if mark in "]},:;=":
         return _missing_value(reading, at)
     if mark in "+-." or mark.isdigit():
@@ -69,7 +71,16 @@ def no_value(reading, at):
     if mark in _QUOTES:
         return Cause(at, 1, "these are no quotes of JSON", 'write "')
     word = _WORD.match(text, at)
-    return _comment(text, at) or (_bare_word(reading, at, word[0]) if word else _odd_letter(text, at))
+    return _comment(text, at) or (_bare_word(text, at, word[0]) if word else _odd_letter(text, at))
+
+
+def _no_beginning(text, at):
+    """No plan begins like this."""
+    if re.compile(r"\w+[ \t]*:").match(text, at):
+        return Cause(at, 1, "this looks like YAML, and a plan is JSON", f"write {SKETCH}")
+    if text[at].isspace() or not text[at].isprintable():
+        return _odd_letter(text, at)
+    return Cause(at, 1, "no plan begins like this", f"a plan begins as {SKETCH}")
 
 
 def _early_end(reading, at):
@@ -82,13 +93,16 @@ def _early_end(reading, at):
                  f"{_CLOSING[mark]} is missing: the {mark} of line {line_of(reading.text, opened)} is still open")
 
 
+def _place_before(text, at):
+    """The place of what stands last before this one, white space left out; a bracket is open, so something does."""
+    return len(text[:at].rstrip(_SPACE)) - 1
+
+
 def _missing_value(reading, at):
     """A mark stands where a value is expected."""
     text, mark = reading.text, reading.text[at]
-    before = at - 1
-    while before >= 0 and text[before] in _SPACE:
-        before -= 1
-    last = text[before:before + 1]
+    before = _place_before(text, at)
+    last = text[before]
     if last == "," and mark in "]}":
         return Cause(before, 1, f"a comma stands before {mark}", "take it out: JSON has commas between parts alone")
     if last == "," and mark == ",":
@@ -97,8 +111,6 @@ def _missing_value(reading, at):
         return Cause(at, 1, f"a value is missing before this {mark}")
     if last == "[" and mark == ",":
         return Cause(at, 1, "a comma stands before the first item", "take it out")
-    if not reading.open and mark in "]}":
-        return Cause(at, 1, f"this {mark} closes nothing", f"a plan begins as {SKETCH}")
     return Cause(at, 1, f"no value begins with {mark}")
 
 
@@ -112,17 +124,12 @@ def _bad_number(text, at):
     return Cause(at, len(source), "this is no number", "write digits alone")
 
 
-def _bare_word(reading, at, word):
+def _bare_word(text, at, word):
     """A word stands where a value is expected."""
-    text = reading.text
-    if re.compile(r"[ \t]*:").match(text, at + len(word)) and not reading.open:
-        return Cause(at, len(word), "this looks like YAML, and a plan is JSON", f"write {SKETCH}")
     if word in _CONSTANTS:
         return Cause(at, len(word), f"JSON has no {word}", f"{_CONSTANTS[word]} is JSON's word, but no value of a plan")
     if word in ("NaN", "Infinity", "inf", "nan"):
         return Cause(at, len(word), f"JSON has no {word}", "write a whole number")
-    if not reading.open:
-        return Cause(at, len(word), "no plan begins like this", f"a plan begins as {SKETCH}")
     call = re.compile(r"\w+ *\([^\"\n{}\[\]]*\)").match(text, at)
     whole = call[0] if call else word
     return Cause(at, len(whole), "a text without quotes", f'write "{shown(whole, 60)}"')
@@ -182,12 +189,11 @@ def no_key(reading, at):
 def _missing_key(reading, at):
     """A mark stands where a key is expected."""
     text, mark = reading.text, reading.text[at]
-    before = text[:at].rstrip(_SPACE) if at < 4096 else text[at - 4096:at].rstrip(_SPACE)
-    if before.endswith(",") and mark == "}":
-        place = at - (min(at, 4096) - len(before)) - 1
-        return Cause(place, 1, "a comma stands before }", "take it out: JSON has commas between parts alone")
+    before = _place_before(text, at)
+    if text[before] == "," and mark == "}":
+        return Cause(before, 1, "a comma stands before }", "take it out: JSON has commas between parts alone")
     if mark == ",":
-        what = "a second comma" if before.endswith(",") else "a comma stands before the first key"
+        what = "a second comma" if text[before] == "," else "a comma stands before the first key"
         return Cause(at, 1, what, "take it out")
     if mark == "]":
         return Cause(at, 1, "a ] where a key or a } is expected",
