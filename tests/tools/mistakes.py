@@ -219,6 +219,8 @@ SCHEDULES = [
     _no_term("half an operator's schedules", "(recurs(3) && »)", ""),
     _no_term("two numbers", "spaced(10», 20)", "exponential"),
     _no_term("a leaf as a method", "exponential(100).»recurs(5)", "&& recurs"),
+    _no_term("forever as a method of ZIO", "recurs(3).»forever", "resetWhen"),
+    _no_term("a delay that is added", "recurs(3).»addDelay(5)", "spaced"),
     _no_term("a point too few", "exponential(100) »map(+ 1)", ".map"),
     _no_term("a number alone", "»500", "spaced(500)"),
     _no_term("a space that isn't one", "(recurs(3) »\u00a0&& spaced(10))", "spaces"),

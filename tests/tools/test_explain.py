@@ -100,7 +100,7 @@ class Hints(unittest.TestCase):
     def test_the_program_takes_what_is_to_be_written(self):
         texts = []
         for help in [*hints.ZIO.values(), *hints.SYMBOLS.values()]:
-            found = re.match(r"write (\.?\(*[A-Za-z].*?)(?:,|;| with| or |$)", help)
+            found = re.match(r"write (\.?\(*[A-Za-z].*?)(?:,|;| with| or | where|$)", help)
             if found:
                 texts.append(self.filled(found[1]))
         self.assertGreater(len(texts), 40)

@@ -30,7 +30,11 @@ _PART = re.compile(r"\s*([0-9]{1,18}(?:\.[0-9]{1,9})?)[ .]*([A-Za-zµ]+)\s*")
 _OPPOSITE = "the opposite comparison (< for >=, = for !=)"
 _EFFECTS = "left out: a schedule here runs no effects of its own"
 _CALENDAR = "left out: there is no calendar; moments are milliseconds from the beginning of the plan"
-_DELAYS = "left out: a delay is that of spaced, linear, exponential or fibonacci"
+_DELAYS = "left out, but for (S || spaced(D)).map(_1), a cap, and (S && spaced(D)).map(_1), a least delay"
+_FEEDS = "left out, but for (A && B).map(_2), where B doesn't look at its input"
+_FOLDS = "left out, but for collectAll, and (S && forever).map(_2), the number of repetitions"
+_JOINS = "left out, but for map behind &&, || and andThenEither"
+_TESTS = "left out: write the function into the test, as whileInput(>= 500) for a class of codes"
 _AFTER = "write (A andThenEither B).map(merge)"
 _SHAPES = "left out: a step has one input, a whole number, which all parts of a schedule see"
 
@@ -67,6 +71,7 @@ ZIO = {
     "union": "write (A || B)",
     "intersect": "write (A && B)",
     "zip": "write (A && B)",
+    "both": "write (A && B)",
     "zipLeft": "write (A && B).map(_1)",
     "zipRight": "write (A && B).map(_2)",
     "and": "write &&",
@@ -75,16 +80,20 @@ ZIO = {
     "fromDuration": "write (recurs(1) && spaced(D))",
     "fromDurations": "write ((recurs(1) && spaced(D)) andThenEither ((recurs(1) && spaced(E)) andThenEither ..))",
     "delayed": _DELAYS,
-    "addDelay": _DELAYS,
-    "modifyDelay": f"{_DELAYS}; (S || spaced(CAP)) caps it",
+    "addDelay": "write (S && spaced(D)).map(_1) where S goes on at once",
+    "modifyDelay": _DELAYS,
     "delays": "left out: exponential, fibonacci and linear answer their delay",
-    "fold": "left out: collectAll, map and the pairs of && carry what a schedule answers",
-    "unfold": "left out: collectAll, map and the pairs of && carry what a schedule answers",
+    "fold": _FOLDS,
+    "unfold": "write forever.map(+ N), for N, N + 1, ..",
     "reconsider": "left out: whileInput, whileOutput and resetWhen decide",
-    "check": "write .whileInput(C N) or .whileOutput(C N)",
-    "compose": "left out: no schedule feeds another one",
-    "contramap": _SHAPES,
-    "dimap": _SHAPES,
+    "check": "write .whileInput(C N).whileOutput(C N)",
+    "compose": _FEEDS,
+    "contramap": _TESTS,
+    "dimap": _TESTS,
+    "zipWith": _JOINS,
+    "eitherWith": _JOINS,
+    "intersectWith": _JOINS,
+    "unionWith": _JOINS,
     "first": _SHAPES,
     "second": _SHAPES,
     "left": _SHAPES,
@@ -107,14 +116,16 @@ ZIO = {
     "repeat": "a job's mode is repeat or retry; its schedule says when it runs again, as forever or recurs(3)",
     "retry": "a job's mode is repeat or retry; its schedule says when it runs again, as forever or recurs(3)",
     "times": "write recurs(N)",
+    "retryN": "write recurs(N)",
+    "repeatN": "write recurs(N)",
     "backoff": "write exponential(N), linear(N) or fibonacci(N)",
     "random": "left out, with all that is random: give each job a delay or a start of its own",
 }
 
 # Symbols that no schedule has here, the longest first.
 SYMBOLS = {
-    ">>>": "left out: no schedule feeds another one",
-    "<<<": "left out: no schedule feeds another one",
+    ">>>": _FEEDS,
+    "<<<": _FEEDS,
     "<||>": "write (A andThenEither B)",
     "<*>": "write (A && B)",
     "***": _SHAPES,

@@ -269,6 +269,9 @@ def _needless_close(spot, opened):
 def _no_method(spot):
     """No method follows a point."""
     token = spot.token()
+    if token == "forever":
+        return spot.cause(len(token), "forever is no method",
+                          "write (S && forever).resetWhen(_2 = K).map(_1) where S goes on K times")
     if token in LEAVES:
         leaf = token if token in BARE_LEAVES else f"{token}(N)"
         return spot.cause(len(token), f"{token} is no method", f"write (S && {leaf}) or (S || {leaf})")
