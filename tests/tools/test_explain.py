@@ -1,0 +1,240 @@
+"""The command zsched-explain: on a table of mistakes, on plans that are changed at random, and in its use."""
+import contextlib
+import io
+import os
+import pathlib
+import re
+import resource
+import subprocess
+import sys
+import tempfile
+import unittest
+
+from changes import changed_plans
+from mistakes import MISTAKES
+from program import ONE_JOB, TOP, job, plan
+from zsched_tools import explain, hints, program
+
+COMMAND = TOP / "tools" / "zsched-explain"
+CHANGED = int(os.environ.get("CHANGED_PLANS", "2000"))
+SECONDS = 5
+MEMORY = 2 << 30
+PLACE = re.compile(r"^ *--> plan\.json:(\d+):(\d+)$", re.M)
+
+
+def split(marked):
+    """A plan without its sign, and the line and the column at which the sign stood."""
+    before, behind = marked.split("»")
+    return before + behind, before.count("\n") + 1, len(before) - (before.rfind("\n") + 1) + 1
+
+
+def told(data, status, line):
+    """What the command writes about a plan on which the program ended so: its status, output and errors."""
+    output, errors = io.StringIO(), io.StringIO()
+    with contextlib.redirect_stdout(output), contextlib.redirect_stderr(errors):
+        ended = explain.tell("plan.json", data, status, line)
+    return ended, output.getvalue(), errors.getvalue()
+
+
+def help_of(errors):
+    """The text of the help line, or nothing."""
+    found = re.search(r"^ *= help: (.*)$", errors, re.M)
+    return found[1] if found else ""
+
+
+class Mistakes(unittest.TestCase):
+    """The table of mistakes."""
+
+    def setUp(self):
+        self.zsched = program.find()
+
+    def test_each_mistake_is_shown_at_its_place(self):
+        for name, marked, fault, word in MISTAKES:
+            with self.subTest(name):
+                text, line, column = split(marked)
+                data = text.encode(errors="surrogateescape")
+                status, said, error = program.run(self.zsched, data)
+                self.assertEqual((status, said, error.decode()), (2, b"", f"zsched: {fault}\n"))
+                ended, output, errors = told(data, status, error.decode())
+                self.assertEqual((ended, output, errors.split("\n")[0]), (2, "", f"zsched: {fault}"))
+                self.assertEqual(PLACE.findall(errors), [(str(line), str(column))], errors)
+                self.assertIn(word, help_of(errors))
+
+    def test_the_caret_stands_below_the_place(self):
+        for name, marked, fault, _ in MISTAKES:
+            with self.subTest(name):
+                text, _, _ = split(marked)
+                _, _, errors = told(text.encode(errors="surrogateescape"), 2, f"zsched: {fault}\n")
+                source, caret = re.search(r"^ *\d+ \|(.*)\n *\|( *\^+)", errors, re.M).groups()
+                behind = marked[marked.index("»") + 1:].split("\n")[0][:1]
+                if behind.isascii() and behind.isprintable():
+                    self.assertEqual(source[caret.index("^"):][:1].strip(), behind.strip(), errors)
+
+    def test_the_table_is_long_and_names_each_mistake_once(self):
+        names = [name for name, _, _, _ in MISTAKES]
+        self.assertGreaterEqual(len(names), 60)
+        self.assertEqual(len(names), len(set(names)))
+
+    def test_the_job_is_told_by_its_name(self):
+        plan = ONE_JOB.replace(b'"recurs(3)"', b'"recur(3)"')
+        _, _, errors = told(plan, 2, "zsched: job 0: schedule: no term at byte 0\n")
+        self.assertIn('= job 0 is "a"\n', errors)
+        _, _, errors = told(ONE_JOB.replace(b'"name":"a",', b""), 2, "zsched: job 0: wrong shape\n")
+        self.assertNotIn("= job 0", errors)
+
+    def test_what_a_terminal_obeys_is_not_written(self):
+        plan = ONE_JOB.replace(b'"a"', '"\\u001b[31m\u202e"'.encode()).replace(b'"ms":5,"ok"', b'"ms":5,"\\u001b[2J"')
+        _, _, errors = told(plan, 2, "zsched: job 0: wrong shape\n")
+        self.assertTrue(all(letter.isprintable() or letter == "\n" for letter in errors), errors)
+        self.assertIn('= job 0 is "?[31m?"\n', errors)
+
+    def test_a_wide_letter_takes_two_columns(self):
+        plan = '{"horizon": 9, "jobs": [{"名前": 1, "x" 2}]}'.encode()
+        _, _, errors = told(plan, 2, "zsched: plan is not JSON\n")
+        self.assertIn('1 | {"horizon": 9, "jobs": [{"名前": 1, "x" 2}]}\n' + "  | " + " " * 39 + "^ ", errors)
+
+
+class Hints(unittest.TestCase):
+    """What the command tells to write for names of ZIO."""
+
+    def test_the_program_takes_what_is_to_be_written(self):
+        texts = []
+        for help in [*hints.ZIO.values(), *hints.SYMBOLS.values()]:
+            found = re.match(r"write (\.?\(*[A-Za-z].*?)(?:,|;| with| or | where|$)", help)
+            if found:
+                texts.append(self.filled(found[1]))
+        self.assertGreater(len(texts), 40)
+        jobs = [job(f"j{number}", text, script='"script":[{"ms":1,"ok":1}]') for number, text in enumerate(texts)]
+        self.assertEqual(program.run(program.find(), plan(jobs, '"horizon":9'))[::2], (0, b""), texts)
+
+    @staticmethod
+    def filled(text):
+        """A schedule with its letters filled in: S, A, B are schedules, D, E, N, CAP numbers, C a comparison."""
+        text = text.replace("andThenEither ..)", "andThenEither forever)").replace("C N", "< 5").replace("..", "< 5")
+        text = re.sub(r"\b(S|A|B)\b", "forever", text).replace("map(F)", "map(+ 1)")
+        return ("forever" if text.startswith(".") else "") + re.sub(r"\b(D|E|N|CAP)\b", "5", text)
+
+
+class Changes(unittest.TestCase):
+    """Plans that are changed at random: CHANGED_PLANS of them, 2,000 where that variable isn't set."""
+
+    def setUp(self):
+        self.limits = resource.getrlimit(resource.RLIMIT_AS)
+        resource.setrlimit(resource.RLIMIT_AS, (MEMORY, self.limits[1]))
+        self.addCleanup(resource.setrlimit, resource.RLIMIT_AS, self.limits)
+
+    def test_each_refused_plan_gets_a_place(self):
+        zsched = program.find()
+        texts = [path.read_text() for path in sorted((TOP / "examples").glob("*.json"))]
+        counts = {"accepted": 0, "refused": 0, "other": 0}
+        for number, data in enumerate(changed_plans(texts, CHANGED, seed=20)):
+            try:
+                status, line = explain.refusal(zsched, data, SECONDS)
+            except subprocess.TimeoutExpired:
+                status, line = None, ""
+            if status in (0, 2):
+                self.look_at(number, data, status, line)
+            counts[{0: "accepted", 2: "refused"}.get(status, "other")] += 1
+        self.assertGreater(counts["refused"], CHANGED // 2)
+        self.assertGreater(counts["accepted"], CHANGED // 50)
+        self.assertLess(counts["other"], CHANGED // 50, counts)
+
+    def look_at(self, number, data, status, line):
+        """What the command writes on one plan."""
+        ended, output, errors = told(data, status, line)
+        self.assertEqual(ended, status, number)
+        if status == 0:
+            self.assertEqual((output, errors), ("plan.json: no fault\n", ""))
+            return
+        self.assertEqual((output, errors.split("\n")[0] + "\n"), ("", line))
+        places = PLACE.findall(errors)
+        self.assertEqual(len(places), 1, data)
+        self.assertNotIn("the fault is in", errors, data)
+        lines = data.decode(errors="replace").split("\n")
+        row, column = map(int, places[0])
+        self.assertTrue(1 <= row <= len(lines) and 1 <= column <= len(lines[row - 1]) + 1, data)
+
+
+class Use(unittest.TestCase):
+    """The command's words, streams and statuses."""
+
+    def setUp(self):
+        self.zsched = program.find()
+        folder = tempfile.TemporaryDirectory()
+        self.addCleanup(folder.cleanup)
+        self.folder = pathlib.Path(folder.name)
+        self.faulty = ONE_JOB.replace(b"recurs(3)", b"recurs(3s)")
+        (self.folder / "plan.json").write_bytes(self.faulty)
+        (self.folder / "good.json").write_bytes(ONE_JOB)
+
+    def run_command(self, *arguments, text=b"", environment=None):
+        """One run of the command: status, output and errors."""
+        ended = subprocess.run([sys.executable, COMMAND, *arguments], input=text, capture_output=True, cwd=self.folder,
+                               env={**os.environ, "ZSCHED": self.zsched, **(environment or {})}, check=False)
+        return ended.returncode, ended.stdout.decode(), ended.stderr.decode()
+
+    def test_a_plan_is_read_from_a_file_or_standard_input(self):
+        wanted = "\n".join([
+            "zsched: job 0: schedule: no term at byte 8",
+            " --> {}:1:72",
+            "  |",
+            "1 | {}",
+            "  | " + " " * 71 + "^ a number has no unit",
+            "  = help: write 3000: all times are milliseconds",
+            '  = job 0 is "a"', ""])
+        for arguments, name in [(["plan.json"], "plan.json"), (["-"], "standard input"), ([], "standard input")]:
+            with self.subTest(arguments):
+                found = self.run_command(*arguments, text=self.faulty)
+                source = self.faulty.decode()[:100] + " .."
+                self.assertEqual(found, (2, "", wanted.format(name, source)))
+
+    def test_a_plan_without_a_fault(self):
+        self.assertEqual(self.run_command("good.json"), (0, "good.json: no fault\n", ""))
+
+    def test_an_empty_plan(self):
+        status, output, errors = self.run_command()
+        self.assertEqual((status, output), (2, ""))
+        self.assertIn("--> standard input:1:1", errors)
+
+    def test_a_plan_that_is_too_long(self):
+        (self.folder / "plan.json").write_bytes(b"{}\n" + b" " * 16777216)
+        status, _, errors = self.run_command("plan.json")
+        self.assertEqual((status, errors.split("\n")[0]), (2, "zsched: plan is longer than 16777216 bytes"))
+        self.assertIn("--> plan.json:2:16777214\n", errors)
+
+    def test_a_file_that_cannot_be_read(self):
+        for name, text in [("none.json", "No such file or directory"), (".", "Is a directory")]:
+            self.assertEqual(self.run_command(name), (3, "", f"zsched-explain: {name}: {text}\n"))
+
+    def test_standard_output_that_is_full(self):
+        with open("/dev/full", "w") as full:
+            ended = subprocess.run([sys.executable, COMMAND, "good.json", "--zsched", self.zsched], cwd=self.folder,
+                                   stdout=full, stderr=subprocess.PIPE, check=False)
+        wanted = b"zsched-explain: standard output: No space left on device\n"
+        self.assertEqual((ended.returncode, ended.stderr), (3, wanted))
+
+    def test_a_program_that_is_not_there(self):
+        for arguments, environment in [(["--zsched", "/none"], {}), ([], {"ZSCHED": "/none"})]:
+            with self.subTest(arguments):
+                status, output, errors = self.run_command("plan.json", *arguments, environment=environment)
+                self.assertEqual((status, output, errors), (1, "", "zsched-explain: no program at /none\n"))
+
+    def test_the_programs_other_statuses_are_kept(self):
+        for text, wanted in [("echo zsched: out of memory >&2; exit 4", 4), ("kill -9 $$", 137)]:
+            other = self.folder / "other"
+            other.write_text(f"#!/bin/sh\n{text}\n")
+            other.chmod(0o755)
+            status, output, errors = self.run_command("plan.json", "--zsched", str(other))
+            self.assertEqual((status, output, errors), (wanted, "", "zsched: out of memory\n" if wanted == 4 else ""))
+
+    def test_words_that_it_does_not_take(self):
+        for arguments in [["--nothing"], ["plan.json", "good.json"], ["--zsched"]]:
+            status, output, errors = self.run_command(*arguments)
+            self.assertEqual((status, output), (1, ""), errors)
+            self.assertTrue(errors.startswith("zsched-explain: "), errors)
+
+    def test_the_help_names_the_statuses(self):
+        status, output, errors = self.run_command("--help")
+        self.assertEqual((status, errors), (0, ""))
+        for word in ["PLAN.json", "--zsched", "FILE:LINE:COLUMN", "exit status", "no fault"]:
+            self.assertIn(word, output)

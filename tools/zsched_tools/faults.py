@@ -1,0 +1,71 @@
+"""Where the fault of a plan is that the program tells, and what is wrong there, by the rules of docs/FORMATS.md."""
+import re
+
+from zsched_tools import json_reading, not_json
+from zsched_tools.cause import Cause
+from zsched_tools.document_faults import DOCUMENT_FAULTS
+from zsched_tools.job_faults import JOB_FAULTS, schedule_fault, script_fault
+from zsched_tools.positions import Document
+
+MAX_BYTES = 16777216
+_OF_DOCUMENT = re.compile(r"plan: (?P<cause>wrong shape|unknown key|out of range)")
+_OF_JOB = re.compile(r"job (?P<job>\d+): (?P<cause>.+)")
+
+
+class Explained:
+    """A fault's Cause, in the text of its plan. The number and the name of its job are None where it has none."""
+
+    def __init__(self, text, cause, job=None, name=None):
+        self.text = text
+        self.cause = cause
+        self.job = job
+        self.name = name
+
+
+def explained(data, fault):
+    """The place and the cause of a fault: of a plan's bytes, and of the program's words without 'zsched: '."""
+    try:
+        text = data.decode()
+    except UnicodeDecodeError as bad:
+        text = data.decode(errors="replace")
+        at = len(data[:bad.start].decode())
+        if fault == "plan is not JSON":
+            return Explained(text, not_json.no_utf8(data, text, at))
+    if fault.startswith("plan is longer than"):
+        at = len(data[:MAX_BYTES].decode(errors="ignore"))
+        what = f"{MAX_BYTES} bytes end here, and a plan has no more"
+        return Explained(text, Cause(at, 0, what, "make plans of fewer jobs"))
+    if fault == "plan is not JSON":
+        return Explained(text, json_reading.fault_of(text) or _unknown(0))
+    return _in_document(Document(text).root(), text, fault)
+
+
+def _in_document(plan, text, fault):
+    """The place and the cause of a fault that stands in a document."""
+    of_document, of_job = _OF_DOCUMENT.fullmatch(fault), _OF_JOB.fullmatch(fault)
+    if of_job:
+        jobs, number = plan.get("jobs"), int(of_job["job"])
+        job = next(node for index, node in enumerate(jobs.items()) if index == number)
+        return Explained(text, _of_job(jobs, job, of_job["cause"]) or _unknown(job.at), number, _name_of(job))
+    found = DOCUMENT_FAULTS[of_document["cause"]](plan) if of_document else None
+    return Explained(text, found or _unknown(plan.at))
+
+
+def _of_job(jobs, job, cause):
+    """The cause of a fault of a job."""
+    if cause.startswith("schedule: "):
+        return schedule_fault(job, cause.removeprefix("schedule: "))
+    if cause.startswith("script: "):
+        return script_fault(job, cause.removeprefix("script: "))
+    return JOB_FAULTS[cause](jobs, job)
+
+
+def _unknown(at):
+    """A place for a fault whose cause these rules don't find."""
+    return Cause(at, 1, "the fault is in here")
+
+
+def _name_of(job):
+    """The name of a job, where it has one."""
+    name = job.get("name") if job.kind == "object" else None
+    return name.string() if name and name.kind == "text" else None

@@ -1,0 +1,112 @@
+"""Where a text stops being JSON, by the rules of the program's reader, which are those of serde_json.
+
+A run of parts that are flat is passed by one regular expression. What else there is is looked at one by one."""
+import re
+
+from zsched_tools import not_json
+from zsched_tools.cause import Cause
+
+MAX_DEPTH = 127
+
+W = r"[ \t\n\r]*+"
+_ESCAPE = (r'\\(?:["\\/bfnrt]|u(?:(?![dD][89a-fA-F])[0-9a-fA-F]{4}'
+           r"|[dD][89abAB][0-9a-fA-F]{2}\\u[dD][c-fC-F][0-9a-fA-F]{2}))")
+_STRING = rf'"[^"\\\x00-\x1f]*+(?:{_ESCAPE}[^"\\\x00-\x1f]*+)*+"'
+# Numbers that a 64-bit float surely holds; the others are looked at closely.
+_SMALL = (r"(?:[1-9][0-9]{0,199}+|-?(?:0|[1-9][0-9]{0,199}+)(?:\.[0-9]++)?+(?:[eE][+-]?[0-9]{1,2}+)?+)"
+          r"(?![0-9.eE])")
+_SCALAR = f"(?:{_SMALL}|{_STRING}|true|false|null)"
+_MEMBER = f"{_STRING}{W}:{W}{_SCALAR}{W}"
+# An entry as nearly all are written comes first, since that is faster.
+_PLAIN = rf'"[A-Za-z]*+"{W}:{W}(?:[1-9][0-9]{{0,18}}+|0){W}'
+_FLAT = rf"(?:\{{{W}{_PLAIN},{W}{_PLAIN}\}}|{_SCALAR}|\{{{W}(?:{_MEMBER}(?:,{W}{_MEMBER})*+)?+\}})"
+
+_SPACE = re.compile(W)
+_KEY = re.compile(_STRING)
+_COLON = re.compile(f"{W}:{W}")
+_ONE_SCALAR = re.compile(_SCALAR)
+_NUMBER = re.compile(r"-?(?:0|[1-9][0-9]*+)(?:\.[0-9]++)?+(?:[eE][+-]?[0-9]++)?+")
+_ITEMS = re.compile(f"(?:{_FLAT}{W},{W})*+")
+_MEMBERS = re.compile(f"(?:{_STRING}{W}:{W}{_FLAT}{W},{W})*+")
+
+
+class NotJson(Exception):
+    """The text is no JSON document. Its argument is the Cause."""
+
+
+def fault_of(text):
+    """The Cause of a text that is no JSON document, else None."""
+    try:
+        Reading(text).read()
+    except NotJson as found:
+        return found.args[0]
+    return None
+
+
+class Reading:
+    """One pass over a text, with the places of the lists and objects that are open."""
+
+    def __init__(self, text):
+        self.text = text
+        self.open = []
+
+    def read(self):
+        """Passes the one value that the text is; raises NotJson."""
+        begin = self.skip(0)
+        if begin == len(self.text) or self.text.startswith("\ufeff"):
+            raise NotJson(not_json.no_plan(self.text))
+        rest = self.skip(self.end_of(begin))
+        if rest < len(self.text):
+            raise NotJson(not_json.more_text(self.text, rest))
+
+    def skip(self, at):
+        """The place behind the white space."""
+        return _SPACE.match(self.text, at).end()
+
+    def end_of(self, at):
+        """The end of the value that begins here."""
+        if self.text[at:at + 1] in ("{", "["):
+            return self.end_of_container(at)
+        scalar = _ONE_SCALAR.match(self.text, at)
+        return scalar.end() if scalar else self.end_of_number(at)
+
+    def end_of_number(self, at):
+        """The end of a number that may be too large for a float."""
+        number = _NUMBER.match(self.text, at)
+        if not number:
+            raise NotJson(not_json.no_value(self, at))
+        if float(number[0]) in (float("inf"), float("-inf")):
+            raise NotJson(not_json.too_large(at, number.end()))
+        return number.end()
+
+    def end_of_container(self, at):
+        """The end of the list or object that begins here. The run of flat parts at its front is passed at once."""
+        text, is_object = self.text, self.text[at] == "{"
+        closing, run = ("}", _MEMBERS) if is_object else ("]", _ITEMS)
+        if len(self.open) == MAX_DEPTH:
+            raise NotJson(Cause(at, 1, f"this is nested deeper than {MAX_DEPTH}", "a plan has five levels"))
+        self.open.append(at)
+        here = self.skip(at + 1)
+        is_done = text[here:here + 1] == closing
+        while not is_done:
+            if len(self.open) < MAX_DEPTH:
+                here = run.match(text, here).end()
+            end = self.end_of(self.behind_key(here) if is_object else here)
+            here = self.skip(end)
+            is_done = text[here:here + 1] == closing
+            if not is_done:
+                if text[here:here + 1] != ",":
+                    raise NotJson(not_json.no_comma(self, end, here))
+                here = self.skip(here + 1)
+        self.open.pop()
+        return here + 1
+
+    def behind_key(self, at):
+        """The place of the value whose key begins here."""
+        key = _KEY.match(self.text, at)
+        if not key:
+            raise NotJson(not_json.no_key(self, at))
+        colon = _COLON.match(self.text, key.end())
+        if not colon:
+            raise NotJson(not_json.no_colon(self, at, key.end()))
+        return colon.end()

@@ -1,0 +1,272 @@
+"""Why a text is no JSON, in words: what stands in the place of a value, a key, a colon or a comma."""
+import re
+
+from zsched_tools.cause import Cause, line_of, shown
+from zsched_tools.hints import UNITS, in_milliseconds
+
+SKETCH = '{"horizon": 60000, "jobs": [ .. ]}'
+_WORD = re.compile(r"[A-Za-z_$][A-Za-z0-9_$]*")
+_SPACE = " \t\n\r"
+_COMMENTS = ("//", "/*", "#")
+_CONSTANTS = {"True": "true", "False": "false", "None": "null", "nil": "null", "undefined": "null", "NULL": "null",
+              "TRUE": "true", "FALSE": "false"}
+_QUOTES = "'`\u201c\u201d\u2018\u2019\u00ab\u00bb"
+_CLOSING = {"{": "}", "[": "]"}
+
+
+def no_plan(text):
+    """The text is empty, or begins with a mark that isn't JSON's."""
+    if text.startswith("\ufeff"):
+        return Cause(0, 1, "the plan begins with a byte order mark", "save it as UTF-8 without one")
+    return Cause(0, 0, "there is nothing here", f"a plan begins as {SKETCH}")
+
+
+def no_utf8(data, text, at):
+    """The byte at this place of the text isn't UTF-8's."""
+    if data[:2] in (b"\xff\xfe", b"\xfe\xff"):
+        return Cause(at, 1, "this is UTF-16, and no UTF-8", "save the plan as UTF-8")
+    byte = data[len(text[:at].encode())]
+    return Cause(at, 1, f"this byte, {byte:#04x}, is no UTF-8", "save the plan as UTF-8")
+
+
+def more_text(text, at):
+    """The document has ended, and more follows."""
+    mark = text[at]
+    if mark in "}]":
+        return Cause(at, 1, f"this {mark} closes nothing", "take it out, or open before what it closes")
+    if mark in "{[":
+        return Cause(at, 1, "a second document begins here", "a plan is one document, with one list of jobs")
+    if mark == ":" or re.match(r'\s*"?\w+"?\s*:', text):
+        return Cause(at, 1, "the plan has ended, and more follows", f"a plan stands in braces: {SKETCH}")
+    return _comment(text, at) or Cause(at, 1, "the plan has ended, and more follows", "take it out")
+
+
+def too_large(at, end):
+    """The number that stands from here to there is larger than any 64-bit float."""
+    return Cause(at, end - at, "this number is too large for any reader of JSON",
+                 "the greatest number of a plan is 18446744073709551615")
+
+
+def _comment(text, at):
+    """The cause where a comment begins here, else None."""
+    if not text.startswith(_COMMENTS, at):
+        return None
+    end = text.find("\n", at)
+    return Cause(at, (end if end >= 0 else len(text)) - at, "JSON has no comments", "take it out")
+
+
+def no_value(reading, at):
+    """No value begins here."""
+    text, mark = reading.text, reading.text[at:at + 1]
+    if not mark:
+        return _early_end(reading, at)
+    if mark == '"':
+        return _bad_string(text, at)
+    if not reading.open:
+        return _comment(text, at) or _no_beginning(text, at)
+    if mark in "]},:;=":
+        return _missing_value(reading, at)
+    if mark in "+-." or mark.isdigit():
+        return _bad_number(text, at)
+    if mark in _QUOTES:
+        return Cause(at, 1, "these are no quotes of JSON", 'write "')
+    word = _WORD.match(text, at)
+    return _comment(text, at) or (_bare_word(text, at, word[0]) if word else _odd_letter(text, at))
+
+
+def _no_beginning(text, at):
+    """No plan begins like this."""
+    if re.compile(r"\w+[ \t]*:").match(text, at):
+        return Cause(at, 1, "this looks like YAML, and a plan is JSON", f"write {SKETCH}")
+    if text[at].isspace() or not text[at].isprintable():
+        return _odd_letter(text, at)
+    return Cause(at, 1, "no plan begins like this", f"a plan begins as {SKETCH}")
+
+
+def _early_end(reading, at):
+    """The text ends before a value does."""
+    if not reading.open:
+        return Cause(at, 0, "the plan ends here, too soon")
+    opened = reading.open[-1]
+    mark = reading.text[opened]
+    return Cause(at, 0, "the plan ends here, too soon",
+                 f"{_CLOSING[mark]} is missing: the {mark} of line {line_of(reading.text, opened)} is still open")
+
+
+def _place_before(text, at):
+    """The place of what stands last before this one, white space left out; a bracket is open, so something does."""
+    return len(text[:at].rstrip(_SPACE)) - 1
+
+
+def _missing_value(reading, at):
+    """A mark stands where a value is expected."""
+    text, mark = reading.text, reading.text[at]
+    before = _place_before(text, at)
+    last = text[before]
+    if last == "," and mark in "]}":
+        return Cause(before, 1, f"a comma stands before {mark}", "take it out: JSON has commas between parts alone")
+    if last == "," and mark == ",":
+        return Cause(at, 1, "a second comma", "take it out")
+    if last == ":":
+        return Cause(at, 1, f"a value is missing before this {mark}")
+    if last == "[" and mark == ",":
+        return Cause(at, 1, "a comma stands before the first item", "take it out")
+    return Cause(at, 1, f"no value begins with {mark}")
+
+
+def _bad_number(text, at):
+    """A number that JSON writes otherwise."""
+    source = re.compile(r"[+-]?[0-9A-Za-z_.]*(?:(?<=[eE])[+-][0-9]*)?").match(text, at)[0] or text[at]
+    if source[0] == "+":
+        return Cause(at, len(source), "a number has no plus before it", f"write {shown(source[1:])}")
+    if re.fullmatch(r"-?\.[0-9]+", source):
+        return Cause(at, len(source), "a number begins with a digit", "a plan has whole numbers alone")
+    return Cause(at, len(source), "this is no number", "write digits alone")
+
+
+def _bare_word(text, at, word):
+    """A word stands where a value is expected."""
+    if word in _CONSTANTS:
+        return Cause(at, len(word), f"JSON has no {word}", f"{_CONSTANTS[word]} is JSON's word, but no value of a plan")
+    if word in ("NaN", "Infinity", "inf", "nan"):
+        return Cause(at, len(word), f"JSON has no {word}", "write a whole number")
+    call = re.compile(r"\w+ *\([^\"\n{}\[\]]*\)").match(text, at)
+    whole = call[0] if call else word
+    return Cause(at, len(whole), "a text without quotes", f'write "{shown(whole, 60)}"')
+
+
+def _odd_letter(text, at):
+    """A letter or mark that begins nothing."""
+    letter = text[at]
+    if letter.isspace() or not letter.isprintable():
+        return Cause(at, 1, f"the character U+{ord(letter):04X} is no white space of JSON", "write a space")
+    if letter == "(":
+        return Cause(at, 1, "JSON has no parentheses", "write [ ] or { }; a schedule is a text in quotes")
+    return Cause(at, 1, f"no value begins with {letter}")
+
+
+def _bad_string(text, at):
+    """A text in quotes that doesn't end, or that has what may not stand in it."""
+    plain = re.compile(r'"(?:[^"\\\x00-\x1f]++|\\["\\/bfnrt]|\\u(?![dD][89a-fA-F])[0-9a-fA-F]{4}'
+                       r'|\\u[dD][89abAB][0-9a-fA-F]{2}\\u[dD][c-fC-F][0-9a-fA-F]{2})*+').match(text, at)
+    stop = plain.end()
+    mark = text[stop:stop + 1]
+    if mark in ("", "\n", "\r"):
+        return Cause(at, stop - at, "this text has no quote at its end",
+                     'write " at its end; a text stands on one line')
+    if mark == "\\":
+        escape = re.compile(r"\\(?:u[0-9a-fA-F]{0,4}|.?)", re.S).match(text, stop)[0]
+        if re.fullmatch(r"\\u[dD][89a-fA-F][0-9a-fA-F]{2}", escape):
+            return Cause(stop, len(escape), f"{escape} is half a character", "write the character, or both halves")
+        return Cause(stop, len(escape), f"{shown(escape)} is no escape of JSON", "write \\\\ for a backslash")
+    if mark == "\t":
+        return Cause(stop, 1, "a tab may not stand in a text", "write a space, or \\t")
+    return Cause(stop, 1, f"the character U+{ord(mark):04X} may not stand in a text", "take it out")
+
+
+def no_key(reading, at):
+    """No key in quotes begins here."""
+    text, mark = reading.text, reading.text[at:at + 1]
+    if not mark:
+        return _early_end(reading, at)
+    if mark == '"':
+        return _bad_string(text, at)
+    if mark in "]},:":
+        return _missing_key(reading, at)
+    if mark in _QUOTES:
+        return Cause(at, 1, "these are no quotes of JSON", 'write "')
+    digits = re.compile(r"[0-9]+").match(text, at)
+    before = re.compile(r"[0-9]+,[ ]?$").search(text, max(0, at - 40), at)
+    if digits and before:
+        return Cause(at, len(digits[0]), "a number in two parts", f"write {before[0].rstrip(', ')}{shown(digits[0])}")
+    word = _WORD.match(text, at)
+    if word:
+        return Cause(at, len(word[0]), "a key without quotes", f'write "{shown(word[0])}"')
+    return _comment(text, at) or Cause(at, 1, f"a key in quotes is expected, and this is {shown(mark)}",
+                                       'the parts of an object are written "key": value')
+
+
+def _missing_key(reading, at):
+    """A mark stands where a key is expected."""
+    text, mark = reading.text, reading.text[at]
+    before = _place_before(text, at)
+    if text[before] == "," and mark == "}":
+        return Cause(before, 1, "a comma stands before }", "take it out: JSON has commas between parts alone")
+    if mark == ",":
+        what = "a second comma" if text[before] == "," else "a comma stands before the first key"
+        return Cause(at, 1, what, "take it out")
+    if mark == "]":
+        return Cause(at, 1, "a ] where a key or a } is expected",
+                     f"the {{ of line {line_of(text, reading.open[-1])} is still open")
+    return Cause(at, 1, f"a key is missing before this {mark}")
+
+
+def no_colon(reading, at, end):
+    """No colon follows the key that stands from here to there."""
+    text = reading.text
+    rest = reading.skip(end)
+    mark = text[rest:rest + 1]
+    if not mark:
+        return _early_end(reading, rest)
+    if mark == "=":
+        return Cause(rest, 1, "an = stands in the place of a colon", "write :")
+    if mark in ",}":
+        return Cause(at, end - at, "a text alone, where a key and a value are expected",
+                     'the parts of an object are written "key": value')
+    if rest == end and (mark.isalnum() or mark == "_"):
+        return _tail(text, end)
+    return Cause(end, 1, "a colon is missing behind this key", "write :")
+
+
+def no_comma(reading, end, at):
+    """No comma follows the value that ends there, but what stands here."""
+    text = reading.text
+    opened = reading.open[-1]
+    is_object, closing = text[opened] == "{", _CLOSING[text[opened]]
+    mark = text[at:at + 1]
+    if not mark:
+        return _early_end(reading, at)
+    if mark in "]}":
+        return Cause(at, 1, f"a {mark} where {closing} is expected",
+                     f"the {text[opened]} of line {line_of(text, opened)} is still open: write {closing} before it")
+    if at == end and (mark.isalnum() or mark in "._+-"):
+        return _tail(text, end)
+    if mark == ";":
+        return Cause(at, 1, "a semicolon stands in the place of a comma", "write ,")
+    if mark in ":=":
+        return _stray_colon(text, opened, at, is_object)
+    unit = _WORD.match(text, at)
+    if unit and text[end - 1].isdigit() and unit[0].lower() in UNITS:
+        return _tail(text, end)
+    if mark in '"{[' or mark.isalnum() or mark == "-":
+        return Cause(end, 1, "a comma is missing here", "write , behind the part that ends here")
+    return _comment(text, at) or Cause(at, 1, f"a comma or {closing} is expected, and this is {shown(mark)}")
+
+
+def _stray_colon(text, opened, at, is_object):
+    """A colon or an = behind a value."""
+    if not is_object and text[at] == ":":
+        return Cause(at, 1, "a colon stands in a list", 'write { } around "key": value')
+    return Cause(at, 1, f"this {text[at]} stands behind a value", "a comma is missing before, or a quote too much")
+
+
+def _tail(text, end):
+    """Letters or digits stand right behind a number or a word."""
+    begin = end
+    while begin > 0 and (text[begin - 1].isalnum() or text[begin - 1] in "+-._"):
+        begin -= 1
+    tail = re.compile(r"[ ]?[\w.+-]+").match(text, end)[0]
+    source = text[begin:end] + tail
+    size = len(source)
+    if text[end - 1] == '"':
+        return Cause(end, len(tail), "this stands behind the quote that ends a text",
+                     'a quote is missing or too much; inside a text it is written \\"')
+    if not text[begin:begin + 1].isdigit() and text[begin:begin + 1] != "-":
+        return Cause(begin, size, "a text without quotes", f'write "{shown(source)}"')
+    if re.fullmatch(r"[0-9]+(_[0-9]+)+", source):
+        return Cause(begin, size, "no _ may stand in a number", f"write {shown(source.replace('_', ''))}")
+    if re.fullmatch(r"0[0-9]+", source):
+        return Cause(begin, size, "a number may not begin with 0", f"write {shown(source.lstrip('0') or '0')}")
+    if re.fullmatch(r"-?[0-9]+\.", source):
+        return Cause(begin, size, "digits are missing behind the point", f"write {shown(source[:-1])}")
+    return Cause(begin, size, "a number with letters behind it", in_milliseconds(source) or "write digits alone")
