@@ -12,17 +12,20 @@ import argparse
 import importlib.util
 import json
 import multiprocessing
-import os
 import pathlib
 import random
 import sys
 import tempfile
 import time
 
-from generator import json_text, plan_of
-from program import ZSCHED, run, shown
-
+sys.dont_write_bytecode = True
 HERE = pathlib.Path(__file__).resolve().parent
+sys.path.insert(0, str(HERE.parent / "tools"))
+
+from generator import json_text, plan_of
+from program import run, shown
+from zsched_tools.program import NoProgram, find
+
 MOST_ATTEMPTS = 2100
 MOST_TRIES = 400
 PATIENCE = 30
@@ -66,13 +69,11 @@ def smaller_numbers(number):
 
 
 def smaller_texts(text):
-    """Shorter texts, which leave out a piece."""
-    length = len(text)
-    while length > 1:
-        length = (length + 1) // 2
-        yield from (text[:at] + text[at + length:] for at in range(0, len(text), max(1, length // 2)))
-        if length == 1:
-            return
+    """Shorter texts, which leave out a piece: first those without a long one."""
+    length = len(text) // 2
+    while length:
+        yield from (text[:at] + text[at + length:] for at in range(0, len(text), (length + 1) // 2))
+        length //= 2
 
 
 def smaller_schedules(reference, text):
@@ -122,7 +123,7 @@ def as_bytes(tree):
     return json_text(random.Random(1), tree).encode()
 
 
-def small(comparer, plan):
+def small(comparer, plan, most_tries=MOST_TRIES):
     """A plan with a difference still, as small as it gets in so many tries."""
     tries = 0
     try:
@@ -138,7 +139,7 @@ def small(comparer, plan):
         again = False
         for candidate in smaller(current):
             tries += 1
-            if tries > MOST_TRIES:
+            if tries > most_tries:
                 return made(current)
             if comparer.differs(made(candidate)):
                 current, again = candidate, True
@@ -180,17 +181,20 @@ def main():
     arguments = argparse.ArgumentParser(description=__doc__, formatter_class=argparse.RawDescriptionHelpFormatter)
     arguments.add_argument("--seeds", type=seeds_from, default=range(2000), metavar="A..B",
                            help="the seeds from A on, without B (0..2000)")
-    arguments.add_argument("--processes", type=int, default=1, help="how many processes compare (1)")
-    arguments.add_argument("--zsched", default=os.environ.get("ZSCHED", ZSCHED),
-                           help="the program (the one in the variable ZSCHED, or else the built one)")
+    arguments.add_argument("--processes", type=int, choices=range(1, 65), default=1, metavar="N",
+                           help="how many processes compare, 1 to 64 (1)")
+    arguments.add_argument("--zsched", metavar="PATH",
+                           help="the program (the one that the variable ZSCHED names, or else the built one)")
     arguments.add_argument("--reference", default=HERE / "reference.py",
                            help="another reference, to see that a wrong one is caught")
     given = arguments.parse_args()
-    if not os.access(given.zsched, os.X_OK):
-        arguments.error(f"{given.zsched}: no program stands here")
+    try:
+        zsched = find(given.zsched)
+    except NoProgram as cause:
+        arguments.error(str(cause))
     begun = time.monotonic()
     seeds = given.seeds
-    chunks = [(given.zsched, given.reference, seeds[at:at + CHUNK]) for at in range(0, len(seeds), CHUNK)]
+    chunks = [(zsched, given.reference, seeds[at:at + CHUNK]) for at in range(0, len(seeds), CHUNK)]
     passed = failed = 0
     with multiprocessing.Pool(given.processes) as pool:
         for number, texts in pool.imap(compared, chunks):
@@ -206,5 +210,4 @@ def main():
 
 
 if __name__ == "__main__":
-    sys.dont_write_bytecode = True
     sys.exit(main())

@@ -182,7 +182,8 @@ def made_job(chance, number, room, is_long):
             script.append(made_entry(chance, ends))
         else:
             tokens = ["(", *tokens, "&&", "recurs", "(", str(chance.randrange(most // 2, most)), ")", ")"]
-    job = {"name": f"j{number}", "mode": mode, "schedule": spelled(chance, tokens), "script": script}
+    name = f"j{number}" if chance.random() < 0.9 else f"{number}".ljust(64, chance.choice("._-AZaz09"))
+    job = {"name": name, "mode": mode, "schedule": spelled(chance, tokens), "script": script}
     if chance.random() < 0.4:
         job["start"] = whole(chance)
     return job
@@ -214,7 +215,7 @@ NO_TREE = [Raw(text) for text in ("null", "true", "7", '"x"', "[]", "0.5")]
 
 def wrong_document_shape(chance, tree, _):
     """The document has a wrong shape."""
-    form = chance.choice(["tree", "jobs", "no jobs", "no clock", "two clocks", "number", "tick"])
+    form = chance.choice(["tree", "jobs", "no jobs", "no clock", "two clocks", "number", "number", "number", "tick"])
     if form == "tree":
         return chance.choice(NO_TREE)
     if form == "jobs":
@@ -245,26 +246,20 @@ def unknown_document_key(chance, tree, _):
 
 def document_out_of_range(chance, tree, _):
     """A number of the document is out of range."""
-    form = chance.choice(["horizon", "ticks", "workers", "grain", "jobs"])
-    if form == "horizon":
-        tree.pop("ticks", None)
-        tree["horizon"] = chance.choice([LAST_TICK + 1, 2 ** 63, M])
-    elif form == "ticks":
+    key, value = chance.choice([("horizon", LAST_TICK + 1), ("horizon", M), ("ticks", []), ("ticks", [5, 5]),
+                                ("ticks", [0, 1, 1]), ("ticks", [1, 0]), ("ticks", [0, LAST_TICK + 1]), ("workers", 0),
+                                ("workers", 65), ("grain", 0), ("grain", 10001), ("jobs", tree["jobs"] + [7] * 10001)])
+    if key in ("horizon", "ticks"):
         tree.pop("horizon", None)
-        tree["ticks"] = chance.choice([[], [5, 5], [1, 0], [0, 1, 2, 2], [LAST_TICK + 1], [0, LAST_TICK, M], [M]])
-    elif form == "workers":
-        tree["workers"] = chance.choice([0, 65, M])
-    elif form == "grain":
-        tree["grain"] = chance.choice([0, 10001, M])
-    else:
-        tree["jobs"] = (tree["jobs"] + [7] * 10001)[:10001]
+        tree.pop("ticks", None)
+    tree[key] = value[:10001] if key == "jobs" else value
     return tree
 
 
 def wrong_job_shape(chance, tree, number):
     """A job has a wrong shape."""
     job = tree["jobs"][number]
-    key = chance.choice(["job", "name", "mode", "schedule", "script", "start", "entry", "ms", "ok"])
+    key = chance.choice(["job", "name", "mode", "schedule", "script", "entry"] + ["start", "ms", "ok"] * 2)
     if key == "job":
         tree["jobs"][number] = chance.choice(NO_TREE + [[job]])
     elif key in ("name", "mode", "schedule"):
@@ -302,7 +297,7 @@ def wrong_mode(chance, tree, number):
 
 def wrong_name(chance, tree, number):
     """The name of a job breaks its rule."""
-    names = ["", "a" * 65, "a b", "\u00e9", "a\n", "a/b", "\0", "a" * 64 + "\u00e9", "\uff41"]
+    names = ["", "a" * 65, "a" * 65, "a b", "\u00e9" * 32, "a\n", "a/b", "\0", "\uff41"]
     tree["jobs"][number]["name"] = chance.choice(names)
     return tree
 
@@ -401,8 +396,8 @@ FAULTS = [wrong_document_shape, unknown_document_key, document_out_of_range, wro
           reworded(zero_factor), reworded(no_kind), reworded(zero_window), empty_script, long_script, zero_ms]
 
 # The faults with many causes are made more often.
-CAUSES = [at for at, fault in enumerate(FAULTS)
-          for _ in range(3 if fault in (wrong_document_shape, document_out_of_range, wrong_job_shape) else 1)]
+WEIGHTS = {wrong_document_shape: 4, document_out_of_range: 4, wrong_job_shape: 4, wrong_name: 2}
+CAUSES = [at for at, fault in enumerate(FAULTS) for _ in range(WEIGHTS.get(fault, 1))]
 
 
 def faulty_plan(chance):
@@ -419,7 +414,7 @@ def faulty_plan(chance):
     elif form < 0.7:
         chosen.append((chance.randrange(len(FAULTS)), chance.randrange(len(tree["jobs"]))))
     # The earlier fault is made later, since it may leave no place for the other.
-    for fault, its_job in sorted(chosen, reverse=True):
+    for fault, its_job in sorted(set(chosen), reverse=True):
         tree = FAULTS[fault](chance, tree, its_job)
     return tree
 
@@ -459,11 +454,13 @@ def text_as_json(chance, text, is_odd):
 
 ODD_PIECES = [
     "01", "-0", "1.0", "1e400", "-1e400", "1e-400", "0e999999999999", "1e99999999999999999999", "+1", ".5", "1.",
-    "1.e1", "1e", "1e+", "0x1", "NaN", "Infinity", "-Infinity", "-", "tru", "True", "nul", "null", "true", "'a'", ",", ":", "{",
-    "}", "[", "]", '"', "\\", "//x\n", "/**/", "\ufeff", "\u00a0", "\u2028", "\x0b", "\x0c", "\0", "\x7f", "\x1f", " ",
-    '"\\ud800"', '"\\udc00\\ud800"', '"\\ud83d\\ude00"', '"\\ud83dx"', '"\\ud83d\\u0041"', '"\\u00"', '"\\x"', '"\\/"',
-    '"\\u0000"', '"\\b\\f\\n\\r\\t"', '"\x01"', '"\x7f"', '"\u00e9\U0001f600"', "1" * 309, "9" * 400, "-" + "9" * 400,
-    "1" * 20, "18446744073709551615", "18446744073709551616", "1.7976931348623157e308", "1.8e308", "5e-324"]
+    "1.e1", "1e", "1e+", "0x1", "NaN", "Infinity", "-Infinity", "-", "tru", "True", "nul", "null", "true", "'a'", ",",
+    ":", "{", "}", "[", "]", '"', "\\", "//x\n", "/**/", "\ufeff", "\u00a0", "\u2028", "\x0b", "\x0c", "\0", "\x7f",
+    "\x1f", '"\\ud800"', '"\\udc00\\ud800"', '"\\ud83d\\ude00"', '"\\ud83dx"', '"\\ud83d\\u0041"', '"\\u00"', '"\\x"',
+    '"\\/"', '"\\u0000"', '"\\b\\f\\n\\r\\t"', '"\x01"', '"\x7f"', '"\u00e9\U0001f600"', "1" * 309, "9" * 400,
+    "-" + "9" * 400, "1" * 20, "18446744073709551615", "18446744073709551616", "1.7976931348623158e308",
+    "1.797693134862315808e308",
+    "1.8e308", "5e-324"]
 ODD_BYTES = [b"\xff", b"\x80", b"\xc3", b"\xc0\x80", b"\xed\xa0\x80", b"\xf4\x90\x80\x80", b"\xe2\x82", b"\xef\xbb\xbf",
              b"\xf0\x9f\x98\x80"]
 
@@ -501,9 +498,9 @@ def plan_of(seed):
     """The plan of a seed, as bytes."""
     chance = random.Random(seed)
     form = chance.random()
-    if form < 0.65:
+    if form < 0.6:
         return json_text(chance, made_plan(chance)).encode()
-    if form < 0.88:
+    if form < 0.87:
         return json_text(chance, faulty_plan(chance), chance.random() < 0.2).encode()
     tree = made_plan(chance) if chance.random() < 0.8 else faulty_plan(chance)
     text = json_text(chance, tree, True)

@@ -8,13 +8,15 @@ threads for them, so a status 4 fails. The last line is 'N passed, M failed'; th
 it isn't, and 2 where there is no program."""
 import argparse
 import json
-import os
+import pathlib
 import sys
 
 sys.dont_write_bytecode = True
+sys.path.insert(0, str(pathlib.Path(__file__).resolve().parent.parent / "tools"))
 
 import reference
-from program import ZSCHED, Count, run
+from program import Count, run
+from zsched_tools.program import NoProgram, find
 
 M = 2 ** 64 - 1
 LAST_TICK = 999999999999999
@@ -102,14 +104,16 @@ def plans():
 def main():
     """The command line."""
     arguments = argparse.ArgumentParser(description=__doc__, formatter_class=argparse.RawDescriptionHelpFormatter)
-    arguments.add_argument("--zsched", default=os.environ.get("ZSCHED", ZSCHED),
-                           help="the program (the one in the variable ZSCHED, or else the built one)")
+    arguments.add_argument("--zsched", metavar="PATH",
+                           help="the program (the one that the variable ZSCHED names, or else the built one)")
     given = arguments.parse_args()
-    if not os.access(given.zsched, os.X_OK):
-        arguments.error(f"{given.zsched}: no program stands here")
+    try:
+        zsched = find(given.zsched)
+    except NoProgram as cause:
+        arguments.error(str(cause))
     count = Count()
     for name, text in plans():
-        count.test(name, run(str(given.zsched), text, seconds=PATIENCE), reference.answer(text))
+        count.test(name, run(zsched, text, seconds=PATIENCE), reference.answer(text))
     return count.close()
 
 

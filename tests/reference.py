@@ -22,7 +22,7 @@ class Fault(Exception):
     """A fault of a plan, with its text."""
 
 
-def cut(x):
+def sat(x):
     """x, or M where x is larger."""
     return min(x, M)
 
@@ -270,20 +270,20 @@ def step(s, h):
         case "recurs", k:
             return n - 1, m if n - 1 < k else None
         case "spaced", d:
-            return n - 1, cut(m + d)
+            return n - 1, sat(m + d)
         case "fixed", p:
             return n - 1, next_run(s, p, m, m1, h)
         case "windowed", p:
-            return n - 1, cut(m + p - (m - m1) % p)
+            return n - 1, sat(m + p - (m - m1) % p)
         case "exponential", b, f:
-            x = cut(b * f ** (n - 1))
-            return x, cut(m + x)
+            x = sat(b * f ** (n - 1))
+            return x, sat(m + x)
         case "fibonacci", o:
-            x = cut(o * fibonacci(n))
-            return x, cut(m + x)
+            x = sat(o * fibonacci(n))
+            return x, sat(m + x)
         case "linear", b:
-            x = cut(b * n)
-            return x, cut(m + x)
+            x = sat(b * n)
+            return x, sat(m + x)
         case ["identity"]:
             return i, m
         case ["elapsed"]:
@@ -322,11 +322,11 @@ def step_of_outputs(s, h):
 def next_run(s, p, m, m1, h):
     """The next run of `fixed`."""
     if h.before is None:
-        return cut(m1 + p)
+        return sat(m1 + p)
     r = step(s, h.before)[1]
     if m > r + p or p == 0:
         return m
-    return cut(m + p - (m - m1) % p)
+    return sat(m + p - (m - m1) % p)
 
 
 def fibonacci(n):
@@ -387,9 +387,9 @@ def mapped(function, number, out):
         case "as":
             return number
         case "+":
-            return cut(out + number)
+            return sat(out + number)
         case "*":
-            return cut(out * number)
+            return sat(out * number)
 
 
 def out_text(out):
@@ -443,7 +443,7 @@ def job_lines(job, clock, most):
             raise TooManyAttempts
         moments.add(s)
         d, how, value = job.script[min(k, len(job.script)) - 1]
-        e = clock.first_from(cut(s + d))
+        e = clock.first_from(sat(s + d))
         if e is None:
             lines.append(f"attempt {k} {s}.. running")
             break

@@ -1,0 +1,116 @@
+"""The reference against the reports that were worked out by hand and the faults that hostile_plans lists, and the
+comparer against a wrong reference. No built program is needed: the reference stands in for it."""
+import json
+import pathlib
+import random
+import tempfile
+import unittest
+
+import compare
+import generator
+import hostile_plans
+import reference
+from generator import plan_of
+from program import plan
+
+TESTS = pathlib.Path(reference.__file__).resolve().parent
+TOP = TESTS.parent
+
+# What each of the generator's faults leads to. A text of a schedule that was changed at random may still be a term.
+FAULTS = ["plan: wrong shape", "plan: unknown key", "plan: out of range", "job 0: wrong shape", "job 0: unknown key",
+          "job 0: out of range", "job 0: bad name", "job 1: name used before", "", "job 0: schedule: too big",
+          "job 0: schedule: number too large at byte", "job 0: schedule: factor is 0", "job 0: schedule: no kind",
+          "job 0: schedule: window is 0", "job 0: script: empty", "job 0: script: more than 1000 entries",
+          "job 0: script: an entry takes 0 ms"]
+
+
+class TheReference(unittest.TestCase):
+    """What reference.py answers."""
+
+    def test_it_gives_each_report_that_lies_beside_a_plan(self):
+        files = sorted([*TOP.glob("examples/*.json"), *TOP.glob("tests/plans/*.json")])
+        self.assertTrue(files)
+        for file in files:
+            with self.subTest(plan=file.name):
+                wanted = file.with_name(file.name + ".stdout").read_bytes()
+                self.assertEqual(reference.answer(file.read_bytes()), (0, wanted, b""))
+
+    def test_it_gives_each_fault_of_a_document(self):
+        for name, text, fault in hostile_plans.refused_documents():
+            if "1,000,001" not in name:     # it takes long to read
+                with self.subTest(name):
+                    self.assertEqual(reference.answer(text), (2, b"", f"zsched: {fault}\n".encode()))
+
+    def test_it_gives_each_fault_of_a_job(self):
+        for name, jobs, fault in hostile_plans.refused_jobs():
+            with self.subTest(name):
+                self.assertEqual(reference.answer(plan(jobs)), (2, b"", f"zsched: {fault}\n".encode()))
+
+    def test_it_accepts_plans_at_the_limits(self):
+        for name, text, report in hostile_plans.accepted_plans():
+            with self.subTest(name):
+                self.assertEqual(reference.answer(text), (0, report, b""))
+
+    def test_a_caller_may_limit_the_attempts(self):
+        endless = plan_of_one("forever", {"ms": 1, "ok": 1})
+        with self.assertRaises(reference.TooManyAttempts):
+            reference.answer(endless, 5)
+
+
+class TheGenerator(unittest.TestCase):
+    """What generator.py makes."""
+
+    def test_a_seed_makes_the_same_plan_again(self):
+        self.assertEqual([plan_of(seed) for seed in range(50)], [plan_of(seed) for seed in range(50)])
+
+    def test_each_fault_is_the_one_that_its_name_says(self):
+        self.assertEqual(len(generator.FAULTS), len(FAULTS))
+        for at, fault in enumerate(FAULTS):
+            for seed in range(20):
+                with self.subTest(fault, seed=seed):
+                    tree = json.loads(plan_of_one("(recurs(3) && elapsed)", {"ms": 3, "ok": 7}))
+                    chance = random.Random(seed)
+                    text = generator.json_text(chance, generator.FAULTS[at](chance, tree, 0)).encode()
+                    self.assertIn(fault, reference.answer(text)[2].decode())
+
+
+class TheComparer(unittest.TestCase):
+    """What compare.py says of a wrong reference."""
+
+    def setUp(self):
+        folder = tempfile.TemporaryDirectory()
+        self.addCleanup(folder.cleanup)
+        self.wrong = pathlib.Path(folder.name) / "wrong.py"
+        text = (TESTS / "reference.py").read_text()
+        self.assertEqual(text.count("m if n - 1 < k else None"), 1)
+        self.wrong.write_text(text.replace("m if n - 1 < k else None", "m if n - 1 <= k else None"))
+
+    def test_a_right_reference_passes(self):
+        self.assertEqual(compare.compared((TESTS / "reference.py", TESTS / "reference.py", range(5))), (5, []))
+
+    def test_a_wrong_one_differs_on_a_plan_that_is_made_small(self):
+        comparer = compare.Comparer(TESTS / "reference.py", self.wrong)
+        text = plan_of_one("(identity && recurs(2)).collectAll", {"ms": 3, "ok": 7}, {"ms": 4, "ok": 8})
+        self.assertTrue(comparer.differs(text))
+        tree = json.loads(compare.small(comparer, text, 50))
+        self.assertLess(len(json.dumps(tree)), len(text) - 10)
+        self.assertIn("recurs", tree["jobs"][0]["schedule"])
+
+    def test_odd_bytes_are_made_small_too(self):
+        class Stand:
+            """A comparer for which all texts with an x differ."""
+            reference = reference
+
+            def differs(self, text):
+                return b"x" in text
+        self.assertEqual(compare.small(Stand(), b"[[[[aaaaaxaaaa"), b"x")
+
+
+def plan_of_one(schedule, *entries):
+    """A plan of one repeat."""
+    job = {"name": "a", "mode": "repeat", "schedule": schedule, "script": list(entries)}
+    return json.dumps({"horizon": 100, "jobs": [job]}).encode()
+
+
+if __name__ == "__main__":
+    unittest.main()
