@@ -4,6 +4,7 @@ import re
 
 from zsched_tools.cause import Cause
 from zsched_tools.hints import DOCUMENT_KEYS, JOB_KEYS
+from zsched_tools.patterns import run_of
 from zsched_tools.positions import W
 from zsched_tools.values import first, missing, not_of_kind, not_whole, out_of_range, over, unknown_key
 
@@ -11,7 +12,7 @@ MAX_MOMENT = 999999999999999
 MAX_TICKS = 1000000
 MAX_JOBS = 10000
 _FRAME = '{"horizon": 60000, "jobs": [ .. ]}'
-_WHOLES = re.compile(f"(?:(?:0|[1-9][0-9]{{0,18}}+){W},{W})*+")
+_WHOLES = re.compile(run_of(f"(?:0|[1-9][0-9]{{0,18}}+){W},{W}"))
 
 
 def shape(plan):

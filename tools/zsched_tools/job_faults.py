@@ -4,6 +4,7 @@ import re
 from zsched_tools import schedule_rules, schedule_text
 from zsched_tools.cause import Cause, line_of, shown
 from zsched_tools.hints import ENTRY_KEYS, JOB_KEYS, near
+from zsched_tools.patterns import run_of
 from zsched_tools.positions import W
 from zsched_tools.values import first, misnamed, missing, not_of_kind, not_whole, over, unknown_key
 
@@ -17,7 +18,7 @@ _ENTRY = '{"ms": 5, "ok": 1}'
 def _entry_run(ms, known=""):
     """A run of entries that are written in the plainest way, with this pattern for the number at ms."""
     timed, ended = f'"ms"{W}:{W}{ms}{W}', f'"(?:ok|err)"{W}:{W}(?:0|[1-9][0-9]{{0,18}}+){W}'
-    return re.compile(f"(?:{{{W}(?:{timed},{W}{ended}|{ended},{W}{timed})}}{W},{W})*+".replace("{" + W, r"\{" + W))
+    return re.compile(run_of(rf"\{{{W}(?:{timed},{W}{ended}|{ended},{W}{timed})}}{W},{W}"))
 
 
 _SHAPED = _entry_run("(?:0|[1-9][0-9]{0,18}+)")

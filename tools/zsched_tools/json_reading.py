@@ -5,29 +5,30 @@ import re
 
 from zsched_tools import not_json
 from zsched_tools.cause import Cause
+from zsched_tools.patterns import maybe, run_of
 
 MAX_DEPTH = 127
 
 W = r"[ \t\n\r]*+"
 _ESCAPE = (r'\\(?:["\\/bfnrt]|u(?:(?![dD][89a-fA-F])[0-9a-fA-F]{4}'
            r"|[dD][89abAB][0-9a-fA-F]{2}\\u[dD][c-fC-F][0-9a-fA-F]{2}))")
-_STRING = rf'"[^"\\\x00-\x1f]*+(?:{_ESCAPE}[^"\\\x00-\x1f]*+)*+"'
+_STRING = r'"[^"\\\x00-\x1f]*+' + run_of(_ESCAPE + r'[^"\\\x00-\x1f]*+') + '"'
 # Numbers that a 64-bit float surely holds; the others are looked at closely.
-_SMALL = (r"(?:[1-9][0-9]{0,199}+|-?(?:0|[1-9][0-9]{0,199}+)(?:\.[0-9]++)?+(?:[eE][+-]?[0-9]{1,2}+)?+)"
-          r"(?![0-9.eE])")
+_SMALL = (r"(?:[1-9][0-9]{0,199}+|-?(?:0|[1-9][0-9]{0,199}+)" + maybe(r"\.[0-9]++") + maybe("[eE][+-]?[0-9]{1,2}+")
+          + r")(?![0-9.eE])")
 _SCALAR = f"(?:{_SMALL}|{_STRING}|true|false|null)"
 _MEMBER = f"{_STRING}{W}:{W}{_SCALAR}{W}"
 # An entry as nearly all are written comes first, since that is faster.
 _PLAIN = rf'"[A-Za-z]*+"{W}:{W}(?:[1-9][0-9]{{0,18}}+|0){W}'
-_FLAT = rf"(?:\{{{W}{_PLAIN},{W}{_PLAIN}\}}|{_SCALAR}|\{{{W}(?:{_MEMBER}(?:,{W}{_MEMBER})*+)?+\}})"
+_FLAT = rf"(?:\{{{W}{_PLAIN},{W}{_PLAIN}\}}|{_SCALAR}|\{{{W}{maybe(_MEMBER + run_of(f',{W}{_MEMBER}'))}\}})"
 
 _SPACE = re.compile(W)
 _KEY = re.compile(_STRING)
 _COLON = re.compile(f"{W}:{W}")
 _ONE_SCALAR = re.compile(_SCALAR)
-_NUMBER = re.compile(r"-?(?:0|[1-9][0-9]*+)(?:\.[0-9]++)?+(?:[eE][+-]?[0-9]++)?+")
-_ITEMS = re.compile(f"(?:{_FLAT}{W},{W})*+")
-_MEMBERS = re.compile(f"(?:{_STRING}{W}:{W}{_FLAT}{W},{W})*+")
+_NUMBER = re.compile("-?(?:0|[1-9][0-9]*+)" + maybe(r"\.[0-9]++") + maybe("[eE][+-]?[0-9]++"))
+_ITEMS = re.compile(run_of(f"{_FLAT}{W},{W}"))
+_MEMBERS = re.compile(run_of(f"{_STRING}{W}:{W}{_FLAT}{W},{W}"))
 
 
 class NotJson(Exception):

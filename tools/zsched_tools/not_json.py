@@ -3,6 +3,7 @@ import re
 
 from zsched_tools.cause import Cause, line_of, shown
 from zsched_tools.hints import UNITS, in_milliseconds
+from zsched_tools.patterns import run_of
 
 SKETCH = '{"horizon": 60000, "jobs": [ .. ]}'
 _WORD = re.compile(r"[A-Za-z_$][A-Za-z0-9_$]*")
@@ -147,8 +148,9 @@ def _odd_letter(text, at):
 
 def _bad_string(text, at):
     """A text in quotes that doesn't end, or that has what may not stand in it."""
-    plain = re.compile(r'"(?:[^"\\\x00-\x1f]++|\\["\\/bfnrt]|\\u(?![dD][89a-fA-F])[0-9a-fA-F]{4}'
-                       r'|\\u[dD][89abAB][0-9a-fA-F]{2}\\u[dD][c-fC-F][0-9a-fA-F]{2})*+').match(text, at)
+    letters = (r'[^"\\\x00-\x1f]++|\\["\\/bfnrt]|\\u(?![dD][89a-fA-F])[0-9a-fA-F]{4}'
+               r'|\\u[dD][89abAB][0-9a-fA-F]{2}\\u[dD][c-fC-F][0-9a-fA-F]{2}')
+    plain = re.compile('"' + run_of(letters)).match(text, at)
     stop = plain.end()
     mark = text[stop:stop + 1]
     if mark in ("", "\n", "\r"):

@@ -3,16 +3,18 @@ elsewhere it is passed by its brackets alone."""
 import json
 import re
 
+from zsched_tools.patterns import run_of
+
 MAX_WHOLE = 2**64 - 1
 
 W = r"[ \t\n\r]*+"
-_STRING = r'"[^"\\]*+(?:\\.[^"\\]*+)*+"'
+_STRING = r'"[^"\\]*+' + run_of(r'\\.[^"\\]*+') + '"'
 
 _SPACE = re.compile(W)
 _TEXT = re.compile(_STRING)
 _WORD = re.compile(r"[^ \t\n\r,\]}]++")
 _COLON = re.compile(f"{W}:{W}")
-_TO_BRACKET = re.compile(rf'(?:[^\[\]{{}}"]++|{_STRING})*+')
+_TO_BRACKET = re.compile(run_of(rf'[^\[\]{{}}"]++|{_STRING}'))
 _KEPT_DEPTH = 4
 _DIGITS = re.compile(r"0|[1-9][0-9]{0,19}")
 _PIECE = re.compile(r"(?P<plain>[^\\]+)|(?P<pair>\\u[dD][89abAB][0-9a-fA-F]{2}\\u[0-9a-fA-F]{4})|\\u[0-9a-fA-F]{4}|\\.")
