@@ -1,12 +1,14 @@
 """docs/plan.schema.json: what it takes, what it refuses, and that the program refuses whatever it refuses.
 
-It needs a validator, the Python package jsonschema (Debian: python3-jsonschema)."""
+It needs a validator, the Python package jsonschema (Debian: python3-jsonschema). The gate tries 2,000 random changes of
+the examples; ZSCHED_CHANGES=10000 in the environment tries more."""
 import json
 import os
 import random
+import re
 import unittest
 
-from fuzz import changed_bytes, changed_tokens, changed_tree
+from fuzz import changed_bytes, changed_tokens, changed_tree, made_schedule
 from program import ONE_JOB, TOP, job, plan, run
 from zsched_tools import program
 
@@ -19,7 +21,8 @@ SCHEMA = json.loads((TOP / "docs" / "plan.schema.json").read_text())
 EXAMPLES = sorted(TOP.glob("examples/*.json"))
 PLANS = EXAMPLES + sorted(TOP.glob("tests/plans/*.json"))
 SEED = 20
-CHANGES = int(os.environ.get("ZSCHED_CHANGES", "10000"))
+TOKEN = re.compile(r"_[12]|&&|\|\||[<>]=|!=|[A-Za-z]+|[0-9]+|[^ ]")
+CHANGES = int(os.environ.get("ZSCHED_CHANGES", "2000"))
 
 
 def script(entries):
@@ -116,10 +119,21 @@ def described(part, place):
 
 
 def changed(chance, text):
-    """A plan changed once or twice at random."""
-    for _ in range(chance.choice([1, 1, 2])):
-        text = chance.choice([changed_bytes, changed_tokens, changed_tree])(chance, text)
-    return text
+    """A plan changed once or twice at random, so that it still is JSON: its bytes and its tree."""
+    while True:
+        other = text
+        for _ in range(chance.choice([1, 1, 2])):
+            other = chance.choice([changed_bytes, changed_tokens, changed_tokens, changed_tree])(chance, other)
+        try:
+            return other, json.loads(other.decode())
+        except ValueError:
+            continue
+
+
+def spread(chance, text):
+    """A schedule with spaces between its tokens put at random, and one at least between two words."""
+    loose = "".join(" " * chance.choice([0, 0, 1, 3]) + token for token in TOKEN.findall(text)) + " "
+    return re.sub(r"(?<=[A-Za-z])(?=andThenEither)|(?<=andThenEither)(?=[A-Za-z])", " ", loose)
 
 
 class Written(unittest.TestCase):
@@ -169,6 +183,12 @@ class Validated(unittest.TestCase):
                 self.assertTrue(self.validator.is_valid(json.loads(scheduled(text))))
                 self.assertEqual(self.status(scheduled(text)), 0)
 
+    def test_takes_lawful_schedules_made_at_random(self):
+        chance = random.Random(SEED)
+        for _ in range(500):
+            text = spread(chance, made_schedule(chance)[0])
+            self.assertTrue(self.validator.is_valid(json.loads(scheduled(text))), text)
+
     def test_refuses_each_faulty_plan_as_the_program_does(self):
         self.assertTrue(self.validator.is_valid(json.loads(ONE_JOB)))
         for name, text in FAULTY:
@@ -187,11 +207,7 @@ class Validated(unittest.TestCase):
         seeds = [file.read_bytes() for file in EXAMPLES]
         refused = 0
         for _ in range(CHANGES):
-            text = changed(chance, chance.choice(seeds))
-            try:
-                tree = json.loads(text.decode())
-            except ValueError:
-                continue
+            text, tree = changed(chance, chance.choice(seeds))
             if not self.validator.is_valid(tree):
                 refused += 1
                 self.assertEqual(self.status(text), 2, text)
