@@ -60,8 +60,10 @@ def answer(zsched, fields, seconds):
     try:
         status, report, size, errors = run(zsched, plan.encode(), seconds)
     except Late:
-        text = f"no report within {seconds} seconds, so the program was stopped: shorten the horizon, or lengthen the waits"
+        text = f"no report within {seconds} seconds, so the program was stopped: shorten the horizon or lengthen the waits"
         return {"plan": plan, "fault": {"field": "until", "text": text}}
+    except OSError as fault:
+        return {"plan": plan, "fault": {"field": "plan", "text": f"{zsched} could not be run: {fault.strerror}"}}
     told = errors.decode(errors="replace").strip().removeprefix("zsched: ")
     if status == 2:
         return {"plan": plan, "fault": placed(plan, told)}
@@ -94,7 +96,7 @@ def shown(report, size):
     text, note = whole, ""
     if size > LONGEST_SHOWN:
         text = whole[:whole.rindex("\n", 0, LONGEST_SHOWN) + 1]
-        note = f"The report has {size} bytes, and its first {len(text)} are shown. zsched itself prints it whole: copy the plan."
+        note = f"The report has {size} bytes, and its first {len(text)} are shown. zsched prints the whole: copy the plan."
     if size > LONGEST_DRAWN:
         note += " It is too long for a picture."
         return {"report": text, "note": note, "picture": "", "end": ""}
@@ -230,10 +232,10 @@ def serve(given):
         server = Server(given.port, zsched, SECONDS)
     except OSError as fault:
         raise command.Refused(f"port {given.port}: {fault.strerror}") from fault
-    signal.signal(signal.SIGTERM, stop)
     with server:
-        print(f"zsched-play: {server.url()}", flush=True)
         try:
+            signal.signal(signal.SIGTERM, stop)
+            print(f"zsched-play: {server.url()}", flush=True)
             server.serve_forever()
         except KeyboardInterrupt:
             pass
@@ -245,6 +247,6 @@ def main():
         prog="zsched-play", description=__doc__,
         epilog="Ctrl-C ends it, with status 0. Status 2: wrong words, no program, or a port that can't be had.")
     words.add_argument("--port", type=port_of, default=PORT, help=f"the port ({PORT}); 0 picks one, and it is printed")
-    words.add_argument("--zsched", metavar="PATH", help="the program (ZSCHED, the one that this tree built, or the one on PATH)")
+    words.add_argument("--zsched", metavar="PATH", help="the program (ZSCHED, else the built one, else the one on PATH)")
     given = words.parse_args()
     return command.run("zsched-play", lambda: serve(given))
