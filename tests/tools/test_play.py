@@ -49,13 +49,15 @@ UNREAD = [
 ]
 
 # Durations in words, and their milliseconds.
-DURATIONS = [("40", 40), ("40ms", 40), (" 1.5s ", 1500), ("0.001 s", 1), ("2min", 120000), ("2m", 120000), ("1h", 3600000),
-             ("1d", 86400000), ("0.5d", 43200000), ("0", 0), ("007", 7), ("18446744073709551615", 18446744073709551615)]
+DURATIONS = [("40", 40), ("40ms", 40), (" 1.5s ", 1500), ("0.001 s", 1), ("2min", 120000), ("2m", 120000),
+             ("1h", 3600000), ("1d", 86400000), ("0.5d", 43200000), ("0", 0), ("007", 7),
+             ("18446744073709551615", 18446744073709551615)]
 
 
 def fields(**changed):
     """The page's fields, by default those of a short run."""
-    return {"schedule": "recurs(3)", "mode": "retry", "script": "5 err 7, 5 ok 1", "until": "1s", "start": "", **changed}
+    short = {"schedule": "recurs(3)", "mode": "retry", "script": "5 err 7, 5 ok 1", "until": "1s", "start": ""}
+    return {**short, **changed}
 
 
 class Served(unittest.TestCase):
@@ -150,7 +152,8 @@ class Answers(Served):
 
     def test_a_fault_of_another_field_stands_there(self):
         for changed, field, word in [({"until": "1000000000000000"}, "until", "out of range"),
-                                     ({"script": "0 err 5"}, "script", "0 ms"), ({"mode": "loop"}, "mode", "out of range"),
+                                     ({"script": "0 err 5"}, "script", "0 ms"),
+                                     ({"mode": "loop"}, "mode", "out of range"),
                                      ({"start": "18446744073709551616"}, "start", "wrong shape"),
                                      ({"script": "5 ok 18446744073709551616"}, "script", "wrong shape")]:
             with self.subTest(changed):
@@ -178,7 +181,7 @@ class Answers(Served):
         self.assertTrue(answer["report"].endswith("\n"))
         _, report, _ = run(self.zsched, answer["plan"].encode())
         self.assertTrue(report.decode().startswith(answer["report"]))
-        told = f"The report has {len(report)} bytes, and its first {len(answer['report'])} are shown."
+        told = f"The report has {len(report)} bytes, and its first {len(answer["report"])} are shown;"
         self.assertIn(told, answer["note"])
         self.assertEqual(xml.etree.ElementTree.fromstring(answer["picture"]).tag, "svg")
 
@@ -208,7 +211,8 @@ class Requests(Served):
 
     def test_refuses_another_host(self):
         own = f"127.0.0.1:{self.port}"
-        for host in ["zsched.example", f"zsched.example:{self.port}", "127.0.0.1", "127.0.0.1:1", f"{own}.example", "", None]:
+        others = ["zsched.example", f"zsched.example:{self.port}", "127.0.0.1", "127.0.0.1:1", f"{own}.example", ""]
+        for host in [*others, None]:
             for method, path in [("GET", "/"), ("POST", "/report")]:
                 with self.subTest(host=host, method=method):
                     self.assertEqual(self.request(method, path, json.dumps(fields()).encode(), Host=host)[0], 421)
@@ -262,7 +266,8 @@ class Requests(Served):
 
     def test_a_browser_that_goes_away_does_no_harm(self):
         with socket.create_connection(("127.0.0.1", self.port), timeout=30) as line:
-            line.sendall(f"POST /report HTTP/1.1\r\nHost: 127.0.0.1:{self.port}\r\nContent-Length: 100\r\n\r\n{{".encode())
+            begun = f"POST /report HTTP/1.1\r\nHost: 127.0.0.1:{self.port}\r\nContent-Length: 100\r\n\r\n{{"
+            line.sendall(begun.encode())
         self.assertEqual(self.request("GET", "/")[0], 200)
 
     def test_listens_on_this_machine_alone(self):
@@ -287,7 +292,7 @@ class Stopped(unittest.TestCase):
         fault = json.loads(connection.getresponse().read())["fault"]
         connection.close()
         self.assertEqual(fault["field"], "until")
-        self.assertIn("no report within 1 seconds, so the program was stopped", fault["text"])
+        self.assertIn("no report within 1 seconds, so zsched was stopped", fault["text"])
         children = run(["ps", "-o", "args=", "--ppid", str(os.getpid())], b"")[1].decode()
         self.assertNotIn(program.find(), children)
 
@@ -328,7 +333,8 @@ class CommandLine(unittest.TestCase):
     def test_ends_at_once_when_it_is_told_to(self):
         for number in [signal.SIGINT, signal.SIGTERM]:
             words = [TOOL, "--port", "0", "--zsched", program.find()]
-            with self.subTest(number), subprocess.Popen(words, stdout=subprocess.PIPE, stderr=subprocess.PIPE) as server:
+            pipes = {"stdout": subprocess.PIPE, "stderr": subprocess.PIPE}
+            with self.subTest(number), subprocess.Popen(words, **pipes) as server:
                 server.stdout.readline()
                 server.send_signal(number)
                 self.assertEqual((server.wait(timeout=20), server.stderr.read()), (0, b""))
@@ -345,7 +351,8 @@ class Browser(Served):
                      "--no-first-run", "--host-resolver-rules=MAP * ~NOTFOUND , EXCLUDE 127.0.0.1",
                      f"--user-data-dir={folder}", "--virtual-time-budget=8000", "--dump-dom",
                      f"{self.url}?{urllib.parse.urlencode(query)}"]
-            ended = subprocess.run(words, capture_output=True, check=False, timeout=60, env={**os.environ, "HOME": folder})
+            at_home = {**os.environ, "HOME": folder}
+            ended = subprocess.run(words, capture_output=True, check=False, timeout=60, env=at_home)
         self.assertEqual(ended.returncode, 0, ended.stderr[-500:])
         return ended.stdout.decode()
 

@@ -149,8 +149,9 @@ class Written(unittest.TestCase):
         found = dict(described(SCHEMA, "plan"))
         for key in ["plan.horizon", "plan.ticks", "job.schedule", "job.start", "entry.ms"]:
             self.assertIn("millisecond", found[key])
-        for key, range_of in [("plan.horizon", "0 to 999999999999999"), ("plan.workers", "1 to 64"), ("plan.grain", "1 to 10000"),
-                              ("plan.jobs", "at most 10000"), ("job.name", "1 to 64"), ("job.script", "1 to 1000"),
+        for key, range_of in [("plan.horizon", "0 to 999999999999999"), ("plan.workers", "1 to 64"),
+                              ("plan.grain", "1 to 10000"), ("plan.jobs", "at most 10000"), ("job.name", "1 to 64"),
+                              ("job.script", "1 to 1000"),
                               ("entry.ms", "1 to 18446744073709551615"), ("entry.ok", "0 to 18446744073709551615")]:
             self.assertIn(range_of, found[key], key)
 

@@ -48,7 +48,7 @@ def entries(text):
     for part in text.split(","):
         words = ATTEMPT.fullmatch(part.strip())
         if words is None:
-            raise Unread("script", f'"{part.strip()}" is no attempt: write 40 err 503 or 35 ok 200, and x3 for three such')
+            raise Unread("script", f'"{part.strip()}" is no attempt: write 40 err 503 or 35 ok 200, and x3 for three')
         duration, _, _, outcome, value, times = words.groups()
         times = int((times or "1")[:LONGEST_NUMBER])
         if times < 1 or len(found) + times > MOST_ATTEMPTS:

@@ -1,5 +1,5 @@
-"""A page on this machine: one types a schedule and what its attempts do, and sees the picture, the report, or the fault
-with its place. Each answer is one run of the program. Nothing is loaded from elsewhere, and nothing leaves the machine."""
+"""A page on this machine: one types a schedule and what its attempts do, and sees the picture and the report, or the
+fault with its place. Each answer is a run of zsched. Nothing is loaded from elsewhere, nothing leaves the machine."""
 import argparse
 import http.server
 import io
@@ -24,10 +24,11 @@ LONGEST_DRAWN = 4_000_000
 PATIENCE = 30
 LONGEST_LINE = 160
 LINE = re.compile(r' *(?:\{ )?"(?P<key>\w+)": "?')
-FIELD_OF = {"horizon": "until", "mode": "mode", "start": "start", "schedule": "schedule", "script": "script", "ms": "script"}
+FIELD_OF = {"horizon": "until", "mode": "mode", "start": "start", "schedule": "schedule", "script": "script",
+            "ms": "script"}
 PAGE = pathlib.Path(__file__).with_name("play.html")
-POLICY = ("default-src 'none'; script-src 'unsafe-inline'; style-src 'unsafe-inline'; img-src data:; connect-src 'self'; "
-          "base-uri 'none'; form-action 'none'; frame-ancestors 'none'")
+POLICY = ("default-src 'none'; script-src 'unsafe-inline'; style-src 'unsafe-inline'; img-src data:; "
+          "connect-src 'self'; base-uri 'none'; form-action 'none'; frame-ancestors 'none'")
 PATHS = {"/": ["GET", "HEAD"], "/report": ["POST"]}
 
 
@@ -60,7 +61,7 @@ def answer(zsched, fields, seconds):
     try:
         status, report, size, errors = run(zsched, plan.encode(), seconds)
     except Late:
-        text = f"no report within {seconds} seconds, so the program was stopped: shorten the horizon or lengthen the waits"
+        text = f"no report within {seconds} seconds, so zsched was stopped: shorten the horizon, or lengthen the waits"
         return {"plan": plan, "fault": {"field": "until", "text": text}}
     except OSError as fault:
         return {"plan": plan, "fault": {"field": "plan", "text": f"{zsched} could not be run: {fault.strerror}"}}
@@ -74,7 +75,7 @@ def answer(zsched, fields, seconds):
 
 
 def placed(plan, told):
-    """A fault of the program with its place: the field, the line with the columns of the caret, the cause and the help."""
+    """A fault of the program with its place: the field, the line with the caret's columns, the cause and the help."""
     found = faults.explained(plan.encode(), told)
     at, size, cause, help_text = found.cause
     begin = found.text.rfind("\n", 0, at) + 1
@@ -91,12 +92,12 @@ def placed(plan, told):
 
 
 def shown(report, size):
-    """The answer for a report: its text, cut where it is long, a line about it, and its picture where it isn't too long."""
+    """The answer for a report: its text, cut where it is long, a note of that, its picture, and its last job's end."""
     whole = report.decode()
     text, note = whole, ""
     if size > LONGEST_SHOWN:
         text = whole[:whole.rindex("\n", 0, LONGEST_SHOWN) + 1]
-        note = f"The report has {size} bytes, and its first {len(text)} are shown. zsched prints the whole: copy the plan."
+        note = f"The report has {size} bytes, and its first {len(text)} are shown; zsched itself prints them all."
     if size > LONGEST_DRAWN:
         note += " It is too long for a picture."
         return {"report": text, "note": note, "picture": "", "end": ""}
@@ -247,6 +248,6 @@ def main():
         prog="zsched-play", description=__doc__,
         epilog="Ctrl-C ends it, with status 0. Status 2: wrong words, no program, or a port that can't be had.")
     words.add_argument("--port", type=port_of, default=PORT, help=f"the port ({PORT}); 0 picks one, and it is printed")
-    words.add_argument("--zsched", metavar="PATH", help="the program (ZSCHED, else the built one, else the one on PATH)")
+    words.add_argument("--zsched", metavar="PATH", help="the program (ZSCHED, or the one that is built or on PATH)")
     given = words.parse_args()
     return command.run("zsched-play", lambda: serve(given))
