@@ -181,7 +181,7 @@ class Answers(Served):
         self.assertTrue(answer["report"].endswith("\n"))
         _, report, _ = run(self.zsched, answer["plan"].encode())
         self.assertTrue(report.decode().startswith(answer["report"]))
-        told = f"The report has {len(report)} bytes, and its first {len(answer["report"])} are shown;"
+        told = f"The report has {len(report)} bytes, and its first {len(answer['report'])} are shown;"
         self.assertIn(told, answer["note"])
         self.assertEqual(xml.etree.ElementTree.fromstring(answer["picture"]).tag, "svg")
 
