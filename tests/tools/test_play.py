@@ -367,7 +367,7 @@ class Browser(Served):
     def test_shows_a_fault_with_its_caret(self):
         document = self.opened(**fields(schedule="(spaced(10) && recur(3))"))
         fault = re.search(r'<div class="fault shown" id="schedule-fault" role="alert">(.*?)</div>', document, re.S)[1]
-        self.assertIn("(spaced(10) &amp;&amp; recur(3))\n<b>" + " " * 15 + "^^^^^</b>", fault)
+        self.assertIn("(spaced(10) &amp;&amp; recur(3))\n" + " " * 15 + "<b>^^^^^</b>", fault)
         self.assertIn("recurs", fault)
         self.assertRegex(document, r'<textarea id="schedule"[^>]* aria-invalid="true"')
 
