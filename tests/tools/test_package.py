@@ -201,7 +201,8 @@ class Package(unittest.TestCase):
         """Runs of the tools that are there: the words, standard input, and what is told."""
         faulty = pathlib.Path(self.folder.name) / "faulty.json"
         faulty.write_bytes(ONE_JOB.replace(b"recurs", b"recur"))
-        told = r"zsched: job 0: schedule: no term at byte 0\n(.|\n)*faulty\.json:1:\d+"
+        column = ONE_JOB.index(b"recurs") + 1
+        told = rf"zsched: job 0: schedule: no term at byte 0\n(.|\n)*faulty\.json:1:{column}\n"
         runs = [(["zsched-explain", str(faulty)], b"", told), (["zsched-report", "summary"], ONE_REPORT, r"succeeded")]
         return [run for run in runs if run[0][0] in TOOLS]
 
