@@ -12,6 +12,7 @@ import subprocess
 import tempfile
 import threading
 import unittest
+import unittest.mock
 import urllib.parse
 import xml.etree.ElementTree
 
@@ -276,11 +277,11 @@ class Requests(Served):
 
 
 class Stopped(unittest.TestCase):
-    """A run that takes too long."""
+    """A run that takes too long or too much."""
 
-    def test_a_plan_that_runs_too_long_is_killed_and_told(self):
-        self.assertEqual(play.SECONDS, 10)
-        server = play.Server(0, program.find(), 1)
+    def fault(self, seconds):
+        """The fault of a plan without end, from a server with this patience."""
+        server = play.Server(0, program.find(), seconds)
         thread = threading.Thread(target=server.serve_forever)
         thread.start()
         self.addCleanup(thread.join)
@@ -291,10 +292,21 @@ class Stopped(unittest.TestCase):
         connection.request("POST", "/report", json.dumps(endless))
         fault = json.loads(connection.getresponse().read())["fault"]
         connection.close()
+        return fault
+
+    def test_a_plan_that_runs_too_long_is_killed_and_told(self):
+        self.assertEqual(play.SECONDS, 10)
+        fault = self.fault(1)
         self.assertEqual(fault["field"], "until")
-        self.assertIn("no report within 1 seconds, so zsched was stopped", fault["text"])
+        self.assertIn("no report within 1 seconds, so zsched was stopped: shorten", fault["text"])
         children = run(["ps", "-o", "args=", "--ppid", str(os.getpid())], b"")[1].decode()
         self.assertNotIn(program.find(), children)
+
+    def test_a_plan_that_takes_too_much_memory_is_told(self):
+        with unittest.mock.patch.object(play, "MEMORY", 64 << 20):
+            fault = self.fault(30)
+        self.assertEqual((fault["field"], fault["text"]),
+                         ("until", f"out of memory (64 MB are given to it): {play.SMALLER}"))
 
 
 class CommandLine(unittest.TestCase):

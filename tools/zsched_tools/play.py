@@ -18,6 +18,7 @@ ADDRESS = "127.0.0.1"
 PORT = 8642
 SECONDS = 10
 MEMORY = 1 << 30
+SMALLER = "shorten the horizon, or lengthen the waits"
 LONGEST_BODY = 16777216
 LONGEST_SHOWN = 200_000
 LONGEST_DRAWN = 4_000_000
@@ -61,7 +62,7 @@ def answer(zsched, fields, seconds):
     try:
         status, report, size, errors = run(zsched, plan.encode(), seconds)
     except Late:
-        text = f"no report within {seconds} seconds, so zsched was stopped: shorten the horizon, or lengthen the waits"
+        text = f"no report within {seconds} seconds, so zsched was stopped: {SMALLER}"
         return {"plan": plan, "fault": {"field": "until", "text": text}}
     except OSError as fault:
         return {"plan": plan, "fault": {"field": "plan", "text": f"{zsched} could not be run: {fault.strerror}"}}
@@ -69,8 +70,8 @@ def answer(zsched, fields, seconds):
     if status == 2:
         return {"plan": plan, "fault": placed(plan, told)}
     if status:
-        text = f"{told or 'no report'} (status {status}; the page gives zsched {MEMORY >> 20} MB of memory)"
-        return {"plan": plan, "fault": {"field": "plan", "text": text}}
+        text = f"{told or f'status {status} and no report'} ({MEMORY >> 20} MB are given to it): {SMALLER}"
+        return {"plan": plan, "fault": {"field": "until", "text": text}}
     return {"plan": plan, **shown(report, size)}
 
 
