@@ -1,0 +1,220 @@
+"""The version, the manual page docs/zsched.1, and the Debian package that tools/make-deb makes.
+
+The manual page is laid out by mandoc, and the package is made by dpkg-deb, objdump and strip; what needs one that isn't
+installed is skipped."""
+import hashlib
+import os
+import pathlib
+import re
+import shutil
+import subprocess
+import sys
+import tempfile
+import unittest
+
+from program import ONE_JOB, ONE_REPORT, TOP
+from zsched_tools import program
+
+TOOLS = sorted(file.name for file in (TOP / "tools").glob("zsched-*"))
+MANUAL = (TOP / "docs" / "zsched.1").read_text()
+FORMATS = (TOP / "docs" / "FORMATS.md").read_text()
+MISSING = [tool for tool in ["dpkg", "dpkg-deb", "objdump", "strip"] if shutil.which(tool) is None]
+EPOCH = "1800000000"
+
+
+def output(words, **more):
+    """What a program that has to succeed prints."""
+    ended = subprocess.run(words, capture_output=True, check=False, timeout=60, **more)
+    if ended.returncode:
+        raise AssertionError(f"{words}: status {ended.returncode}: {ended.stderr.decode()}")
+    return ended.stdout.decode()
+
+
+class Versions(unittest.TestCase):
+    """One version, and one date."""
+
+    def test_changelog_and_manual_page_have_the_version(self):
+        version = (TOP / "VERSION").read_text()
+        self.assertRegex(version, r"^\d+\.\d+\.\d+\n$")
+        heading = re.search(r"^## (\S+) \((\d+)-(\d+)-(\d+)\)$", (TOP / "CHANGELOG.md").read_text(), re.M)
+        self.assertEqual(heading[1], version.strip())
+        self.assertEqual(re.findall(r"^This page is that of version (\S+)\.$", MANUAL, re.M), [version.strip()])
+
+    def test_manual_page_has_the_date_of_the_version(self):
+        heading = re.search(r"^## \S+ \((\d+)-(\d+)-(\d+)\)$", (TOP / "CHANGELOG.md").read_text(), re.M)
+        months = ["January", "February", "March", "April", "May", "June", "July", "August", "September", "October",
+                  "November", "December"]
+        day = f"{months[int(heading[2]) - 1]} {int(heading[3])}, {heading[1]}"
+        self.assertTrue(MANUAL.startswith(f".Dd {day}\n"), day)
+
+
+class Manual(unittest.TestCase):
+    """The manual page says what the documents say, and its example is a run of the program."""
+
+    @unittest.skipIf(shutil.which("mandoc") is None, "mandoc isn't installed (Debian: mandoc)")
+    def test_mandoc_has_nothing_to_say(self):
+        ended = subprocess.run(["mandoc", "-T", "lint", TOP / "docs" / "zsched.1"], capture_output=True, check=False)
+        self.assertEqual((ended.stdout.decode(), ended.returncode), ("", 0))
+
+    def test_names_every_word_of_plans_and_schedules(self):
+        grammar = FORMATS.split("### Grammar")[1].split("### Limits")[0]
+        forms = re.findall(r"^\| `(.+?)` \|", grammar, re.M)
+        self.assertGreater(len(forms), 20)
+        keys = re.findall(r"^\| `(\w+)` \| (?:document|job|entry) \|", FORMATS, re.M)
+        self.assertEqual(len(keys), 13)
+        words = set(keys) | {word for form in forms for word in re.findall(r"[a-z]\w+", form)}
+        for word in sorted(words | {"_1", "_2", "size", "merge", "as"}):
+            self.assertRegex(MANUAL, rf"(?<![A-Za-z]){word}(?![A-Za-z])", word)
+
+    def test_names_every_status_and_every_tool(self):
+        statuses = set(re.findall(r"^\| .* \| (\d) \|$", FORMATS.split("## Fault texts")[1], re.M))
+        told = MANUAL.split(".Sh EXIT STATUS")[1].split(".Sh ")[0]
+        self.assertEqual(set(re.findall(r"^\.It (\d)$", told, re.M)), statuses)
+        self.assertEqual(sorted(set(re.findall(r"^\.It Nm (zsched-\w+)$", MANUAL, re.M))), TOOLS)
+
+    def test_each_fault_that_it_shows_is_one_of_the_program(self):
+        shown = re.findall(r'^\.It "zsched: (.+)"$', MANUAL, re.M)
+        self.assertGreater(len(shown), 3)
+        for text in shown:
+            form = re.sub(r"^job \d+", "job J", re.sub(r"byte \d+", "byte P", text))
+            self.assertIn(re.sub(r"^(plan|job J)(?=: (wrong shape|unknown key|out of range))", "W", form), FORMATS)
+
+    def test_its_example_runs_as_shown(self):
+        shown = re.search(r"^\.Bd -literal[^\n]*\n\$ (.*?\| zsched)\n(.*?)^\.Ed$", MANUAL, re.M | re.S)
+        with tempfile.TemporaryDirectory() as folder:
+            os.symlink(os.path.abspath(program.find()), f"{folder}/zsched")
+            found = output(["sh", "-c", shown[1]], env={**os.environ, "PATH": f"{folder}:{os.environ['PATH']}"})
+        self.assertEqual(found, shown[2])
+
+
+@unittest.skipIf(MISSING, f"not installed: {', '.join(MISSING)} (Debian: dpkg, binutils)")
+class Package(unittest.TestCase):
+    """The package: made twice, looked into, unpacked in an empty folder, and run there."""
+
+    @classmethod
+    def setUpClass(cls):
+        cls.folder = tempfile.TemporaryDirectory()
+        cls.addClassCleanup(cls.folder.cleanup)
+        here = pathlib.Path(cls.folder.name)
+        cls.package = cls.made(here / "first", umask=0o022, TZ="UTC")
+        cls.root = here / "root"
+        cls.root.mkdir()
+        output(["dpkg-deb", "-x", cls.package, cls.root])
+        cls.environment = {"PATH": f"{cls.root}/usr/bin:{os.environ['PATH']}", "HOME": str(here)}
+
+    @classmethod
+    def made(cls, folder, umask, **environment):
+        """The path of a package made in a folder of its own."""
+        folder.mkdir()
+        told = output([TOP / "tools" / "make-deb", "--out", folder, "--zsched", program.find()], umask=umask,
+                      env={**os.environ, **environment})
+        return pathlib.Path(told.strip())
+
+    def members(self):
+        """Each member's permissions, owner and path."""
+        listed = output(["dpkg-deb", "-c", self.package]).splitlines()
+        return [(line.split()[0], line.split()[1], line.split()[5].removeprefix(".")) for line in listed]
+
+    def test_control_has_the_version_and_needs_the_c_library_alone(self):
+        fields = dict(re.findall(r"^(\S+): (.*)$", output(["dpkg-deb", "-f", self.package]), re.M))
+        self.assertEqual(fields["Version"], (TOP / "VERSION").read_text().strip())
+        self.assertRegex(fields["Depends"], r"^libc6 \(>= 2\.\d+\)$")
+        self.assertRegex(fields["Recommends"], r"^python3 ")
+        self.assertEqual(self.package.name, f"zsched_{fields['Version']}_{fields['Architecture']}.deb")
+
+    def test_libc_is_what_objdump_says(self):
+        told = output(["objdump", "-T", program.find()])
+        most = max(tuple(map(int, found)) for found in re.findall(r"GLIBC_(\d+)\.(\d+)", told))
+        self.assertIn(f"libc6 (>= {most[0]}.{most[1]})", output(["dpkg-deb", "-f", self.package, "Depends"]))
+
+    def test_the_same_tree_gives_the_same_bytes(self):
+        here = pathlib.Path(self.folder.name)
+        again = self.made(here / "again", umask=0o077, TZ="Asia/Tokyo")
+        self.assertEqual(again.read_bytes(), self.package.read_bytes())
+
+    def test_its_dates_are_those_of_source_date_epoch(self):
+        dated = self.made(pathlib.Path(self.folder.name) / "dated", umask=0o022, TZ="UTC", SOURCE_DATE_EPOCH=EPOCH)
+        listed = output(["dpkg-deb", "-c", dated], env={**os.environ, "TZ": "UTC"}).splitlines()
+        self.assertEqual({line.split()[3] for line in listed}, {"2027-01-15"})
+
+    def test_owners_and_permissions(self):
+        for mode, owner, path in self.members():
+            with self.subTest(path):
+                self.assertEqual(owner, "root/root")
+                is_program = re.fullmatch(r"/usr/bin/zsched|/usr/share/zsched/zsched-\w+", path) is not None
+                of_file = "-rwxr-xr-x" if is_program else "-rw-r--r--"
+                self.assertEqual(mode, {"d": "drwxr-xr-x", "l": "lrwxrwxrwx"}.get(mode[0], of_file))
+
+    def test_everything_is_there(self):
+        wanted = ["usr/bin/zsched", "usr/share/man/man1/zsched.1.gz", "usr/share/zsched/plan.schema.json",
+                  "usr/share/doc/zsched/copyright", "usr/share/doc/zsched/changelog.gz"]
+        wanted += [f"usr/share/doc/zsched/{file.name}" for file in [TOP / "CHANGELOG.md", *TOP.glob("docs/*.md")]]
+        wanted += [f"usr/bin/{tool}" for tool in TOOLS] + [f"usr/share/man/man1/{tool}.1.gz" for tool in TOOLS]
+        wanted += [f"usr/share/zsched/zsched_tools/{file.name}" for file in TOP.glob("tools/zsched_tools/*.*")]
+        wanted += [f"usr/share/doc/zsched/examples/{file.name}" for file in TOP.glob("examples/*.json*")]
+        self.assertEqual([path for path in wanted if not (self.root / path).is_file()], [])
+        self.assertEqual([path for path in self.root.rglob("*") if path.suffix == ".pyc"], [])
+
+    def test_sums_are_those_of_the_files(self):
+        told = output(["dpkg-deb", "--info", self.package, "md5sums"])
+        for line in told.splitlines():
+            total, path = line.split("  ")
+            self.assertEqual(hashlib.md5((self.root / path).read_bytes()).hexdigest(), total, path)
+        files = [file for file in self.root.rglob("*") if file.is_file() and not file.is_symlink()]
+        self.assertEqual(len(told.splitlines()), len(files))
+
+    def test_the_program_gives_the_reports(self):
+        for plan in sorted((self.root / "usr/share/doc/zsched/examples").glob("*.json")):
+            with self.subTest(plan.name):
+                found = output([self.root / "usr/bin/zsched"], input=plan.read_bytes())
+                self.assertEqual(found, plan.with_suffix(".json.stdout").read_text())
+
+    @unittest.skipIf(os.geteuid() != 0, "only root may change the root folder")
+    def test_the_program_runs_where_only_the_c_library_is(self):
+        libraries = re.findall(r"(/\S+) \(0x", output(["ldd", self.root / "usr/bin/zsched"]))
+        for library in libraries:
+            place = self.root / library.removeprefix("/")
+            place.parent.mkdir(parents=True, exist_ok=True)
+            shutil.copy(library, place)
+            self.addCleanup(place.unlink)
+        self.assertEqual(output(["chroot", self.root, "/usr/bin/zsched"], input=ONE_JOB).encode(), ONE_REPORT)
+
+    def test_each_tool_runs_from_there_as_from_the_tree(self):
+        asked = [("--help",)] + [("--nothing",)]
+        for tool in TOOLS:
+            for words in asked:
+                with self.subTest(tool, words=words):
+                    here, there = (subprocess.run([folder / tool, *words], capture_output=True, check=False, timeout=30,
+                                                  stdin=subprocess.DEVNULL, env=self.environment)
+                                   for folder in [TOP / "tools", self.root / "usr/bin"])
+                    self.assertEqual((there.returncode, there.stdout, there.stderr),
+                                     (here.returncode, here.stdout, here.stderr))
+
+    def test_the_tools_find_the_program_beside_them(self):
+        for words, text, wanted in self.runs_of_tools():
+            with self.subTest(words[0]):
+                ended = subprocess.run([self.root / "usr/bin" / words[0], *words[1:]], input=text, capture_output=True,
+                                       check=False, timeout=30, env=self.environment)
+                self.assertRegex(ended.stdout.decode() + ended.stderr.decode(), wanted)
+
+    def runs_of_tools(self):
+        """Runs of the tools that are there: the words, standard input, and what is told."""
+        faulty = pathlib.Path(self.folder.name) / "faulty.json"
+        faulty.write_bytes(ONE_JOB.replace(b"recurs", b"recur"))
+        column = ONE_JOB.index(b"recurs") + 1
+        told = rf"zsched: job 0: schedule: no term at byte 0\n(.|\n)*faulty\.json:1:{column}\n"
+        runs = [(["zsched-explain", str(faulty)], b"", told), (["zsched-report", "summary"], ONE_REPORT, r"succeeded")]
+        return [run for run in runs if run[0][0] in TOOLS]
+
+    def test_a_package_that_cannot_be_made_says_why(self):
+        for words, wanted in [(["--zsched", "/nowhere"], r"make-deb: no program at /nowhere\n"),
+                              (["--zsched", sys.executable, "--out", "/nowhere"], r"make-deb: .+\n")]:
+            with self.subTest(words):
+                ended = subprocess.run([TOP / "tools" / "make-deb", *words], capture_output=True, check=False)
+                self.assertEqual((ended.returncode, ended.stdout), (2, b""))
+                self.assertRegex(ended.stderr.decode(), wanted)
+                self.assertEqual(ended.stderr.count(b"\n"), 1)
+
+
+if __name__ == "__main__":
+    unittest.main()
