@@ -16,8 +16,6 @@ mod clock;
 mod fault;
 mod index;
 mod laws;
-#[cfg(test)]
-mod tests;
 
 pub use agenda::Agenda;
 pub use clock::Clock;

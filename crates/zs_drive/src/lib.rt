@@ -20,8 +20,6 @@ mod laws;
 mod progress;
 mod record;
 mod task;
-#[cfg(test)]
-mod tests;
 
 pub use fault::DriveFault;
 pub use job::{Job, Mode};

@@ -11,8 +11,6 @@
 
 mod attempt;
 mod script;
-#[cfg(test)]
-mod tests;
 
 pub use attempt::Attempt;
 pub use script::{Beat, Outcome, Script, ScriptFault};

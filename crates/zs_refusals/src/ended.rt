@@ -1,135 +1,38 @@
-// What came of a call, as it is printed.
-use std::alloc::{AllocError, AllocFailed};
-use std::{fmt, io};
-use zs_agenda::AgendaFault;
-use zs_drive::DriveFault;
-use zs_effect::ScriptFault;
-use zs_engine::EngineFault;
-use zs_pool::PoolFault;
-use zs_run::PlanFault;
-use zs_step::StepFault;
-use zs_term::TermFault;
+// What came of a call.
+use std::fmt::Debug;
 
-/// What came of a call.
-#[derive(Clone, Copy, Debug, Drop, PartialEq, Eq)]
+/// Why a call did not end well. It has no `Debug`, so that each fault, which has it, converts to it.
+#[derive(Clone, Copy, Drop)]
 pub enum Ended {
-    /// It answered what it has to.
-    Right,
-    /// It answered that memory ran out, and left what it has to.
-    Memory,
-    /// It answered a batch of which a task found no memory.
-    Broken,
-    /// It answered that no thread was found.
-    NoThread,
-    /// A run answered that memory ran out before its plan was read.
-    PlanMemory,
-    /// A run answered that memory ran out later.
-    EngineMemory,
-    /// A run answered that no thread was found.
-    EngineNoThread,
+    /// A request was refused. The call said so, in these words, and left what it has to.
+    Refused(&'static str),
     /// It answered or left something else.
     Wrong(&'static str),
 }
 
-impl fmt::Display for Ended {
-    fn fmt<W: fmt::Write>(&self, f: &mut fmt::Formatter<W>) -> fmt::Result {
-        match self {
-            Ended::Right => write!(f, "ok"),
-            Ended::Memory => write!(f, "memory"),
-            Ended::Broken => write!(f, "broken"),
-            Ended::NoThread => write!(f, "no thread"),
-            Ended::PlanMemory => write!(f, "plan memory"),
-            Ended::EngineMemory => write!(f, "engine memory"),
-            Ended::EngineNoThread => write!(f, "engine no thread"),
-            Ended::Wrong(what) => write!(f, "wrong: {what}"),
-        }
+/// What came of a call that is well where it answered what it has to.
+pub type Answer = Result<(), Ended>;
+
+/// The call answered that memory ran out.
+pub const MEMORY: Ended = Ended::Refused("memory");
+
+// By `?` a fault is one of what the call needs, which is made before it.
+impl<E: Debug + Drop> From<E> for Ended {
+    fn from(_fault: E) -> Ended {
+        Ended::Refused("set-up: memory")
     }
 }
 
-/// Whether what was found is right.
-pub fn right_if(is_right: bool, what: &'static str) -> Ended {
+/// It is well where what was found is right.
+pub fn right_if(is_right: bool, what: &'static str) -> Answer {
     if is_right {
-        Ended::Right
+        Ok(())
     } else {
-        Ended::Wrong(what)
+        Err(Ended::Wrong(what))
     }
 }
 
-/// Whether what a refusal left is right.
-pub fn memory_if(is_right: bool, what: &'static str) -> Ended {
-    if is_right {
-        Ended::Memory
-    } else {
-        Ended::Wrong(what)
-    }
-}
-
-/// What a call needs could not be made.
-#[derive(Clone, Copy, Debug, Drop, PartialEq, Eq)]
-pub struct SetUp;
-
-impl From<AllocError> for SetUp {
-    fn from(_refused: AllocError) -> SetUp {
-        SetUp
-    }
-}
-
-impl<T: Drop> From<AllocFailed<T>> for SetUp {
-    fn from(_refused: AllocFailed<T>) -> SetUp {
-        SetUp
-    }
-}
-
-impl From<io::Error> for SetUp {
-    fn from(_refused: io::Error) -> SetUp {
-        SetUp
-    }
-}
-
-impl From<TermFault> for SetUp {
-    fn from(_refused: TermFault) -> SetUp {
-        SetUp
-    }
-}
-
-impl From<StepFault> for SetUp {
-    fn from(_refused: StepFault) -> SetUp {
-        SetUp
-    }
-}
-
-impl From<ScriptFault> for SetUp {
-    fn from(_refused: ScriptFault) -> SetUp {
-        SetUp
-    }
-}
-
-impl From<DriveFault> for SetUp {
-    fn from(_refused: DriveFault) -> SetUp {
-        SetUp
-    }
-}
-
-impl From<AgendaFault> for SetUp {
-    fn from(_refused: AgendaFault) -> SetUp {
-        SetUp
-    }
-}
-
-impl From<PoolFault> for SetUp {
-    fn from(_refused: PoolFault) -> SetUp {
-        SetUp
-    }
-}
-
-impl From<EngineFault> for SetUp {
-    fn from(_refused: EngineFault) -> SetUp {
-        SetUp
-    }
-}
-
-impl From<PlanFault> for SetUp {
-    fn from(_refused: PlanFault) -> SetUp {
-        SetUp
-    }
+/// It is a refusal where what was left is right.
+pub fn memory_if(is_right: bool, what: &'static str) -> Answer {
+    Err(if is_right { MEMORY } else { Ended::Wrong(what) })
 }

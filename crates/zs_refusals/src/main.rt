@@ -4,17 +4,16 @@
 // and to leave what its contract says. What a call needs is made before it, and a refusal there is `set-up: memory`.
 #![tactic(auto)]
 
-mod boards;
 mod ended;
+mod queues;
 mod rounds;
 mod runs;
-mod shelves;
 mod steps;
 mod tasks;
 mod terms;
 mod timers;
 
-use ended::{Ended, SetUp};
+use ended::{Answer, Ended};
 use std::alloc::{Alloc, Global};
 use std::io;
 use std::io::Read;
@@ -22,68 +21,45 @@ use std::random::RandomSource;
 use std::sync::Wait;
 use std::thread::Threads;
 
-// The calls on terms, steps and timers.
-fn logic_call(alloc: Global, name: &str) -> Option<Result<Ended, SetUp>> {
-    match name {
-        "read" => Some(terms::reading(alloc)),
-        "check" => Some(terms::checking(alloc)),
-        "write" => Some(terms::writing(alloc)),
-        "write_out" => Some(terms::writing_output(alloc)),
-        "plain" => Some(steps::plain_answer(alloc)),
-        "compiled_new" => Some(steps::compiling(alloc)),
-        "step" => Some(steps::stepping(alloc)),
-        "follow" => Some(steps::following(alloc)),
-        "task_new" => Some(tasks::making(alloc)),
-        "agenda_new" => Some(timers::making(alloc)),
-        "set" => Some(timers::setting(alloc)),
-        "take" => Some(timers::taking(alloc)),
-        "tally_new" => Some(rounds::tallying(alloc)),
-        "read_plan" => Some(runs::reading(alloc)),
-        _ => None,
-    }
-}
+const SEVEN: &str = "abcdefg";
 
-// The calls that take the runtime.
-fn threaded_call<R: Threads + Wait + Sync>(
-    rt: &R,
-    alloc: Global,
-    name: &str,
-) -> Option<Result<Ended, SetUp>> {
-    match name {
-        "board_new" => Some(boards::making(rt, alloc)),
-        "board_split" => Some(boards::splitting(rt, alloc)),
-        "board_close" => Some(boards::closing(rt, alloc)),
-        "shelf_new" => Some(shelves::making(rt, alloc)),
-        "shelf_split" => Some(shelves::splitting(rt, alloc)),
-        "shelf_close" => Some(shelves::closing(rt, alloc)),
-        "poll_batch" => Some(rounds::polling(rt, alloc)),
-        "round" => Some(rounds::rounding(rt, alloc)),
-        "run_jobs" => Some(runs::working(rt, alloc)),
-        "report" => Some(runs::reporting(rt, alloc)),
-        "run" => Some(runs::running(rt, alloc, runs::ONE_JOB)),
-        "run_seven_alone" => Some(runs::running(rt, alloc, runs::SEVEN_ALONE)),
-        "run_seven_shared" => Some(runs::running(rt, alloc, runs::SEVEN_SHARED)),
-        "run_many_alone" => Some(runs::running(rt, alloc, runs::MANY_ALONE)),
-        "run_many_shared" => Some(runs::running(rt, alloc, runs::MANY_SHARED)),
-        _ => None,
-    }
-}
+const MANY: &str = "abcdefghijklmnopqrstuvwxyzABCDEFGHIJKLMNOPQRSTUVWXYZ";
 
-// The call of this name.
-fn call<R: Alloc<A = Global> + RandomSource + Threads + Wait + Sync>(
-    rt: &R,
-    alloc: Global,
-    name: &str,
-) -> Result<Ended, SetUp> {
-    if name == "poll" {
-        return tasks::polling(rt, alloc);
-    }
-    match logic_call(alloc, name) {
-        Some(ended) => ended,
-        None => match threaded_call(rt, alloc, name) {
-            Some(ended) => ended,
-            None => Ok(Ended::Wrong("no such call")),
-        },
+// Makes the call of this name.
+fn call<R: Alloc<A = Global> + RandomSource + Threads + Wait + Sync>(rt: &R, name: &str) -> Answer {
+    let alloc = rt.alloc();
+    match name {
+        "read" => terms::read_text(alloc),
+        "check" => terms::check_tree(alloc),
+        "write" => terms::write_term(alloc),
+        "write_out" => terms::write_output(alloc),
+        "plain" => steps::answer_plainly(alloc),
+        "compiled_new" => steps::compile(alloc),
+        "step" => steps::step_in_turn(alloc),
+        "follow" => steps::follow_history(alloc),
+        "task_new" => tasks::new_task(alloc),
+        "poll" => tasks::poll_in_turn(rt, alloc),
+        "agenda_new" => timers::new_agenda(alloc),
+        "set" => timers::set_all(alloc),
+        "take" => timers::take_all(alloc),
+        "board_new" => queues::new_board(rt, alloc),
+        "board_split" => queues::split_board(rt, alloc),
+        "board_close" => queues::close_board(rt, alloc),
+        "shelf_new" => queues::new_shelf(rt, alloc),
+        "shelf_split" => queues::split_shelf(rt, alloc),
+        "shelf_close" => queues::close_shelf(rt, alloc),
+        "tally_new" => rounds::new_tally(alloc),
+        "poll_batch" => rounds::poll_one_batch(rt, alloc),
+        "round" => rounds::one_round(rt, alloc),
+        "run_jobs" => runs::run_two_jobs(rt, alloc),
+        "read_plan" => runs::read_bytes(alloc),
+        "report" => runs::report_answer(rt, alloc),
+        "run" => runs::run_plan(rt, alloc, "a", 1, 1),
+        "run_seven_alone" => runs::run_plan(rt, alloc, SEVEN, 1, 1),
+        "run_seven_shared" => runs::run_plan(rt, alloc, SEVEN, 2, 3),
+        "run_many_alone" => runs::run_plan(rt, alloc, MANY, 1, 1),
+        "run_many_shared" => runs::run_plan(rt, alloc, MANY, 2, 3),
+        _ => Err(Ended::Wrong("no such call")),
     }
 }
 
@@ -93,8 +69,9 @@ fn main(rt: HostRuntime) -> io::Result<()> {
     let name = std::str::from_utf8(&bytes[..count])
         .unwrap_or("")
         .trim_end();
-    match call(&rt, rt.alloc(), name) {
-        Ok(ended) => println!(rt; "{name}: {ended}"),
-        Err(SetUp) => println!(rt; "{name}: set-up: memory"),
+    match call(&rt, name) {
+        Ok(()) => println!(rt; "{name}: ok"),
+        Err(Ended::Refused(words)) => println!(rt; "{name}: {words}"),
+        Err(Ended::Wrong(what)) => println!(rt; "{name}: wrong: {what}"),
     }
 }

@@ -3,19 +3,20 @@ ghost use Rattle.std.specs.Prelude.{◌≡◌, All, IfOk, length, map};
 ghost use Rattle.std.specs.List.Sorted.{IsStrictlyIncreasing};
 ghost use Rattle.zs_pool.specs.Rounds.{IsPollable};
 
-use crate::boards::refused_by;
-use crate::ended::{Ended, SetUp, right_if};
-use crate::tasks::retried;
+use crate::ended::{Answer, Ended, right_if};
+use crate::queues::refused_by;
+use crate::runs::ONE_JOB;
+use crate::tasks::job_of;
 use std::alloc::Global;
 use std::sync::Wait;
 use std::thread::Threads;
 use zs_drive::Task;
-use zs_pool::{Batch, Cut, OpenGate, PoolFault, Tally, poll_batch, round};
+use zs_pool::{Batch, Cut, OpenGate, Tally, poll_batch, round};
 
 const TASKS: u64 = 3;
 
 // Three tasks that are due at 0.
-fn due_tasks(alloc: Global) -> Result<Vec<Task>, SetUp>
+fn due_tasks(alloc: Global) -> Result<Vec<Task>, Ended>
     ensures few { IfOk result (λ tasks. length tasks.items ≡ 3) }
     ensures rising { IfOk result (λ tasks. IsStrictlyIncreasing (map (λ task. task.number) tasks.items)) }
     ensures pollable { IfOk result (λ tasks. All (IsPollable 0) tasks.items) }
@@ -26,93 +27,80 @@ fn due_tasks(alloc: Global) -> Result<Vec<Task>, SetUp>
     Ok(Vec::from_array(alloc, [first, second, third])?)
 }
 
-fn due_task(alloc: Global, number: u64) -> Result<Task, SetUp>
+fn due_task(alloc: Global, number: u64) -> Result<Task, Ended>
     ensures number { IfOk result (λ task. task.number ≡ number) }
     ensures pollable { IfOk result (IsPollable 0) }
 {
-    let task = Task::new(alloc, number, retried(alloc, "a")?)?;
+    let job = job_of(alloc, ONE_JOB)?;
+    let task = Task::new(alloc, number, job)?;
     match task.due() {
-        Some(due) => if due == 0 && !task.broken() {
-            Ok(task)
-        } else {
-            Err(SetUp)
-        },
-        None => Err(SetUp),
+        Some(0) if !task.broken() => Ok(task),
+        _ => Err(Ended::Wrong("a new task that isn't due")),
     }
 }
 
 /// A new counter.
-pub fn tallying(alloc: Global) -> Result<Ended, SetUp> {
+pub fn new_tally(alloc: Global) -> Answer {
     match Tally::new(alloc) {
         Ok((tally, mut seat)) => {
             let before = tally.seen(&mut seat);
             tally.count(&mut seat);
             let all = tally.close(seat);
-            Ok(right_if(before == 0 && all == 1, "another count"))
+            right_if(before == 0 && all == 1, "another count")
         }
-        Err(fault) => Ok(refused_by(fault)),
+        Err(fault) => Err(refused_by(fault)),
     }
 }
 
 /// One batch. A task whose poll was refused is broken, and so is the message.
-pub fn polling<R>(rt: &R, alloc: Global) -> Result<Ended, SetUp> {
-    let batch = Batch {
-        number: 3,
-        tasks: due_tasks(alloc)?,
-    };
+pub fn poll_one_batch<R>(rt: &R, alloc: Global) -> Answer {
     let (tally, mut seat) = Tally::new(alloc)?;
+    let tasks = due_tasks(alloc)?;
+    let batch = Batch { number: 3, tasks };
     match poll_batch(rt, alloc, &OpenGate, &tally, &mut seat, 0, batch) {
         Ok(polled) => {
-            let counted = Tally::left(&seat) == u64::MAX - TASKS;
-            if polled.number != 3 || polled.now != 0 || !counted {
-                return Ok(Ended::Wrong("another message"));
+            let is_counted = Tally::left(&seat) == u64::MAX - TASKS;
+            if polled.number != 3 || polled.now != 0 || !is_counted {
+                return Err(Ended::Wrong("another message"));
             }
-            let broken = polled.broken();
-            Ok(polled_well(&polled.tasks, broken))
+            are_polled(&polled.tasks, polled.broken())
         }
-        Err(fault) => Ok(refused_by(fault)),
+        Err(fault) => Err(refused_by(fault)),
     }
 }
 
-// Each task was polled once or is broken, and the message is broken where a task is.
-fn polled_well(tasks: &[Task], broken: bool) -> Ended {
-    let polled = tasks
-        .iter()
-        .filter(|task| !task.broken() && task.polls() == 1)
-        .count();
-    let unchanged = tasks
-        .iter()
-        .filter(|task| task.broken() && task.polls() == 0)
-        .count();
-    if polled.wrapping_add(unchanged) != 3 || (unchanged > 0) != broken {
-        return Ended::Wrong("other tasks");
+// Each of three tasks was polled once or is broken, and what was told of them says whether one is broken.
+fn are_polled(tasks: &[Task], is_told_broken: bool) -> Answer {
+    let mut is_broken = false;
+    for (place, task) in tasks.iter().enumerate() {
+        let wanted = if task.broken() { 0 } else { 1 };
+        if task.polls() != wanted || task.number() != place as u64 {
+            return Err(Ended::Wrong("other tasks"));
+        }
+        is_broken = is_broken || task.broken();
     }
-    if broken { Ended::Broken } else { Ended::Right }
+    if tasks.len() != 3 || is_broken != is_told_broken {
+        return Err(Ended::Wrong("other tasks"));
+    }
+    if is_broken {
+        Err(Ended::Refused("broken"))
+    } else {
+        Ok(())
+    }
 }
 
 /// A round on two workers.
-pub fn rounding<R: Threads + Wait + Sync>(rt: &R, alloc: Global) -> Result<Ended, SetUp> {
+pub fn one_round<R: Threads + Wait + Sync>(rt: &R, alloc: Global) -> Answer {
     let Some(cut) = Cut::new(2, 1) else {
-        return Ok(Ended::Wrong("no cut"));
+        return Err(Ended::Wrong("no cut"));
     };
-    let tasks = due_tasks(alloc)?;
     let (tally, mut seat) = Tally::new(alloc)?;
+    let tasks = due_tasks(alloc)?;
     match round(rt, alloc, cut, &OpenGate, &tally, &mut seat, 0, tasks) {
         Ok(tasks) => {
-            let counted = tally.close(seat) == TASKS;
-            if !are_numbered(&tasks) || !counted {
-                return Ok(Ended::Wrong("other tasks"));
-            }
-            Ok(polled_well(&tasks, false))
+            right_if(tally.close(seat) == TASKS, "another count")?;
+            are_polled(&tasks, false)
         }
-        Err(PoolFault::NoThread) => Ok(Ended::NoThread),
-        Err(fault) => Ok(refused_by(fault)),
-    }
-}
-
-fn are_numbered(tasks: &[Task]) -> bool {
-    match tasks {
-        [a, b, c] => a.number() == 0 && b.number() == 1 && c.number() == 2,
-        _ => false,
+        Err(fault) => Err(refused_by(fault)),
     }
 }

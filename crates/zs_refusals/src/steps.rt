@@ -2,120 +2,100 @@
 ghost use Rattle.std.specs.Prelude.{◌≤◌};
 ghost use Rattle.zs_step.specs.Compiled.{last_seen};
 
-use crate::ended::{Ended, SetUp, memory_if, right_if};
+use crate::ended::{Answer, Ended, MEMORY, memory_if, right_if};
 use std::alloc::Global;
-use zs_step::{Compiled, Decision, StepFault, Stepped, follow, plain};
-use zs_term::{Checked, Out, read};
+use zs_step::{Compiled, Decision, Stepped, follow, plain};
+use zs_term::{Checked, Out, TermFault, read};
 
 /// A schedule whose state and whose outputs both grow.
-const GROWING: &str = "(identity.collectAll && (recurs(1) andThenEither spaced(5)))";
-
-/// That schedule, read.
-pub fn growing(alloc: Global) -> Result<Checked, SetUp> {
-    Ok(read(alloc, GROWING)?)
+pub fn growing(alloc: Global) -> Result<Checked, TermFault> {
+    read(
+        alloc,
+        "(identity.collectAll && (recurs(1) andThenEither spaced(5)))",
+    )
 }
 
 const HISTORY: [(u64, u64); 3] = [(1, 7), (3, 8), (9, 9)];
 
-/// Whether an output is the pair of this list and the right side of this number.
-pub fn is_pair_of(out: &Out, items: &[u64], number: u64) -> bool {
+/// Whether an output is that of the third step: the list of 7 and 8, and 1 on the right.
+pub fn is_third_output(out: &Out) -> bool {
     match out {
-        Out::Pair(first, second) => is_list_of(first, items) && is_right_of(second, number),
-        _ => false,
-    }
-}
-
-fn is_list_of(out: &Out, items: &[u64]) -> bool {
-    match out {
-        Out::Items(outs) => {
-            let outs = outs.items();
-            outs.len() == items.len()
-                && outs
-                    .iter()
-                    .zip(items)
-                    .all(|(out, item)| is_number(out, *item))
-        }
-        _ => false,
-    }
-}
-
-fn is_right_of(out: &Out, number: u64) -> bool {
-    match out {
-        Out::Right(part) => is_number(part, number),
-        _ => false,
-    }
-}
-
-fn is_number(out: &Out, number: u64) -> bool {
-    match out {
-        Out::Num(found) => *found == number,
+        Out::Pair(first, second) => match (&**first, &**second) {
+            (Out::Items(outs), Out::Right(right)) => matches!(
+                (outs.items(), &**right),
+                ([Out::Num(7), Out::Num(8)], Out::Num(1))
+            ),
+            _ => false,
+        },
         _ => false,
     }
 }
 
 fn is_third(stepped: &Stepped) -> bool {
-    stepped.decision == Decision::Next(14)
-        && stepped.visits == 5
-        && is_pair_of(&stepped.out, &[7, 8], 1)
+    stepped.decision == Decision::Next(14) && stepped.visits == 5 && is_third_output(&stepped.out)
 }
 
 /// The answer at the end of a history.
-pub fn plain_answer(alloc: Global) -> Result<Ended, SetUp> {
+pub fn answer_plainly(alloc: Global) -> Answer {
     let checked = growing(alloc)?;
     match plain(alloc, &checked, &HISTORY) {
-        Ok((out, decision)) => {
-            let is_right = decision == Decision::Next(14) && is_pair_of(&out, &[7, 8], 1);
-            Ok(right_if(is_right, "another answer"))
-        }
-        Err(StepFault::Memory) => Ok(Ended::Memory),
+        Ok((out, decision)) => right_if(
+            decision == Decision::Next(14) && is_third_output(&out),
+            "another answer",
+        ),
+        Err(_) => Err(MEMORY),
     }
 }
 
 /// A new state.
-pub fn compiling(alloc: Global) -> Result<Ended, SetUp> {
+pub fn compile(alloc: Global) -> Answer {
     let checked = growing(alloc)?;
     match Compiled::new(alloc, checked) {
-        Ok(compiled) => Ok(right_if(!compiled.broken(), "broken from the start")),
-        Err(StepFault::Memory) => Ok(Ended::Memory),
+        Ok(compiled) => right_if(!compiled.broken(), "broken from the start"),
+        Err(_) => Err(MEMORY),
     }
 }
 
 /// Three steps. A refused step breaks the state for good.
-pub fn stepping(alloc: Global) -> Result<Ended, SetUp> {
+pub fn step_in_turn(alloc: Global) -> Answer {
     let checked = growing(alloc)?;
     let mut compiled = Compiled::new(alloc, checked)?;
+    three_steps(&mut compiled)
+}
+
+fn three_steps(compiled: &mut Compiled) -> Answer
+    requires order { last_seen compiled.old ≤ 0 }
+{
     let Ok(_) = compiled.step(1, 7) else {
-        return Ok(breaks_for_good(&mut compiled, 1));
+        return breaks_for_good(compiled, 1);
     };
     let Ok(_) = compiled.step(3, 8) else {
-        return Ok(breaks_for_good(&mut compiled, 3));
+        return breaks_for_good(compiled, 3);
     };
     match compiled.step(9, 9) {
-        Ok(stepped) => Ok(right_if(is_third(&stepped), "another answer")),
-        Err(StepFault::Memory) => Ok(breaks_for_good(&mut compiled, 9)),
+        Ok(stepped) => right_if(is_third(&stepped), "another answer"),
+        Err(_) => breaks_for_good(compiled, 9),
     }
 }
 
-fn breaks_for_good(compiled: &mut Compiled, now: u64) -> Ended
+fn breaks_for_good(compiled: &mut Compiled, now: u64) -> Answer
     requires order { last_seen compiled.old ≤ now }
 {
     if !compiled.broken() {
-        return Ended::Wrong("not broken after a refusal");
+        return Err(Ended::Wrong("not broken after a refusal"));
     }
-    match compiled.step(now, 0) {
-        Ok(_) => Ended::Wrong("a step after a refusal"),
-        Err(StepFault::Memory) => memory_if(compiled.broken(), "whole again"),
-    }
+    let is_refused = compiled.step(now, 0).is_err();
+    memory_if(is_refused && compiled.broken(), "whole again")
 }
 
 /// All answers of a history.
-pub fn following(alloc: Global) -> Result<Ended, SetUp> {
+pub fn follow_history(alloc: Global) -> Answer {
     let checked = growing(alloc)?;
     match follow(alloc, checked, &HISTORY) {
         Ok(answers) => match answers.as_slice() {
-            [_, _, third] => Ok(right_if(is_third(third), "another answer")),
-            _ => Ok(Ended::Wrong("another number of answers")),
+            [_, _, third] => right_if(is_third(third), "another answer"),
+            _ => Err(Ended::Wrong("another number of answers")),
         },
-        Err(StepFault::Memory) => Ok(Ended::Memory),
+        Err(_) => Err(MEMORY),
     }
 }

@@ -1,7 +1,7 @@
 // The timer queue: what it holds is what was set, also where a call was refused.
-use crate::ended::{Ended, SetUp, right_if};
+use crate::ended::{Answer, Ended, MEMORY, right_if};
 use std::alloc::Global;
-use zs_agenda::{Agenda, AgendaFault};
+use zs_agenda::Agenda;
 
 const JOBS: u64 = 40;
 
@@ -11,47 +11,43 @@ fn moment_of(job: u64) -> u64 {
 }
 
 /// An empty queue.
-pub fn making(alloc: Global) -> Result<Ended, SetUp> {
+pub fn new_agenda(alloc: Global) -> Answer {
     match Agenda::new(alloc) {
-        Ok(agenda) => Ok(right_if(agenda.next().is_none(), "not empty")),
-        Err(AgendaFault::Memory) => Ok(Ended::Memory),
+        Ok(agenda) => right_if(agenda.next().is_none(), "not empty"),
+        Err(_) => Err(MEMORY),
     }
 }
 
 /// Many timers. A refused one is armed again, and then all are there.
-pub fn setting(alloc: Global) -> Result<Ended, SetUp> {
+pub fn set_all(alloc: Global) -> Answer {
     let mut agenda = Agenda::new(alloc)?;
-    let mut ended = Ended::Right;
+    let mut ended = Ok(());
     for job in 0..JOBS {
         match set_well(&mut agenda, job) {
-            Ended::Right => {}
-            Ended::Memory => ended = Ended::Memory,
-            wrong => return Ok(wrong),
+            Err(Ended::Wrong(what)) => return Err(Ended::Wrong(what)),
+            Err(refused) => ended = Err(refused),
+            Ok(()) => {}
         }
     }
-    match take_all(&mut agenda) {
-        Ended::Right => Ok(ended),
-        other => Ok(other),
-    }
+    fire_all(&mut agenda)?;
+    ended
 }
 
 // One timer, armed twice where it was refused.
-fn set_well(agenda: &mut Agenda, job: u64) -> Ended {
+fn set_well(agenda: &mut Agenda, job: u64) -> Answer {
     let first = agenda.next();
-    if set_if_absent(agenda, job) {
+    if is_set_now(agenda, job) {
         return right_if(agenda.is_set(job), "not set");
     }
     if agenda.is_set(job) || agenda.next() != first || agenda.taken().is_some() {
-        return Ended::Wrong("a refused timer changed the queue");
+        return Err(Ended::Wrong("a refused timer changed the queue"));
     }
-    if set_if_absent(agenda, job) {
-        return Ended::Memory;
-    }
-    Ended::Wrong("a second refusal")
+    right_if(is_set_now(agenda, job), "a second refusal")?;
+    Err(MEMORY)
 }
 
 // Whether the timer was armed now.
-fn set_if_absent(agenda: &mut Agenda, job: u64) -> bool {
+fn is_set_now(agenda: &mut Agenda, job: u64) -> bool {
     if agenda.is_set(job) || agenda.taken().is_some() {
         return false;
     }
@@ -59,56 +55,45 @@ fn set_if_absent(agenda: &mut Agenda, job: u64) -> bool {
 }
 
 /// All timers fire, in the order of their moments.
-pub fn taking(alloc: Global) -> Result<Ended, SetUp> {
+pub fn take_all(alloc: Global) -> Answer {
     let mut agenda = Agenda::new(alloc)?;
     for job in 0..JOBS {
-        if !set_if_absent(&mut agenda, job) {
-            return Err(SetUp);
+        if !is_set_now(&mut agenda, job) {
+            return Err(Ended::Refused("set-up: memory"));
         }
     }
-    Ok(take_all(&mut agenda))
+    fire_all(&mut agenda)
 }
 
-// Ten takes and one that finds nothing. A refused one is made again.
-fn take_all(agenda: &mut Agenda) -> Ended {
-    let mut ended = Ended::Right;
+// Ten takes and one that finds nothing.
+fn fire_all(agenda: &mut Agenda) -> Answer {
     for moment in 1..11u64 {
-        match take_well(agenda, moment) {
-            Ended::Right => {}
-            Ended::Memory => ended = Ended::Memory,
-            wrong => return wrong,
+        match agenda.take() {
+            Ok(Some((found, jobs))) => right_if(
+                found == moment && are_jobs_of(moment, &jobs),
+                "other timers",
+            )?,
+            Ok(None) => return Err(Ended::Wrong("a timer is lost")),
+            Err(_) => return Err(MEMORY),
         }
     }
     match agenda.take() {
-        Ok(None) => ended,
-        Ok(Some(_)) => Ended::Wrong("a timer too many"),
-        Err(AgendaFault::Memory) => Ended::Memory,
-    }
-}
-
-fn take_well(agenda: &mut Agenda, moment: u64) -> Ended {
-    match agenda.take() {
-        Ok(Some((found, jobs))) => right_if(
-            found == moment && are_jobs_of(moment, &jobs),
-            "other timers",
-        ),
-        Ok(None) => Ended::Wrong("a timer is lost"),
-        Err(AgendaFault::Memory) => {
-            if agenda.next() != Some(moment) {
-                return Ended::Wrong("a refused take changed the queue");
-            }
-            match agenda.take() {
-                Ok(Some((found, jobs))) if found == moment && are_jobs_of(moment, &jobs) =>
-                    Ended::Memory,
-                _ => Ended::Wrong("another answer after a refusal"),
-            }
-        }
+        Ok(None) => Ok(()),
+        Ok(Some(_)) => Err(Ended::Wrong("a timer too many")),
+        Err(_) => Err(MEMORY),
     }
 }
 
 // The four jobs of a moment, in rising number.
 fn are_jobs_of(moment: u64, jobs: &[u64]) -> bool {
-    jobs.len() == 4
-        && jobs.iter().all(|job| moment_of(*job) == moment)
-        && jobs.windows(2).all(|pair| pair[0] < pair[1])
+    match jobs {
+        [a, b, c, d] => {
+            let are_due = moment_of(*a) == moment
+                && moment_of(*b) == moment
+                && moment_of(*c) == moment
+                && moment_of(*d) == moment;
+            are_due && a < b && b < c && c < d
+        }
+        _ => false,
+    }
 }

@@ -21,8 +21,6 @@ mod leaves;
 mod state;
 mod stepped;
 mod stepping;
-#[cfg(test)]
-mod tests;
 
 pub use compiled::Compiled;
 pub use decision::Decision;

@@ -24,8 +24,6 @@ mod part;
 mod printer;
 mod reader;
 mod term;
-#[cfg(test)]
-mod tests;
 mod token;
 
 pub use checked::{Checked, check};

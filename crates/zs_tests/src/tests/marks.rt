@@ -1,6 +1,9 @@
 //! What a `Marked` answers of the reader or writer inside, and when its mark is set.
-use super::fakes::Answers;
+ghost use Rattle.std.specs.Prelude.{◌<◌};
+
+use super::support::streams::Answers;
 use std::io;
+use std::process::Abort;
 use zs_run::{Drain, Failed, Marked, Source};
 
 // Errors of a reader or a writer, those among them after which others would try again.
@@ -11,16 +14,63 @@ const KINDS: [io::ErrorKind; 4] = [
     io::ErrorKind::Other,
 ];
 
+// A pull answers so many bytes of `plan`, in pieces of three, and no mark is set.
+fn expect_pull(rt: &impl Abort, reader: &mut Marked<&[u8]>, wanted: &str) {
+    let mut buf = [0u8; 3];
+    let pulled = reader.pull(&mut buf);
+    let count = wanted.len();
+    assert!(rt; pulled == Ok(count), "{wanted}");
+    assert!(rt; buf.starts_with(wanted.as_bytes()), "{wanted}");
+    assert!(rt; !Source::failed(reader), "{wanted}");
+}
+
 #[test]
 fn bytes_are_pulled_to_the_end_with_no_mark(rt: HostRuntime) {
     let mut reader = Marked::new("plan".as_bytes());
-    let mut buf = [0u8; 3];
-    assert_eq!(rt; reader.pull(&mut buf), Ok(3));
-    assert_eq!(rt; buf.as_slice(), "pla".as_bytes());
-    assert_eq!(rt; reader.pull(&mut buf), Ok(1));
-    assert_eq!(rt; buf.as_slice(), "nla".as_bytes());
-    assert_eq!(rt; reader.pull(&mut buf), Ok(0));
-    assert!(rt; !Source::failed(&reader));
+    expect_pull(&rt, &mut reader, "pla");
+    expect_pull(&rt, &mut reader, "n");
+    expect_pull(&rt, &mut reader, "");
+}
+
+// A give answers this, and the mark is then set or not.
+fn expect_give(
+    rt: &impl Abort,
+    writer: &mut Marked<Answers>,
+    bytes: &[u8],
+    wanted: Result<usize, Failed>,
+    mark: bool,
+) {
+    assert!(rt; !bytes.is_empty());
+    let given = writer.give(bytes);
+    assert!(rt; given == wanted, "{given:?}");
+    assert!(rt; Drain::failed(writer) == mark, "{given:?}");
+}
+
+// The same for a flush.
+fn expect_flush(
+    rt: &impl Abort,
+    writer: &mut Marked<Answers>,
+    wanted: Result<(), Failed>,
+    mark: bool,
+) {
+    let flushed = writer.flush();
+    assert!(rt; flushed == wanted, "{flushed:?}");
+    assert!(rt; Drain::failed(writer) == mark, "{flushed:?}");
+}
+
+#[test]
+fn a_short_write_is_told(rt: HostRuntime) {
+    let mut writer = Marked::new(Answers::Count(2));
+    expect_give(&rt, &mut writer, &[0u8; 6], Ok(2), false);
+    expect_give(&rt, &mut writer, &[0u8; 1], Ok(1), false);
+    expect_flush(&rt, &mut writer, Ok(()), false);
+}
+
+#[test]
+fn a_write_of_no_bytes_sets_the_mark_which_stays(rt: HostRuntime) {
+    let mut writer = Marked::new(Answers::Count(0));
+    expect_give(&rt, &mut writer, &[0u8; 6], Err(Failed), true);
+    expect_flush(&rt, &mut writer, Ok(()), true);
 }
 
 #[test]
@@ -28,35 +78,16 @@ fn a_read_error_of_any_kind_sets_the_mark(rt: HostRuntime) {
     for kind in KINDS {
         let mut reader = Marked::new(Answers::Error(kind));
         assert!(rt; !Source::failed(&reader));
-        assert_eq!(rt; reader.pull(&mut [0u8; 3]), Err(Failed));
-        assert!(rt; Source::failed(&reader));
+        let pulled = reader.pull(&mut [0u8; 3]);
+        assert!(rt; pulled == Err(Failed) && Source::failed(&reader));
     }
-}
-
-#[test]
-fn a_short_write_is_told(rt: HostRuntime) {
-    let mut writer = Marked::new(Answers::Count(2));
-    assert_eq!(rt; writer.give(&[0u8; 6]), Ok(2));
-    assert_eq!(rt; writer.give(&[0u8; 1]), Ok(1));
-    assert_eq!(rt; writer.flush(), Ok(()));
-    assert!(rt; !Drain::failed(&writer));
-}
-
-#[test]
-fn a_write_of_no_bytes_sets_the_mark(rt: HostRuntime) {
-    let mut writer = Marked::new(Answers::Count(0));
-    assert_eq!(rt; writer.give(&[0u8; 6]), Err(Failed));
-    assert!(rt; Drain::failed(&writer));
-    assert_eq!(rt; writer.flush(), Ok(()));
-    assert!(rt; Drain::failed(&writer), "a mark stays");
 }
 
 #[test]
 fn a_write_error_of_any_kind_sets_the_mark(rt: HostRuntime) {
     for kind in KINDS {
         let mut writer = Marked::new(Answers::Error(kind));
-        assert_eq!(rt; writer.give(&[0u8; 6]), Err(Failed));
-        assert!(rt; Drain::failed(&writer));
+        expect_give(&rt, &mut writer, &[0u8; 6], Err(Failed), true);
     }
 }
 
@@ -64,7 +95,6 @@ fn a_write_error_of_any_kind_sets_the_mark(rt: HostRuntime) {
 fn a_flush_error_of_any_kind_sets_the_mark(rt: HostRuntime) {
     for kind in KINDS {
         let mut writer = Marked::new(Answers::Error(kind));
-        assert_eq!(rt; writer.flush(), Err(Failed));
-        assert!(rt; Drain::failed(&writer));
+        expect_flush(&rt, &mut writer, Err(Failed), true);
     }
 }

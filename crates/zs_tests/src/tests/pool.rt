@@ -4,16 +4,16 @@ ghost use Rattle.std.specs.List.Sorted.{IsStrictlyIncreasing};
 ghost use Rattle.zs_drive.specs.Clocks.{max_tick};
 ghost use Rattle.zs_pool.specs.Rounds.{IsPollable};
 
-use super::gates::TURNS;
+use super::support::expect_text;
+use super::support::gates::TURNS;
+use super::support::jobs::{job_of, retried};
 use std::alloc::Global;
 use std::test::Fail;
-use zs_drive::{Job, Mode, Task};
-use zs_effect::{Beat, Outcome, Script};
+use zs_drive::Task;
 use zs_pool::{
     Batch, Board, BoardPass, Cut, Gate, OpenGate, Polled, PoolFault, Shelf, ShelfPass, Tally,
     TallySeat, poll_batch, round,
 };
-use zs_term::{Term, check};
 
 mod board;
 mod polling;
@@ -25,23 +25,7 @@ mod tally;
 fn new_task(alloc: Global, number: u64) -> Result<Task, Fail>
     ensures new { IfOk result (λ task. (task.number ≡ number) × (task.moments ≡ []) × (task.seen ≡ 0) × (task.broken ≡ false) × (task.job.start ≡ 0)) }
 {
-    let beats = [
-        Beat {
-            ms: 5,
-            outcome: Outcome::Bad(7),
-        },
-        Beat {
-            ms: 5,
-            outcome: Outcome::Good(1),
-        },
-    ];
-    let job = Job {
-        name: String::from_str(alloc, "a")?,
-        mode: Mode::Retry,
-        schedule: check(alloc, Term::Recurs(3))?,
-        start: 0,
-        script: Script::new(Vec::from_slice(alloc, &beats)?)?,
-    };
+    let job = job_of(alloc, retried("a", 0))?;
     Ok(Task::new(alloc, number, job)?)
 }
 
@@ -72,13 +56,13 @@ fn a_cut_has_limits(rt: HostRuntime) {
 
 #[test]
 fn faults_have_texts(rt: HostRuntime) -> Result<(), Fail> {
-    for (fault, want) in [
-        (PoolFault::Memory, "out of memory"),
-        (PoolFault::NoThread, "no thread"),
-        (PoolFault::Full, "the shelf is full"),
-    ] {
-        let text = format!(in rt.alloc(); "{fault}")?;
-        assert_eq!(rt; text.as_str(), want);
-    }
+    let (memory, thread, full) = (PoolFault::Memory, PoolFault::NoThread, PoolFault::Full);
+    let found = format!(in rt.alloc(); "{memory}, {thread}, {full}")?;
+    expect_text(
+        &rt,
+        &found,
+        "out of memory, no thread, the shelf is full",
+        "the faults",
+    );
     Ok(())
 }

@@ -1,6 +1,6 @@
 //! Bytes that are no plan. Each fault stands with the one that comes after it in the order, and is told first.
-use super::plans::fault_of;
-use std::alloc::Global;
+use super::support::plans::fault_of;
+use std::alloc::{AllocError, Global};
 use std::process::Abort;
 use std::test::Fail;
 use zs_effect::ScriptFault;
@@ -9,35 +9,45 @@ use zs_term::TermFault;
 
 const DOCUMENT: Option<u64> = None;
 
+fn expect_fault(rt: &impl Abort, alloc: Global, text: &str, fault: PlanFault) {
+    let found = fault_of(alloc, text);
+    assert!(rt; found == Some(fault), "{text}: {found:?}");
+}
+
 fn expect_faults(rt: &impl Abort, alloc: Global, faults: &[(&str, PlanFault)]) {
     for (text, fault) in faults {
-        assert_eq!(rt; fault_of(alloc, text), Some(*fault), "{text}");
+        expect_fault(rt, alloc, text, *fault);
     }
 }
 
 // The same for jobs: each text is what stands in a plan's list of jobs.
-fn expect_job_faults(
+fn expect_job_faults(rt: &impl Abort, alloc: Global, faults: &[(&str, PlanFault)]) {
+    for (jobs, fault) in faults {
+        let text = format!(in alloc; "{{\"horizon\":1000,\"jobs\":[{jobs}]}}");
+        expect_fault(rt, alloc, &text.expect(rt, "memory"), *fault);
+    }
+}
+
+// So many spaces are no plan, for this fault.
+fn expect_spaces(
     rt: &impl Abort,
     alloc: Global,
-    faults: &[(&str, PlanFault)],
+    count: usize,
+    wanted: PlanFault,
 ) -> Result<(), Fail> {
-    for (jobs, fault) in faults {
-        let text = format!(in alloc; "{{\"horizon\":1000,\"jobs\":[{jobs}]}}")?;
-        assert_eq!(rt; fault_of(alloc, &text), Some(*fault), "{jobs}");
-    }
+    let bytes = Vec::from_elem(alloc, b' ', count)?;
+    let fault = match read_plan(alloc, &bytes) {
+        Ok(_plan) => None,
+        Err(fault) => Some(fault),
+    };
+    assert!(rt; fault == Some(wanted), "{count}: {fault:?}");
     Ok(())
 }
 
 #[test]
 fn length_is_looked_at_before_json(rt: HostRuntime) -> Result<(), Fail> {
-    let alloc = rt.alloc();
-    let mut bytes = vec![in alloc; b' '; 16_777_217]?;
-    let long = read_plan(alloc, &bytes);
-    assert!(rt; matches!(&long, Err(PlanFault::TooLong)));
-    let _ = bytes.pop();
-    let short = read_plan(alloc, &bytes);
-    assert!(rt; matches!(&short, Err(PlanFault::Json)));
-    Ok(())
+    expect_spaces(&rt, rt.alloc(), 16_777_217, PlanFault::TooLong)?;
+    expect_spaces(&rt, rt.alloc(), 16_777_216, PlanFault::Json)
 }
 
 #[test]
@@ -120,28 +130,24 @@ fn a_document_is_in_range(rt: HostRuntime) {
     expect_faults(&rt, rt.alloc(), &faults);
 }
 
-#[test]
-fn a_plan_has_ten_thousand_jobs_at_most(rt: HostRuntime) -> Result<(), Fail> {
-    let alloc = rt.alloc();
-    let mut text = String::from_str(alloc, r#"{"horizon":1,"jobs":[0"#)?;
-    for _ in 0..9999 {
-        text.push_str(",0")?;
-    }
-    let most = format!(in alloc; "{text}]}}")?;
-    assert_eq!(rt;
-        fault_of(alloc, &most),
-        Some(PlanFault::Shape { job: Some(0) })
-    );
-    let more = format!(in alloc; "{text},0]}}")?;
-    assert_eq!(rt;
-        fault_of(alloc, &more),
-        Some(PlanFault::Range { job: DOCUMENT })
-    );
-    Ok(())
+// A list of so many jobs, each of which is 0.
+fn plan_of_zeros(alloc: Global, count: usize) -> Result<String, AllocError> {
+    let zeros = ",0".repeat(alloc, count.saturating_sub(1))?;
+    format!(in alloc; "{{\"horizon\":1,\"jobs\":[0{zeros}]}}")
 }
 
 #[test]
-fn a_job_has_its_first_fault(rt: HostRuntime) -> Result<(), Fail> {
+fn a_plan_has_ten_thousand_jobs_at_most(rt: HostRuntime) {
+    let most = plan_of_zeros(rt.alloc(), 10_000).expect(&rt, "memory");
+    let first = PlanFault::Shape { job: Some(0) };
+    expect_fault(&rt, rt.alloc(), &most, first);
+    let more = plan_of_zeros(rt.alloc(), 10_001).expect(&rt, "memory");
+    let range = PlanFault::Range { job: DOCUMENT };
+    expect_fault(&rt, rt.alloc(), &more, range);
+}
+
+#[test]
+fn a_job_has_its_first_fault(rt: HostRuntime) {
     let (job, place) = (0, Some(0));
     let faults = [
         // Something is missing, and a key is unknown.
@@ -185,13 +191,14 @@ fn a_job_has_its_first_fault(rt: HostRuntime) -> Result<(), Fail> {
             },
         ),
     ];
-    expect_job_faults(&rt, rt.alloc(), &faults)
+    expect_job_faults(&rt, rt.alloc(), &faults);
 }
 
+const FIRST: &str =
+    r#"{"name":"a","mode":"retry","schedule":"forever","script":[{"ms":1,"ok":1}]}"#;
+
 #[test]
-fn a_later_job_has_its_first_fault(rt: HostRuntime) -> Result<(), Fail> {
-    let alloc = rt.alloc();
-    let first = r#"{"name":"a","mode":"retry","schedule":"forever","script":[{"ms":1,"ok":1}]}"#;
+fn a_later_job_has_its_first_fault(rt: HostRuntime) {
     let (job, place) = (1, Some(1));
     let faults = [
         (r#"{"name":"b"}"#, PlanFault::Shape { job: place }),
@@ -221,14 +228,13 @@ fn a_later_job_has_its_first_fault(rt: HostRuntime) -> Result<(), Fail> {
         ),
     ];
     for (second, fault) in faults {
-        let text = format!(in alloc; "{{\"horizon\":1000,\"jobs\":[{first},{second}]}}")?;
-        assert_eq!(rt; fault_of(alloc, &text), Some(fault), "{second}");
+        let text = format!(in rt.alloc(); "{{\"horizon\":1000,\"jobs\":[{FIRST},{second}]}}");
+        expect_fault(&rt, rt.alloc(), &text.expect(&rt, "memory"), fault);
     }
-    Ok(())
 }
 
 #[test]
-fn a_job_has_its_shape(rt: HostRuntime) -> Result<(), Fail> {
+fn a_job_has_its_shape(rt: HostRuntime) {
     let shape = PlanFault::Shape { job: Some(0) };
     let faults = [
         (r#"1"#, shape),
@@ -282,37 +288,43 @@ fn a_job_has_its_shape(rt: HostRuntime) -> Result<(), Fail> {
             shape,
         ),
     ];
-    expect_job_faults(&rt, rt.alloc(), &faults)
+    expect_job_faults(&rt, rt.alloc(), &faults);
 }
 
 // A plan of one job with so many entries of no duration.
-fn plan_of_entries(alloc: Global, count: u64) -> Result<String, Fail> {
-    let mut text = String::from_str(
-        alloc,
-        r#"{"horizon":1,"jobs":[{"name":"a","mode":"retry","schedule":"forever","script":[{"ms":0,"ok":1}"#,
-    )?;
-    for _ in 1..count {
-        text.push_str(r#",{"ms":0,"ok":1}"#)?;
-    }
-    text.push_str("]}]}")?;
-    Ok(text)
+fn plan_of_entries(alloc: Global, count: usize) -> Result<String, AllocError> {
+    let more = r#",{"ms":0,"ok":1}"#.repeat(alloc, count.saturating_sub(1))?;
+    let first = r#"{"ms":0,"ok":1}"#;
+    format!(in alloc;
+        "{{\"horizon\":1,\"jobs\":[{{\"name\":\"a\",\"mode\":\"retry\",\"schedule\":\"forever\",\"script\":[{first}{more}]}}]}}"
+    )
 }
 
 #[test]
-fn a_script_is_counted_before_its_entries_are_looked_at(rt: HostRuntime) -> Result<(), Fail> {
-    let alloc = rt.alloc();
+fn a_script_is_counted_before_its_entries_are_looked_at(rt: HostRuntime) {
     for (count, fault) in [(1000, ScriptFault::ZeroMs), (1001, ScriptFault::TooLong)] {
-        let text = plan_of_entries(alloc, count)?;
-        let fault = PlanFault::Script { job: 0, fault };
-        assert_eq!(rt; fault_of(alloc, &text), Some(fault), "{count}");
+        let text = plan_of_entries(rt.alloc(), count).expect(&rt, "memory");
+        expect_fault(&rt, rt.alloc(), &text, PlanFault::Script { job: 0, fault });
     }
-    Ok(())
+}
+
+// A plan of one job with this schedule is refused for this fault of it.
+fn expect_schedule_faults(rt: &impl Abort, alloc: Global, faults: &[(&str, TermFault)]) {
+    for (schedule, fault) in faults {
+        let text = format!(in alloc;
+            "{{\"horizon\":1,\"jobs\":[{{\"name\":\"a\",\"mode\":\"retry\",\"schedule\":\"{schedule}\",\"script\":[]}}]}}"
+        );
+        let fault = PlanFault::Schedule {
+            job: 0,
+            fault: *fault,
+        };
+        expect_fault(rt, alloc, &text.expect(rt, "memory"), fault);
+    }
 }
 
 #[test]
-fn each_fault_of_a_schedule_is_told(rt: HostRuntime) -> Result<(), Fail> {
-    let alloc = rt.alloc();
-    for (schedule, fault) in [
+fn each_fault_of_a_schedule_is_told(rt: HostRuntime) {
+    let faults = [
         ("recurs(01)", TermFault::NoTerm { at: 7 }),
         (
             "forever.resetWhen(= 0).resetWhen(= 0).resetWhen(= 0).resetWhen(= 0).resetWhen(= 0).resetWhen(= 0).resetWhen(= 0).resetWhen(= 0).resetWhen(= 0)",
@@ -325,12 +337,6 @@ fn each_fault_of_a_schedule_is_told(rt: HostRuntime) -> Result<(), Fail> {
         ("exponential(1, 0)", TermFault::BadFactor),
         ("recurs(1).map(_1)", TermFault::NoKind),
         ("windowed(0)", TermFault::BadWindow),
-    ] {
-        let text = format!(in alloc;
-            "{{\"horizon\":1,\"jobs\":[{{\"name\":\"a\",\"mode\":\"retry\",\"schedule\":\"{schedule}\",\"script\":[]}}]}}"
-        )?;
-        let fault = PlanFault::Schedule { job: 0, fault };
-        assert_eq!(rt; fault_of(alloc, &text), Some(fault), "{schedule}");
-    }
-    Ok(())
+    ];
+    expect_schedule_faults(&rt, rt.alloc(), &faults);
 }

@@ -1,8 +1,7 @@
 //! Whole runs over readers and writers that are none of `std`'s.
-ghost use Rattle.std.specs.Prelude.{◌≡◌, false};
-
-use super::fakes::{Halting, Limited};
+use super::support::streams::{Halting, Limited};
 use std::alloc::Global;
+use std::process::Abort;
 use std::sync::Wait;
 use std::test::Fail;
 use std::thread::Threads;
@@ -71,43 +70,45 @@ fn plan_of(alloc: Global, workers: u64, grain: u64) -> Result<String, Fail> {
     Ok(format!(in alloc; "{{\"horizon\":100,\"workers\":{workers},\"grain\":{grain},{JOBS}")?)
 }
 
-// A reader of the text, in pieces of so many bytes, that fails after so many.
-fn halting(text: &str, step: usize, left: usize) -> Halting<'_>
-    ensures clear { result.failed ≡ false }
-{
-    Halting {
-        bytes: text.as_bytes(),
-        step,
-        left,
-        failed: false,
-    }
-}
-
-// A writer that takes pieces of so many bytes, and so many in all.
-fn limited(alloc: Global, step: usize, room: usize, flushes: bool) -> Limited
-    ensures clear { result.failed ≡ false }
-{
-    Limited {
-        taken: Vec::new(alloc),
-        step,
-        room,
-        flushes,
-        flushed: false,
-        failed: false,
-    }
+// A run ends with this fault or none, and says so by the marks alone: a reader's mark for a failed read, a writer's for a
+// failed write, and a flush where it succeeded. What was taken is the front of the report, of this length.
+fn expect_run<R: Abort + Threads + Wait + Sync>(
+    rt: &R,
+    alloc: Global,
+    reader: &mut Halting<'_>,
+    writer: &mut Limited,
+    wanted: Result<(), RunFault>,
+    length: usize,
+) {
+    assert!(rt; !reader.failed && !writer.failed);
+    let ended = run(rt, alloc, &OpenGate, reader, writer);
+    assert!(rt; ended == wanted, "{ended:?}");
+    assert!(rt;
+        reader.failed == (ended == Err(RunFault::Read)),
+        "{ended:?}"
+    );
+    let is_write = matches!(ended, Err(RunFault::Write { .. }));
+    assert!(rt; writer.failed == is_write, "{ended:?}");
+    assert!(rt; writer.flushed == ended.is_ok(), "{ended:?}");
+    assert!(rt; writer.taken.len() == length, "{ended:?}");
+    assert!(rt; REPORT.as_bytes().starts_with(&writer.taken), "{ended:?}");
 }
 
 #[test]
 fn every_cut_writes_the_same_bytes(rt: HostRuntime) -> Result<(), Fail> {
-    let alloc = rt.alloc();
     for workers in [1, 2, 7, 64] {
         for grain in [1, 3, 10_000] {
-            let plan = plan_of(alloc, workers, grain)?;
-            let mut reader = halting(&plan, 4096, usize::MAX);
-            let mut writer = limited(alloc, 4096, usize::MAX, true);
-            run(&rt, alloc, &OpenGate, &mut reader, &mut writer)?;
-            assert_eq!(rt; writer.taken.as_slice(), REPORT.as_bytes());
-            assert!(rt; writer.flushed, "workers {workers} grain {grain}");
+            let plan = plan_of(rt.alloc(), workers, grain)?;
+            let mut reader = Halting::of(&plan, 4096, usize::MAX);
+            let mut writer = Limited::of(rt.alloc(), 4096, usize::MAX, true);
+            expect_run(
+                &rt,
+                rt.alloc(),
+                &mut reader,
+                &mut writer,
+                Ok(()),
+                REPORT.len(),
+            );
         }
     }
     Ok(())
@@ -115,16 +116,17 @@ fn every_cut_writes_the_same_bytes(rt: HostRuntime) -> Result<(), Fail> {
 
 #[test]
 fn pieces_of_any_size_make_the_same_bytes(rt: HostRuntime) -> Result<(), Fail> {
-    let alloc = rt.alloc();
-    let plan = plan_of(alloc, 2, 1)?;
+    let plan = plan_of(rt.alloc(), 2, 1)?;
     for (read, write) in [(1, 1), (1, 4096), (4096, 1), (3, 7), (100, 64)] {
-        let mut reader = halting(&plan, read, usize::MAX);
-        let mut writer = limited(alloc, write, usize::MAX, true);
-        run(&rt, alloc, &OpenGate, &mut reader, &mut writer)?;
-        assert_eq!(rt;
-            writer.taken.as_slice(),
-            REPORT.as_bytes(),
-            "{read} and {write}"
+        let mut reader = Halting::of(&plan, read, usize::MAX);
+        let mut writer = Limited::of(rt.alloc(), write, usize::MAX, true);
+        expect_run(
+            &rt,
+            rt.alloc(),
+            &mut reader,
+            &mut writer,
+            Ok(()),
+            REPORT.len(),
         );
     }
     Ok(())
@@ -132,77 +134,45 @@ fn pieces_of_any_size_make_the_same_bytes(rt: HostRuntime) -> Result<(), Fail> {
 
 #[test]
 fn a_failed_reader_has_nothing_written(rt: HostRuntime) -> Result<(), Fail> {
-    let alloc = rt.alloc();
-    let plan = plan_of(alloc, 1, 1)?;
-    for (step, left) in [
-        (1, 0),
-        (1, 1),
-        (7, 500),
-        (4096, 500),
-        (1, plan.len()),
-        (4096, plan.len()),
-    ] {
-        let mut reader = halting(&plan, step, left);
-        let mut writer = limited(alloc, 4096, usize::MAX, true);
-        let ended = run(&rt, alloc, &OpenGate, &mut reader, &mut writer);
-        assert_eq!(rt; ended, Err(RunFault::Read), "after {left} bytes");
-        assert!(rt; reader.failed && !writer.failed, "after {left} bytes");
-        assert!(rt;
-            writer.taken.is_empty() && !writer.flushed,
-            "after {left} bytes"
-        );
+    let plan = plan_of(rt.alloc(), 1, 1)?;
+    let all = plan.len();
+    for (step, left) in [(1, 0), (1, 1), (7, 500), (4096, 500), (1, all), (4096, all)] {
+        let mut reader = Halting::of(&plan, step, left);
+        let mut writer = Limited::of(rt.alloc(), 4096, usize::MAX, true);
+        let wanted = Err(RunFault::Read);
+        expect_run(&rt, rt.alloc(), &mut reader, &mut writer, wanted, 0);
     }
     Ok(())
 }
 
 #[test]
 fn a_failed_writer_has_the_first_bytes(rt: HostRuntime) -> Result<(), Fail> {
-    let alloc = rt.alloc();
-    let plan = plan_of(alloc, 1, 1)?;
-    let report = REPORT.as_bytes();
-    for (step, room) in [
-        (1, 0),
-        (1, 1),
-        (7, 20),
-        (20, 20),
-        (4096, 500),
-        (1, report.len().saturating_sub(1)),
-    ] {
-        let mut reader = halting(&plan, 4096, usize::MAX);
-        let mut writer = limited(alloc, step, room, true);
-        let ended = run(&rt, alloc, &OpenGate, &mut reader, &mut writer);
-        let sent = room as u64;
-        assert_eq!(rt; ended, Err(RunFault::Write { sent }));
-        assert!(rt;
-            writer.failed && !reader.failed && !writer.flushed,
-            "after {room} bytes"
-        );
-        assert_eq!(rt; writer.taken.len(), room);
-        assert!(rt;
-            report.starts_with(writer.taken.as_slice()),
-            "after {room} bytes"
-        );
+    let plan = plan_of(rt.alloc(), 1, 1)?;
+    let nearly = REPORT.len().saturating_sub(1);
+    for (step, room) in [(1, 0), (1, 1), (7, 20), (20, 20), (4096, 500), (1, nearly)] {
+        let mut reader = Halting::of(&plan, 4096, usize::MAX);
+        let mut writer = Limited::of(rt.alloc(), step, room, true);
+        let wanted = Err(RunFault::Write { sent: room as u64 });
+        expect_run(&rt, rt.alloc(), &mut reader, &mut writer, wanted, room);
     }
     Ok(())
 }
 
 #[test]
 fn a_failed_flush_comes_after_all_bytes(rt: HostRuntime) -> Result<(), Fail> {
-    let alloc = rt.alloc();
-    let plan = plan_of(alloc, 1, 1)?;
-    let mut reader = halting(&plan, 4096, usize::MAX);
-    let mut writer = limited(alloc, 100, usize::MAX, false);
-    let ended = run(&rt, alloc, &OpenGate, &mut reader, &mut writer);
-    let sent = REPORT.len() as u64;
-    assert_eq!(rt; ended, Err(RunFault::Write { sent }));
-    assert_eq!(rt; writer.taken.as_slice(), REPORT.as_bytes());
-    assert!(rt; writer.failed && !writer.flushed);
+    let plan = plan_of(rt.alloc(), 1, 1)?;
+    let mut reader = Halting::of(&plan, 4096, usize::MAX);
+    let mut writer = Limited::of(rt.alloc(), 100, usize::MAX, false);
+    let length = REPORT.len();
+    let wanted = Err(RunFault::Write {
+        sent: length as u64,
+    });
+    expect_run(&rt, rt.alloc(), &mut reader, &mut writer, wanted, length);
     Ok(())
 }
 
 #[test]
-fn a_refused_plan_has_nothing_written(rt: HostRuntime) -> Result<(), Fail> {
-    let alloc = rt.alloc();
+fn a_refused_plan_has_nothing_written(rt: HostRuntime) {
     for (text, fault) in [
         ("", PlanFault::Json),
         ("{}", PlanFault::Shape { job: None }),
@@ -211,12 +181,9 @@ fn a_refused_plan_has_nothing_written(rt: HostRuntime) -> Result<(), Fail> {
             PlanFault::Shape { job: Some(0) },
         ),
     ] {
-        let mut reader = halting(text, 4096, usize::MAX);
-        let mut writer = limited(alloc, 4096, usize::MAX, true);
-        let ended = run(&rt, alloc, &OpenGate, &mut reader, &mut writer);
-        assert_eq!(rt; ended, Err(RunFault::Plan(fault)), "{text}");
-        assert!(rt; writer.taken.is_empty() && !writer.flushed, "{text}");
-        assert!(rt; !reader.failed && !writer.failed, "{text}");
+        let mut reader = Halting::of(text, 4096, usize::MAX);
+        let mut writer = Limited::of(rt.alloc(), 4096, usize::MAX, true);
+        let wanted = Err(RunFault::Plan(fault));
+        expect_run(&rt, rt.alloc(), &mut reader, &mut writer, wanted, 0);
     }
-    Ok(())
 }

@@ -1,13 +1,13 @@
 //! Batches that are polled by the thread of the test.
 use super::*;
-use crate::tests::gates::InTurn;
+use crate::tests::support::gates::InTurn;
 
 #[test]
 fn a_batch_is_polled_in_order_and_each_poll_counted(rt: HostRuntime) -> Result<(), Fail> {
     let alloc = rt.alloc();
     let tasks = new_tasks(alloc, 3, 2)?;
     let (tally, mut seat) = Tally::new(alloc)?;
-    let gate = InTurn::new();
+    let gate = InTurn::of(3);
     let batch = Batch { number: 4, tasks };
     let polled = poll_batch(&rt, alloc, &gate, &tally, &mut seat, 2, batch)?;
     assert_eq!(rt; (gate.passes(), gate.wrong()), (3, 0));

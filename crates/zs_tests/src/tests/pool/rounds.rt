@@ -4,7 +4,7 @@ ghost use Rattle.zs_drive.specs.Clocks.{max_tick};
 ghost use Rattle.zs_term.specs.Saturating.{max_moment};
 
 use super::*;
-use crate::tests::gates::{Held, InTurn, LastFirst, Meeting, Slow};
+use crate::tests::support::gates::{Held, InTurn, LastFirst, Meeting, Slow};
 use std::process::Abort;
 use std::sync::Wait;
 use std::thread::Threads;
@@ -69,7 +69,7 @@ fn an_empty_round_counts_nothing(rt: HostRuntime) -> Result<(), Fail> {
 
 #[test]
 fn one_worker_passes_each_gate_between_two_polls(rt: HostRuntime) -> Result<(), Fail> {
-    let gate = InTurn::new();
+    let gate = InTurn::of(3);
     let (polled, _) = one_round(&rt, rt.alloc(), within(&rt, 1, 1), &gate, 0, 3)?;
     assert_eq!(rt; (gate.passes(), gate.wrong()), (3, 0));
     expect_polled(&rt, &polled, 3);

@@ -17,11 +17,40 @@ pub fn comes_to(number: &AtomicU64, wanted: u64) -> bool {
     false
 }
 
-/// Holds each pass until as many passes were entered, and counts those that gave up.
+// A counter for each of the moments 0, 5 and 10.
+#[derive(Drop)]
+struct Moments {
+    counters: [AtomicU64; 3],
+}
+
+impl Moments {
+    fn new() -> Moments {
+        Moments {
+            counters: [AtomicU64::new(0), AtomicU64::new(0), AtomicU64::new(0)],
+        }
+    }
+
+    // Counts one more at this moment.
+    fn count(&self, now: u64) {
+        if let Some(counter) = self.counters.get((now / 5) as usize) {
+            counter.fetch_add(1, Ordering::SeqCst);
+        }
+    }
+
+    // Whether the counter of this moment comes to so much.
+    fn come_to(&self, now: u64, wanted: u64) -> bool {
+        match self.counters.get((now / 5) as usize) {
+            Some(counter) => comes_to(counter, wanted),
+            None => false,
+        }
+    }
+}
+
+/// Holds each pass until as many passes of its moment were entered, and counts those that gave up.
 #[derive(Drop)]
 pub struct Meeting {
     wanted: u64,
-    entered: AtomicU64,
+    entered: Moments,
     alone: AtomicU64,
 }
 
@@ -29,7 +58,7 @@ impl Meeting {
     pub fn of(wanted: u64) -> Meeting {
         Meeting {
             wanted,
-            entered: AtomicU64::new(0),
+            entered: Moments::new(),
             alone: AtomicU64::new(0),
         }
     }
@@ -41,19 +70,19 @@ impl Meeting {
 }
 
 impl Gate for Meeting {
-    fn pass(&self, _job: u64, _now: u64, _done: u64) {
-        self.entered.fetch_add(1, Ordering::SeqCst);
-        if !comes_to(&self.entered, self.wanted) {
+    fn pass(&self, _job: u64, now: u64, _done: u64) {
+        self.entered.count(now);
+        if !self.entered.come_to(now, self.wanted) {
             self.alone.fetch_add(1, Ordering::SeqCst);
         }
     }
 }
 
-/// Holds the pass of one job until the passes of two others were entered, and keeps the greatest `done`.
+/// Holds the pass of one job until the passes of two others of its moment were entered, and keeps the greatest `done`.
 #[derive(Drop)]
 pub struct Held {
     job: u64,
-    others: AtomicU64,
+    others: Moments,
     alone: AtomicU64,
     done: AtomicU64,
 }
@@ -62,7 +91,7 @@ impl Held {
     pub fn job(job: u64) -> Held {
         Held {
             job,
-            others: AtomicU64::new(0),
+            others: Moments::new(),
             alone: AtomicU64::new(0),
             done: AtomicU64::new(0),
         }
@@ -80,11 +109,11 @@ impl Held {
 }
 
 impl Gate for Held {
-    fn pass(&self, job: u64, _now: u64, done: u64) {
+    fn pass(&self, job: u64, now: u64, done: u64) {
         self.done.fetch_max(done, Ordering::SeqCst);
         if job != self.job {
-            self.others.fetch_add(1, Ordering::SeqCst);
-        } else if !comes_to(&self.others, 2) {
+            self.others.count(now);
+        } else if !self.others.come_to(now, 2) {
             self.alone.fetch_add(1, Ordering::SeqCst);
         }
     }
@@ -139,16 +168,18 @@ impl Gate for Slow {
     }
 }
 
-/// Counts its passes. Each has to be of the job with the number of passes before, and be told of as many polls.
+/// Counts its passes. Each has to be of the next of so many jobs in turn, and be told of as many polls as passes before.
 #[derive(Drop)]
 pub struct InTurn {
+    jobs: u64,
     passes: AtomicU64,
     wrong: AtomicU64,
 }
 
 impl InTurn {
-    pub fn new() -> InTurn {
+    pub fn of(jobs: u64) -> InTurn {
         InTurn {
+            jobs,
             passes: AtomicU64::new(0),
             wrong: AtomicU64::new(0),
         }
@@ -166,7 +197,7 @@ impl InTurn {
 impl Gate for InTurn {
     fn pass(&self, job: u64, _now: u64, done: u64) {
         let before = self.passes.fetch_add(1, Ordering::SeqCst);
-        if job != before || done != before {
+        if Some(job) != before.checked_rem(self.jobs) || done != before {
             self.wrong.fetch_add(1, Ordering::SeqCst);
         }
     }

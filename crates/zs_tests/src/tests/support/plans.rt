@@ -4,7 +4,7 @@ use std::sync::Wait;
 use std::test::Fail;
 use std::thread::Threads;
 use zs_pool::Gate;
-use zs_run::{Marked, run};
+use zs_run::{Marked, PlanFault, read_plan, run};
 
 /// A plan of one job, which fails once and then succeeds: polled at 0, 5 and 10.
 pub const PLAN: &str =
@@ -60,4 +60,12 @@ pub fn written<G: Gate, R: Threads + Wait + Sync>(
     let mut writer = Marked::new(&mut written);
     run(rt, alloc, gate, &mut reader, &mut writer)?;
     Ok(written)
+}
+
+/// The fault of a text, where it is no plan.
+pub fn fault_of(alloc: Global, text: &str) -> Option<PlanFault> {
+    match read_plan(alloc, text.as_bytes()) {
+        Ok(_plan) => None,
+        Err(fault) => Some(fault),
+    }
 }

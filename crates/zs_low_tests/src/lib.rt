@@ -1,0 +1,6 @@
+//! Tests of the crates that start no thread: the texts of terms, decisions, attempts, tasks that are polled by hand, the
+//! clock and the timer queue.
+#![tactic(auto)]
+
+#[cfg(test)]
+mod tests;

@@ -1,0 +1,372 @@
+//! Worked examples, by `plain` on each prefix and by `follow`: values from the rules in docs/SEMANTICS.md, worked by hand.
+ghost use Rattle.std.specs.Prelude.{◌<◌, length, IfOk};
+ghost use Rattle.zs_step.specs.History.{history_of, IsInOrder};
+
+use super::support::expect_text;
+use std::alloc::{Alloc, AllocError, Global};
+use std::fmt::Write;
+use std::process::Abort;
+use std::test::Fail;
+use zs_step::{Compiled, Decision, Interval, follow, plain};
+use zs_term::{Checked, Out, append_out, read};
+
+// A schedule, its pairs of a moment and an input, the answers, and the visits that the steps take.
+type Row<'a> = (&'a str, &'a [(u64, u64)], &'a str, &'a str);
+
+// Adds an output and a decision.
+fn push_step(text: &mut String, out: &Out, decision: Decision) -> Result<(), AllocError> {
+    append_out(text, out)?;
+    match decision {
+        Decision::Stop => text.push_str(" done;"),
+        Decision::Next(moment) => write!(text, " {moment};"),
+    }
+}
+
+// Adds what `plain` answers at the last pair.
+fn push_answer(
+    alloc: Global,
+    text: &mut String,
+    checked: &Checked,
+    pairs: &[(u64, u64)],
+) -> Result<(), Fail>
+    requires some { 0 < length pairs.now }
+    requires order { IsInOrder (history_of pairs.now) }
+{
+    let (out, decision) = plain(alloc, checked, pairs)?;
+    Ok(push_step(text, &out, decision)?)
+}
+
+// Adds what `plain` answers to the pairs up to each of them. Gives back the pairs, which are in order.
+fn push_plain_answers<R: Abort + Alloc<A = Global>>(
+    rt: &R,
+    text: &mut String,
+    checked: &Checked,
+    pairs: &[(u64, u64)],
+) -> Result<Vec<(u64, u64)>, Fail>
+    ensures order { IfOk result (λ seen. IsInOrder (history_of seen.items)) }
+{
+    let mut seen = Vec::new(rt.alloc());
+    let mut last = 0;
+    for pair in pairs {
+        let (now, input) = *pair;
+        assert!(rt; last <= now, "a moment before an earlier one");
+        last = now;
+        seen.push((now, input))?;
+        push_answer(rt.alloc(), text, checked, &seen)?;
+    }
+    Ok(seen)
+}
+
+// Adds what `follow` answers, and then the visits of its steps.
+fn push_followed(
+    alloc: Global,
+    text: &mut String,
+    checked: Checked,
+    pairs: &[(u64, u64)],
+) -> Result<(), Fail>
+    requires order { IsInOrder (history_of pairs.now) }
+{
+    let steps = follow(alloc, checked, pairs)?;
+    for step in &steps {
+        push_step(text, &step.out, step.decision)?;
+    }
+    for step in &steps {
+        write!(text, "{};", step.visits)?;
+    }
+    Ok(())
+}
+
+// Adds both.
+fn push_both<R: Abort + Alloc<A = Global>>(
+    rt: &R,
+    text: &mut String,
+    schedule: &str,
+    pairs: &[(u64, u64)],
+) -> Result<(), Fail> {
+    let checked = read(rt.alloc(), schedule)?;
+    let seen = push_plain_answers(rt, text, &checked, pairs)?;
+    push_followed(rt.alloc(), text, checked, &seen)
+}
+
+fn expect_answers<R: Abort + Alloc<A = Global>>(rt: &R, rows: &[Row<'_>]) -> Result<(), Fail> {
+    for (schedule, pairs, answers, visits) in rows {
+        let mut text = String::new(rt.alloc());
+        push_both(rt, &mut text, schedule, pairs)?;
+        let wanted = format!(in rt.alloc(); "{answers}{answers}{visits}")?;
+        expect_text(rt, &text, &wanted, schedule);
+    }
+    Ok(())
+}
+
+#[test]
+fn counters_go_on_at_equal_moments(rt: HostRuntime) -> Result<(), Fail> {
+    let pairs: &[(u64, u64)] = &[(5, 0), (5, 1), (9, 0)];
+    let rows = [
+        ("forever", pairs, "0 5;1 5;2 9;", "1;1;1;"),
+        ("recurs(2)", pairs, "0 5;1 5;2 done;", "1;1;1;"),
+        ("identity", pairs, "0 5;1 5;0 9;", "1;1;1;"),
+        ("elapsed", pairs, "0 5;0 5;4 9;", "1;1;1;"),
+        ("forever", &[], "", ""),
+    ];
+    expect_answers(&rt, &rows)
+}
+
+#[test]
+fn delays_grow_by_their_rules(rt: HostRuntime) -> Result<(), Fail> {
+    let rows: [Row<'_>; 3] = [
+        (
+            "fibonacci(10)",
+            &[(5, 0), (5, 1), (9, 0)],
+            "10 15;10 15;20 29;",
+            "1;1;1;",
+        ),
+        (
+            "linear(10)",
+            &[(1, 0), (12, 0), (33, 0)],
+            "10 11;20 32;30 63;",
+            "1;1;1;",
+        ),
+        ("spaced(10)", &[(4, 1), (18, 1)], "0 14;1 28;", "1;1;"),
+    ];
+    expect_answers(&rt, &rows)
+}
+
+#[test]
+fn runs_keep_to_the_first_moment(rt: HostRuntime) -> Result<(), Fail> {
+    let rows: [Row<'_>; 4] = [
+        (
+            "fixed(100)",
+            &[(50, 1), (400, 1), (410, 1), (460, 1)],
+            "0 150;1 400;2 450;3 550;",
+            "1;1;1;1;",
+        ),
+        ("fixed(100)", &[(50, 1), (250, 1)], "0 150;1 350;", "1;1;"),
+        (
+            "fixed(0)",
+            &[(5, 0), (5, 1), (9, 0)],
+            "0 5;1 5;2 9;",
+            "1;1;1;",
+        ),
+        (
+            "windowed(100)",
+            &[(50, 1), (400, 1), (460, 1)],
+            "0 150;1 450;2 550;",
+            "1;1;1;",
+        ),
+    ];
+    expect_answers(&rt, &rows)
+}
+
+#[test]
+fn sums_and_products_are_cut_at_the_greatest_moment(rt: HostRuntime) -> Result<(), Fail> {
+    let pairs: &[(u64, u64)] = &[(1, 0), (2, 0)];
+    let always = "0 18446744073709551615;1 18446744073709551615;";
+    let rows = [
+        ("spaced(18446744073709551615)", pairs, always, "1;1;"),
+        ("fixed(18446744073709551615)", pairs, always, "1;1;"),
+        ("windowed(18446744073709551615)", pairs, always, "1;1;"),
+    ];
+    expect_answers(&rt, &rows)
+}
+
+#[test]
+fn delays_are_cut_at_the_greatest_moment(rt: HostRuntime) -> Result<(), Fail> {
+    let pairs: &[(u64, u64)] = &[(1, 0), (2, 0)];
+    let grown =
+        "9223372036854775808 9223372036854775809;18446744073709551615 18446744073709551615;";
+    let rows: [Row<'_>; 3] = [
+        ("exponential(9223372036854775808)", pairs, grown, "1;1;"),
+        ("linear(9223372036854775808)", pairs, grown, "1;1;"),
+        (
+            "fibonacci(9223372036854775808)",
+            &[(0, 0), (0, 0), (1, 0)],
+            "9223372036854775808 9223372036854775808;9223372036854775808 9223372036854775808;18446744073709551615 18446744073709551615;",
+            "1;1;1;",
+        ),
+    ];
+    expect_answers(&rt, &rows)
+}
+
+#[test]
+fn functions_are_cut_at_the_greatest_moment(rt: HostRuntime) -> Result<(), Fail> {
+    let pairs: &[(u64, u64)] = &[(1, 0), (2, 0)];
+    let rows = [
+        (
+            "forever.map(+ 18446744073709551615)",
+            pairs,
+            "18446744073709551615 1;18446744073709551615 2;",
+            "2;2;",
+        ),
+        (
+            "linear(2).map(* 9223372036854775808)",
+            pairs,
+            "18446744073709551615 3;18446744073709551615 6;",
+            "2;2;",
+        ),
+    ];
+    expect_answers(&rt, &rows)
+}
+
+#[test]
+fn both_wait_for_the_later_and_either_for_the_earlier(rt: HostRuntime) -> Result<(), Fail> {
+    let rows: [Row<'_>; 2] = [
+        (
+            "(exponential(10) && recurs(3))",
+            &[(1, 1), (12, 1), (33, 1), (74, 1)],
+            "(10,0) 11;(20,1) 32;(40,2) 73;(80,3) done;",
+            "3;3;3;3;",
+        ),
+        (
+            "(exponential(1, 4294967296) || spaced(1))",
+            &[(1, 0), (3, 0), (5, 0)],
+            "(1,0) 2;(4294967296,1) 4;(18446744073709551615,2) 6;",
+            "3;3;3;",
+        ),
+    ];
+    expect_answers(&rt, &rows)
+}
+
+#[test]
+fn a_done_part_goes_on_again(rt: HostRuntime) -> Result<(), Fail> {
+    let rows: [Row<'_>; 1] = [(
+        "(identity.whileInput(= 0) || recurs(3))",
+        &[(1, 0), (2, 1), (3, 0), (4, 0)],
+        "(0,0) 1;(1,1) 2;(0,2) 3;(0,3) 4;",
+        "4;4;4;4;",
+    )];
+    expect_answers(&rt, &rows)
+}
+
+#[test]
+fn the_second_begins_at_the_done_step(rt: HostRuntime) -> Result<(), Fail> {
+    let rows: [Row<'_>; 2] = [
+        (
+            "(recurs(2) andThenEither recurs(1))",
+            &[(1, 5), (2, 5), (3, 5), (4, 5)],
+            "Left(0) 1;Left(1) 2;Right(0) 3;Right(1) done;",
+            "2;2;3;2;",
+        ),
+        (
+            "(recurs(0) andThenEither linear(7)).map(merge)",
+            &[(1, 0), (2, 0)],
+            "7 8;14 16;",
+            "4;3;",
+        ),
+    ];
+    expect_answers(&rt, &rows)
+}
+
+#[test]
+fn a_list_leaves_out_the_done_steps(rt: HostRuntime) -> Result<(), Fail> {
+    let rows: [Row<'_>; 2] = [
+        (
+            "identity.whileInput(< 3).collectAll",
+            &[(1, 1), (2, 2), (3, 3)],
+            "[] 1;[1] 2;[1,2] done;",
+            "3;3;3;",
+        ),
+        (
+            "identity.whileInput(= 0).collectAll",
+            &[(1, 0), (2, 1), (3, 0), (4, 0)],
+            "[] 1;[0] done;[0] 3;[0,0] 4;",
+            "3;3;3;3;",
+        ),
+    ];
+    expect_answers(&rt, &rows)
+}
+
+#[test]
+fn sizes_and_parts_are_tested(rt: HostRuntime) -> Result<(), Fail> {
+    let rows: [Row<'_>; 2] = [
+        (
+            "forever.collectAll.whileOutput(size < 1).map(size)",
+            &[(1, 0), (2, 0)],
+            "0 1;1 done;",
+            "4;4;",
+        ),
+        (
+            "(elapsed && identity).whileOutput(_2 = 0).map(_1)",
+            &[(1, 0), (4, 7)],
+            "0 1;3 done;",
+            "5;5;",
+        ),
+    ];
+    expect_answers(&rt, &rows)
+}
+
+#[test]
+fn a_reset_answers_anew(rt: HostRuntime) -> Result<(), Fail> {
+    let rows: [Row<'_>; 4] = [
+        (
+            "recurs(5).resetWhen(= 2)",
+            &[(1, 0), (2, 0), (3, 0), (4, 0)],
+            "0 1;1 2;0 3;1 4;",
+            "2;2;3;2;",
+        ),
+        (
+            "elapsed.resetWhen(>= 5)",
+            &[(0, 0), (3, 0), (6, 0), (8, 0)],
+            "0 0;3 3;0 6;2 8;",
+            "2;2;3;2;",
+        ),
+        (
+            "forever.resetWhen(= 0)",
+            &[(1, 0), (2, 0)],
+            "0 1;1 2;",
+            "3;2;",
+        ),
+        (
+            "(recurs(9).resetWhen(= 2) && elapsed).resetWhen(_2 >= 5)",
+            &[(0, 0), (1, 0), (2, 0), (5, 0), (6, 0)],
+            "(0,0) 0;(1,1) 1;(0,2) 2;(0,0) 5;(1,1) 6;",
+            "5;5;6;9;5;",
+        ),
+    ];
+    expect_answers(&rt, &rows)
+}
+
+#[test]
+fn a_reset_forgets_side_and_list(rt: HostRuntime) -> Result<(), Fail> {
+    let rows: [Row<'_>; 2] = [
+        (
+            "((recurs(1) andThenEither forever) && forever).resetWhen(_2 = 2)",
+            &[(1, 0), (2, 0), (3, 0), (4, 0)],
+            "(Left(0),0) 1;(Right(0),1) 2;(Left(0),0) 3;(Right(0),1) 4;",
+            "5;6;9;6;",
+        ),
+        (
+            "identity.collectAll.resetWhen(size = 2)",
+            &[(1, 7), (2, 8), (3, 9), (4, 6)],
+            "[] 1;[7] 2;[] 3;[9] 4;",
+            "3;3;5;3;",
+        ),
+    ];
+    expect_answers(&rt, &rows)
+}
+
+// Whether a new state of a schedule is whole, what its first step at 3 decides, and whether it is whole then.
+fn first_step(alloc: Global, schedule: &str) -> Result<String, Fail> {
+    let mut compiled = Compiled::new(alloc, read(alloc, schedule)?)?;
+    let before = compiled.broken();
+    let decision = match compiled.step(3, 0) {
+        Ok(step) => step.decision,
+        Err(fault) => return Err(Fail::from(fault)),
+    };
+    let after = compiled.broken();
+    drop(compiled);
+    Ok(format!(in alloc; "{before} {decision:?} {after}")?)
+}
+
+#[test]
+fn a_new_state_is_whole(rt: HostRuntime) -> Result<(), Fail> {
+    let found = first_step(rt.alloc(), "recurs(0)")?;
+    expect_text(&rt, &found, "false Stop false", "broken, decision, broken");
+    Ok(())
+}
+
+#[test]
+fn intervals_meet_at_their_starts(rt: HostRuntime) {
+    let (early, late) = (Interval::after(3), Interval::after(8));
+    assert!(rt; early.intersect(&late).start() == 8);
+    assert!(rt; early.union(&late).start() == 3);
+}

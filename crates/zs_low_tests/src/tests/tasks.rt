@@ -1,0 +1,322 @@
+//! Jobs that are polled by hand, at each millisecond at which they are due, and at other moments.
+ghost use Rattle.std.specs.Prelude.{◌≡◌, ◌≤◌, ◌<◌, IfOk};
+
+use super::support::{bad, expect_text, good};
+use futures::Future;
+use futures::task::{Doorbell, Poll, Solo};
+use std::alloc::{Alloc, AllocError, Global};
+use std::fmt::Write;
+use std::process::Abort;
+use std::random::RandomSource;
+use std::test::Fail;
+use zs_agenda::AgendaFault;
+use zs_drive::{DriveFault, Ending, Job, Mode, Task};
+use zs_effect::{Beat, Script};
+use zs_term::read;
+
+// The task with the number 7, of a job with the name `a`.
+fn task_of(
+    alloc: Global,
+    mode: Mode,
+    schedule: &str,
+    start: u64,
+    beats: &[Beat],
+) -> Result<Task, Fail>
+    ensures seen { IfOk result (λ task. task.seen ≡ 0) }
+{
+    let name = String::from_str(alloc, "a")?;
+    let script = Script::new(Vec::from_slice(alloc, beats)?)?;
+    let schedule = read(alloc, schedule)?;
+    let job = Job {
+        name,
+        mode,
+        schedule,
+        start,
+        script,
+    };
+    Ok(Task::new(alloc, 7, job)?)
+}
+
+// A caller of `poll` knows of a mock no more than this.
+fn poll(solo: &Solo, task: &mut Task) -> Poll<Result<Ending, DriveFault>>
+    ensures seen { task.new.seen ≡ task.old.seen }
+{
+    let mut cx = solo.begin();
+    let polled = task.poll(&mut cx);
+    let _: Poll<()> = cx.yield_now();
+    cx.park();
+    polled
+}
+
+// Polls at each millisecond up to the horizon at which the task is due.
+fn run(solo: &Solo, task: &mut Task, horizon: u64)
+    requires seen { task.old.seen ≡ 0 }
+    requires bounded { horizon < 10000 }
+{
+    for now in 0..horizon + 1 {
+        if task.due() == Some(now) {
+            task.see(now);
+            let _ = poll(solo, task);
+        }
+    }
+}
+
+// When the last attempt began and ended.
+fn last_of(task: &Task) -> Option<(u64, Option<u64>)> {
+    let attempted = task.records().last()?;
+    match &attempted.ended {
+        None => Some((attempted.begun, None)),
+        Some(ended) => Some((attempted.begun, Some(ended.at))),
+    }
+}
+
+// Where a task stands: its due polls, what it waits for, its ending, and its last attempt.
+fn standing(alloc: Global, task: &Task) -> Result<String, AllocError> {
+    let (polls, due, ending, last) = (task.polls(), task.due(), task.ending(), last_of(task));
+    format!(in alloc; "{polls} polls, due {due:?}, ending {ending:?}, last {last:?}")
+}
+
+// Where a job stands once it was polled at each millisecond up to a horizon at which it was due.
+fn expect<R: Abort + Alloc<A = Global> + RandomSource>(
+    rt: &R,
+    mode: Mode,
+    schedule: &str,
+    start: u64,
+    beats: &[Beat],
+    horizon: u64,
+    wanted: &str,
+) -> Result<(), Fail>
+    requires bounded { horizon < 10000 }
+{
+    let solo = Solo::new(rt, Doorbell::spinning())?;
+    let mut task = task_of(rt.alloc(), mode, schedule, start, beats)?;
+    run(&solo, &mut task, horizon);
+    let found = standing(rt.alloc(), &task);
+    drop(task);
+    drop(solo);
+    expect_text(rt, &found?, wanted, schedule);
+    Ok(())
+}
+
+#[test]
+fn a_repeat_finishes_with_its_schedule(rt: HostRuntime) -> Result<(), Fail> {
+    let wanted = "2 polls, due None, ending Some(Finished), last Some((0, Some(3)))";
+    expect(
+        &rt,
+        Mode::Repeat,
+        "recurs(0)",
+        0,
+        &[good(3, 9)],
+        1000,
+        wanted,
+    )
+}
+
+#[test]
+fn a_repeat_runs_behind(rt: HostRuntime) -> Result<(), Fail> {
+    let beats = [good(50, 1), good(250, 1), good(10, 1), good(10, 1)];
+    let wanted = "7 polls, due Some(550), ending None, last Some((450, Some(460)))";
+    expect(&rt, Mode::Repeat, "fixed(100)", 0, &beats, 500, wanted)
+}
+
+#[test]
+fn a_repeat_ends_on_a_boundary(rt: HostRuntime) -> Result<(), Fail> {
+    let beats = [good(50, 1), good(100, 1)];
+    let wanted = "4 polls, due Some(350), ending None, last Some((150, Some(250)))";
+    expect(&rt, Mode::Repeat, "fixed(100)", 0, &beats, 300, wanted)
+}
+
+#[test]
+fn an_attempt_runs_at_the_horizon(rt: HostRuntime) -> Result<(), Fail> {
+    let wanted = "3 polls, due Some(18), ending None, last Some((14, None))";
+    expect(
+        &rt,
+        Mode::Repeat,
+        "spaced(10)",
+        0,
+        &[good(4, 1)],
+        16,
+        wanted,
+    )
+}
+
+#[test]
+fn an_end_at_the_horizon_counts(rt: HostRuntime) -> Result<(), Fail> {
+    let wanted = "4 polls, due Some(28), ending None, last Some((14, Some(18)))";
+    expect(
+        &rt,
+        Mode::Repeat,
+        "spaced(10)",
+        0,
+        &[good(4, 1)],
+        18,
+        wanted,
+    )
+}
+
+#[test]
+fn a_failure_ends_a_repeat(rt: HostRuntime) -> Result<(), Fail> {
+    let beats = [good(2, 1), bad(2, 4)];
+    let wanted = "3 polls, due None, ending Some(Failed(4)), last Some((2, Some(4)))";
+    expect(&rt, Mode::Repeat, "recurs(5)", 0, &beats, 1000, wanted)
+}
+
+#[test]
+fn a_job_starts_past_the_horizon(rt: HostRuntime) -> Result<(), Fail> {
+    let wanted = "0 polls, due Some(2000), ending None, last None";
+    expect(
+        &rt,
+        Mode::Retry,
+        "recurs(3)",
+        2000,
+        &[bad(5, 7)],
+        1000,
+        wanted,
+    )
+}
+
+#[test]
+fn a_retry_ends_with_a_success(rt: HostRuntime) -> Result<(), Fail> {
+    let beats = [bad(5, 7), good(5, 1)];
+    let wanted = "3 polls, due None, ending Some(Succeeded(1)), last Some((5, Some(10)))";
+    expect(&rt, Mode::Retry, "recurs(3)", 0, &beats, 1000, wanted)
+}
+
+#[test]
+fn one_schedule_comes_after_another(rt: HostRuntime) -> Result<(), Fail> {
+    let schedule = "(recurs(2) andThenEither recurs(1))";
+    let wanted = "5 polls, due None, ending Some(Finished), last Some((3, Some(4)))";
+    expect(&rt, Mode::Repeat, schedule, 0, &[good(1, 5)], 1000, wanted)
+}
+
+#[test]
+fn a_delay_saturates(rt: HostRuntime) -> Result<(), Fail> {
+    let schedule = "(exponential(1, 4294967296) || spaced(1))";
+    let wanted = "6 polls, due Some(6), ending None, last Some((4, Some(5)))";
+    expect(&rt, Mode::Repeat, schedule, 0, &[good(1, 0)], 5, wanted)
+}
+
+#[test]
+fn a_done_part_goes_on_again(rt: HostRuntime) -> Result<(), Fail> {
+    let schedule = "(identity.whileInput(= 0) || recurs(3))";
+    let beats = [good(1, 0), good(1, 1), good(1, 0)];
+    let wanted = "5 polls, due Some(5), ending None, last Some((4, None))";
+    expect(&rt, Mode::Repeat, schedule, 0, &beats, 4, wanted)
+}
+
+#[test]
+fn inputs_are_collected_while_they_pass(rt: HostRuntime) -> Result<(), Fail> {
+    let schedule = "identity.whileInput(< 3).collectAll";
+    let beats = [good(1, 1), good(1, 2), good(1, 3)];
+    let wanted = "4 polls, due None, ending Some(Finished), last Some((2, Some(3)))";
+    expect(&rt, Mode::Repeat, schedule, 0, &beats, 1000, wanted)
+}
+
+#[test]
+fn a_retry_goes_past_the_last_entry(rt: HostRuntime) -> Result<(), Fail> {
+    let beats = [bad(1, 11), bad(2, 12), bad(3, 13)];
+    let wanted = "5 polls, due None, ending Some(Failed(13)), last Some((6, Some(9)))";
+    expect(&rt, Mode::Retry, "recurs(3)", 0, &beats, 1000, wanted)
+}
+
+#[test]
+fn an_end_saturates(rt: HostRuntime) -> Result<(), Fail> {
+    let beats = [good(2, 4), good(u64::MAX, 9)];
+    let wanted = "2 polls, due Some(18446744073709551615), ending None, last Some((5, None))";
+    expect(&rt, Mode::Repeat, "spaced(0)", 3, &beats, 20, wanted)
+}
+
+// What a task is known by, and what it waits for.
+fn known(alloc: Global, task: &Task) -> Result<String, AllocError> {
+    let (number, name, mode, due) = (task.number(), task.name(), task.mode(), task.due());
+    let broken = task.broken();
+    format!(in alloc; "{number} {name} {mode:?}, broken {broken}, due {due:?}\n")
+}
+
+// Adds what a poll answered, the due polls, and what the task waits for.
+fn push_poll(
+    text: &mut String,
+    task: &Task,
+    polled: Poll<Result<Ending, DriveFault>>,
+) -> Result<(), AllocError> {
+    let (polls, due) = (task.polls(), task.due());
+    write!(text, "{polled:?}, {polls} polls, due {due:?}\n")
+}
+
+// Polls at these moments, due or not.
+fn poll_at_each<R: Abort + Alloc<A = Global>>(
+    rt: &R,
+    solo: &Solo,
+    task: &mut Task,
+    moments: &[u64],
+) -> Result<String, AllocError>
+    requires seen { task.old.seen ≡ 0 }
+{
+    let mut text = known(rt.alloc(), task)?;
+    let mut last = 0;
+    for moment in moments {
+        let now = *moment;
+        assert!(rt;
+            last <= now && now < 10000,
+            "a moment before an earlier one"
+        );
+        last = now;
+        task.see(now);
+        let polled = poll(solo, task);
+        push_poll(&mut text, task, polled)?;
+    }
+    Ok(text)
+}
+
+// What comes of a retry with `recurs(3)` that is polled at these moments.
+fn expect_polls<R: Abort + Alloc<A = Global> + RandomSource>(
+    rt: &R,
+    start: u64,
+    beats: &[Beat],
+    moments: &[u64],
+    wanted: &str,
+) -> Result<(), Fail> {
+    let solo = Solo::new(rt, Doorbell::spinning())?;
+    let mut task = task_of(rt.alloc(), Mode::Retry, "recurs(3)", start, beats)?;
+    let found = poll_at_each(rt, &solo, &mut task, moments);
+    drop(task);
+    drop(solo);
+    expect_text(rt, &found?, wanted, "polls");
+    Ok(())
+}
+
+#[test]
+fn a_task_is_known_by_its_job_and_polled_by_hand(rt: HostRuntime) -> Result<(), Fail> {
+    let wanted = "7 a Retry, broken false, due Some(0)
+Pending, 1 polls, due Some(5)
+Pending, 2 polls, due Some(10)
+Ready(Ok(Succeeded(1))), 3 polls, due None
+";
+    expect_polls(&rt, 0, &[bad(5, 7), good(5, 1)], &[0, 5, 10], wanted)
+}
+
+#[test]
+fn an_early_poll_changes_nothing(rt: HostRuntime) -> Result<(), Fail> {
+    let wanted = "7 a Retry, broken false, due Some(5)
+Pending, 0 polls, due Some(5)
+";
+    expect_polls(&rt, 5, &[bad(5, 7)], &[4], wanted)
+}
+
+#[test]
+fn an_ended_task_answers_again(rt: HostRuntime) -> Result<(), Fail> {
+    let wanted = "7 a Retry, broken false, due Some(0)
+Pending, 1 polls, due Some(5)
+Ready(Ok(Succeeded(1))), 2 polls, due None
+Ready(Ok(Succeeded(1))), 2 polls, due None
+";
+    expect_polls(&rt, 0, &[good(5, 1)], &[0, 5, 5], wanted)
+}
+
+#[test]
+fn faults_say_what_was_missing(rt: HostRuntime) -> Result<(), Fail> {
+    let (task, agenda) = (DriveFault::Memory, AgendaFault::Memory);
+    let found = format!(in rt.alloc(); "{task}, {agenda}")?;
+    expect_text(&rt, &found, "out of memory, out of memory", "the faults");
+    Ok(())
+}

@@ -1,0 +1,212 @@
+//! The texts of terms and outputs: which are read, how they are spelled, and what the others are refused for.
+use super::support::{expect_text, reading};
+use std::alloc::{Alloc, AllocError, Global};
+use std::process::Abort;
+use zs_term::{Out, make_left, make_list, make_pair, make_right, write_out};
+
+// Each text is read and spelled so, or refused so.
+fn expect_readings<R: Abort + Alloc<A = Global>>(rt: &R, rows: &[(&str, &str)]) {
+    for (text, wanted) in rows {
+        let found = reading(rt.alloc(), text).expect(rt, "memory");
+        expect_text(rt, &found, wanted, text);
+    }
+}
+
+#[test]
+fn each_form_is_read_and_has_one_spelling(rt: HostRuntime) {
+    let rows = [
+        ("forever", "forever"),
+        ("recurs(0)", "recurs(0)"),
+        ("spaced(10)", "spaced(10)"),
+        ("fixed(100)", "fixed(100)"),
+        ("exponential(10)", "exponential(10, 2)"),
+        ("exponential( 10 , 2 )", "exponential(10, 2)"),
+        ("fibonacci(10)", "fibonacci(10)"),
+        ("identity", "identity"),
+        ("elapsed", "elapsed"),
+        ("linear(10)", "linear(10)"),
+        ("windowed(1)", "windowed(1)"),
+        (" ( recurs( 3 )&&spaced(10) ) ", "(recurs(3) && spaced(10))"),
+        (
+            "(forever || (identity andThenEither elapsed))",
+            "(forever || (identity andThenEither elapsed))",
+        ),
+        (
+            "( recurs(3)&&spaced( 5 ) ).map( _1 )",
+            "(recurs(3) && spaced(5)).map(_1)",
+        ),
+    ];
+    expect_readings(&rt, &rows);
+}
+
+#[test]
+fn tests_and_functions_are_read_and_have_one_spelling(rt: HostRuntime) {
+    let rows = [
+        (
+            "(fibonacci(3) || fixed(4)).whileInput(>=5)",
+            "(fibonacci(3) || fixed(4)).whileInput(>= 5)",
+        ),
+        ("identity.whileOutput(<5)", "identity.whileOutput(< 5)"),
+        (
+            "(identity && elapsed).whileOutput(_2 = 5)",
+            "(identity && elapsed).whileOutput(_2 = 5)",
+        ),
+        (
+            "identity.collectAll.whileOutput(size != 5)",
+            "identity.collectAll.whileOutput(size != 5)",
+        ),
+        (
+            "(forever||elapsed).whileOutput(_2>=7).collectAll",
+            "(forever || elapsed).whileOutput(_2 >= 7).collectAll",
+        ),
+        (
+            "(fixed(1)andThenEither fibonacci(2)).whileInput(!=0).map(as 3)",
+            "(fixed(1) andThenEither fibonacci(2)).whileInput(!= 0).map(as 3)",
+        ),
+        (
+            "(identity && elapsed).map(_1).map(+ 1).map(*2).map(as 7)",
+            "(identity && elapsed).map(_1).map(+ 1).map(* 2).map(as 7)",
+        ),
+        (
+            "(identity andThenEither elapsed).map(merge)",
+            "(identity andThenEither elapsed).map(merge)",
+        ),
+        (
+            "identity.collectAll.map(size)",
+            "identity.collectAll.map(size)",
+        ),
+        ("forever.resetWhen(= 0)", "forever.resetWhen(= 0)"),
+        (
+            "(identity && elapsed).resetWhen(_1 > 7)",
+            "(identity && elapsed).resetWhen(_1 > 7)",
+        ),
+        (
+            "identity.collectAll.resetWhen(size >= 3)",
+            "identity.collectAll.resetWhen(size >= 3)",
+        ),
+        (
+            "( linear( 3 )||windowed(4) ).resetWhen( _1 > 7 )",
+            "(linear(3) || windowed(4)).resetWhen(_1 > 7)",
+        ),
+        (
+            "identity.map(+1).map(* 2).resetWhen(<=4)",
+            "identity.map(+ 1).map(* 2).resetWhen(<= 4)",
+        ),
+    ];
+    expect_readings(&rt, &rows);
+}
+
+#[test]
+fn a_text_that_is_no_term_goes_wrong_at_one_byte(rt: HostRuntime) {
+    let rows = [
+        ("", "no term at byte 0"),
+        ("   ", "no term at byte 3"),
+        ("(recurs(1) && recurs(2)", "no term at byte 23"),
+        ("(recurs(1) && recurs(2)  ", "no term at byte 25"),
+        ("recurs(1) && recurs(2)", "no term at byte 10"),
+        (
+            "(recurs(1) && recurs(2) && recurs(3))",
+            "no term at byte 24",
+        ),
+        ("recurs(01)", "no term at byte 7"),
+        ("recurs(1).map(_1", "no term at byte 16"),
+        ("exponential(10,)", "no term at byte 15"),
+        ("identity.whileInput(_1 < 5)", "no term at byte 20"),
+        ("identity.resetWhen(merge = 5)", "no term at byte 19"),
+        ("forever.", "no term at byte 8"),
+        ("forever.forever", "no term at byte 8"),
+        ("forever.map(as)", "no term at byte 14"),
+        ("((forever))", "no term at byte 9"),
+        ("forever &", "no term at byte 8"),
+        ("foreverforever", "no term at byte 0"),
+        ("Forever", "no term at byte 0"),
+        ("recurs ( 1 ", "no term at byte 11"),
+        ("recurs(1)\t", "no term at byte 9"),
+        ("recurs (\n", "no term at byte 8"),
+        ("(recurs(1) & recurs(2))", "no term at byte 11"),
+        (
+            "(spaced(99999999999999999999999) && recurs(18446744073709551616",
+            "no term at byte 63",
+        ),
+    ];
+    expect_readings(&rt, &rows);
+}
+
+#[test]
+fn a_number_fits_64_bits(rt: HostRuntime) {
+    let rows = [
+        (
+            "recurs(18446744073709551615)",
+            "recurs(18446744073709551615)",
+        ),
+        ("recurs(18446744073709551616)", "number too large at byte 7"),
+        (
+            "(spaced(99999999999999999999999) && recurs(18446744073709551616))",
+            "number too large at byte 8",
+        ),
+    ];
+    expect_readings(&rt, &rows);
+}
+
+#[test]
+fn of_two_faults_the_first_is_answered(rt: HostRuntime) {
+    let rows = [
+        ("exponential(1, 0)", "factor is 0"),
+        ("exponential(1, 0).resetWhen(= 0)", "factor is 0"),
+        ("recurs(1).map(_1)", "no kind"),
+        ("recurs(1).resetWhen(_1 = 0)", "no kind"),
+        ("(forever && forever).resetWhen(= 0)", "no kind"),
+        (
+            "(forever && forever.collectAll).resetWhen(size = 0)",
+            "no kind",
+        ),
+        (
+            "(identity andThenEither identity.collectAll).map(merge)",
+            "no kind",
+        ),
+        ("windowed(0)", "window is 0"),
+        ("windowed(0).resetWhen(= 0)", "window is 0"),
+        ("windowed(0).map(_1)", "no kind"),
+        ("(exponential(1, 0) && windowed(0))", "factor is 0"),
+        ("(windowed(0).map(_1) && exponential(1, 0))", "factor is 0"),
+        (
+            "(exponential(1, 0) && recurs(18446744073709551616))",
+            "number too large at byte 29",
+        ),
+        (
+            "(recurs(18446744073709551616) && exponential(1, 0)",
+            "no term at byte 50",
+        ),
+    ];
+    expect_readings(&rt, &rows);
+}
+
+// The text of an output, and that of its copy.
+fn expect_out<R: Abort + Alloc<A = Global>>(rt: &R, out: &Out, wanted: &str) {
+    let text = write_out(rt.alloc(), out).expect(rt, "memory");
+    expect_text(rt, &text, wanted, "the output");
+    let copy = out.copy(rt.alloc()).expect(rt, "memory");
+    let again = write_out(rt.alloc(), &copy).expect(rt, "memory");
+    expect_text(rt, &again, wanted, "its copy");
+}
+
+// The pair of a left side and a list of two numbers.
+fn side_and_list(alloc: Global) -> Result<Out, AllocError> {
+    let mut items = Vec::new(alloc);
+    items.push(Out::Num(2))?;
+    items.push(Out::Num(3))?;
+    let first = make_left(alloc, Out::Num(1))?;
+    make_pair(alloc, first, make_list(items))
+}
+
+#[test]
+fn a_pair_of_a_side_and_a_list(rt: HostRuntime) {
+    let out = side_and_list(rt.alloc()).expect(&rt, "memory");
+    expect_out(&rt, &out, "(Left(1),[2,3])");
+}
+
+#[test]
+fn the_empty_list_and_the_other_side(rt: HostRuntime) {
+    let out = make_right(rt.alloc(), make_list(Vec::new(rt.alloc()))).expect(&rt, "memory");
+    expect_out(&rt, &out, "Right([])");
+}

@@ -1,0 +1,83 @@
+//! Jobs, from text.
+ghost use Rattle.std.specs.Prelude.{◌≡◌, IfOk};
+
+use std::alloc::Global;
+use std::test::Fail;
+use zs_drive::{Job, Mode};
+use zs_effect::{Beat, Outcome, Script};
+use zs_term::read;
+
+/// An attempt that succeeds.
+pub fn good(ms: u64, value: u64) -> Beat {
+    Beat {
+        ms,
+        outcome: Outcome::Good(value),
+    }
+}
+
+/// An attempt that fails.
+pub fn bad(ms: u64, code: u64) -> Beat {
+    Beat {
+        ms,
+        outcome: Outcome::Bad(code),
+    }
+}
+
+/// A job as a test writes it.
+#[derive(Clone, Copy)]
+pub struct Given<'a> {
+    pub name: &'a str,
+    pub mode: Mode,
+    pub schedule: &'a str,
+    pub start: u64,
+    pub beats: &'a [Beat],
+}
+
+/// That job.
+pub fn job_of(alloc: Global, given: Given<'_>) -> Result<Job, Fail>
+    ensures start { IfOk result (λ job. job.start ≡ given.entry.start) }
+{
+    let name = String::from_str(alloc, given.name)?;
+    let script = Script::new(Vec::from_slice(alloc, given.beats)?)?;
+    let schedule = read(alloc, given.schedule)?;
+    Ok(Job {
+        name,
+        mode: given.mode,
+        schedule,
+        start: given.start,
+        script,
+    })
+}
+
+/// Such jobs.
+pub fn jobs_of(alloc: Global, given: &[Given<'_>]) -> Result<Vec<Job>, Fail> {
+    let mut jobs = Vec::new(alloc);
+    for given in given {
+        jobs.push(job_of(alloc, *given)?)?;
+    }
+    Ok(jobs)
+}
+
+const TWICE: [Beat; 2] = [
+    Beat {
+        ms: 5,
+        outcome: Outcome::Bad(7),
+    },
+    Beat {
+        ms: 5,
+        outcome: Outcome::Good(1),
+    },
+];
+
+/// A retry that fails after 5 ms, and succeeds 5 ms later.
+pub fn retried(name: &str, start: u64) -> Given<'_>
+    ensures start { result.start ≡ start }
+{
+    Given {
+        name,
+        mode: Mode::Retry,
+        schedule: "recurs(3)",
+        start,
+        beats: &TWICE,
+    }
+}

@@ -1,0 +1,219 @@
+//! Readers and writers that fail, or give and take a few bytes a call. Each is one of `std`'s and one of `zs_run`'s.
+ghost use Rattle.std.specs.Prelude.{◌≡◌, ◌≤◌, ◌<◌, false, length, IfOk, IfSome, None};
+
+use std::alloc::Global;
+use std::io;
+use std::io::{Read, Write};
+use zs_run::{Drain, Failed, Source};
+
+/// Gives a few bytes a call, and fails once so many were given.
+#[derive(Drop)]
+pub struct Halting<'a> {
+    pub bytes: &'a [u8],
+    pub step: usize,
+    pub left: usize,
+    pub error: io::ErrorKind,
+    pub failed: bool,
+}
+
+impl Halting<'_> {
+    /// A reader of the text, in pieces of so many bytes, that fails after so many.
+    pub fn of(text: &str, step: usize, left: usize) -> Halting<'_>
+        ensures clear { result.failed ≡ false }
+    {
+        Halting {
+            bytes: text.as_bytes(),
+            step,
+            left,
+            error: io::ErrorKind::Other,
+            failed: false,
+        }
+    }
+
+    // Fills the front of the buffer, or nothing where the reader has to fail.
+    fn fill(&mut self, buf: &mut [u8]) -> Option<usize>
+        ensures within { IfSome result (λ count. count ≤ length buf.new) }
+        ensures mark { self.new.failed ≡ self.old.failed }
+    {
+        if self.left == 0 {
+            return None;
+        }
+        let count = self
+            .step
+            .min(self.left)
+            .min(buf.len())
+            .min(self.bytes.len());
+        let bytes: &[u8] = self.bytes;
+        buf[..count].copy_from_slice(&bytes[..count]);
+        self.bytes = &bytes[count..];
+        self.left -= count;
+        Some(count)
+    }
+}
+
+impl Read for Halting<'_> {
+    fn read(&mut self, buf: &mut [u8]) -> io::Result<usize> {
+        match self.fill(buf) {
+            Some(count) => Ok(count),
+            None => Err(io::Error::from(self.error)),
+        }
+    }
+}
+
+impl Source for Halting<'_> {
+    ghost remaining = { λ _. None };
+
+    ghost mark = { λ h. h.failed };
+
+    fn pull(&mut self, buf: &mut [u8]) -> Result<usize, Failed> {
+        match self.fill(buf) {
+            Some(count) => Ok(count),
+            None => {
+                self.failed = true;
+                Err(Failed)
+            }
+        }
+    }
+
+    fn failed(&self) -> bool {
+        self.failed
+    }
+}
+
+/// Takes a few bytes a call and so many in all, and may fail to flush.
+#[derive(Drop)]
+pub struct Limited {
+    pub taken: Vec<u8>,
+    pub step: usize,
+    pub room: usize,
+    pub flushes: bool,
+    pub flushed: bool,
+    pub failed: bool,
+}
+
+impl Limited {
+    /// A writer that takes pieces of so many bytes, and so many in all.
+    pub fn of(alloc: Global, step: usize, room: usize, flushes: bool) -> Limited
+        ensures clear { result.failed ≡ false }
+    {
+        Limited {
+            taken: Vec::new(alloc),
+            step,
+            room,
+            flushes,
+            flushed: false,
+            failed: false,
+        }
+    }
+
+    // Takes the front of the bytes, or none where there is no room.
+    fn store(&mut self, buf: &[u8]) -> usize
+        ensures within { result ≤ length buf.now }
+        ensures mark { self.new.failed ≡ self.old.failed }
+        ensures flushed { self.new.flushed ≡ self.old.flushed }
+    {
+        let count = self.step.min(self.room).min(buf.len());
+        if self.taken.extend_from_slice(&buf[..count]).is_err() {
+            return 0;
+        }
+        self.room -= count;
+        count
+    }
+}
+
+impl Write for Limited {
+    fn write(&mut self, buf: &[u8]) -> io::Result<usize> {
+        Ok(self.store(buf))
+    }
+
+    fn flush(&mut self) -> io::Result<()> {
+        if self.flushes {
+            Ok(())
+        } else {
+            Err(io::Error::from(io::ErrorKind::Other))
+        }
+    }
+}
+
+impl Drain for Limited {
+    ghost contents = { λ _. None };
+
+    ghost mark = { λ l. l.failed };
+
+    ghost flushed = { λ l. l.flushed };
+
+    fn give(&mut self, buf: &[u8]) -> Result<usize, Failed> {
+        self.flushed = false;
+        let count = self.store(buf);
+        if count == 0 {
+            self.failed = true;
+            return Err(Failed);
+        }
+        Ok(count)
+    }
+
+    fn flush(&mut self) -> Result<(), Failed> {
+        if !self.flushes {
+            self.failed = true;
+            return Err(Failed);
+        }
+        self.flushed = true;
+        Ok(())
+    }
+
+    fn failed(&self) -> bool {
+        self.failed
+    }
+}
+
+/// Spaces without end, which are counted.
+#[derive(Drop)]
+pub struct Spaces {
+    pub given: u64,
+}
+
+impl Read for Spaces {
+    fn read(&mut self, buf: &mut [u8]) -> io::Result<usize> {
+        buf.fill(b' ');
+        self.given = self.given.wrapping_add(buf.len() as u64);
+        Ok(buf.len())
+    }
+}
+
+/// Answers what it was told, call after call: a number of bytes, or an error of a kind.
+#[derive(Clone, Copy, Drop)]
+pub enum Answers {
+    Count(usize),
+    Error(io::ErrorKind),
+}
+
+impl Answers {
+    // The number of bytes, no more than there are.
+    fn within(self, most: usize) -> io::Result<usize>
+        ensures within { IfOk result (λ count. count ≤ most) }
+    {
+        match self {
+            Answers::Count(count) => Ok(count.min(most)),
+            Answers::Error(kind) => Err(io::Error::from(kind)),
+        }
+    }
+}
+
+impl Read for Answers {
+    fn read(&mut self, buf: &mut [u8]) -> io::Result<usize> {
+        self.within(buf.len())
+    }
+}
+
+impl Write for Answers {
+    fn write(&mut self, buf: &[u8]) -> io::Result<usize> {
+        self.within(buf.len())
+    }
+
+    fn flush(&mut self) -> io::Result<()> {
+        match self {
+            Answers::Count(_) => Ok(()),
+            Answers::Error(kind) => Err(io::Error::from(*kind)),
+        }
+    }
+}
