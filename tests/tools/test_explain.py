@@ -1,8 +1,10 @@
 """The command zsched-explain: on a table of mistakes, on plans that are changed at random, and in its use."""
 import contextlib
 import io
+import json
 import os
 import pathlib
+import random
 import re
 import resource
 import subprocess
@@ -13,7 +15,7 @@ import unittest
 from changes import changed_plans
 from mistakes import MISTAKES
 from program import ONE_JOB, TOP, job, plan
-from zsched_tools import explain, hints, program
+from zsched_tools import explain, hints, json_reading, positions, program
 
 COMMAND = TOP / "tools" / "zsched-explain"
 CHANGED = int(os.environ.get("CHANGED_PLANS", "2000"))
@@ -92,6 +94,47 @@ class Mistakes(unittest.TestCase):
         plan = '{"horizon": 9, "jobs": [{"名前": 1, "x" 2}]}'.encode()
         _, _, errors = told(plan, 2, "zsched: plan is not JSON\n")
         self.assertIn('1 | {"horizon": 9, "jobs": [{"名前": 1, "x" 2}]}\n' + "  | " + " " * 39 + "^ ", errors)
+
+
+def value_of(node):
+    """What a value of a document says."""
+    if node.kind == "object":
+        return {key.string(): value_of(value) for key, value in node.members()}
+    if node.kind == "list":
+        return [value_of(item) for item in node.items()]
+    return json.loads(node.source)
+
+
+class Json(unittest.TestCase):
+    """The two readers of JSON: one passes a lawful text by its brackets, the other one looks for a fault."""
+
+    LETTERS = ["a", "é", "😀", '"', "\\", "[", "]", "{", "}", ",", ":", "\n", "/"]
+
+    def made(self, chance, depth=0):
+        """A value with texts that are hard to pass."""
+        form = chance.randrange(6 if depth < 5 else 4)
+        if form < 2:
+            return "".join(chance.choice(self.LETTERS) for _ in range(chance.randrange(6)))
+        if form < 4:
+            return chance.choice([0, -0.0, 17, 1.5, 1e300, 2**64, True, False, None])
+        many = range(chance.randrange(4))
+        if form == 4:
+            return [self.made(chance, depth + 1) for _ in many]
+        return {f"{self.made(chance, 9)}{number}": self.made(chance, depth + 1) for number in many}
+
+    def test_lawful_texts_are_read_as_pythons_reader_does(self):
+        chance = random.Random(3)
+        for number in range(1000):
+            value = [self.made(chance)]
+            text = json.dumps(value, ensure_ascii=chance.random() < 0.5, indent=chance.choice([None, 1]))
+            self.assertEqual(value_of(positions.Document(text).root()), value, number)
+            self.assertIsNone(json_reading.fault_of(text), number)
+
+    def test_a_place_in_a_text_is_found_past_escapes(self):
+        node = positions.Document('{"a": "x\\u0041\\ud83d\\ude00\\n\\\\é!"}').root().get("a")
+        places = [node.place_in(index) - node.at for index in range(len(node.string()) + 1)]
+        self.assertEqual(node.string(), "xA😀\n\\é!")
+        self.assertEqual(places, [1, 2, 8, 20, 22, 24, 25, 26])
 
 
 class Hints(unittest.TestCase):
