@@ -7,3 +7,4 @@ pub mod JobLemmas
 pub mod AnswerLemmas
 pub mod Whole
 pub mod Rows
+pub mod Parts

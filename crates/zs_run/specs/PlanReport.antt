@@ -1,11 +1,13 @@
 -- The report of a plan: each job by itself on the clock, as if there were no other, and the number of all due polls.
-use Rattle.std.specs.Prelude.{ℕ, List, length, map, sum_by}
-use Rattle.zs_agenda.specs.Ticks.{horizon}
+use Rattle.std.specs.Prelude.{ℕ, List, length, map, sum_by, codes, ◌++◌}
+use Rattle.std.specs.List.{flat_map}
+use Rattle.std.specs.Fmt.{decimal}
+use Rattle.zs_agenda.specs.Ticks.{Ticks, horizon}
 use Rattle.zs_drive.specs.Values.{JobRecord}
 use Rattle.zs_drive.specs.Timeline.{timeline_of, poll_moments}
 use Rattle.zs_engine.specs.Times.{ticks_of}
 use Rattle.zs_run.specs.Plan.{PlanRecord}
-use Rattle.zs_run.specs.Report.{JobReport, report_text}
+use Rattle.zs_run.specs.Report.{JobReport, job_lines, report_text}
 
 -- what a report tells of a job on these ticks
 abbrev pub job_report : List ℕ → JobRecord → JobReport
@@ -16,3 +18,15 @@ job_report ticks job =
 -- the report of a plan
 abbrev pub report_of : PlanRecord → List ℕ
 report_of plan = let jobs = map (job_report (ticks_of plan.clock)) plan.jobs in report_text (horizon plan.clock) jobs (sum_by (λ job. job.polls) jobs)
+
+-- the lines of jobs on a clock
+abbrev pub jobs_text : Ticks → List JobRecord → List ℕ
+jobs_text clock jobs = flat_map (job_lines (horizon clock)) (map (job_report (ticks_of clock)) jobs)
+
+-- how many due polls jobs have together
+abbrev pub polls_of : Ticks → List JobRecord → ℕ
+polls_of clock jobs = sum_by (λ job. job.polls) (map (job_report (ticks_of clock)) jobs)
+
+-- the lines of jobs, and behind them the line with their due polls
+abbrev pub with_total : List ℕ → ℕ → List ℕ
+with_total text polls = text ++ codes "polls " ++ decimal polls ++ codes "\n"

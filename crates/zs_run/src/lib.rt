@@ -13,6 +13,7 @@
 
 mod entry;
 mod job_reading;
+mod laws;
 mod marked;
 mod names;
 mod plan;
@@ -25,6 +26,7 @@ mod streams;
 mod transfer;
 mod tree;
 
+pub use laws::{reports_join, the_cut_changes_nothing};
 pub use marked::Marked;
 pub use plan::Plan;
 pub use plan_fault::PlanFault;
