@@ -7,6 +7,7 @@ import re
 import shutil
 import signal
 import subprocess
+import time
 
 from wrong_edits import PARTS, cycles_of
 
@@ -143,7 +144,7 @@ class Room:
     def __init__(self, toolchain, crate, folder, texts):
         self.toolchain, self.crate, self.folder, self.texts = toolchain, crate, folder, texts
         self.kept = folder / "kept"
-        self.checks, self.seconds = 0, 0.0
+        self.checks, self.seconds, self.cost = 0, 0.0, ""
         for path, text in texts.items():
             (folder / path).parent.mkdir(parents=True, exist_ok=True)
             (folder / path).write_text(text, encoding="utf-8")
@@ -152,6 +153,7 @@ class Room:
 
     def check(self, changed, jobs):
         """Checks the copy with these texts in place of its own, and puts the own ones back."""
+        begun = time.monotonic()
         log = self.folder / f"check_{self.checks}.log"
         for path, text in changed.items():
             (self.folder / path).write_text(text, encoding="utf-8")
@@ -163,6 +165,7 @@ class Room:
             (self.folder / path).write_text(self.texts[path], encoding="utf-8")
         self.checks += 1
         self.seconds += seconds
+        self.cost = f"{seconds:.0f} processor seconds in {time.monotonic() - begun:.0f} s"
         return Said(log.read_text(encoding="utf-8", errors="replace"), self.crate.name, self.texts)
 
     def keep(self):

@@ -76,6 +76,7 @@ class Trial:
         texts = texts_of(self.crate.folder)
         room = Room(toolchain, self.crate, folder, texts)
         whole = room.check({}, self.jobs())
+        say(f"{self.crate.name}: as it stands: {room.cost}")
         if not whole.is_proved():
             for edit in self.edits:
                 self.fail(edit, f"not tried: {self.crate.name} is not proved as it stands: {whole.lines[-1]}")
@@ -128,6 +129,7 @@ class Trial:
         self.rounds += 1
         changed, lines = edited(room.texts, some)
         said = room.check(changed, self.jobs())
+        say(f"{self.crate.name}: round {self.rounds}: {len(some)} edits, {room.cost}")
         room.restore()
         if not said.is_read():
             return self.part(room, some, said, lines)
