@@ -194,7 +194,7 @@ def why_not(edit, said, strays, goals):
         return f"only a proof file names what it takes away (change a value, and keep the names): {goals[0].line[:200]}"
     if open_goals:
         return f"the goal {edit.goal} is not open; these are: {open_goals}"
-    state = said.verdicts[edit.function]
+    state = said.verdicts.get(edit.function, "the check tells nothing of it")
     return f"{edit.function} has no goal of its own that is open: {state[:200]}"
 
 
