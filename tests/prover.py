@@ -249,7 +249,7 @@ class Said:
         return [path] if path in self.verdicts else []
 
     def members(self, module, cycle):
-        """The functions of a cycle of calls, by its module and its name, which is the function's where one calls itself."""
+        """The functions of a cycle of calls, by its module and name: where one calls itself alone, its own name."""
         begin, names = f"{module}::" if module else "", self.cycles.get((module, cycle), {cycle})
         below = [name for name in self.verdicts if name.startswith(begin) and "fn" not in name.split("::")]
         return [name for name in below if name.rpartition("::")[2] in names and name[len(begin):].count("::") < 2]
