@@ -7,6 +7,7 @@ import re
 import shutil
 import signal
 import subprocess
+import time
 
 from wrong_edits import PARTS, cycles_of
 
@@ -143,7 +144,7 @@ class Room:
     def __init__(self, toolchain, crate, folder, texts):
         self.toolchain, self.crate, self.folder, self.texts = toolchain, crate, folder, texts
         self.kept = folder / "kept"
-        self.checks, self.seconds = 0, 0.0
+        self.checks, self.seconds, self.cost = 0, 0.0, ""
         for path, text in texts.items():
             (folder / path).parent.mkdir(parents=True, exist_ok=True)
             (folder / path).write_text(text, encoding="utf-8")
@@ -152,6 +153,7 @@ class Room:
 
     def check(self, changed, jobs):
         """Checks the copy with these texts in place of its own, and puts the own ones back."""
+        begun = time.monotonic()
         log = self.folder / f"check_{self.checks}.log"
         for path, text in changed.items():
             (self.folder / path).write_text(text, encoding="utf-8")
@@ -163,6 +165,7 @@ class Room:
             (self.folder / path).write_text(self.texts[path], encoding="utf-8")
         self.checks += 1
         self.seconds += seconds
+        self.cost = f"{seconds:.0f} processor seconds in {time.monotonic() - begun:.0f} s"
         return Said(log.read_text(encoding="utf-8", errors="replace"), self.crate.name, self.texts)
 
     def keep(self):
@@ -239,24 +242,24 @@ class Said:
 
     def proved_in(self, folder):
         """The functions whose proof lies in a folder of proofs/: one, or those of a cycle of calls."""
-        module, _, last = folder.replace("/", "::").rpartition("::")
-        if not last.startswith("+"):
-            names = {(module, last)}
-        elif (module, last[1:]) in self.cycles:
-            names = {(module, name) for name in self.cycles[module, last[1:]]}
-        else:
-            # a function that calls itself
-            names = {(module, last[1:])}
-        paths = [f"{module}::{name}".removeprefix("::") for module, name in names]
-        return [path for path in paths if path in self.verdicts]
+        path = folder.replace("/", "::")
+        module, _, last = path.rpartition("::")
+        if last.startswith("+"):
+            return self.members(module, last[1:])
+        return [path] if path in self.verdicts else []
+
+    def members(self, module, cycle):
+        """The functions of a cycle of calls, by its module and name: where one calls itself alone, its own name."""
+        begin, names = f"{module}::" if module else "", self.cycles.get((module, cycle), {cycle})
+        below = [name for name in self.verdicts if name.startswith(begin) and "fn" not in name.split("::")]
+        return [name for name in below if name.rpartition("::")[2] in names and name[len(begin):].count("::") < 2]
 
     def part_cycles(self):
         """Leaves each function of a cycle of calls its own goals, which begin with its name: all are told of each."""
-        for (module, _), members in self.cycles.items():
-            for last in members if len(members) > 1 else []:
-                name = f"{module}::{last}".removeprefix("::")
-                if name in self.reasons:
-                    self.reasons[name] = [it for it in self.reasons[name] if it.goal.startswith(f"{last}-")]
+        for (module, cycle), names in self.cycles.items():
+            for name in self.members(module, cycle) if len(names) > 1 else []:
+                begin = name.removeprefix(f"{module}::") + "-"
+                self.reasons[name] = [it for it in self.reasons[name] if it.goal.startswith(begin)]
 
     def owner(self, name):
         """Of a closure the function that it is written in, and any other function itself."""

@@ -65,10 +65,17 @@ fn a::fn::k::any: no proof: expected answers in ./proofs/fn/k/any/Answers.antt; 
 fn a::k: proved
 fn a::m::one: not proved; it calls `a::f`, which is not proved
 fn a::m::two: not proved; in `a::m::one`, of this cycle of calls: it calls `a::f`, which is not proved
+note: src/m.rt:7:1: it is not proved that what the function ensures holds when it returns (`Thing::far-returns`)
+fn a::m::Thing::far: not proved
+note: src/m.rt:7:1: it is not proved that what the function ensures holds when it returns (`Thing::far-returns`)
+fn a::m::near: not proved
+./proofs/m/+again/Answers.antt:9:5: error: `returns-in-Two`: the two types differ
+fn a::m::again: not proved
 impl a::Thing: not proved; it waits for the proof of `k`
 logic=not-proved
 """
-CYCLE = {"src/m.rt": "#[cycle(both)]\nfn one() {}\n#[cycle(both)]\nfn two() {}\n"}
+CYCLES = "".join(f"#[cycle({name})]\nfn {function}() {{}}\n" for name, function in [
+    ("both", "one"), ("both", "two"), ("place", "far"), ("place", "near")])
 
 # Each edit: its name, its lines, and how it is told. Those that pass are told as refused.
 EDITS = [
@@ -160,7 +167,7 @@ def test_places(count):
 
 def test_said(count):
     """What is a goal of a function's own, and what only waits."""
-    said = Said(SAID, "a", CYCLE)
+    said = Said(SAID, "a", {"src/m.rt": CYCLES})
     goals = lambda name: list(dict.fromkeys(it.goal for it in said.own_goals(name)))
     count.test("goals of f", goals("f"), ["returns-in-Ok", "returns"])
     count.test("goals of a function that waits", goals("g") + goals("h"), [])
@@ -168,8 +175,12 @@ def test_said(count):
     count.test("goals of a closure's function", goals("k"), ["returns"])
     count.test("goals of a function of a cycle", goals("m::one"), ["one-returns"])
     count.test("goals of the other function of the cycle", goals("m::two"), [])
-    count.test("what it waits for", said.waits_for("m::two"), {"f", "m::one"})
-    count.test("what is open of its own", said.open_of_their_own(), ["f", "fn::k::any", "m::one"])
+    count.test("goals of a method of a cycle", goals("m::Thing::far"), ["Thing::far-returns"])
+    count.test("goals of a function beside it", goals("m::near"), [])
+    count.test("goals of a function that calls itself", goals("m::again"), ["returns-in-Two"])
+    count.test("what the second waits for", said.waits_for("m::two"), {"f", "m::one"})
+    found = ["f", "fn::k::any", "m::one", "m::Thing::far", "m::again"]
+    count.test("what is open of its own", said.open_of_their_own(), found)
 
 
 def test_words(count):

@@ -76,6 +76,7 @@ class Trial:
         texts = texts_of(self.crate.folder)
         room = Room(toolchain, self.crate, folder, texts)
         whole = room.check({}, self.jobs())
+        say(f"{self.crate.name}: as it stands: {room.cost}")
         if not whole.is_proved():
             for edit in self.edits:
                 self.fail(edit, f"not tried: {self.crate.name} is not proved as it stands: {whole.lines[-1]}")
@@ -128,6 +129,7 @@ class Trial:
         self.rounds += 1
         changed, lines = edited(room.texts, some)
         said = room.check(changed, self.jobs())
+        say(f"{self.crate.name}: round {self.rounds}: {len(some)} edits, {room.cost}")
         room.restore()
         if not said.is_read():
             return self.part(room, some, said, lines)
@@ -192,7 +194,7 @@ def why_not(edit, said, strays, goals):
         return f"only a proof file names what it takes away (change a value, and keep the names): {goals[0].line[:200]}"
     if open_goals:
         return f"the goal {edit.goal} is not open; these are: {open_goals}"
-    state = said.verdicts[edit.function]
+    state = said.verdicts.get(edit.function, "the check tells nothing of it")
     return f"{edit.function} has no goal of its own that is open: {state[:200]}"
 
 
