@@ -241,10 +241,13 @@ def trials_of(options, crates):
 
 def run(options, toolchain, folder):
     """Tries the edits of all crates, side by side: how many passed and failed."""
-    trials = trials_of(options, crates_of(pathlib.Path(options.top).resolve()))
+    crates = crates_of(pathlib.Path(options.top).resolve())
+    for crate in crates.values() if options.kept else []:
+        crate.kept = options.kept / crate.name
+    trials = trials_of(options, crates)
     number = lanes_of(options)
     build(toolchain, [it.crate for it in trials], number, folder)
-    held = lock([it.crate for it in trials], say)
+    held = [] if options.kept else lock([it.crate for it in trials], say)
     lanes, found = Lanes(number, len(trials)), []
     with concurrent.futures.ThreadPoolExecutor(number) as pool:
         try:
@@ -271,6 +274,8 @@ def options_of(words):
     parser.add_argument("--edit", action="append", metavar="BELIEF", help="only this edit (repeatable)")
     parser.add_argument("--must-fail", action="store_true", help="those in must-fail/ too, which 'rt ci' tries alone")
     parser.add_argument("--lanes", type=int, metavar="N", help="crates at once (default: processors, as memory holds)")
+    parser.add_argument("--kept", type=pathlib.Path, metavar="FOLDER", help="kept work is in FOLDER/NAME, and whoever gives "
+                        "it keeps others out of the crates (default: out/incremental, under a lock)")
     parser.add_argument("--top", default=TOP, metavar="FOLDER", help="the repository (default: the one of this file)")
     return parser.parse_args(words)
 
