@@ -46,7 +46,8 @@ impl LeafState {
     /// Begins anew. What the first step sets stays as it is.
     pub fn clear(&mut self) {
         match self {
-            LeafState::Forever { steps } | LeafState::Recurs { steps, .. } | LeafState::Spaced { steps, .. } => *steps = 0,
+            LeafState::Forever { steps } | LeafState::Recurs { steps, .. } => *steps = 0,
+            LeafState::Spaced { steps, .. } => *steps = 0,
             LeafState::Fixed { steps, .. } | LeafState::Windowed { steps, .. } => *steps = 0,
             LeafState::Exponential { base, next, .. } => *next = *base,
             LeafState::Fibonacci { one, next, after } => (*next, *after) = (*one, *one),
