@@ -48,6 +48,9 @@ def axes(divisor=1, attempts=ATTEMPTS):
     def of_jobs(count):
         return plans.jobs_at_once(count, 1, 1)
 
+    def of_attempts(count):
+        return plans.steps_of("forever", count)
+
     def of_nodes(count):
         return plans.steps_of(plans.balanced((count + 1) // 2), max(1, STEPS_OF_NODES // divisor))
 
@@ -56,7 +59,7 @@ def axes(divisor=1, attempts=ATTEMPTS):
 
     return [
         Axis("jobs", up_to(max(100, 10_000 // divisor)), of_jobs),
-        Axis("attempts of one job", up_to(max(1000, attempts // divisor), 100), lambda count: plans.steps_of("forever", count)),
+        Axis("attempts of one job", up_to(max(1000, attempts // divisor), 100), of_attempts),
         Axis("nodes of a schedule", [1, 3, 5, 11, 21, 51, 101, 201, 501, 999], of_nodes),
         Axis("workers", [1, 2, 4, 8, 16, 32, 64], of_workers),
     ]

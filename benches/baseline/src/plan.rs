@@ -149,7 +149,11 @@ fn read_entry(value: &Value) -> Option<(Entry, bool)> {
 
 fn check_name(name: &str) -> Result<(), &'static str> {
     let fits = |byte: u8| byte.is_ascii_alphanumeric() || matches!(byte, b'-' | b'_' | b'.');
-    if (1..=64).contains(&name.len()) && name.bytes().all(fits) { Ok(()) } else { Err("bad name") }
+    if (1..=64).contains(&name.len()) && name.bytes().all(fits) {
+        Ok(())
+    } else {
+        Err("bad name")
+    }
 }
 
 fn check_script(script: &[Entry]) -> Result<(), &'static str> {

@@ -6,15 +6,18 @@ use std::collections::BTreeMap;
 use std::sync::atomic::{AtomicU64, Ordering};
 use std::sync::Mutex;
 
+/// A task that goes from list to list by one word.
+type Boxed = Box<Task>;
+
 /// The tasks that wait, by the tick at which they are due, and those that wait no more.
 struct Timers {
     clock: Clock,
-    waiting: BTreeMap<u64, Vec<Box<Task>>>,
-    resting: Vec<Box<Task>>,
+    waiting: BTreeMap<u64, Vec<Boxed>>,
+    resting: Vec<Boxed>,
 }
 
 impl Timers {
-    fn set(&mut self, task: Box<Task>) {
+    fn set(&mut self, task: Boxed) {
         match task.due.and_then(|due| self.clock.tick(due)) {
             Some(tick) => self.waiting.entry(tick).or_default().push(task),
             None => self.resting.push(task),
@@ -29,7 +32,7 @@ struct Workers {
 }
 
 impl Workers {
-    fn poll_batch(&self, batch: &mut [Box<Task>], now: u64) {
+    fn poll_batch(&self, batch: &mut [Boxed], now: u64) {
         for task in batch.iter_mut() {
             task.poll(now);
         }
@@ -37,7 +40,7 @@ impl Workers {
     }
 
     /// Polls the tasks at a tick. The caller is one of the workers, and the only one where one is enough.
-    fn round(&self, tasks: &mut [Box<Task>], now: u64) {
+    fn round(&self, tasks: &mut [Boxed], now: u64) {
         let batches = tasks.len().div_ceil(self.grain);
         let workers = self.most.min(batches);
         if workers <= 1 {

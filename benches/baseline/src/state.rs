@@ -12,12 +12,19 @@ pub enum State {
     Leaf(LeafState),
     Both(Box<(State, State)>),
     Either(Box<(State, State)>),
-    AndThen { second: bool, parts: Box<(State, State)> },
+    AndThen {
+        second: bool,
+        parts: Box<(State, State)>,
+    },
     WhileInput(Box<State>, Test),
     WhileOutput(Box<State>, Pick, Test),
     /// The output of a step joins the list at the next one, when the list that was answered before is mostly gone, and
     /// this one can grow in place.
-    CollectAll { part: Box<State>, items: Arc<Vec<Output>>, last: Option<Output> },
+    CollectAll {
+        part: Box<State>,
+        items: Arc<Vec<Output>>,
+        last: Option<Output>,
+    },
     Map(Box<State>, Function),
     ResetWhen(Box<State>, Pick, Test),
 }

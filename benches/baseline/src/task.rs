@@ -91,10 +91,11 @@ impl Task {
     pub fn put(&self, text: &mut Vec<u8>, horizon: u64) {
         put_word(text, "job ");
         put_word(text, &self.name);
-        put_word(text, match self.mode {
+        let mode = match self.mode {
             Mode::Retry => " retry\n",
             Mode::Repeat => " repeat\n",
-        });
+        };
+        put_word(text, mode);
         for (place, record) in self.records.iter().enumerate() {
             record.put(text, place as u64 + 1);
         }

@@ -58,7 +58,11 @@ impl<'t> Tokens<'t> {
     }
 
     pub fn expect(&mut self, token: &[u8]) -> Result<(), Stuck> {
-        if self.accept(token)? { Ok(()) } else { self.stuck() }
+        if self.accept(token)? {
+            Ok(())
+        } else {
+            self.stuck()
+        }
     }
 
     pub fn number(&mut self) -> Result<u64, Stuck> {
