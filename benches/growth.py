@@ -120,6 +120,11 @@ DASHES = ["", "", "4 3", "4 3"]
 CAPTION = "The number beside a name is the line's exponent, fitted by least squares over the upper decade of its sizes."
 
 
+def size_text(size):
+    """A size as a short text."""
+    return f"{size}" if size < 1000 else f"{size // 1000}k" if size < 10 ** 6 else f"{size // 10 ** 6}M"
+
+
 def milliseconds(value):
     """A time as a text."""
     return f"{value:g} ms" if value < 1000 else f"{value / 1000:g} s"
@@ -170,7 +175,7 @@ def grid(ends_x, ends_y, text_of_value):
     for power in range(ends_x[0], ends_x[1] + 1):
         x = LEFT + place(10 ** power, ends_x, WIDTH)
         parts.append(f'<line x1="{x:.1f}" y1="{TOP}" x2="{x:.1f}" y2="{TOP + HEIGHT}" stroke="#ddd"/>')
-        parts.append(f'<text x="{x:.1f}" y="{TOP + HEIGHT + 14}" text-anchor="middle">{10 ** power:,}</text>')
+        parts.append(f'<text x="{x:.1f}" y="{TOP + HEIGHT + 14}" text-anchor="middle">{size_text(10 ** power)}</text>')
     for power in range(ends_y[0], ends_y[1] + 1):
         y = TOP + HEIGHT - place(10 ** power, ends_y, HEIGHT)
         parts.append(f'<line x1="{LEFT}" y1="{y:.1f}" x2="{LEFT + WIDTH}" y2="{y:.1f}" stroke="#ddd"/>')

@@ -12,6 +12,7 @@ import subprocess
 import sys
 import tempfile
 import unittest
+from unittest import mock
 from xml.etree import ElementTree
 
 TOP = pathlib.Path(__file__).resolve().parents[2]
@@ -207,6 +208,16 @@ class Measuring(unittest.TestCase):
         runs = [measure.Run(*values, 0) for values in [(3, 1, 500), (1, 9, 400), (2, 2, 900)]]
         self.assertEqual(bench.median_of(runs), (2, 2, 500, 0))
         self.assertEqual(bench.median_of([*runs, measure.Run(1, 1, 1, 4)]).status, 4)
+
+    def test_perf_counts_where_it_can(self):
+        search = {"PATH": f"{self.folder}:{os.environ['PATH']}"}
+        for line, counted in [("1234567,,instructions:u,99,100.00,,", 1234567), ("<not supported>,,i,0,,,", None)]:
+            words = f'while [ "$1" != -o ]; do shift; done; printf "# begun\\n\\n%s\\n" "{line}" > "$2"'
+            script(self.folder, "perf", words)
+            with self.subTest(line), mock.patch.dict(os.environ, search):
+                self.assertEqual(measure.instructions_by_perf(self.plan, self.plan), counted)
+        with mock.patch.dict(os.environ, {"PATH": self.folder + "/nowhere"}):
+            self.assertIsNone(measure.instructions_by_perf(self.plan, self.plan))
 
     def test_callgrind_counts(self):
         if shutil.which("valgrind") is None:
