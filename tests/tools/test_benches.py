@@ -302,6 +302,22 @@ class Results(unittest.TestCase):
             self.assertTrue((BENCHES / link).exists(), link)
 
 
+class Build(unittest.TestCase):
+    """benches/baseline/build, where nothing is built."""
+
+    def test_help_and_no_cargo(self):
+        def ended(words, **more):
+            return subprocess.run(words, cwd=TOP, capture_output=True, text=True, check=False, **more)
+
+        helped = ended(["benches/baseline/build", "--help"])
+        self.assertEqual((helped.returncode, helped.stderr), (0, ""))
+        self.assertIn("librust-serde-json-dev", helped.stdout)
+        with tempfile.TemporaryDirectory() as folder:
+            os.symlink(shutil.which("dirname"), os.path.join(folder, "dirname"))
+            bare = ended([shutil.which("sh"), "benches/baseline/build"], env={"PATH": folder})
+        self.assertEqual((bare.returncode, bare.stderr), (127, "build: cargo isn't on this machine\n"))
+
+
 class Baseline(unittest.TestCase):
     """benches/baseline: it builds, and answers as the reports beside the plans and the reference say."""
 
