@@ -1,0 +1,187 @@
+#!/usr/bin/env python3
+"""Measures zsched beside the same behaviour in plain Rust (benches/baseline), and prints Markdown tables.
+
+    python3 benches/bench.py                 the plans of benches/plans.py: a row each
+    python3 benches/bench.py --check         the same bytes from both on examples/, tests/plans/ and these plans
+    python3 benches/bench.py --growth        how cost grows, as tables and a picture
+
+The programs run in turn, and medians of the runs are told: wall and processor time and peak memory, zsched's before
+the baseline's, and then zsched's over the baseline's. Instructions are counted by `perf` where it can, and by valgrind
+where --callgrind asks for it, then on plans of a tenth of the size. On a machine that does other work, trust processor
+time and instructions alone. Exit status: 0, 1 where bytes differ or a run failed, 2 where the words or a program are
+wrong."""
+import argparse
+import os
+import pathlib
+import statistics
+import sys
+import tempfile
+
+HERE = pathlib.Path(__file__).resolve().parent
+TOP = HERE.parent
+sys.dont_write_bytecode = True
+sys.path[:0] = [str(HERE), str(TOP / "tools")]
+
+import growth
+import measure
+import plans
+from zsched_tools import program
+
+BASELINE = HERE / "baseline" / "target" / "release" / "baseline"
+NAMES = ["zsched", "baseline"]
+RUNS = 5
+# Exit statuses of a plan's report, and of a plan that is refused.
+ENDED = [0, 2]
+
+
+def median_of(runs):
+    """The medians of several runs. Where one ended with another status than the first, that one's status is told."""
+    other = [run.status for run in runs if run.status != runs[0].status]
+    middle = [statistics.median(values) for values in zip(*((run.wall, run.processor, run.memory) for run in runs))]
+    return measure.Run(*middle, (other or [runs[0].status])[0])
+
+
+def in_turn(programs, plan, runs):
+    """So many runs of each program on a plan, in turn: the medians of each."""
+    told = [[measure.run(each, plan) for each in programs] for _ in range(runs)]
+    medians = [median_of(one) for one in zip(*told)]
+    for name, median in zip(NAMES, medians):
+        if median.status not in ENDED:
+            raise measure.Failed(f"{name} ended with status {median.status} on {plan.name}")
+    return medians
+
+
+def answers(programs, plan, folder):
+    """What zsched left of a plan, and whether the baseline left the same: status, output and standard error."""
+    one, other = (measure.shot(each, plan, folder) for each in programs)
+    return one, one == other
+
+
+# ---- the table of the plans
+
+def instructions(programs, plan, small, callgrind):
+    """How many instructions each program takes, or None: by perf on the plan, or by callgrind on the small one."""
+    counted = [measure.instructions_by_perf(each, plan) for each in programs]
+    if None not in counted:
+        return counted
+    return [measure.instructions_by_callgrind(each, small) for each in programs] if callgrind else None
+
+
+def cells(pair, scale, digits):
+    """Both values, and the first over the second."""
+    texts = [f"{value * scale:,.{digits}f}" for value in pair]
+    return [" / ".join(texts), f"{pair[0] / pair[1]:.2f}"]
+
+
+def row(name, medians, counted, size, equal):
+    """A plan's row."""
+    told = [f"`{name}`", f"{size / 1e6:.1f}"]
+    told += cells([run.wall for run in medians], 1000, 0)
+    told += cells([run.processor for run in medians], 1000, 0)
+    told += cells([run.memory for run in medians], 1e-6, 1)
+    told += cells(counted, 1e-6, 1) if counted else ["", ""]
+    return f"| {' | '.join(told)} | {'yes' if equal else 'NO'} |"
+
+
+def head_of_table():
+    """The two lines above the rows."""
+    names = ["Plan", "Output, MB", "Wall, ms", "x", "Processor, ms", "x", "Peak, MB", "x",
+             "Instructions, millions", "x", "Same bytes"]
+    return f"| {' | '.join(names)} |\n|---|" + "---:|" * (len(names) - 2) + "---|"
+
+
+def tell_plans(programs, given, folder):
+    """Prints the table. Answers whether all bytes were the same."""
+    all_same = True
+    print(head_of_table(), flush=True)
+    small = dict(plans.write(folder / "small", 10 * given.divisor, given.only)) if given.callgrind else {}
+    for name, plan in plans.write(folder, given.divisor, given.only):
+        answer, equal = answers(programs, plan, folder)
+        medians = in_turn(programs, plan, given.runs)
+        counted = instructions(programs, plan, small.get(name), given.callgrind)
+        print(row(name, medians, counted, len(answer.output), equal), flush=True)
+        all_same = all_same and equal
+    return all_same
+
+
+# ---- the other commands
+
+def check(programs, given, folder):
+    """Compares the bytes on all plans. Answers whether they were the same."""
+    repository = [] if given.only else sorted([*TOP.glob("examples/*.json"), *TOP.glob("tests/plans/*.json")])
+    made = [path for _, path in plans.write(folder, given.divisor, given.only)]
+    different = [path for path in [*repository, *made] if not answers(programs, path, folder)[1]]
+    for path in different:
+        print(f"{path}: other bytes")
+    print(f"{len(repository) + len(made) - len(different)} passed, {len(different)} failed")
+    return not different
+
+
+def tell_growth(programs, given, folder):
+    """Prints the tables of growth, and draws the picture."""
+    measured = []
+    for axis in growth.axes(given.divisor, given.attempts):
+        points = []
+        for size in axis.sizes:
+            plan = folder / f"{axis.name}_{size}.json"
+            plan.write_bytes(axis.plan(size))
+            points.append(growth.Point(size, in_turn(programs, plan, given.runs)))
+            plan.unlink()
+        measured.append((axis, points))
+        print(growth.table(axis.name, NAMES, points) + "\n", flush=True)
+    print(growth.table_of_exponents(NAMES, measured))
+    pathlib.Path(given.picture).write_text(growth.picture(growth.panels(NAMES, measured)))
+    return True
+
+
+def programs_of(given):
+    """The paths of both programs."""
+    if not os.access(given.baseline, os.X_OK):
+        raise program.NoProgram(f"no program at {given.baseline} ({HERE / 'baseline' / 'build'} builds it)")
+    return [program.find(given.zsched), str(given.baseline)]
+
+
+def parser():
+    """The command line."""
+    words = argparse.ArgumentParser(description=__doc__, formatter_class=argparse.RawDescriptionHelpFormatter)
+    what = words.add_mutually_exclusive_group()
+    what.add_argument("--check", action="store_true", help="compare the bytes, and measure nothing")
+    what.add_argument("--growth", action="store_true", help="measure how cost grows")
+    words.add_argument("--only", action="append", metavar="NAME", choices=list(plans.plans()),
+                       help="this plan alone; may stand again")
+    words.add_argument("--runs", type=plans.at_least_one, default=RUNS, metavar="N",
+                       help=f"runs of each program ({RUNS})")
+    words.add_argument("--divisor", type=plans.at_least_one, default=1, metavar="N",
+                       help="divide the sizes of the plans, for a quick try (1)")
+    words.add_argument("--callgrind", action="store_true", help="count instructions by valgrind where perf can't")
+    words.add_argument("--attempts", type=plans.at_least_one, default=growth.ATTEMPTS, metavar="N",
+                       help=f"the most attempts of --growth ({growth.ATTEMPTS}; ten times as many take gigabytes)")
+    words.add_argument("--picture", default=HERE / "growth.svg", metavar="FILE",
+                       help="the picture of --growth (benches/growth.svg)")
+    words.add_argument("--zsched", metavar="PATH",
+                       help="the program (that of the variable ZSCHED, or else the built one)")
+    words.add_argument("--baseline", default=BASELINE, metavar="PATH",
+                       help="the baseline (the one that benches/baseline/build builds)")
+    return words
+
+
+def main(words):
+    """Does what the command line says, and answers the exit status."""
+    given = parser().parse_args(words)
+    todo = check if given.check else tell_growth if given.growth else tell_plans
+    try:
+        with tempfile.TemporaryDirectory() as folder:
+            return 0 if todo(programs_of(given), given, pathlib.Path(folder)) else 1
+    except measure.Failed as cause:
+        print(f"bench.py: {cause}", file=sys.stderr)
+        return 1
+    except (program.NoProgram, OSError) as cause:
+        print(f"bench.py: {cause}", file=sys.stderr)
+        return 2
+
+
+if __name__ == "__main__":
+    try:
+        sys.exit(main(sys.argv[1:]))
+    except KeyboardInterrupt:
+        sys.exit(130)

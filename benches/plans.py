@@ -1,0 +1,154 @@
+#!/usr/bin/env python3
+"""Makes the plans that the benchmarks run, one file NAME.json each, and prints their names and sizes.
+
+    python3 benches/plans.py FOLDER [--divisor 10] [--only NAME ..]
+
+Nothing is random: the same words make the same bytes. `--divisor 10` makes plans of a tenth of the size: a tenth of the
+attempts of one job, of the jobs, ticks or bytes; schedules stay as deep and as large as they are. Exit status: 0, or 2
+where the words or the folder are wrong."""
+import argparse
+import json
+import pathlib
+import sys
+
+LAST_MOMENT = 999_999_999_999_999
+CUTS = [(1, 1), (4, 1), (4, 100), (64, 10), (64, 10_000)]
+ONE = [{"ms": 1, "ok": 7}]
+RESETS = "(recurs(9).resetWhen(= 5) && elapsed).resetWhen(_2 >= 50)"
+
+
+def job(name, schedule, script=None, **more):
+    """A job that repeats, by default attempts of a millisecond each."""
+    return {"name": name, "mode": "repeat", "schedule": schedule, "script": script or ONE, **more}
+
+
+def plan(jobs, horizon=LAST_MOMENT, **more):
+    """The bytes of a plan. A horizon of None leaves it out."""
+    head = {} if horizon is None else {"horizon": horizon}
+    return json.dumps({**head, **more, "jobs": jobs}, separators=(",", ":")).encode()
+
+
+def balanced(leaves, leaf="forever"):
+    """The intersection of so many leaves, as a tree of the least depth: twice as many nodes, less one."""
+    if leaves == 1:
+        return leaf
+    left = leaves // 2
+    return f"({balanced(left, leaf)} && {balanced(leaves - left, leaf)})"
+
+
+def deep():
+    """A schedule 64 deep, each node over one part."""
+    tails = [".whileInput(>= 0)", ".map(+ 1)", ".whileOutput(>= 0)"]
+    return "forever" + "".join(tails[place % 3] for place in range(63))
+
+
+def attempts_with_delays(count):
+    """One job of so many attempts that fail, with 3 ms between them."""
+    schedule = "(spaced(3) && identity.whileOutput(< 100)).map(_1)"
+    return plan([job("a", schedule, [{"ms": 1, "err": 7}], mode="retry")], horizon=4 * count)
+
+
+def jobs_at_once(count, workers, grain):
+    """So many equal jobs of 20 attempts, all due at the same moments."""
+    script = [{"ms": 5, "ok": 1}]
+    jobs = [job(f"j{number}", "(recurs(19) && spaced(10))", script) for number in range(count)]
+    return plan(jobs, horizon=1000, workers=workers, grain=grain)
+
+
+def scattered_timers(count):
+    """So many jobs of 20 attempts, which begin apart and wait for different times."""
+    jobs = [job(f"j{number}", f"(recurs(19) && spaced({1000 + number * 7919 % 9001}))", start=number * 37 % 10007)
+            for number in range(count)]
+    return plan(jobs)
+
+
+def steps_of(schedule, steps):
+    """One job of so many attempts under a schedule that goes on at once."""
+    return plan([job("a", schedule)], horizon=steps)
+
+
+def long_scripts(count):
+    """So many jobs with scripts of 1,000 entries, some 43,000 bytes each, none of which begins a second attempt."""
+    script = [{"ms": 999_999_000 + place, "ok": 10_000_000_000_000_000 + place} for place in range(1000)]
+    return plan([job(f"long-{number}", "forever", script) for number in range(count)], horizon=0)
+
+
+def long_schedules(count):
+    """So many jobs with schedules of 60 nodes, none of which is stepped."""
+    schedule = balanced(30, "recurs(1000)") + ".map(_1)"
+    return plan([job(f"j{number}", schedule) for number in range(count)], horizon=0)
+
+
+def parentheses(count):
+    """One job with a schedule of so many open parentheses, which is refused at its end."""
+    return plan([job("a", "(" * count)])
+
+
+def listed_ticks(count):
+    """A clock of so many listed ticks, and a job of at most 1,000 attempts on it."""
+    return plan([job("a", "spaced(3000)")], horizon=None, ticks=list(range(0, 3 * count, 3)))
+
+
+def plans(divisor=1):
+    """The name of each plan, and a function that makes its bytes. Sizes are divided by the divisor."""
+    def least(size):
+        return max(1, size // divisor)
+
+    made = {
+        "one_job": lambda: steps_of("forever", least(500_000)),
+        "one_job_delays": lambda: attempts_with_delays(least(500_000)),
+    }
+    for workers, grain in CUTS:
+        made[f"jobs_{workers}_{grain}"] = lambda w=workers, g=grain: jobs_at_once(least(10_000), w, g)
+    return made | {
+        "scattered_timers": lambda: scattered_timers(least(10_000)),
+        "deep_64": lambda: steps_of(deep(), least(100_000)),
+        "wide_999": lambda: steps_of(balanced(500), least(1_000)),
+        "collect_written": lambda: steps_of("identity.collectAll", least(3_000)),
+        "collect_counted": lambda: steps_of("identity.collectAll.map(size)", least(20_000)),
+        "collect_nested": lambda: steps_of("identity.collectAll.collectAll", least(300)),
+        "large_plan": lambda: long_scripts(least(340)),
+        "long_schedules": lambda: long_schedules(least(10_000)),
+        "parentheses": lambda: parentheses(least(15_000_000)),
+        "million_ticks": lambda: listed_ticks(least(1_000_000)),
+        "resets": lambda: steps_of(RESETS, least(100_000)),
+    }
+
+
+def at_least_one(text):
+    """A whole number of at least 1, read from a word of the command line."""
+    number = int(text)
+    if number < 1:
+        raise argparse.ArgumentTypeError(f"{text} is less than 1")
+    return number
+
+
+def write(folder, divisor=1, only=None):
+    """Writes the plans into a folder, which is made where it isn't there: pairs of a name and a file."""
+    folder = pathlib.Path(folder)
+    folder.mkdir(parents=True, exist_ok=True)
+    for name, make in plans(divisor).items():
+        if not only or name in only:
+            path = folder / f"{name}.json"
+            path.write_bytes(make())
+            yield name, path
+
+
+def main(words):
+    """The command line."""
+    arguments = argparse.ArgumentParser(description=__doc__, formatter_class=argparse.RawDescriptionHelpFormatter)
+    arguments.add_argument("folder", help="where the files go")
+    arguments.add_argument("--divisor", type=at_least_one, default=1, help="divides the sizes (1)")
+    arguments.add_argument("--only", action="append", metavar="NAME", choices=list(plans()), help="this plan alone")
+    given = arguments.parse_args(words)
+    try:
+        for name, path in write(given.folder, given.divisor, given.only):
+            print(f"{name:18} {path.stat().st_size:>9} bytes")
+    except OSError as cause:
+        print(f"plans.py: {cause}", file=sys.stderr)
+        return 2
+    return 0
+
+
+if __name__ == "__main__":
+    sys.exit(main(sys.argv[1:]))
