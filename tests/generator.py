@@ -395,6 +395,8 @@ FAULTS = [wrong_document_shape, unknown_document_key, document_out_of_range, wro
           wrong_mode, wrong_name, same_name, reworded(no_term), reworded(too_big), reworded(big_number),
           reworded(zero_factor), reworded(no_kind), reworded(zero_window), empty_script, long_script, zero_ms]
 
+DOCUMENT_FAULTS = 3     # so many of them stand first
+
 # The faults with many causes are made more often.
 WEIGHTS = {wrong_document_shape: 4, document_out_of_range: 4, wrong_job_shape: 4, wrong_name: 2}
 CAUSES = [at for at, fault in enumerate(FAULTS) for _ in range(WEIGHTS.get(fault, 1))]
@@ -413,8 +415,9 @@ def faulty_plan(chance):
         chosen.append((at + 1, number))
     elif form < 0.7:
         chosen.append((chance.randrange(len(FAULTS)), chance.randrange(len(tree["jobs"]))))
-    # The earlier fault is made later, since it may leave no place for the other.
-    for fault, its_job in sorted(set(chosen), reverse=True):
+    # The earlier fault is made later, since it may leave no place for the other, nor for itself once more.
+    chosen = {(fault, its_job if fault >= DOCUMENT_FAULTS else 0) for fault, its_job in chosen}
+    for fault, its_job in sorted(chosen, reverse=True):
         tree = FAULTS[fault](chance, tree, its_job)
     return tree
 
