@@ -209,7 +209,8 @@ def test_end(count):
         with tempfile.TemporaryDirectory() as folder, tempfile.TemporaryDirectory() as rooms:
             make_crate(pathlib.Path(folder))
             words = [sys.executable, RUNNER, "--top", folder]
-            started = subprocess.Popen(words, stdout=subprocess.DEVNULL, env={**os.environ, "TMPDIR": rooms})
+            quiet = {"stdout": subprocess.DEVNULL, "stderr": subprocess.DEVNULL}
+            started = subprocess.Popen(words, **quiet, env={**os.environ, "TMPDIR": rooms})
             until = time.monotonic() + 30
             while not working_in(rooms) and time.monotonic() < until:
                 time.sleep(0.1)

@@ -282,6 +282,7 @@ def options_of(words):
 
 def stop_at(number, _):
     """Ends the program at a signal; what it started ends with it."""
+    print(f"wrong_bodies: ended by signal {number}", file=sys.stderr)
     sys.exit(128 + number)
 
 
