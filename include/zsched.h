@@ -68,7 +68,7 @@ uint32_t zs_check(const uint8_t *text, size_t text_len, uint64_t *at);
  * over the front of `out`: all of it where out_len is at least reply->size, else its first out_len bytes. The rest of `out`
  * stays as it was, and all of it at any other number.
  *
- * The time grows with the number of pairs: some microsecond for each. */
+ * The time grows with the number of pairs: less than a microsecond for each. */
 uint32_t zs_answer(const uint8_t *text, size_t text_len, const zs_seen *seen, size_t seen_len, zs_reply *reply,
                    uint8_t *out, size_t out_len);
 

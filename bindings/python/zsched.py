@@ -87,7 +87,7 @@ def _raise(text, number, at):
 
 class Schedule:
     """A schedule and the steps that it has seen. That list is its whole state: `save` gives it as a text, `load` goes on
-    from there. A step takes some microsecond for each step before it. Two threads may not step one at the same time."""
+    from there. A step takes less than a microsecond for each step before it. Two threads may not step one at the same time."""
 
     def __init__(self, text):
         """The schedule of a text, before its first step. Raises ScheduleFault."""
