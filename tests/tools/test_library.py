@@ -436,6 +436,11 @@ class Examples(unittest.TestCase):
         self.assertEqual((ended.returncode, ended.stdout), (2, ""))
         self.assertIn("make-library: error:", ended.stderr)
 
+    def test_make_library_says_that_it_needs_the_toolchain(self):
+        ended = subprocess.run([sys.executable, MAKE], capture_output=True, text=True, env={"PATH": room.name})
+        wanted = "make-library: the Rattle toolchain (the command 'rt') isn't on this machine\n"
+        self.assertEqual((ended.returncode, ended.stdout, ended.stderr), (2, "", wanted))
+
 
 if __name__ == "__main__":
     unittest.main()
