@@ -1,4 +1,0 @@
-pub mod Pairs
-pub mod Numbers
-pub mod Refusals
-pub mod Told
