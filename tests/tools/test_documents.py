@@ -29,7 +29,7 @@ def links_of(page):
 
 
 def named_files(page):
-    """The files and folders of the repository that a page names in backquotes. Capitals stand for a name of any kind."""
+    """The files and folders of the repository that a page names in backquotes. Capitals stand for any name."""
     for piece in re.findall(r"`([^`\n]+)`", page.read_text()):
         for word in piece.split():
             if word.startswith(FOLDERS) and re.fullmatch(r"[\w./-]+/[\w.-]+", word) and not re.search("[A-Z]{3}", word):
