@@ -7,7 +7,8 @@ import unittest
 from zsched_tools import program
 
 TOP = pathlib.Path(__file__).resolve().parents[2]
-PAGES = sorted([*TOP.glob("*.md"), *TOP.glob("docs/*.md")])
+PAGES = sorted([*TOP.glob("*.md"), *TOP.glob("docs/*.md"), *TOP.glob("benches/**/*.md")])
+FOLDERS = ("benches/", "crates/", "docs/", "examples/", "tests/", "tools/", "zs_")
 README = (TOP / "README.md").read_text()
 FORMATS = (TOP / "docs" / "FORMATS.md").read_text()
 
@@ -27,6 +28,14 @@ def links_of(page):
             yield target, page.parent / path if path else page, anchor
 
 
+def named_files(page):
+    """The files and folders of the repository that a page names in backquotes. Capitals stand for any name."""
+    for piece in re.findall(r"`([^`\n]+)`", page.read_text()):
+        for word in piece.split():
+            if word.startswith(FOLDERS) and re.fullmatch(r"[\w./-]+/[\w.-]+", word) and not re.search("[A-Z]{3}", word):
+                yield word
+
+
 class Documents(unittest.TestCase):
     """All pages."""
 
@@ -36,6 +45,13 @@ class Documents(unittest.TestCase):
                 with self.subTest(f"{page.relative_to(TOP)}: {target}"):
                     self.assertTrue(path.exists(), "there is no such file")
                     self.assertTrue(not anchor or anchor in anchors_of(path), "there is no such heading")
+
+    def test_the_files_named_are_there(self):
+        for page in PAGES:
+            for name in named_files(page):
+                with self.subTest(f"{page.relative_to(TOP)}: {name}"):
+                    places = [TOP / name, TOP / "crates" / name, TOP / "crates" / f"{name}.antt"]
+                    self.assertTrue(any(place.exists() for place in places), "there is no such file")
 
     def test_the_readme_is_short(self):
         lines = README.splitlines()

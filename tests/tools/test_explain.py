@@ -90,6 +90,11 @@ class Mistakes(unittest.TestCase):
         self.assertTrue(all(letter.isprintable() or letter == "\n" for letter in errors), errors)
         self.assertIn('= job 0 is "?[31m?"\n', errors)
 
+    def test_tabs_and_line_ends_of_windows_are_shown_as_spaces(self):
+        plan = b'{"horizon": 9,\r\n\t"jobs": [],\r\n\t"grain":\t0}\r\n'
+        _, _, errors = told(plan, 2, "zsched: plan: out of range\n")
+        self.assertIn(' --> plan.json:3:11\n  |\n3 |  "grain": 0}\n  |           ^ ', errors)
+
     def test_a_wide_letter_takes_two_columns(self):
         plan = '{"horizon": 9, "jobs": [{"名前": 1, "x" 2}]}'.encode()
         _, _, errors = told(plan, 2, "zsched: plan is not JSON\n")

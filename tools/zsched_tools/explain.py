@@ -129,9 +129,10 @@ def excerpt(text, begin, cause):
     """The line of a cause, which begins there, cut where it is long, and the caret below it."""
     end = text.find("\n", cause.at)
     end = len(text) if end < 0 else end
+    end -= text[cause.at:end].endswith("\r")
     first = begin if cause.at - begin <= WIDTH * 3 // 4 else cause.at - WIDTH // 2
     last = min(end, first + WIDTH)
-    before, behind = shown(text[first:cause.at], WIDTH), shown(text[cause.at:last], WIDTH)
+    before, behind = (shown(part.replace("\t", " "), WIDTH) for part in (text[first:cause.at], text[cause.at:last]))
     if first > begin:
         before = ".. " + before.lstrip()
     source = before + behind + (" .." if last < end else "")

@@ -122,6 +122,8 @@ ZIO = {
     "random": "left out, with all that is random: give each job a delay or a start of its own",
 }
 
+_IN_ANY_CASE = {name.lower(): help for name, help in ZIO.items()}
+
 # Symbols that no schedule has here, the longest first.
 SYMBOLS = {
     ">>>": _FEEDS,
@@ -158,10 +160,10 @@ def near(word, words):
 
 
 def zio(word):
-    """What to write for a name of ZIO; also for one that ends in ZIO or M, whose function is an effect. None where the
-    word is no such name."""
-    if word in ZIO:
-        return ZIO[word]
+    """What to write for a name of ZIO, in capitals or not; also for one that ends in ZIO or M, whose function is an
+    effect. None where the word is no such name."""
+    if word.lower() in _IN_ANY_CASE:
+        return _IN_ANY_CASE[word.lower()]
     base = re.sub(r"(ZIO|M)$", "", word)
     return _EFFECTS if base != word and (base in ZIO or base in METHODS) else None
 

@@ -152,7 +152,7 @@ def _in_scala(spot, expected):
     part = re.match(r"(?:\w+ *=> *)?\w+\._([12])", spot.rest)
     if part:
         return spot.cause(part.end(), "a function or test has no argument of its own", f"write _{part[1]} alone")
-    found = re.match(r"\w+ *=> *(?:\w+ *)?|_ *(?![12])", spot.rest)
+    found = re.match(r"\w+ *=> *(?:\w+ *)?|_ *(?![0-9])", spot.rest)
     if not found:
         return None
     help = "write + 1, * 2 or as 0 alone" if expected == "function" else "write the comparison alone, as < 5"
@@ -187,10 +187,12 @@ def _odd_letter(spot):
         return spot.cause(1, "there is no minus", help)
     if letter in "\"'`“”":
         return spot.cause(1, "a schedule has no quotes", "write numbers and words as they are")
+    if letter in "/%":
+        return spot.cause(1, f"there is no {letter}", "map has + N and * N alone")
     if letter in "[{":
         return spot.cause(1, f"a schedule has no {letter}", "write ( )")
     if letter == "_":
-        return spot.cause(1, "the parts of a pair are _1 and _2")
+        return spot.cause(1, "no such part", "the parts of a pair are _1 and _2")
     return spot.cause(1, f"a schedule has no {shown(letter)}")
 
 
@@ -250,7 +252,8 @@ def _second_operator(spot, token, opened, operator):
         alone = sum(spot.text.count(operator) for operator in OPERATORS) == 1
         if text.endswith(")") and text.count(")") > text.count("("):
             return spot.cause(len(token), f"this {token} stands in no parentheses", "a ( is missing at the beginning")
-        help = f"write ({text})" if alone and len(text) < 60 else "write ((A && B) && C), with ( ) for each operator"
+        whole = f"{text} B" if text.endswith(token) else text
+        help = f"write ({whole})" if alone and len(text) < 60 else "write ((A && B) && C), with ( ) for each operator"
         return spot.cause(len(token), f"this {token} stands in no parentheses", help)
     left = spot.text[opened.start():spot.at].strip() if opened else ""
     help = f"write ({left}) {token} ..)" if 0 < len(left) < 60 else "write ((A && B) && C)"
@@ -322,13 +325,28 @@ def _no_function(spot):
     return _misspelled(spot, ["size", "merge"]) or other
 
 
+def _second_test(spot, token):
+    """The cause of an operator between two comparisons of one test, else None."""
+    if spot.last(2) not in COMPARISONS or not re.match(r"(?:&&|\|\|) *(?:(?:_[12]|size) *)?[<>=!]", spot.rest):
+        return None
+    help = "write one test after another, as .whileInput(> 5).whileInput(< 9)"
+    if token == "||":
+        help = "write (S.whileInput(..) || S.whileInput(..)).map(_1)"
+    return spot.cause(len(token), "a test has one comparison", help)
+
+
 def _no_close(spot):
     """The arguments don't end."""
     token, word = spot.token(), spot.last(3)
+    if token in OPERATORS and _second_test(spot, token):
+        return _second_test(spot, token)
     if token in OPERATORS or token == ".":
         return spot.cause(len(token), f"a ) is missing before this {token}", "write )")
     if token == "," and word in NUMBERED_LEAVES:
-        return spot.cause(1, f"{word} takes one number", "write ): exponential alone takes a second one, its factor")
+        groups = re.match(r"(?:,[0-9]{3})+(?![0-9])", spot.rest)
+        written = shown(spot.last() + groups[0].replace(",", "")) if groups else ")"
+        return spot.cause(1, f"{word} takes one number",
+                          f"write {written}: exponential alone takes a second one, its factor")
     return _misspelled(spot, _WORDS) or spot.cause(max(1, len(token)), "a ) is missing here", "write )")
 
 
