@@ -20,7 +20,7 @@ import time
 TOP = pathlib.Path(__file__).resolve().parent.parent
 LAST = re.compile(r"(\d+) passed, (\d+) failed")
 # How long the links may lag behind.
-SECONDS = 1
+SECONDS = 2
 
 
 class Store:
@@ -28,6 +28,7 @@ class Store:
 
     def __init__(self, folder):
         self.room, self.links, self.kept = folder / "room", folder / "links", folder / "kept"
+        self.inodes = {}
         for it in [self.room, self.links, self.kept]:
             it.mkdir()
             # What rt runs as nobody has to reach its own folder in the room.
@@ -36,12 +37,22 @@ class Store:
     def look(self):
         """Links to what is new in rt's folders of proofs, and answers the crates whose folder is gone by now."""
         for folder in self.room.glob("rt-edits-*"):
-            for at, _folders, files in os.walk(folder):
-                to = self.links / os.path.relpath(at, self.room)
-                to.mkdir(parents=True, exist_ok=True)
-                for name in files:
-                    link(f"{at}/{name}", to / name)
+            self.link(folder, self.links / folder.name)
         return [self.move(it) for it in self.links.iterdir() if not (self.room / it.name).exists()]
+
+    def link(self, folder, to):
+        """Links to the files of a folder that are new since the last look; one that is gone meanwhile is left out."""
+        to.mkdir(exist_ok=True)
+        try:
+            for it in os.scandir(folder):
+                if it.is_dir(follow_symlinks=False):
+                    self.link(it.path, to / it.name)
+                elif self.inodes.get(it.path) != it.inode():
+                    (to / it.name).unlink(missing_ok=True)
+                    os.link(it.path, to / it.name)
+                    self.inodes[it.path] = it.inode()
+        except FileNotFoundError:
+            pass
 
     def move(self, folder):
         """Puts the proofs of a folder under the name of their crate: the one that most of its files name."""
@@ -58,16 +69,6 @@ class Store:
             kept = TOP / "crates" / folder.name / "out" / "incremental"
             if kept.parent.is_dir() and not kept.exists():
                 shutil.move(folder, kept)
-
-
-def link(file, to):
-    """Links to one file, in place of an older one; a file that is gone meanwhile is left out."""
-    try:
-        if not to.exists() or not os.path.samefile(file, to):
-            to.unlink(missing_ok=True)
-            os.link(file, to)
-    except FileNotFoundError:
-        pass
 
 
 class WrongBodies(threading.Thread):
