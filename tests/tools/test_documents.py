@@ -1,10 +1,11 @@
 """The documents: their links lead somewhere, the README is short, and the plans shown have the reports shown."""
+import io
 import json
 import pathlib
 import re
 import unittest
 
-from zsched_tools import program
+from zsched_tools import lines, program
 
 TOP = pathlib.Path(__file__).resolve().parents[2]
 PAGES = sorted([*TOP.glob("*.md"), *TOP.glob("docs/*.md"), *TOP.glob("benches/**/*.md")])
@@ -54,9 +55,9 @@ class Documents(unittest.TestCase):
                     self.assertTrue(any(place.exists() for place in places), "there is no such file")
 
     def test_the_readme_is_short(self):
-        lines = README.splitlines()
-        self.assertLessEqual(len(lines), 90)
-        self.assertEqual([line for line in lines if len(line) > 140], [])
+        rows = README.splitlines()
+        self.assertLessEqual(len(rows), 90)
+        self.assertEqual([row for row in rows if len(row) > 140], [])
 
     def test_the_readme_names_tools_that_are_there(self):
         named = set(re.findall(r"`\.?/?((?:tools/[a-z-]+)|run|check)\b", README))
@@ -76,6 +77,13 @@ class Documents(unittest.TestCase):
         polls = report.split()[-1]
         wanted = f"{report}polls {polls}\n".encode()
         self.assertEqual(program.run(program.find(), plan.encode(), 60), (0, wanted, b""))
+
+    def test_formats_shows_a_report_as_json_lines(self):
+        report = re.search(r"```text\n(job .*?)```", FORMATS, re.DOTALL).group(1)
+        shown = re.search(r'```json\n(\{"type".*?)```', FORMATS, re.DOTALL).group(1)
+        made = []
+        lines.write_lines(io.StringIO(f"{report}polls {report.split()[-1]}\n"), made.append)
+        self.assertEqual("".join(made), shown)
 
 
 if __name__ == "__main__":

@@ -57,7 +57,7 @@ def constructors(v):
         "`Schedule.identity`": zio.identity(),
         "`Schedule.elapsed`": zio.elapsed(),
         "`Schedule.upTo(d)`": zio.up_to(v.d),
-        "`Schedule.duration(d)`": zio.duration(v.d),
+        "`Schedule.duration(d)`, `Schedule.fromDuration(d)`": zio.duration(v.d),
         "`Schedule.fromDurations(d, e)`": zio.from_durations(v.d, v.e),
         "`Schedule.recurWhile(_ < N)`": zio.identity().while_input(lambda x: x < n),
         "`Schedule.recurUntil(_ < N)`": zio.identity().until_input(lambda x: x < n),
@@ -207,7 +207,6 @@ class Recipes(unittest.TestCase):
             for plan, report in self.plans_of(section):
                 with self.subTest(section.splitlines()[0]):
                     self.assertEqual(program.run(zsched, plan, 60), (0, report, b""))
-
 
     def test_a_calm_is_the_time_between_two_failures(self):
         example = json.loads((TOP / "examples" / "start_over_after_calm.json").read_bytes())
