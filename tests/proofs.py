@@ -134,13 +134,22 @@ def follow(running, store, bodies):
     return sums[-1]
 
 
+def environment(store):
+    """The variables for `rt ci`. It keeps tasks back for more memory than they take: so it's told how many may go at once,
+    where there are four gigabytes for each."""
+    memory = os.sysconf("SC_PAGE_SIZE") * os.sysconf("SC_PHYS_PAGES")
+    processors = len(os.sched_getaffinity(0))
+    jobs = {"RT_JOBS": str(processors)} if memory >= 4_000_000_000 * processors else {}
+    return {**jobs, **os.environ, "TMPDIR": str(store.room)}
+
+
 def main():
     """Runs `rt ci` in a folder for temporary files of its own, and the wrong bodies beside it."""
     with tempfile.TemporaryDirectory(prefix="zsched-proofs-") as folder:
         os.chmod(folder, 0o711)
         store = Store(pathlib.Path(folder))
         bodies = WrongBodies(store)
-        running = subprocess.Popen(["rt", "ci"], cwd=TOP, env={**os.environ, "TMPDIR": str(store.room)}, text=True,
+        running = subprocess.Popen(["rt", "ci"], cwd=TOP, env=environment(store), text=True,
                                    errors="replace", stdout=subprocess.PIPE, stderr=subprocess.STDOUT)
         try:
             bodies.start()
