@@ -12,8 +12,8 @@ class NoProgram(Exception):
 
 
 def find(named=None):
-    """The program's path: the one that is named, else that of the variable ZSCHED, else the one that this tree built, else
-    the one on PATH."""
+    """The program's path: the one that is named, else that of the variable ZSCHED, else the one that this tree built,
+    else the one on PATH."""
     for place in [named, os.environ.get("ZSCHED")]:
         if place:
             if not os.access(place, os.X_OK) or os.path.isdir(place):
@@ -23,7 +23,8 @@ def find(named=None):
         return str(BUILT)
     installed = shutil.which("zsched")
     if installed is None:
-        raise NoProgram("zsched is neither built (./run --proved builds it) nor installed; --zsched PATH or ZSCHED names one")
+        raise NoProgram("zsched is neither built (./run --proved builds it) nor installed; --zsched PATH or ZSCHED "
+                        "names one")
     return installed
 
 
