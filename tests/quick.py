@@ -97,7 +97,9 @@ def write_cases(folder):
         (folder / plan.name).write_bytes(plan.read_bytes())
         (folder / f"{plan.name}.stdout").write_bytes(plan.with_suffix(".json.stdout").read_bytes())
         wanted[plan.name] = ("0", "")
-    small = [(text, fault) for _name, text, fault in hostile_plans.refused() if len(text) <= LARGE]
+    # A plan that is cut at each byte is left to ./check too: one unproved run takes a good part of a second.
+    small = [(text, fault) for name, text, fault in hostile_plans.refused()
+             if len(text) <= LARGE and not name.startswith("a plan cut at")]
     for number, (text, fault) in enumerate(small, 1):
         case = f"hostile_{number:03}.json"
         (folder / case).write_bytes(text)
