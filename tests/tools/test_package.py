@@ -155,6 +155,13 @@ class Package(unittest.TestCase):
         self.assertEqual([path for path in wanted if not (self.root / path).is_file()], [])
         self.assertEqual([path for path in self.root.rglob("*") if path.suffix == ".pyc"], [])
 
+    def test_each_link_of_a_document_leads_to_a_file(self):
+        papers = self.root / "usr/share/doc/zsched"
+        links = [(file, link) for file in sorted(papers.rglob("*.md"))
+                 for link in re.findall(r"\]\(([^)#\s]+)(?:#[^)]*)?\)", file.read_text()) if "://" not in link]
+        self.assertGreater(len(links), 30)
+        self.assertEqual([(file.name, link) for file, link in links if not (file.parent / link).exists()], [])
+
     def test_sums_are_those_of_the_files(self):
         told = output(["dpkg-deb", "--info", self.package, "md5sums"])
         for line in told.splitlines():

@@ -1,5 +1,6 @@
 """The values of a text that is JSON, with their places. A list or object is read where it is asked for its parts;
 elsewhere it is passed by its brackets alone."""
+import functools
 import json
 import re
 
@@ -111,11 +112,16 @@ class Node:
     def members(self):
         """The keys and values of an object, as pairs of nodes in their order."""
         document = self.document
-        return [(Node(document, at), Node(document, document.behind_key(at))) for at in self._parts(None)]
+        return ((Node(document, at), Node(document, document.behind_key(at))) for at in self._parts(None))
+
+    @functools.cached_property
+    def _values(self):
+        """The values of an object by their keys, the last where a key stands twice."""
+        return {name.string(): value for name, value in self.members()}
 
     def get(self, key):
         """The value at a key, the last where it stands twice; None where it doesn't stand."""
-        return next((value for name, value in reversed(self.members()) if name.string() == key), None)
+        return self._values.get(key)
 
     def _parts(self, passing):
         """The places of the items, or of the keys."""
