@@ -302,6 +302,42 @@ class Results(unittest.TestCase):
             self.assertTrue((BENCHES / link).exists(), link)
 
 
+class Population(unittest.TestCase):
+    """benches/population.py"""
+
+    def ended(self, *words):
+        """The exit status of population.py, what it printed, and its errors."""
+        ended = subprocess.run([sys.executable, BENCHES / "population.py", *words], capture_output=True, text=True,
+                               check=False)
+        return ended.returncode, ended.stdout, ended.stderr
+
+    def test_all_jobs_are_cut_run_and_joined(self):
+        with tempfile.TemporaryDirectory() as folder:
+            status, rows, errors = self.ended("--jobs", "250", "--part", "100", "--folder", folder)
+            self.assertEqual((status, errors, os.listdir(folder)), (0, "", []))
+        number = r"[\d,]+\.\d"
+        row = rf"\| (cut|run|join) \| {number} \| {number} \| {number} \| [\d,]+ \|\n"
+        self.assertRegex(rows, rf"^\| Step .*\n.*\n({row}){{3}}\| all \| {number} \| \| \| [\d,]+ \|\n$")
+
+    def test_a_program_that_fails_and_one_that_leaves_jobs_out(self):
+        with tempfile.TemporaryDirectory() as folder:
+            fails = script(folder, "fails", "exit 4")
+            self.assertEqual(self.ended("--jobs", "3", "--zsched", fails)[::2],
+                             (1, "population.py: run ended with status 4\n"))
+            empties = script(folder, "empties", "cat > /dev/null; echo polls 0")
+            status, _, errors = self.ended("--jobs", "3", "--zsched", empties)
+            self.assertEqual(status, 1)
+            self.assertRegex(errors, "^population.py: the joined report isn't that of 3 jobs: .*polls 0")
+
+    def test_wrong_words(self):
+        for wrong in [["--jobs", "0"], ["--part", "x"], ["plan.json"], ["--zsched", "/nowhere"]]:
+            with self.subTest(wrong):
+                status, output, errors = self.ended(*wrong)
+                self.assertEqual((status, output), (2, ""))
+                self.assertIn("population.py: error: ", errors)
+                self.assertNotIn("Traceback", errors)
+
+
 class Build(unittest.TestCase):
     """benches/baseline/build, where nothing is built."""
 
