@@ -9,6 +9,7 @@ pub mod Scan
 pub mod Grammar
 pub mod Machine
 pub mod Parts
+pub mod Shape
 pub mod Causes
 pub mod Reading
 pub mod Canonical

@@ -5,6 +5,7 @@ ghost use Rattle.zs_term.specs.Schedule.{schedule_of};
 ghost use Rattle.zs_term.specs.OutputKind.{output_kind_of, is_same_kind, num, pair_of, sum_of};
 ghost use Rattle.zs_term.specs.Kinds.{kind_of, answers, fits, is_num, found_kind_of, joined, where_fits, list_kind, mapped_kind};
 
+use crate::forms::{Infix, Shape, Subject};
 use crate::kind::Kind;
 use crate::term::{Func, Pick, Term};
 use std::alloc::{AllocError, Global};
@@ -13,27 +14,18 @@ use std::alloc::{AllocError, Global};
 pub(crate) fn kind_of(alloc: Global, term: &Term) -> Result<Option<Kind>, AllocError>
     ensures value { IfOk result (λ k. found_kind_of k ≡ kind_of (schedule_of term.now)) }
 {
-    match term {
-        Term::Both(a, b) | Term::Either(a, b) => {
+    match term.shape() {
+        Shape::Plain(_) | Shape::Counted(_, _) | Shape::Exponential(_, _) => Ok(Some(Kind::Num)),
+        Shape::Joined(Infix::AndThen, a, b) => {
+            sum_kind(alloc, kind_of(alloc, a)?, kind_of(alloc, b)?)
+        }
+        Shape::Joined(Infix::Both | Infix::Either, a, b) => {
             pair_kind(alloc, kind_of(alloc, a)?, kind_of(alloc, b)?)
         }
-        Term::AndThen(a, b) => sum_kind(alloc, kind_of(alloc, a)?, kind_of(alloc, b)?),
-        Term::WhileInput(s, _test) => kind_of(alloc, s),
-        Term::WhileOutput(s, pick, _test) | Term::ResetWhen(s, pick, _test) => {
-            Ok(where_fits(*pick, kind_of(alloc, s)?))
-        }
-        Term::CollectAll(s) => list_kind(alloc, kind_of(alloc, s)?),
-        Term::Map(s, func) => Ok(mapped_kind(*func, kind_of(alloc, s)?)),
-        Term::Forever
-        | Term::Recurs(_)
-        | Term::Spaced(_)
-        | Term::Fixed(_)
-        | Term::Exponential(_, _)
-        | Term::Fibonacci(_)
-        | Term::Identity
-        | Term::Elapsed
-        | Term::Linear(_)
-        | Term::Windowed(_) => Ok(Some(Kind::Num)),
+        Shape::Tested(s, Subject::Input, _) => kind_of(alloc, s),
+        Shape::Tested(s, Subject::Picked(_, pick), _) => Ok(where_fits(pick, kind_of(alloc, s)?)),
+        Shape::Collected(s) => list_kind(alloc, kind_of(alloc, s)?),
+        Shape::Mapped(s, func) => Ok(mapped_kind(func, kind_of(alloc, s)?)),
     }
 }
 
