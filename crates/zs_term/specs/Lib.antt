@@ -14,5 +14,6 @@ pub mod Causes
 pub mod Reading
 pub mod Canonical
 pub mod Laws
+pub mod Places
 pub mod OutputText
 pub mod Verdict
