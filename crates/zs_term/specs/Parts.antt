@@ -17,7 +17,7 @@ use Rattle.zs_term.specs.declared.parser.Frame.TheVariants.{Left, Right}
 use Rattle.zs_term.specs.declared.parser.Mode.{Mode as ModeKept}
 use Rattle.zs_term.specs.declared.parser.Mode.TheVariants.{Start, Opening, Counting, ExpOpening, ExpCounting, Based, Factored, Closing, After, Dotted, Method, Picking, Testing, Comparing, Mapping, Scaling}
 
--- the sizes of a term, cut at 2 ^ 64 - 1, and the term where terms are built and its numbers fit
+-- the sizes of a term, saturated at 2 ^ 64 - 1, and the term where terms are built and its numbers fit
 pub record Kept : Type 0 where
   pub depth : ℕ
   pub weight : ℕ

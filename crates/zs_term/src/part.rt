@@ -10,9 +10,9 @@ use std::alloc::{AllocError, Global};
 /// A whole term that was read: its sizes, and the term itself where terms are built and its numbers fit.
 #[derive(Drop)]
 pub struct Part {
-    /// The depth, cut at 2 ^ 64 - 1.
+    /// The depth, at most 2 ^ 64 - 1.
     pub depth: u64,
-    /// The weight, cut at 2 ^ 64 - 1.
+    /// The weight, at most 2 ^ 64 - 1.
     pub weight: u64,
     /// The term, if it was built.
     pub term: Option<Box<Term>>,
