@@ -2,7 +2,9 @@
 use Rattle.std.proofs.Common.{◌≡◌, ℕ, zero, suc, ◌+◌, ◌-◌, ◌*◌, ◌%◌, ◌^◌, ◌≤◌, Bool, true, false, ◌||◌, nat_lt, nat_eq, if◌then◌else◌, Option, Some, None, [], ◌∷◌, length, refl, sym, ap, subst, arith}
 use Rattle.zs_term.specs.Saturating.{saturated, max_moment}
 use Rattle.zs_term.specs.Output.{passes, picked}
-use Rattle.zs_term.specs.Schedule.{Schedule, leaf, two, over, Leaf, forever, recurs, spaced, fixed, exponential, fibonacci, identity, elapsed, linear, windowed, Pairing, both, either, and_then, Modifier, while_input, while_output, collect_all, mapped, reset_when}
+use Rattle.zs_term.specs.Schedule.{Schedule, leaf, two, over, Leaf, plain, counted, exponential, Pairing, both, either, and_then, Modifier, while_input, while_output, collect_all, mapped, reset_when}
+use Rattle.zs_term.specs.declared.forms.Plain.TheVariants.{Forever, Identity, Elapsed}
+use Rattle.zs_term.specs.declared.forms.Counted.TheVariants.{Recurs, Spaced, Fixed, Fibonacci, Linear, Windowed}
 use Rattle.zs_term.specs.declared.term.Test.{Test}
 use Rattle.zs_term.specs.declared.term.Pick.{Pick}
 use Rattle.zs_step.specs.declared.decision.Decision.{Decision}
@@ -105,16 +107,16 @@ late-at : (a : History → Answer) → IsLate a → (m : ℕ) (g : History) → 
 late-at a late m g e le = subst (λ n. IsNotBefore n (a g).decision) e (late g (subst (λ n. n ≤ max_moment) (sym e) le))
 
 leaf-late : (l : Leaf) → IsLate (leaf_answer l)
-leaf-late forever h le = omega arith
-leaf-late (recurs k) h le = only_if-late (last_moment h) (nat_lt (length (earlier h)) k) (Next (last_moment h)) (omega arith)
-leaf-late (spaced d) h le = saturated-late (last_moment h) d le
-leaf-late (fixed p) h le = next_run-late p h le
+leaf-late (plain Forever) h le = omega arith
+leaf-late (counted Recurs k) h le = only_if-late (last_moment h) (nat_lt (length (earlier h)) k) (Next (last_moment h)) (omega arith)
+leaf-late (counted Spaced d) h le = saturated-late (last_moment h) d le
+leaf-late (counted Fixed p) h le = next_run-late p h le
 leaf-late (exponential b f) h le = saturated-late (last_moment h) (saturated (b * f ^ length (earlier h))) le
-leaf-late (fibonacci o) h le = saturated-late (last_moment h) (saturated (o * fibonacci_number (length h))) le
-leaf-late identity h le = omega arith
-leaf-late elapsed h le = omega arith
-leaf-late (linear n) h le = saturated-late (last_moment h) (saturated (n * length h)) le
-leaf-late (windowed n) h le = window_end-late n (first_moment h) (last_moment h) le
+leaf-late (counted Fibonacci o) h le = saturated-late (last_moment h) (saturated (o * fibonacci_number (length h))) le
+leaf-late (plain Identity) h le = omega arith
+leaf-late (plain Elapsed) h le = omega arith
+leaf-late (counted Linear n) h le = saturated-late (last_moment h) (saturated (n * length h)) le
+leaf-late (counted Windowed n) h le = window_end-late n (first_moment h) (last_moment h) le
 
 paired-late : (p : Pairing) (a b : History → Answer) → IsLate a → IsLate b → IsLate (paired p a b)
 paired-late both a b s t h le = later_of-late (last_moment h) (a h).decision (b h).decision (s h le) (t h le)

@@ -5,7 +5,9 @@ use Rattle.zs_term.specs.declared.term.Func.{Func}
 use Rattle.zs_term.specs.declared.term.Func.TheVariants.{First, Second, Size, Merge, Const, Add, Mul}
 use Rattle.zs_term.specs.Output.{Output, Outputs, number, pair, left, right, listed, none, more, with_last, applied}
 use Rattle.zs_term.specs.OutputKind.{OutputKind, num, pair_of, sum_of, list_of, is_same_kind, HasKind, AllHaveKind}
-use Rattle.zs_term.specs.Schedule.{Schedule, leaf, two, over, Leaf, forever, recurs, spaced, fixed, exponential, fibonacci, identity, elapsed, linear, windowed, Pairing, both, either, and_then, Modifier, while_input, while_output, collect_all, mapped, reset_when}
+use Rattle.zs_term.specs.Schedule.{Schedule, leaf, two, over, Leaf, plain, counted, Pairing, both, either, and_then, Modifier, while_input, while_output, collect_all, mapped, reset_when}
+use Rattle.zs_term.specs.declared.forms.Plain.TheVariants.{Forever}
+use Rattle.zs_term.specs.declared.forms.Counted.TheVariants.{Recurs}
 use Rattle.zs_term.specs.Kinds.{kind_of, pairing_kind, modifier_kind, answers, joined, where_fits, list_kind, mapped_kind, fits}
 use Rattle.zs_step.specs.History.{History, earlier}
 use Rattle.zs_step.specs.Answer.{Answer, leaf_answer, paired, modified, answer_of, is_next, from_done, sequel_of, collect_if, collected, since_reset}
@@ -154,16 +156,9 @@ has-applied f v (Some a) s = applied-has f v a s
 
 -- each leaf's output is a number
 leaf-has : (l : Leaf) (h : History) → HasKind (leaf_answer l h).output num
-leaf-has forever h = tt
-leaf-has (recurs k) h = tt
-leaf-has (spaced d) h = tt
-leaf-has (fixed p) h = tt
-leaf-has (exponential b f) h = tt
-leaf-has (fibonacci o) h = tt
-leaf-has identity h = tt
-leaf-has elapsed h = tt
-leaf-has (linear n) h = tt
-leaf-has (windowed n) h = tt
+leaf-has (plain Forever) h = tt
+leaf-has (counted Recurs n) h = tt
+leaf-has _ h = tt
 
 -- two schedules
 paired-has : (p : Pairing) (a b : History → Answer) (k l : Option OutputKind) → ((h : History) → Has (a h).output k) → ((h : History) → Has (b h).output l) →

@@ -5,7 +5,9 @@
 use Rattle.std.specs.Prelude.{ℕ, zero, suc, ◌+◌, ◌-◌, ◌*◌, ◌%◌, ◌^◌, min, max, Bool, true, false, ◌||◌, nat_lt, nat_eq, if◌then◌else◌, Option, Some, None, [], ◌∷◌, length}
 use Rattle.zs_term.specs.Saturating.{saturated}
 use Rattle.zs_term.specs.Output.{Output, Outputs, number, pair, left, right, listed, none, with_last, passes, picked, applied}
-use Rattle.zs_term.specs.Schedule.{Schedule, leaf, two, over, Leaf, forever, recurs, spaced, fixed, exponential, fibonacci, identity, elapsed, linear, windowed, Pairing, both, either, and_then, Modifier, while_input, while_output, collect_all, mapped, reset_when}
+use Rattle.zs_term.specs.Schedule.{Schedule, leaf, two, over, Leaf, plain, counted, exponential, Pairing, both, either, and_then, Modifier, while_input, while_output, collect_all, mapped, reset_when}
+use Rattle.zs_term.specs.declared.forms.Plain.TheVariants.{Forever, Identity, Elapsed}
+use Rattle.zs_term.specs.declared.forms.Counted.TheVariants.{Recurs, Spaced, Fixed, Fibonacci, Linear, Windowed}
 use Rattle.zs_term.specs.declared.term.Test.{Test}
 use Rattle.zs_term.specs.declared.term.Pick.{Pick}
 use Rattle.zs_step.specs.declared.decision.Decision.{Decision}
@@ -113,16 +115,16 @@ since_reset a k t (p ∷ h) = reset_if (passes t (picked k (a (p ∷ since_reset
 
 -- The rules of the leaves.
 abbrev pub leaf_answer : Leaf → History → Answer
-leaf_answer forever h = answer (number (saturated (length (earlier h)))) (Next (last_moment h))
-leaf_answer (recurs k) h = answer (number (saturated (length (earlier h)))) (only_if (nat_lt (length (earlier h)) k) (Next (last_moment h)))
-leaf_answer (spaced d) h = answer (number (saturated (length (earlier h)))) (Next (saturated (last_moment h + d)))
-leaf_answer (fixed p) h = answer (number (saturated (length (earlier h)))) (Next (next_run p h))
+leaf_answer (plain Forever) h = answer (number (saturated (length (earlier h)))) (Next (last_moment h))
+leaf_answer (counted Recurs k) h = answer (number (saturated (length (earlier h)))) (only_if (nat_lt (length (earlier h)) k) (Next (last_moment h)))
+leaf_answer (counted Spaced d) h = answer (number (saturated (length (earlier h)))) (Next (saturated (last_moment h + d)))
+leaf_answer (counted Fixed p) h = answer (number (saturated (length (earlier h)))) (Next (next_run p h))
 leaf_answer (exponential b f) h = waits (saturated (b * f ^ length (earlier h))) h
-leaf_answer (fibonacci o) h = waits (saturated (o * fibonacci_number (length h))) h
-leaf_answer identity h = answer (number (last_input h)) (Next (last_moment h))
-leaf_answer elapsed h = answer (number (last_moment h - first_moment h)) (Next (last_moment h))
-leaf_answer (linear n) h = waits (saturated (n * length h)) h
-leaf_answer (windowed n) h =
+leaf_answer (counted Fibonacci o) h = waits (saturated (o * fibonacci_number (length h))) h
+leaf_answer (plain Identity) h = answer (number (last_input h)) (Next (last_moment h))
+leaf_answer (plain Elapsed) h = answer (number (last_moment h - first_moment h)) (Next (last_moment h))
+leaf_answer (counted Linear n) h = waits (saturated (n * length h)) h
+leaf_answer (counted Windowed n) h =
     answer (number (saturated (length (earlier h)))) (Next (window_end n (first_moment h) (last_moment h)))
 
 -- The rules of the operators between two schedules, given what each of them answers to every history.

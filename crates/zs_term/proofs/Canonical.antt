@@ -1,5 +1,5 @@
 -- The canonical spelling is read as its tokens.
-use Rattle.std.proofs.Common.{◌≡◌, ◌≢◌, ℕ, zero, suc, ◌+◌, ◌-◌, ◌<◌, ◌^◌, List, [], ◌∷◌, ◌++◌, length, drop, map, Bool, true, false, cond, Some, refl, sym, ap, ◌∙◌, subst, arith, append_assoc, length-append, inr}
+use Rattle.std.proofs.Common.{◌≡◌, ◌≢◌, ℕ, zero, suc, ◌+◌, ◌<◌, ◌^◌, List, [], ◌∷◌, ◌++◌, length, drop, Bool, true, false, cond, Some, refl, sym, ap, ◌∙◌, subst, arith, append_assoc, length-append, inr}
 use Rattle.std.specs.Prelude.{take_while, slice_index, nat_eq, nat_lt, ◌&&◌, codes}
 use Rattle.std.specs.Char.{is_ascii_alphabetic, is_ascii_digit}
 use Rattle.std.specs.Fmt.{decimal}
@@ -8,16 +8,24 @@ use Rattle.std.proofs.lemmas.Fmt.{decimal_is_IsNumeral, first_decimal, decimal_d
 use Rattle.std.proofs.lemmas.List.Sums.{take_while-cons}
 use Rattle.std.proofs.lemmas.Str.Parse.{digit_from_value}
 use Rattle.std.proofs.lemmas.Bool.Decides.{nat_tests}
-use Rattle.zs_term.specs.Schedule.{Schedule, leaf, two, over, Leaf, forever, recurs, spaced, fixed, exponential, fibonacci, identity, elapsed, linear, windowed, Pairing, both, either, and_then, Modifier, while_input, while_output, collect_all, mapped, reset_when}
+use Rattle.zs_term.specs.Schedule.{Schedule, leaf, two, over, Leaf, plain, counted, exponential, Pairing, both, either, and_then, Modifier, while_input, while_output, collect_all, mapped, reset_when}
 use Rattle.zs_term.specs.Number.{FuncFits, LeafFits, ModifierFits, HasFittingNumbers}
-use Rattle.zs_term.specs.Token.{Token, number, mark, Placed, nothing, with_token, next_token, token_at, number_at, word_at, longest, pair_mark, single_mark, word_mark, lex, lexed}
-use Rattle.zs_term.specs.Grammar.{with_number, with_numbers, with_infix, with_method, test_tokens, pick_tokens, func_tokens, cmp_mark, SpellsLeaf, pairing_mark, modifier_tokens, Spells}
+use Rattle.zs_term.specs.Token.{Token, number, mark, Placed, nothing, with_token, next_token, token_at, number_at, word_at, longest, pair_mark, single_mark, plain_word, counted_word, word_mark, lex, lexed}
+use Rattle.zs_term.specs.Grammar.{with_number, with_numbers, with_infix, test_tokens, pick_tokens, func_tokens, SpellsLeaf, pairing_mark, modifier_tokens, Spells}
 use Rattle.zs_term.specs.Causes.{tokens_of}
 use Rattle.zs_term.specs.Reading.{behind_tokens}
 use Rattle.zs_term.specs.Canonical.{canonical_text, leaf_text, pairing_text, modifier_text, number_text, infix_text, cmp_text, pick_text, func_text, test_text, and_then_text, while_input_text, while_output_text, reset_when_text, exponential_text}
 use Rattle.zs_term.specs.Laws.{CanonicalSpells}
 use Rattle.zs_term.specs.declared.token.Mark.{Mark}
-use Rattle.zs_term.specs.declared.token.Mark.TheVariants.{ForeverWord, RecursWord, SpacedWord, FixedWord, ExponentialWord, FibonacciWord, IdentityWord, ElapsedWord, AndThenWord, WhileInputWord, WhileOutputWord, CollectAllWord, MapWord, LinearWord, WindowedWord, ResetWhenWord, FirstPart, SecondPart, Open, Close, Comma, Dot, AndAnd, OrOr, Less, LessOrEqual, Equal, NotEqual, Greater, GreaterOrEqual, Plus, Times}
+use Rattle.zs_term.specs.declared.token.Mark.TheVariants.{PlainWord, CountedWord, ExponentialWord, Operator, MethodWord, CollectAllWord, Comparison, PieceWord, ScaleWord, Open, Close, Comma, Dot}
+use Rattle.zs_term.specs.declared.forms.Plain.{Plain}
+use Rattle.zs_term.specs.declared.forms.Plain.TheVariants.{Forever}
+use Rattle.zs_term.specs.declared.forms.Counted.{Counted}
+use Rattle.zs_term.specs.declared.forms.Counted.TheVariants.{Recurs}
+use Rattle.zs_term.specs.declared.forms.Infix.TheVariants.{Both, Either, AndThen}
+use Rattle.zs_term.specs.declared.forms.Method.TheVariants.{WhileInput, WhileOutput, Map, ResetWhen}
+use Rattle.zs_term.specs.declared.forms.Piece.TheVariants.{First as PieceFirst, Second as PieceSecond}
+use Rattle.zs_term.specs.declared.forms.Scale.TheVariants.{Plus, Times}
 use Rattle.zs_term.specs.declared.term.Test.{Test}
 use Rattle.zs_term.specs.declared.term.Cmp.{Cmp}
 use Rattle.zs_term.specs.declared.term.Cmp.TheVariants.{Lt, Le, Eq, Ne, Gt, Ge}
@@ -71,9 +79,9 @@ close_read : Reads Any (codes ")") (mark Close ∷ [])
 unfolding lex
 close_read = λ at rest u. one_read at (mark Close) (codes ")") rest (at + 1) (omega arith) refl
 
-and_read : Reads Any (codes "&&") (mark AndAnd ∷ [])
+and_read : Reads Any (codes "&&") (mark (Operator Both) ∷ [])
 unfolding lex
-and_read = λ at rest u. one_read at (mark AndAnd) (codes "&&") rest (at + 1 + 1) (omega arith) refl
+and_read = λ at rest u. one_read at (mark (Operator Both)) (codes "&&") rest (at + 1 + 1) (omega arith) refl
 
 abbrev all_pass : (ℕ → Bool) → List ℕ → Bool
 all_pass p [] = true
@@ -163,6 +171,9 @@ number_read n h =
 loosely : {bytes : List ℕ} {ts : List Token} → Reads Any bytes ts → Reads Loose bytes ts
 loosely h = λ at rest l. h at rest tt
 
+no_space : (b : ℕ) → is_ascii_alphabetic b ≡ true → b ≢ 32
+no_space b h = λ e. let never : is_ascii_alphabetic 32 ≡ true = subst (λ c. is_ascii_alphabetic c ≡ true) e h in cc
+
 -- a word and a symbol or a space behind it
 word_open_read : (b : ℕ) (w : List ℕ) → b ≢ 32 → all_pass is_ascii_alphabetic (b ∷ w) ≡ true → Reads Any ((b ∷ w) ++ codes "(") (mark (word_mark (b ∷ w)) ∷ mark Open ∷ [])
 word_open_read b w e h = both_read (word_read b w e h) open_read (λ rest u. (refl, refl, refl))
@@ -178,17 +189,17 @@ comma_read : Reads Any (codes ",") (mark Comma ∷ [])
 unfolding lex
 comma_read = λ at rest u. one_read at (mark Comma) (codes ",") rest (at + 1) (omega arith) refl
 
-or_read : Reads Any (codes "||") (mark OrOr ∷ [])
+or_read : Reads Any (codes "||") (mark (Operator Either) ∷ [])
 unfolding lex
-or_read = λ at rest u. one_read at (mark OrOr) (codes "||") rest (at + 1 + 1) (omega arith) refl
+or_read = λ at rest u. one_read at (mark (Operator Either)) (codes "||") rest (at + 1 + 1) (omega arith) refl
 
-first_read : Reads Any (codes "_1") (mark FirstPart ∷ [])
+first_read : Reads Any (codes "_1") (mark (PieceWord PieceFirst) ∷ [])
 unfolding lex
-first_read = λ at rest u. one_read at (mark FirstPart) (codes "_1") rest (at + 1 + 1) (omega arith) refl
+first_read = λ at rest u. one_read at (mark (PieceWord PieceFirst)) (codes "_1") rest (at + 1 + 1) (omega arith) refl
 
-second_read : Reads Any (codes "_2") (mark SecondPart ∷ [])
+second_read : Reads Any (codes "_2") (mark (PieceWord PieceSecond) ∷ [])
 unfolding lex
-second_read = λ at rest u. one_read at (mark SecondPart) (codes "_2") rest (at + 1 + 1) (omega arith) refl
+second_read = λ at rest u. one_read at (mark (PieceWord PieceSecond)) (codes "_2") rest (at + 1 + 1) (omega arith) refl
 
 -- with a space behind it
 spaced_read : (bytes : List ℕ) (ts : List Token) → Reads Any bytes ts → Reads Any (bytes ++ codes " ") ts
@@ -197,22 +208,22 @@ spaced_read bytes ts h = λ at rest u. let r = both_read h space_read (λ r u. t
 one_space_read : (at : ℕ) (t : Token) (bytes rest : List ℕ) (n : ℕ) → n ≡ at + length bytes → lex 0 at (bytes ++ rest) ≡ with_token at t (lex 0 n rest) → ReadAt bytes (t ∷ []) at rest
 one_space_read at t bytes rest n e h = one_read at t bytes rest n e h
 
-cmp_read : (c : Cmp) → Reads Any (cmp_text c) (mark (cmp_mark c) ∷ [])
+cmp_read : (c : Cmp) → Reads Any (cmp_text c) (mark (Comparison c) ∷ [])
 unfolding lex
-cmp_read Lt = λ at rest u. one_read at (mark Less) (codes "< ") rest (at + 1 + 1) (omega arith) refl
-cmp_read Le = λ at rest u. one_read at (mark LessOrEqual) (codes "<= ") rest (at + 1 + 1 + 1) (omega arith) refl
-cmp_read Eq = λ at rest u. one_read at (mark Equal) (codes "= ") rest (at + 1 + 1) (omega arith) refl
-cmp_read Ne = λ at rest u. one_read at (mark NotEqual) (codes "!= ") rest (at + 1 + 1 + 1) (omega arith) refl
-cmp_read Gt = λ at rest u. one_read at (mark Greater) (codes "> ") rest (at + 1 + 1) (omega arith) refl
-cmp_read Ge = λ at rest u. one_read at (mark GreaterOrEqual) (codes ">= ") rest (at + 1 + 1 + 1) (omega arith) refl
+cmp_read Lt = λ at rest u. one_read at (mark (Comparison Lt)) (codes "< ") rest (at + 1 + 1) (omega arith) refl
+cmp_read Le = λ at rest u. one_read at (mark (Comparison Le)) (codes "<= ") rest (at + 1 + 1 + 1) (omega arith) refl
+cmp_read Eq = λ at rest u. one_read at (mark (Comparison Eq)) (codes "= ") rest (at + 1 + 1) (omega arith) refl
+cmp_read Ne = λ at rest u. one_read at (mark (Comparison Ne)) (codes "!= ") rest (at + 1 + 1 + 1) (omega arith) refl
+cmp_read Gt = λ at rest u. one_read at (mark (Comparison Gt)) (codes "> ") rest (at + 1 + 1) (omega arith) refl
+cmp_read Ge = λ at rest u. one_read at (mark (Comparison Ge)) (codes ">= ") rest (at + 1 + 1 + 1) (omega arith) refl
 
-plus_read : Reads Any (codes "+ ") (mark Plus ∷ [])
+plus_read : Reads Any (codes "+ ") (mark (ScaleWord Plus) ∷ [])
 unfolding lex
-plus_read = λ at rest u. one_read at (mark Plus) (codes "+ ") rest (at + 1 + 1) (omega arith) refl
+plus_read = λ at rest u. one_read at (mark (ScaleWord Plus)) (codes "+ ") rest (at + 1 + 1) (omega arith) refl
 
-times_read : Reads Any (codes "* ") (mark Times ∷ [])
+times_read : Reads Any (codes "* ") (mark (ScaleWord Times) ∷ [])
 unfolding lex
-times_read = λ at rest u. one_read at (mark Times) (codes "* ") rest (at + 1 + 1) (omega arith) refl
+times_read = λ at rest u. one_read at (mark (ScaleWord Times)) (codes "* ") rest (at + 1 + 1) (omega arith) refl
 
 nothing_read : Reads Any [] []
 nothing_read = λ at rest u. record { placed = []; same = refl; read = ap (λ n. lex 0 n rest) (omega arith) }
@@ -235,8 +246,8 @@ func_read (Mul n) h = both_read times_read (number_read n h) (λ rest u. tt)
 close_behind : (bytes : List ℕ) (ts : List Token) → Reads Loose bytes ts → Reads Any (bytes ++ codes ")") (ts ++ mark Close ∷ [])
 close_behind bytes ts h = both_read h close_read (λ rest u. (refl, refl, refl))
 
-number_form_read : (word : List ℕ) (m : Mark) (n : ℕ) → n < 2 ^ 64 → Reads Any word (mark m ∷ mark Open ∷ []) → Reads Loose (number_text word n) (with_number m n)
-number_form_read word m n h w = loosely (both_read w (close_behind (decimal n) _ (number_read n h)) (λ rest u. tt))
+number_form_read : (word : List ℕ) (m : Mark) (n : ℕ) → n < 2 ^ 64 → Reads Any (word ++ codes "(") (mark m ∷ mark Open ∷ []) → Reads Loose (number_text word n) (with_number m n)
+number_form_read word m n h w = loosely (subst (λ bytes. Reads Any bytes (with_number m n)) (append_assoc word (codes "(") (decimal n ++ codes ")")) (both_read w (close_behind (decimal n) _ (number_read n h)) (λ rest u. tt)))
 
 infix_form_read : (operator : List ℕ) (m : Mark) (x y : List ℕ) (ts us : List Token) → Reads Loose x ts → ((rest : List ℕ) → Loose (operator ++ rest)) → Reads Any operator (mark m ∷ []) → Reads Loose y us → Reads Loose (infix_text x operator y) (with_infix ts m us)
 infix_form_read operator m x y ts us h k o i =
@@ -256,22 +267,22 @@ test_read t h = both_read (cmp_read t.cmp) (close_behind (decimal t.than) _ (num
 picked_read : (p : Pick) (t : Test) → t.than < 2 ^ 64 → Reads Any (pick_text p ++ test_text t) ((pick_tokens p ++ test_tokens t) ++ mark Close ∷ [])
 picked_read p t h = subst (Reads Any (pick_text p ++ test_text t)) (sym (append_assoc (pick_tokens p) (test_tokens t) (mark Close ∷ []))) (both_read (pick_read p) (test_read t h) (λ rest u. tt))
 
-input_read : Reads Any while_input_text (mark Dot ∷ mark WhileInputWord ∷ mark Open ∷ [])
+input_read : Reads Any while_input_text (mark Dot ∷ mark (MethodWord WhileInput) ∷ mark Open ∷ [])
 unfolding while_input_text
 input_read = both_read dot_read (word_open_read 119 (codes "hileInput") (λ e. omega arith) refl) (λ rest u. tt)
 
-output_read : Reads Any while_output_text (mark Dot ∷ mark WhileOutputWord ∷ mark Open ∷ [])
+output_read : Reads Any while_output_text (mark Dot ∷ mark (MethodWord WhileOutput) ∷ mark Open ∷ [])
 unfolding while_output_text
 output_read = both_read dot_read (word_open_read 119 (codes "hileOutput") (λ e. omega arith) refl) (λ rest u. tt)
 
-reset_read : Reads Any reset_when_text (mark Dot ∷ mark ResetWhenWord ∷ mark Open ∷ [])
+reset_read : Reads Any reset_when_text (mark Dot ∷ mark (MethodWord ResetWhen) ∷ mark Open ∷ [])
 unfolding reset_when_text
 reset_read = both_read dot_read (word_open_read 114 (codes "esetWhen") (λ e. omega arith) refl) (λ rest u. tt)
 
-map_read : Reads Any (codes ".map(") (mark Dot ∷ mark MapWord ∷ mark Open ∷ [])
+map_read : Reads Any (codes ".map(") (mark Dot ∷ mark (MethodWord Map) ∷ mark Open ∷ [])
 map_read = both_read dot_read (word_open_read 109 (codes "ap") (λ e. omega arith) refl) (λ rest u. tt)
 
-and_then_read : Reads Any and_then_text (mark AndThenWord ∷ [])
+and_then_read : Reads Any and_then_text (mark (Operator AndThen) ∷ [])
 unfolding and_then_text
 and_then_read = both_read space_read (word_space_read 97 (codes "ndThenEither") (λ e. omega arith) refl) (λ rest u. tt)
 
@@ -301,6 +312,24 @@ exponential_read b f h k =
     (both_read (number_read b h) (both_read (spaced_read (codes ",") _ comma_read) (close_behind (decimal f) _ (number_read f k)) (λ rest u. tt)) (λ rest u. (refl, refl, refl)))
     (λ rest u. tt))
 
+-- some letters, which are no space
+abbrev is_letters : List ℕ → Bool
+is_letters [] = false
+is_letters (b ∷ w) = all_pass is_ascii_alphabetic (b ∷ w)
+
+letters_read : (w : List ℕ) (m : Mark) → is_letters w ≡ true → word_mark w ≡ m → Reads Loose w (mark m ∷ [])
+letters_read [] m h e = cc
+letters_read (b ∷ w) m h e = subst (λ k. Reads Loose (b ∷ w) (mark k ∷ [])) e (word_read b w (no_space b (both_true (is_ascii_alphabetic b) (all_pass is_ascii_alphabetic w) h).0) h)
+
+-- the words of the leaves
+plain_read : (p : Plain) → Reads Loose (plain_word p) (mark (PlainWord p) ∷ [])
+plain_read Forever = letters_read (plain_word Forever) (PlainWord Forever) refl refl
+plain_read p = letters_read (plain_word p) (PlainWord p) refl refl
+
+counted_read : (c : Counted) → Reads Any (counted_word c ++ codes "(") (mark (CountedWord c) ∷ mark Open ∷ [])
+counted_read Recurs = both_read (letters_read (counted_word Recurs) (CountedWord Recurs) refl refl) open_read (λ rest u. (refl, refl, refl))
+counted_read c = both_read (letters_read (counted_word c) (CountedWord c) refl refl) open_read (λ rest u. (refl, refl, refl))
+
 -- what spells the leaf, and how its text is read as it
 record SpelledLeaf (l : Leaf) : Type 0 where
   tokens : List Token
@@ -308,16 +337,9 @@ record SpelledLeaf (l : Leaf) : Type 0 where
   read : Reads Loose (leaf_text l) tokens
 
 spelled_leaf : (l : Leaf) → LeafFits l → SpelledLeaf l
-spelled_leaf forever h = record { tokens = mark ForeverWord ∷ []; spelled = refl; read = word_read 102 (codes "orever") (λ e. omega arith) refl }
-spelled_leaf (recurs n) h = record { tokens = with_number RecursWord n; spelled = refl; read = number_form_read (codes "recurs(") RecursWord n h (word_open_read 114 (codes "ecurs") (λ e. omega arith) refl) }
-spelled_leaf (spaced n) h = record { tokens = with_number SpacedWord n; spelled = refl; read = number_form_read (codes "spaced(") SpacedWord n h (word_open_read 115 (codes "paced") (λ e. omega arith) refl) }
-spelled_leaf (fixed n) h = record { tokens = with_number FixedWord n; spelled = refl; read = number_form_read (codes "fixed(") FixedWord n h (word_open_read 102 (codes "ixed") (λ e. omega arith) refl) }
+spelled_leaf (plain p) h = record { tokens = mark (PlainWord p) ∷ []; spelled = refl; read = plain_read p }
+spelled_leaf (counted c n) h = record { tokens = with_number (CountedWord c) n; spelled = refl; read = number_form_read (counted_word c) (CountedWord c) n h (counted_read c) }
 spelled_leaf (exponential b f) h = record { tokens = with_numbers ExponentialWord b f; spelled = inr refl; read = exponential_read b f h.0 h.1 }
-spelled_leaf (fibonacci n) h = record { tokens = with_number FibonacciWord n; spelled = refl; read = number_form_read (codes "fibonacci(") FibonacciWord n h (word_open_read 102 (codes "ibonacci") (λ e. omega arith) refl) }
-spelled_leaf identity h = record { tokens = mark IdentityWord ∷ []; spelled = refl; read = word_read 105 (codes "dentity") (λ e. omega arith) refl }
-spelled_leaf elapsed h = record { tokens = mark ElapsedWord ∷ []; spelled = refl; read = word_read 101 (codes "lapsed") (λ e. omega arith) refl }
-spelled_leaf (linear n) h = record { tokens = with_number LinearWord n; spelled = refl; read = number_form_read (codes "linear(") LinearWord n h (word_open_read 108 (codes "inear") (λ e. omega arith) refl) }
-spelled_leaf (windowed n) h = record { tokens = with_number WindowedWord n; spelled = refl; read = number_form_read (codes "windowed(") WindowedWord n h (word_open_read 119 (codes "indowed") (λ e. omega arith) refl) }
 
 pairing_read : (p : Pairing) → Reads Any (pairing_text p) (mark (pairing_mark p) ∷ [])
 pairing_read both = both_read space_read (spaced_read (codes "&&") _ and_read) (λ rest u. tt)

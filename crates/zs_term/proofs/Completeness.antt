@@ -1,20 +1,20 @@
 -- A spelling leads to the state behind its term, wherever it stands.
 use Rattle.std.proofs.Common.{◌≡◌, ℕ, List, [], ◌∷◌, ◌++◌, Option, Some, None, refl, sym, ap, ◌∙◌, append_assoc, inl, inr}
-use Rattle.zs_term.specs.Schedule.{Schedule, leaf, two, over, Leaf, forever, recurs, spaced, fixed, exponential, fibonacci, identity, elapsed, linear, windowed, Pairing, both, either, and_then, Modifier, while_input, while_output, collect_all, mapped, reset_when}
+use Rattle.zs_term.specs.Schedule.{Schedule, leaf, two, over, Leaf, plain, counted, exponential, Pairing, both, either, and_then, Modifier, while_input, while_output, collect_all, mapped, reset_when}
 use Rattle.zs_term.specs.Token.{Token, number, mark}
-use Rattle.zs_term.specs.Grammar.{with_infix, with_method, test_tokens, pick_tokens, func_tokens, cmp_mark, SpellsLeaf, pairing_mark, modifier_tokens, Spells}
+use Rattle.zs_term.specs.Grammar.{with_infix, with_method, test_tokens, pick_tokens, func_tokens, SpellsLeaf, pairing_mark, modifier_tokens, Spells}
 use Rattle.zs_term.specs.Machine.{Make, Frame, left, right, Mode, start, after, picking, testing, State, at, step, run, apply_func, leaf_value, pairing_infix, modifier_value, value}
 use Rattle.zs_term.specs.declared.token.Mark.{Mark}
-use Rattle.zs_term.specs.declared.token.Mark.TheVariants.{AndThenWord, WhileInputWord, WhileOutputWord, MapWord, ResetWhenWord, Open, Close, Dot, AndAnd, OrOr}
+use Rattle.zs_term.specs.declared.token.Mark.TheVariants.{MethodWord, Comparison, Open, Close, Dot}
 use Rattle.zs_term.specs.declared.term.Test.{Test}
 use Rattle.zs_term.specs.declared.term.Cmp.{Cmp}
-use Rattle.zs_term.specs.declared.term.Cmp.TheVariants.{Lt, Le, Eq, Ne, Gt, Ge}
 use Rattle.zs_term.specs.declared.term.Pick.{Pick}
 use Rattle.zs_term.specs.declared.term.Pick.TheVariants.{Whole as PickWhole, First as PickFirst, Second as PickSecond, Size as PickSize}
 use Rattle.zs_term.specs.declared.term.Func.{Func}
 use Rattle.zs_term.specs.declared.term.Func.TheVariants.{First, Second, Size, Merge, Const, Add, Mul}
 use Rattle.zs_term.specs.declared.forms.Infix.{Infix}
-use Rattle.zs_term.specs.declared.forms.Infix.TheVariants.{OfBoth, OfEither, OfAndThen}
+use Rattle.zs_term.specs.declared.forms.Method.{Method}
+use Rattle.zs_term.specs.declared.forms.Method.TheVariants.{WhileInput, WhileOutput, Map, ResetWhen}
 use Rattle.zs_term.specs.declared.forms.Action.{Action}
 use Rattle.zs_term.specs.declared.forms.Action.TheVariants.{Stopping, Resetting}
 use Rattle.zs_term.specs.declared.forms.Subject.{Subject}
@@ -60,37 +60,24 @@ module _ {A N : Type 0} (make : Make A N) where
   lead_from ts us a e h = λ fs rest. ap (λ w. run make (Some (at fs start)) (w ++ rest)) e ∙ h fs rest
 
   -- what stands behind `.word(` for each comparison, pick and function
-  lead_test : (fs : List (Frame A)) (a : A) (s : Subject) (c : Cmp) (n : ℕ) (rest : List Token) → run make (Some (at fs (testing a s))) (mark (cmp_mark c) ∷ number n ∷ mark Close ∷ rest) ≡ run make (Some (at fs (after (make.test a s c (make.num n))))) rest
-  lead_test fs a s Lt n rest = refl
-  lead_test fs a s Le n rest = refl
-  lead_test fs a s Eq n rest = refl
-  lead_test fs a s Ne n rest = refl
-  lead_test fs a s Gt n rest = refl
-  lead_test fs a s Ge n rest = refl
-
-  lead_whole : (fs : List (Frame A)) (a : A) (e : Action) (c : Cmp) (n : ℕ) (rest : List Token) → run make (Some (at fs (picking e a))) (mark (cmp_mark c) ∷ number n ∷ mark Close ∷ rest) ≡ run make (Some (at fs (after (make.test a (Picked e PickWhole) c (make.num n))))) rest
-  lead_whole fs a e Lt n rest = refl
-  lead_whole fs a e Le n rest = refl
-  lead_whole fs a e Eq n rest = refl
-  lead_whole fs a e Ne n rest = refl
-  lead_whole fs a e Gt n rest = refl
-  lead_whole fs a e Ge n rest = refl
+  lead_test : (fs : List (Frame A)) (a : A) (s : Subject) (c : Cmp) (n : ℕ) (rest : List Token) → run make (Some (at fs (testing a s))) (mark (Comparison c) ∷ number n ∷ mark Close ∷ rest) ≡ run make (Some (at fs (after (make.test a s c (make.num n))))) rest
+  lead_test fs a s c n rest = refl
 
   lead_pick : (p : Pick) (fs : List (Frame A)) (a : A) (e : Action) (t : Test) (rest : List Token) → run make (Some (at fs (picking e a))) ((pick_tokens p ++ test_tokens t) ++ mark Close ∷ rest) ≡ run make (Some (at fs (after (make.test a (Picked e p) t.cmp (make.num t.than))))) rest
   lead_pick PickFirst fs a e t rest = lead_test fs a (Picked e PickFirst) t.cmp t.than rest
   lead_pick PickSecond fs a e t rest = lead_test fs a (Picked e PickSecond) t.cmp t.than rest
   lead_pick PickSize fs a e t rest = lead_test fs a (Picked e PickSize) t.cmp t.than rest
-  lead_pick PickWhole fs a e t rest = lead_whole fs a e t.cmp t.than rest
+  lead_pick PickWhole fs a e t rest = refl
 
   -- the arguments and the parenthesis behind them, before any rest
-  lead_method : (w : Mark) (k : Mode A N) (a b : A) (arguments : List Token) (fs : List (Frame A)) (rest : List Token)
-      → run make (Some (at fs (after a))) (mark Dot ∷ mark w ∷ mark Open ∷ (arguments ++ mark Close ∷ rest)) ≡ run make (Some (at fs k)) (arguments ++ mark Close ∷ rest)
+  lead_method : (w : Method) (k : Mode A N) (a b : A) (arguments : List Token) (fs : List (Frame A)) (rest : List Token)
+      → run make (Some (at fs (after a))) (mark Dot ∷ mark (MethodWord w) ∷ mark Open ∷ (arguments ++ mark Close ∷ rest)) ≡ run make (Some (at fs k)) (arguments ++ mark Close ∷ rest)
       → run make (Some (at fs k)) (arguments ++ mark Close ∷ rest) ≡ run make (Some (at fs (after b))) rest
       → run make (Some (at fs (after a))) (with_method w arguments ++ rest) ≡ run make (Some (at fs (after b))) rest
   lead_method w k a b arguments fs rest begins ends =
-      ap (λ us. run make (Some (at fs (after a))) (mark Dot ∷ mark w ∷ mark Open ∷ us)) (append_assoc arguments (mark Close ∷ []) rest) ∙ begins ∙ ends
+      ap (λ us. run make (Some (at fs (after a))) (mark Dot ∷ mark (MethodWord w) ∷ mark Open ∷ us)) (append_assoc arguments (mark Close ∷ []) rest) ∙ begins ∙ ends
 
-  lead_map : (f : Func) (fs : List (Frame A)) (a : A) (rest : List Token) → run make (Some (at fs (after a))) (with_method MapWord (func_tokens f) ++ rest) ≡ run make (Some (at fs (after (apply_func make a f)))) rest
+  lead_map : (f : Func) (fs : List (Frame A)) (a : A) (rest : List Token) → run make (Some (at fs (after a))) (with_method Map (func_tokens f) ++ rest) ≡ run make (Some (at fs (after (apply_func make a f)))) rest
   lead_map First fs a rest = refl
   lead_map Second fs a rest = refl
   lead_map Size fs a rest = refl
@@ -102,7 +89,8 @@ module _ {A N : Type 0} (make : Make A N) where
   complete_leaf : (l : Leaf) (ts : List Token) → SpellsLeaf ts l → Leads ts (leaf_value make l)
   complete_leaf (exponential b f) ts (inl h) = lead_from ts _ _ h.0 (λ fs rest. ap (λ k. run make (Some (at fs (after (make.growing (make.num b) (make.num k))))) rest) (sym h.1))
   complete_leaf (exponential b f) ts (inr h) = lead_from ts _ _ h (λ fs rest. refl)
-  complete_leaf _ ts h = lead_from ts _ _ h (λ fs rest. refl)
+  complete_leaf (plain p) ts h = lead_from ts _ _ h (λ fs rest. refl)
+  complete_leaf (counted c n) ts h = lead_from ts _ _ h (λ fs rest. refl)
 
   -- the token between two schedules leads to the right one
   lead_between : (p : Pairing) (a : A) (fs : List (Frame A)) (rest : List Token) → run make (Some (at (left ∷ fs) (after a))) (mark (pairing_mark p) ∷ rest) ≡ run make (Some (at (right (pairing_infix p) a ∷ fs) start)) rest
@@ -111,11 +99,11 @@ module _ {A N : Type 0} (make : Make A N) where
   lead_between and_then a fs rest = refl
 
   lead_modifier : (m : Modifier) (a : A) (fs : List (Frame A)) (rest : List Token) → run make (Some (at fs (after a))) (modifier_tokens m ++ rest) ≡ run make (Some (at fs (after (modifier_value make a m)))) rest
-  lead_modifier (while_input t) a fs rest = lead_method WhileInputWord (testing a Input) a _ (test_tokens t) fs rest refl (lead_test fs a Input t.cmp t.than rest)
-  lead_modifier (while_output p t) a fs rest = lead_method WhileOutputWord (picking Stopping a) a _ (pick_tokens p ++ test_tokens t) fs rest refl (lead_pick p fs a Stopping t rest)
+  lead_modifier (while_input t) a fs rest = lead_method WhileInput (testing a Input) a _ (test_tokens t) fs rest refl (lead_test fs a Input t.cmp t.than rest)
+  lead_modifier (while_output p t) a fs rest = lead_method WhileOutput (picking Stopping a) a _ (pick_tokens p ++ test_tokens t) fs rest refl (lead_pick p fs a Stopping t rest)
   lead_modifier collect_all a fs rest = refl
   lead_modifier (mapped f) a fs rest = lead_map f fs a rest
-  lead_modifier (reset_when p t) a fs rest = lead_method ResetWhenWord (picking Resetting a) a _ (pick_tokens p ++ test_tokens t) fs rest refl (lead_pick p fs a Resetting t rest)
+  lead_modifier (reset_when p t) a fs rest = lead_method ResetWhen (picking Resetting a) a _ (pick_tokens p ++ test_tokens t) fs rest refl (lead_pick p fs a Resetting t rest)
 
   -- a spelling leads to the state behind its term
   pub complete : (t : Schedule) (ts : List Token) → Spells ts t → Leads ts (value make t)

@@ -2,12 +2,14 @@
 use Rattle.std.proofs.Common.{◌≡◌, ℕ, ◌<◌, ◌^◌, List, [], ◌∷◌, ◌++◌, Bool, true, false, cond, Some, None, refl, sym, subst, arith, inl, inr}
 use Rattle.std.proofs.lemmas.Bool.Decides.{nat_tests}
 use Rattle.zs_term.specs.declared.token.Mark.{Mark}
-use Rattle.zs_term.specs.declared.token.Mark.TheVariants.{RecursWord, SpacedWord, FixedWord, ExponentialWord, FibonacciWord, LinearWord, WindowedWord, AndThenWord, WhileInputWord, WhileOutputWord, MapWord, ResetWhenWord, Close, AndAnd, OrOr}
+use Rattle.zs_term.specs.declared.token.Mark.TheVariants.{CountedWord, ExponentialWord, Close}
+use Rattle.zs_term.specs.declared.forms.Method.{Method}
+use Rattle.zs_term.specs.declared.forms.Method.TheVariants.{WhileInput, WhileOutput, Map, ResetWhen}
 use Rattle.zs_term.specs.declared.term.Pick.{Pick}
 use Rattle.zs_term.specs.declared.term.Pick.TheVariants.{Whole as PickWhole, First as PickFirst, Second as PickSecond, Size as PickSize}
 use Rattle.zs_term.specs.declared.term.Func.{Func}
 use Rattle.zs_term.specs.declared.term.Func.TheVariants.{First, Second, Size, Merge, Const, Add, Mul}
-use Rattle.zs_term.specs.Schedule.{Schedule, leaf, two, over, Leaf, forever, recurs, spaced, fixed, exponential, fibonacci, identity, elapsed, linear, windowed, Pairing, Modifier, while_input, while_output, collect_all, mapped, reset_when}
+use Rattle.zs_term.specs.Schedule.{Schedule, leaf, two, over, Leaf, plain, counted, exponential, Modifier, while_input, while_output, collect_all, mapped, reset_when}
 use Rattle.zs_term.specs.Number.{FuncFits, LeafFits, ModifierFits, HasFittingNumbers}
 use Rattle.zs_term.specs.Token.{Token, number, mark, Placed, lexed}
 use Rattle.zs_term.specs.Grammar.{SpellsLeaf, pairing_mark, modifier_tokens, Spells, with_number, with_infix, with_method, test_tokens, pick_tokens, func_tokens}
@@ -49,17 +51,10 @@ fits_func (Add n) h = not_huge n h.1.0
 fits_func (Mul n) h = not_huge n h.1.0
 
 leaf_fits : (l : Leaf) (ts : List Token) → SpellsLeaf ts l → AllFit ts → LeafFits l
-leaf_fits forever ts s h = tt
-leaf_fits (recurs n) ts s h = not_huge n (subst AllFit s h).1.1.0
-leaf_fits (spaced n) ts s h = not_huge n (subst AllFit s h).1.1.0
-leaf_fits (fixed n) ts s h = not_huge n (subst AllFit s h).1.1.0
+leaf_fits (plain p) ts s h = tt
+leaf_fits (counted c n) ts s h = not_huge n (subst AllFit s h).1.1.0
 leaf_fits (exponential b f) ts (inl s) h = (not_huge b (subst AllFit s.0 h).1.1.0, omega (arith, s.1))
 leaf_fits (exponential b f) ts (inr s) h = (not_huge b (subst AllFit s h).1.1.0, not_huge f (subst AllFit s h).1.1.1.1.0)
-leaf_fits (fibonacci n) ts s h = not_huge n (subst AllFit s h).1.1.0
-leaf_fits identity ts s h = tt
-leaf_fits elapsed ts s h = tt
-leaf_fits (linear n) ts s h = not_huge n (subst AllFit s h).1.1.0
-leaf_fits (windowed n) ts s h = not_huge n (subst AllFit s h).1.1.0
 
 -- what stands behind a schedule, where all its tokens fit
 modifier_fits : (m : Modifier) → AllFit (modifier_tokens m) → ModifierFits m
@@ -113,28 +108,21 @@ one_number m n h = (refl, (refl, (not_huge_from n h, (refl, tt))))
 infix_fits : (l r : List Token) (m : Mark) → AllFit l → AllFit r → AllFit (with_infix l m r)
 infix_fits l r m h k = (refl, fit_both l (mark m ∷ r ++ mark Close ∷ []) h (refl, fit_both r (mark Close ∷ []) k (refl, tt)))
 
-method_fits : (m : Mark) (arguments : List Token) → AllFit arguments → AllFit (with_method m arguments)
+method_fits : (m : Method) (arguments : List Token) → AllFit arguments → AllFit (with_method m arguments)
 method_fits m arguments h = (refl, (refl, (refl, fit_both arguments (mark Close ∷ []) h (refl, tt))))
 
 leaf_tokens_fit : (l : Leaf) (ts : List Token) → SpellsLeaf ts l → LeafFits l → AllFit ts
-leaf_tokens_fit forever ts s h = subst AllFit (sym s) (refl, tt)
-leaf_tokens_fit (recurs n) ts s h = subst AllFit (sym s) (one_number RecursWord n h)
-leaf_tokens_fit (spaced n) ts s h = subst AllFit (sym s) (one_number SpacedWord n h)
-leaf_tokens_fit (fixed n) ts s h = subst AllFit (sym s) (one_number FixedWord n h)
+leaf_tokens_fit (plain p) ts s h = subst AllFit (sym s) (refl, tt)
+leaf_tokens_fit (counted c n) ts s h = subst AllFit (sym s) (one_number (CountedWord c) n h)
 leaf_tokens_fit (exponential b f) ts (inl s) h = subst AllFit (sym s.0) (one_number ExponentialWord b h.0)
 leaf_tokens_fit (exponential b f) ts (inr s) h = subst AllFit (sym s) (refl, (refl, (not_huge_from b h.0, (refl, (not_huge_from f h.1, (refl, tt))))))
-leaf_tokens_fit (fibonacci n) ts s h = subst AllFit (sym s) (one_number FibonacciWord n h)
-leaf_tokens_fit identity ts s h = subst AllFit (sym s) (refl, tt)
-leaf_tokens_fit elapsed ts s h = subst AllFit (sym s) (refl, tt)
-leaf_tokens_fit (linear n) ts s h = subst AllFit (sym s) (one_number LinearWord n h)
-leaf_tokens_fit (windowed n) ts s h = subst AllFit (sym s) (one_number WindowedWord n h)
 
 modifier_tokens_fit : (m : Modifier) → ModifierFits m → AllFit (modifier_tokens m)
-modifier_tokens_fit (while_input t) h = method_fits WhileInputWord (test_tokens t) (refl, (not_huge_from t.than h, tt))
-modifier_tokens_fit (while_output p t) h = method_fits WhileOutputWord (pick_tokens p ++ test_tokens t) (fit_both (pick_tokens p) (test_tokens t) (pick_fits p) (refl, (not_huge_from t.than h, tt)))
+modifier_tokens_fit (while_input t) h = method_fits WhileInput (test_tokens t) (refl, (not_huge_from t.than h, tt))
+modifier_tokens_fit (while_output p t) h = method_fits WhileOutput (pick_tokens p ++ test_tokens t) (fit_both (pick_tokens p) (test_tokens t) (pick_fits p) (refl, (not_huge_from t.than h, tt)))
 modifier_tokens_fit collect_all h = (refl, (refl, tt))
-modifier_tokens_fit (mapped f) h = method_fits MapWord (func_tokens f) (func_fits f h)
-modifier_tokens_fit (reset_when p t) h = method_fits ResetWhenWord (pick_tokens p ++ test_tokens t) (fit_both (pick_tokens p) (test_tokens t) (pick_fits p) (refl, (not_huge_from t.than h, tt)))
+modifier_tokens_fit (mapped f) h = method_fits Map (func_tokens f) (func_fits f h)
+modifier_tokens_fit (reset_when p t) h = method_fits ResetWhen (pick_tokens p ++ test_tokens t) (fit_both (pick_tokens p) (test_tokens t) (pick_fits p) (refl, (not_huge_from t.than h, tt)))
 
 tokens_fit : (t : Schedule) (ts : List Token) → Spells ts t → HasFittingNumbers t → AllFit ts
 tokens_fit (leaf l) ts s h = leaf_tokens_fit l ts s h

@@ -5,13 +5,14 @@ use Rattle.std.proofs.lemmas.Bool.Decides.{nat_tests}
 use Rattle.zs_term.specs.Saturating.{saturated}
 use Rattle.zs_term.specs.declared.term.Func.{Func}
 use Rattle.zs_term.specs.declared.term.Func.TheVariants.{First, Second, Size, Merge, Const, Add, Mul}
-use Rattle.zs_term.specs.Schedule.{Schedule, leaf, two, over, Leaf, forever, recurs, spaced, fixed, exponential, fibonacci, identity, elapsed, linear, windowed, Pairing, both, either, and_then, Modifier, while_input, while_output, collect_all, mapped, reset_when, times, depth, weight, is_within_limits}
+use Rattle.zs_term.specs.Schedule.{Schedule, leaf, two, over, Leaf, plain, counted, exponential, Modifier, while_input, while_output, collect_all, mapped, reset_when, times, depth, weight, is_within_limits}
 use Rattle.zs_term.specs.Number.{fit, FuncFits, LeafFits, ModifierFits, HasFittingNumbers}
 use Rattle.zs_term.specs.Token.{lexed}
-use Rattle.zs_term.specs.Machine.{infix_schedule, leaf_value, pairing_infix, modifier_value, value, apply_func}
+use Rattle.zs_term.specs.Machine.{infix_pairing, leaf_value, pairing_infix, modifier_value, value, apply_func}
 use Rattle.zs_term.specs.Parts.{Kept, keep, one_more, with_both}
 use Rattle.zs_term.specs.Causes.{TextSpells, first_huge}
 use Rattle.zs_term.proofs.Fitting.{fits_in}
+use Rattle.zs_term.proofs.Runs.{planted_pair}
 
 -- a form over one part is one deeper
 depth_over : (a d : ℕ) → a ≡ saturated d → saturated (a + 1) ≡ saturated (1 + d)
@@ -56,8 +57,9 @@ weight_map build (Mul n) a w e = weight_over a.weight w e
 
 -- a leaf's sizes
 leaf_kept : (build : Bool) (l : Leaf) → ((leaf_value (keep build) l).depth ≡ 1) × ((leaf_value (keep build) l).weight ≡ 1)
-leaf_kept build forever = (refl, refl)
-leaf_kept build _ = (refl, refl)
+leaf_kept build (plain p) = (refl, refl)
+leaf_kept build (counted c n) = (refl, refl)
+leaf_kept build (exponential b f) = (refl, refl)
 
 -- the depth of a modifier over a part
 depth_modified : (build : Bool) (m : Modifier) (a : Kept) (d : ℕ) → a.depth ≡ saturated d → (modifier_value (keep build) a m).depth ≡ saturated (1 + d)
@@ -109,21 +111,9 @@ schedule_map (Mul n) a h p = two_kept (λ t k. over t (mapped (Mul k))) _ (fit n
 
 -- the leaf that is kept
 leaf_built : (l : Leaf) → LeafFits l → (leaf_value (keep true) l).schedule ≡ Some (leaf l)
-leaf_built forever h = refl
-leaf_built (recurs n) h = ap (option_map (λ k. leaf (recurs k))) (fit_is n h)
-leaf_built (spaced n) h = ap (option_map (λ k. leaf (spaced k))) (fit_is n h)
-leaf_built (fixed n) h = ap (option_map (λ k. leaf (fixed k))) (fit_is n h)
+leaf_built (plain p) h = refl
+leaf_built (counted c n) h = ap (option_map (λ k. leaf (counted c k))) (fit_is n h)
 leaf_built (exponential b f) h = two_kept (λ x y. leaf (exponential x y)) (fit b) (fit f) b f (fit_is b h.0) (fit_is f h.1)
-leaf_built (fibonacci n) h = ap (option_map (λ k. leaf (fibonacci k))) (fit_is n h)
-leaf_built identity h = refl
-leaf_built elapsed h = refl
-leaf_built (linear n) h = ap (option_map (λ k. leaf (linear k))) (fit_is n h)
-leaf_built (windowed n) h = ap (option_map (λ k. leaf (windowed k))) (fit_is n h)
-
-pair_built : (p : Pairing) (a b : Schedule) → infix_schedule (pairing_infix p) a b ≡ two p a b
-pair_built both a b = refl
-pair_built either a b = refl
-pair_built and_then a b = refl
 
 -- the modifier that is kept
 modifier_built : (m : Modifier) (a : Schedule) → ModifierFits m → (value (keep true) a).schedule ≡ Some a → (modifier_value (keep true) (value (keep true) a) m).schedule ≡ Some (over a m)
@@ -136,7 +126,7 @@ modifier_built (reset_when k t) a h p = two_kept (λ x n. over x (reset_when k (
 -- the term that is kept, where terms are built and its numbers fit
 schedule_kept : (t : Schedule) → HasFittingNumbers t → (value (keep true) t).schedule ≡ Some t
 schedule_kept (leaf l) h = leaf_built l h
-schedule_kept (two p a b) h = two_kept (infix_schedule (pairing_infix p)) _ _ a b (schedule_kept a h.0) (schedule_kept b h.1) ∙ ap Some (pair_built p a b)
+schedule_kept (two p a b) h = two_kept (two (infix_pairing (pairing_infix p))) _ _ a b (schedule_kept a h.0) (schedule_kept b h.1) ∙ ap (λ o. Some (two o a b)) (planted_pair p)
 schedule_kept (over s m) h = modifier_built m s h.1 (schedule_kept s h.0)
 
 le_test : (m n : ℕ) → m ≤ n → nat_le m n ≡ true

@@ -2,6 +2,7 @@ pub mod Values
 pub mod Sizes
 pub mod Texts
 pub mod Lexing
+pub mod Places
 pub mod Completeness
 pub mod Marks
 pub mod Soundness

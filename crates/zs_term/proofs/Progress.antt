@@ -1,5 +1,5 @@
 -- From what has been read so far to what `read` answers.
-use Rattle.std.proofs.Common.{◌≡◌, ℕ, ◌+◌, ◌≤◌, List, [], ◌∷◌, ◌++◌, length, drop, Bool, true, false, cond, Option, Some, None, refl, sym, ap, ◌∙◌, subst, arith, append_assoc}
+use Rattle.std.proofs.Common.{◌≡◌, ℕ, ◌≤◌, List, [], ◌∷◌, ◌++◌, length, drop, Bool, true, false, cond, Option, Some, None, refl, sym, ap, ◌∙◌, subst, arith, append_assoc}
 use Rattle.zs_term.specs.Schedule.{Schedule}
 use Rattle.zs_term.specs.Token.{Token, Placed, nothing, stuck, with_token, lex, lexed}
 use Rattle.zs_term.specs.Grammar.{IsOpen}

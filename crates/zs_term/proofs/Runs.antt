@@ -1,24 +1,25 @@
 -- The state after some tokens says just which tokens may come.
 use Rattle.std.proofs.Common.{◌≡◌, ℕ, List, [], ◌∷◌, ◌++◌, Some, None, refl, sym, ap, ◌∙◌}
-use Rattle.zs_term.specs.Schedule.{Schedule, leaf, two, over, Leaf, forever, recurs, spaced, fixed, exponential, fibonacci, identity, elapsed, linear, windowed, Pairing, both, either, and_then, Modifier, while_input, while_output, collect_all, mapped, reset_when}
+use Rattle.zs_term.specs.Schedule.{Schedule, leaf, two, over, Leaf, plain, counted, exponential, Pairing, both, either, and_then, Modifier, while_input, while_output, collect_all, mapped, reset_when}
 use Rattle.zs_term.specs.Token.{Token, number, mark}
 use Rattle.zs_term.specs.Grammar.{Spells, IsOpen}
-use Rattle.zs_term.specs.Machine.{Make, Frame, left, right, Mode, start, opening, counting, exp_opening, exp_counting, based, factored, closing, after, dotted, method, picking, testing, comparing, mapping, scaling, State, at, argument, run, apply_func, leaf_value, pairing_infix, modifier_value, value, infix_schedule, plant}
-use Rattle.zs_term.specs.declared.token.Mark.TheVariants.{ForeverWord, CollectAllWord, Open, Close, AndAnd, Less, Plus}
+use Rattle.zs_term.specs.Machine.{Make, Frame, left, right, Mode, start, opening, counting, exp_opening, exp_counting, based, factored, closing, after, dotted, method, picking, testing, comparing, mapping, scaling, State, at, argument, run, apply_func, leaf_value, pairing_infix, modifier_value, value, infix_pairing, plant}
+use Rattle.zs_term.specs.declared.token.Mark.TheVariants.{PlainWord, CollectAllWord, Operator, Comparison, ScaleWord, Open, Close}
 use Rattle.zs_term.specs.declared.term.Cmp.{Cmp}
 use Rattle.zs_term.specs.declared.term.Cmp.TheVariants.{Lt}
 use Rattle.zs_term.specs.declared.term.Pick.TheVariants.{Whole as PickWhole}
 use Rattle.zs_term.specs.declared.term.Func.{Func}
 use Rattle.zs_term.specs.declared.term.Func.TheVariants.{First, Second, Size, Merge, Const, Add, Mul}
-use Rattle.zs_term.specs.declared.forms.Plain.TheVariants.{OfForever}
-use Rattle.zs_term.specs.declared.forms.Infix.TheVariants.{OfBoth}
+use Rattle.zs_term.specs.declared.forms.Plain.TheVariants.{Forever}
+use Rattle.zs_term.specs.declared.forms.Infix.TheVariants.{Both}
 use Rattle.zs_term.specs.declared.forms.Method.{Method}
-use Rattle.zs_term.specs.declared.forms.Method.TheVariants.{OfInput, OfPicked, OfMap}
+use Rattle.zs_term.specs.declared.forms.Method.TheVariants.{WhileInput, WhileOutput, Map, ResetWhen}
 use Rattle.zs_term.specs.declared.forms.Action.{Action}
+use Rattle.zs_term.specs.declared.forms.Action.TheVariants.{Stopping, Resetting}
 use Rattle.zs_term.specs.declared.forms.Subject.{Subject}
 use Rattle.zs_term.specs.declared.forms.Subject.TheVariants.{Input, Picked}
 use Rattle.zs_term.specs.declared.forms.Scale.{Scale}
-use Rattle.zs_term.specs.declared.forms.Scale.TheVariants.{ByAdd}
+use Rattle.zs_term.specs.declared.forms.Scale.TheVariants.{Plus}
 use Rattle.zs_term.proofs.Completeness.{append_nil, run_append, run_none, complete}
 use Rattle.zs_term.proofs.Soundness.{sound}
 
@@ -35,7 +36,7 @@ module _ {A N : Type 0} (make : Make A N) where
 
   ends_after : (fs : List (Frame A)) (a : A) → Ends (at fs (after a))
   ends_after [] a = record { rest = []; term = a; goes = refl }
-  ends_after (left ∷ fs) a = first_then _ _ (mark AndAnd ∷ mark ForeverWord ∷ mark Close ∷ []) refl (ends_after fs (make.join OfBoth a (make.plain OfForever)))
+  ends_after (left ∷ fs) a = first_then _ _ (mark (Operator Both) ∷ mark (PlainWord Forever) ∷ mark Close ∷ []) refl (ends_after fs (make.join Both a (make.plain Forever)))
   ends_after (right i a ∷ fs) b = first_then _ _ (mark Close ∷ []) refl (ends_after fs (make.join i a b))
 
   ends_test : (fs : List (Frame A)) (a : A) (s : Subject) (c : Cmp) → Ends (at fs (comparing a s c))
@@ -45,23 +46,24 @@ module _ {A N : Type 0} (make : Make A N) where
   ends_scale fs a g = first_then _ _ (number 0 ∷ mark Close ∷ []) refl (ends_after fs (make.scale a g (make.num 0)))
 
   ends_testing : (fs : List (Frame A)) (a : A) (s : Subject) → Ends (at fs (testing a s))
-  ends_testing fs a s = first_then _ _ (mark Less ∷ []) refl (ends_test fs a s Lt)
+  ends_testing fs a s = first_then _ _ (mark (Comparison Lt) ∷ []) refl (ends_test fs a s Lt)
 
   ends_picking : (fs : List (Frame A)) (e : Action) (a : A) → Ends (at fs (picking e a))
-  ends_picking fs e a = first_then _ _ (mark Less ∷ []) refl (ends_test fs a (Picked e PickWhole) Lt)
+  ends_picking fs e a = first_then _ _ (mark (Comparison Lt) ∷ []) refl (ends_test fs a (Picked e PickWhole) Lt)
 
   ends_mapping : (fs : List (Frame A)) (a : A) → Ends (at fs (mapping a))
-  ends_mapping fs a = first_then _ _ (mark Plus ∷ []) refl (ends_scale fs a ByAdd)
+  ends_mapping fs a = first_then _ _ (mark (ScaleWord Plus) ∷ []) refl (ends_scale fs a Plus)
 
   ends_argument : (fs : List (Frame A)) (w : Method) (a : A) → Ends (at fs (argument w a))
-  ends_argument fs OfInput a = ends_testing fs a Input
-  ends_argument fs (OfPicked e) a = ends_picking fs e a
-  ends_argument fs OfMap a = ends_mapping fs a
+  ends_argument fs WhileInput a = ends_testing fs a Input
+  ends_argument fs WhileOutput a = ends_picking fs Stopping a
+  ends_argument fs Map a = ends_mapping fs a
+  ends_argument fs ResetWhen a = ends_picking fs Resetting a
 
   ends_at : (fs : List (Frame A)) (k : Mode A N) → Ends (at fs k)
-  ends_at fs start = first_then _ _ (mark ForeverWord ∷ []) refl (ends_after fs (make.plain OfForever))
-  ends_at fs (opening u) = first_then _ _ (mark Open ∷ number 0 ∷ mark Close ∷ []) refl (ends_after fs (make.leaf u (make.num 0)))
-  ends_at fs (counting u) = first_then _ _ (number 0 ∷ mark Close ∷ []) refl (ends_after fs (make.leaf u (make.num 0)))
+  ends_at fs start = first_then _ _ (mark (PlainWord Forever) ∷ []) refl (ends_after fs (make.plain Forever))
+  ends_at fs (opening u) = first_then _ _ (mark Open ∷ number 0 ∷ mark Close ∷ []) refl (ends_after fs (make.counted u (make.num 0)))
+  ends_at fs (counting u) = first_then _ _ (number 0 ∷ mark Close ∷ []) refl (ends_after fs (make.counted u (make.num 0)))
   ends_at fs exp_opening = first_then _ _ (mark Open ∷ number 0 ∷ mark Close ∷ []) refl (ends_after fs (make.growing (make.num 0) (make.num 2)))
   ends_at fs exp_counting = first_then _ _ (number 0 ∷ mark Close ∷ []) refl (ends_after fs (make.growing (make.num 0) (make.num 2)))
   ends_at fs (based v) = first_then _ _ (mark Close ∷ []) refl (ends_after fs (make.growing v (make.num 2)))
@@ -97,13 +99,14 @@ module _ {A N : Type 0} (make : Make A N) where
       cc
 
 planted_leaf : (l : Leaf) → leaf_value plant l ≡ leaf l
-planted_leaf forever = refl
-planted_leaf _ = refl
+planted_leaf (plain p) = refl
+planted_leaf (counted c n) = refl
+planted_leaf (exponential b f) = refl
 
-planted_pair : (p : Pairing) (a b : Schedule) → infix_schedule (pairing_infix p) a b ≡ two p a b
-planted_pair both a b = refl
-planted_pair either a b = refl
-planted_pair and_then a b = refl
+pub planted_pair : (p : Pairing) → infix_pairing (pairing_infix p) ≡ p
+planted_pair both = refl
+planted_pair either = refl
+planted_pair and_then = refl
 
 planted_map : (f : Func) (a : Schedule) → apply_func plant a f ≡ over a (mapped f)
 planted_map First a = refl
@@ -124,7 +127,7 @@ planted_modifier (reset_when p t) a = refl
 -- a term put together as a term is itself
 pub planted : (t : Schedule) → value plant t ≡ t
 planted (leaf l) = planted_leaf l
-planted (two p a b) = planted_pair p (value plant a) (value plant b) ∙ ap (λ v. two p v (value plant b)) (planted a) ∙ ap (two p a) (planted b)
+planted (two p a b) = ap (λ o. two o (value plant a) (value plant b)) (planted_pair p) ∙ ap (λ v. two p v (value plant b)) (planted a) ∙ ap (two p a) (planted b)
 planted (over s m) = planted_modifier m (value plant s) ∙ ap (λ v. over v m) (planted s)
 
 -- no token list spells two terms

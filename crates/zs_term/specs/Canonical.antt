@@ -1,7 +1,8 @@
 -- The one canonical spelling of a term.
 use Rattle.std.specs.Prelude.{ℕ, List, [], ◌++◌, codes}
 use Rattle.std.specs.Fmt.{decimal}
-use Rattle.zs_term.specs.Schedule.{Schedule, leaf, two, over, Leaf, forever, recurs, spaced, fixed, exponential, fibonacci, identity, elapsed, linear, windowed, Pairing, both, either, and_then, Modifier, while_input, while_output, collect_all, mapped, reset_when}
+use Rattle.zs_term.specs.Schedule.{Schedule, leaf, two, over, Leaf, plain, counted, exponential, Pairing, both, either, and_then, Modifier, while_input, while_output, collect_all, mapped, reset_when}
+use Rattle.zs_term.specs.Token.{plain_word, counted_word}
 use Rattle.zs_term.specs.declared.term.Test.{Test}
 use Rattle.zs_term.specs.declared.term.Cmp.{Cmp}
 use Rattle.zs_term.specs.declared.term.Cmp.TheVariants.{Lt, Le, Eq, Ne, Gt, Ge}
@@ -38,7 +39,7 @@ func_text (Mul n) = codes "* " ++ decimal n
 
 -- `word(N)`
 abbrev pub number_text : List ℕ → ℕ → List ℕ
-number_text word n = word ++ (decimal n ++ codes ")")
+number_text word n = word ++ (codes "(" ++ (decimal n ++ codes ")"))
 
 -- `(S op S)`
 abbrev pub infix_text : List ℕ → List ℕ → List ℕ → List ℕ
@@ -66,16 +67,9 @@ reset_when_text = codes ".resetWhen("
 
 -- the spelling of a leaf
 abbrev pub leaf_text : Leaf → List ℕ
-leaf_text forever = codes "forever"
-leaf_text (recurs n) = number_text (codes "recurs(") n
-leaf_text (spaced n) = number_text (codes "spaced(") n
-leaf_text (fixed n) = number_text (codes "fixed(") n
+leaf_text (plain p) = plain_word p
+leaf_text (counted c n) = number_text (counted_word c) n
 leaf_text (exponential b f) = exponential_text ++ (decimal b ++ (codes ", " ++ (decimal f ++ codes ")")))
-leaf_text (fibonacci n) = number_text (codes "fibonacci(") n
-leaf_text identity = codes "identity"
-leaf_text elapsed = codes "elapsed"
-leaf_text (linear n) = number_text (codes "linear(") n
-leaf_text (windowed n) = number_text (codes "windowed(") n
 
 -- what stands between two schedules
 abbrev pub pairing_text : Pairing → List ℕ

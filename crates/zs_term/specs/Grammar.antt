@@ -1,42 +1,36 @@
 -- Which token lists spell which terms: one line for each form, with numbers of any size.
 use Rattle.std.specs.Prelude.{◌≡◌, ℕ, List, [], ◌∷◌, ◌++◌, ◌⊎◌}
-use Rattle.zs_term.specs.Schedule.{Schedule, leaf, two, over, Leaf, forever, recurs, spaced, fixed, exponential, fibonacci, identity, elapsed, linear, windowed, Pairing, both, either, and_then, Modifier, while_input, while_output, collect_all, mapped, reset_when}
+use Rattle.zs_term.specs.Schedule.{Schedule, leaf, two, over, Leaf, plain, counted, exponential, Pairing, both, either, and_then, Modifier, while_input, while_output, collect_all, mapped, reset_when}
 use Rattle.zs_term.specs.Token.{Token, number, mark}
 use Rattle.zs_term.specs.declared.token.Mark.{Mark}
-use Rattle.zs_term.specs.declared.token.Mark.TheVariants.{ForeverWord, RecursWord, SpacedWord, FixedWord, ExponentialWord, FibonacciWord, IdentityWord, ElapsedWord, AndThenWord, WhileInputWord, WhileOutputWord, CollectAllWord, MapWord, SizeWord, MergeWord, AsWord, LinearWord, WindowedWord, ResetWhenWord, FirstPart, SecondPart, Open, Close, Comma, Dot, AndAnd, OrOr, Less, LessOrEqual, Equal, NotEqual, Greater, GreaterOrEqual, Plus, Times}
+use Rattle.zs_term.specs.declared.token.Mark.TheVariants.{PlainWord, CountedWord, ExponentialWord, Operator, MethodWord, CollectAllWord, Comparison, PieceWord, MergeWord, ScaleWord, Open, Close, Comma, Dot}
+use Rattle.zs_term.specs.declared.forms.Infix.TheVariants.{Both, Either, AndThen}
+use Rattle.zs_term.specs.declared.forms.Method.{Method}
+use Rattle.zs_term.specs.declared.forms.Method.TheVariants.{WhileInput, WhileOutput, Map, ResetWhen}
+use Rattle.zs_term.specs.declared.forms.Piece.TheVariants.{First as PieceFirst, Second as PieceSecond, Size as PieceSize}
+use Rattle.zs_term.specs.declared.forms.Scale.TheVariants.{Constant, Plus, Times}
 use Rattle.zs_term.specs.declared.term.Test.{Test}
-use Rattle.zs_term.specs.declared.term.Cmp.{Cmp}
-use Rattle.zs_term.specs.declared.term.Cmp.TheVariants.{Lt, Le, Eq, Ne, Gt, Ge}
 use Rattle.zs_term.specs.declared.term.Pick.{Pick}
 use Rattle.zs_term.specs.declared.term.Pick.TheVariants.{Whole as PickWhole, First as PickFirst, Second as PickSecond, Size as PickSize}
 use Rattle.zs_term.specs.declared.term.Func.{Func}
 use Rattle.zs_term.specs.declared.term.Func.TheVariants.{First, Second, Size, Merge, Const, Add, Mul}
 
--- the symbol of a comparison
-abbrev pub cmp_mark : Cmp → Mark
-cmp_mark Lt = Less
-cmp_mark Le = LessOrEqual
-cmp_mark Eq = Equal
-cmp_mark Ne = NotEqual
-cmp_mark Gt = Greater
-cmp_mark Ge = GreaterOrEqual
-
 -- the token of a pick; none for the whole output
 abbrev pub pick_tokens : Pick → List Token
 pick_tokens PickWhole = []
-pick_tokens PickFirst = mark FirstPart ∷ []
-pick_tokens PickSecond = mark SecondPart ∷ []
-pick_tokens PickSize = mark SizeWord ∷ []
+pick_tokens PickFirst = mark (PieceWord PieceFirst) ∷ []
+pick_tokens PickSecond = mark (PieceWord PieceSecond) ∷ []
+pick_tokens PickSize = mark (PieceWord PieceSize) ∷ []
 
 -- the tokens of a function
 abbrev pub func_tokens : Func → List Token
-func_tokens First = mark FirstPart ∷ []
-func_tokens Second = mark SecondPart ∷ []
-func_tokens Size = mark SizeWord ∷ []
+func_tokens First = mark (PieceWord PieceFirst) ∷ []
+func_tokens Second = mark (PieceWord PieceSecond) ∷ []
+func_tokens Size = mark (PieceWord PieceSize) ∷ []
 func_tokens Merge = mark MergeWord ∷ []
-func_tokens (Const n) = mark AsWord ∷ number n ∷ []
-func_tokens (Add n) = mark Plus ∷ number n ∷ []
-func_tokens (Mul n) = mark Times ∷ number n ∷ []
+func_tokens (Const n) = mark (ScaleWord Constant) ∷ number n ∷ []
+func_tokens (Add n) = mark (ScaleWord Plus) ∷ number n ∷ []
+func_tokens (Mul n) = mark (ScaleWord Times) ∷ number n ∷ []
 
 -- `word(N)`
 abbrev pub with_number : Mark → ℕ → List Token
@@ -51,12 +45,12 @@ abbrev pub with_infix : List Token → Mark → List Token → List Token
 with_infix left operator right = mark Open ∷ left ++ (mark operator ∷ right ++ mark Close ∷ [])
 
 -- `.word(..)`
-abbrev pub with_method : Mark → List Token → List Token
-with_method word arguments = mark Dot ∷ mark word ∷ mark Open ∷ arguments ++ mark Close ∷ []
+abbrev pub with_method : Method → List Token → List Token
+with_method word arguments = mark Dot ∷ mark (MethodWord word) ∷ mark Open ∷ arguments ++ mark Close ∷ []
 
 -- `C N`, a comparison with a number
 abbrev pub test_tokens : Test → List Token
-test_tokens t = mark (cmp_mark t.cmp) ∷ number t.than ∷ []
+test_tokens t = mark (Comparison t.cmp) ∷ number t.than ∷ []
 
 -- `(S op S)`, where these say what spells each S
 abbrev pub IsInfix : (List Token → Type 0) → Mark → (List Token → Type 0) → List Token → Type 0
@@ -69,30 +63,23 @@ IsFollowed Front behind tokens = (front : List Token) × Front front × (tokens 
 
 -- the tokens spell the leaf
 abbrev pub SpellsLeaf : List Token → Leaf → Type 0
-SpellsLeaf tokens forever = tokens ≡ mark ForeverWord ∷ []
-SpellsLeaf tokens (recurs n) = tokens ≡ with_number RecursWord n
-SpellsLeaf tokens (spaced n) = tokens ≡ with_number SpacedWord n
-SpellsLeaf tokens (fixed n) = tokens ≡ with_number FixedWord n
+SpellsLeaf tokens (plain p) = tokens ≡ mark (PlainWord p) ∷ []
+SpellsLeaf tokens (counted c n) = tokens ≡ with_number (CountedWord c) n
 SpellsLeaf tokens (exponential b f) = ((tokens ≡ with_number ExponentialWord b) × (f ≡ 2)) ⊎ (tokens ≡ with_numbers ExponentialWord b f)
-SpellsLeaf tokens (fibonacci n) = tokens ≡ with_number FibonacciWord n
-SpellsLeaf tokens identity = tokens ≡ mark IdentityWord ∷ []
-SpellsLeaf tokens elapsed = tokens ≡ mark ElapsedWord ∷ []
-SpellsLeaf tokens (linear n) = tokens ≡ with_number LinearWord n
-SpellsLeaf tokens (windowed n) = tokens ≡ with_number WindowedWord n
 
 -- the token between two schedules
 abbrev pub pairing_mark : Pairing → Mark
-pairing_mark both = AndAnd
-pairing_mark either = OrOr
-pairing_mark and_then = AndThenWord
+pairing_mark both = Operator Both
+pairing_mark either = Operator Either
+pairing_mark and_then = Operator AndThen
 
 -- the tokens behind a schedule
 abbrev pub modifier_tokens : Modifier → List Token
-modifier_tokens (while_input t) = with_method WhileInputWord (test_tokens t)
-modifier_tokens (while_output p t) = with_method WhileOutputWord (pick_tokens p ++ test_tokens t)
+modifier_tokens (while_input t) = with_method WhileInput (test_tokens t)
+modifier_tokens (while_output p t) = with_method WhileOutput (pick_tokens p ++ test_tokens t)
 modifier_tokens collect_all = mark Dot ∷ mark CollectAllWord ∷ []
-modifier_tokens (mapped f) = with_method MapWord (func_tokens f)
-modifier_tokens (reset_when p t) = with_method ResetWhenWord (pick_tokens p ++ test_tokens t)
+modifier_tokens (mapped f) = with_method Map (func_tokens f)
+modifier_tokens (reset_when p t) = with_method ResetWhen (pick_tokens p ++ test_tokens t)
 
 -- the tokens spell the term
 abbrev pub Spells : List Token → Schedule → Type 0

@@ -106,6 +106,16 @@ kind_of (leaf l) = Some num
 kind_of (two p a b) = joined (pairing_kind p) (kind_of a) (kind_of b)
 kind_of (over s m) = modifier_kind m (kind_of s)
 
+-- whether a kind is made of others, and so takes memory: that of two schedules, and that of lists
+abbrev pub takes_memory : Schedule → Bool
+takes_memory (leaf l) = false
+takes_memory (two p a b) = true
+takes_memory (over s (while_input t)) = takes_memory s
+takes_memory (over s (while_output k t)) = takes_memory s
+takes_memory (over s collect_all) = true
+takes_memory (over s (mapped f)) = takes_memory s
+takes_memory (over s (reset_when k t)) = takes_memory s
+
 -- a term that is a schedule: it is within the limits, has factors of at least 1, a kind, and windows of at least 1
 pub record IsSchedule (t : Schedule) : Type 0 where
   pub small : is_within_limits t ≡ true
@@ -113,7 +123,7 @@ pub record IsSchedule (t : Schedule) : Type 0 where
   pub kinded : IsSome (kind_of t)
   pub windows : has_windows t ≡ true
 
--- the erased kind that the code found, where it found one
+-- the erased kind that the code found, where it found one: for private contracts
 abbrev pub found_kind_of : Option Kind → Option OutputKind
 found_kind_of None = None
 found_kind_of (Some k) = Some (output_kind_of k)

@@ -1,123 +1,52 @@
 -- The state after some tokens: what is still open, and what may come next.
-use Rattle.std.specs.Prelude.{ℕ, List, [], ◌∷◌, Bool, true, false, if◌then◌else◌, Option, Some, None, option_map}
-use Rattle.zs_term.specs.Schedule.{Schedule, leaf, two, over, Leaf, forever, recurs, spaced, fixed, exponential, fibonacci, identity, elapsed, linear, windowed, Pairing, both, either, and_then, while_input, while_output, collect_all, mapped, reset_when, Modifier}
+use Rattle.std.specs.Prelude.{ℕ, List, [], ◌∷◌, Option, Some, None, option_map}
+use Rattle.zs_term.specs.Schedule.{Schedule, leaf, two, over, Leaf, plain, counted, exponential, Pairing, both, either, and_then, while_input, while_output, collect_all, mapped, reset_when, Modifier}
 use Rattle.zs_term.specs.Token.{Token, number, mark}
 use Rattle.zs_term.specs.declared.token.Mark.{Mark}
-use Rattle.zs_term.specs.declared.token.Mark.TheVariants.{ForeverWord, RecursWord, SpacedWord, FixedWord, ExponentialWord, FibonacciWord, IdentityWord, ElapsedWord, AndThenWord, WhileInputWord, WhileOutputWord, CollectAllWord, MapWord, SizeWord, MergeWord, AsWord, LinearWord, WindowedWord, ResetWhenWord, FirstPart, SecondPart, Open, Close, Comma, Dot, AndAnd, OrOr, Less, LessOrEqual, Equal, NotEqual, Greater, GreaterOrEqual, Plus, Times}
+use Rattle.zs_term.specs.declared.token.Mark.TheVariants.{PlainWord, CountedWord, ExponentialWord, Operator, MethodWord, CollectAllWord, Comparison, PieceWord, MergeWord, ScaleWord, Open, Close, Comma, Dot}
+use Rattle.zs_term.specs.declared.term.Test.{Test}
 use Rattle.zs_term.specs.declared.term.Cmp.{Cmp}
-use Rattle.zs_term.specs.declared.term.Cmp.TheVariants.{Lt, Le, Eq, Ne, Gt, Ge}
 use Rattle.zs_term.specs.declared.term.Pick.{Pick}
 use Rattle.zs_term.specs.declared.term.Pick.TheVariants.{Whole as PickWhole, First as PickFirst, Second as PickSecond, Size as PickSize}
 use Rattle.zs_term.specs.declared.term.Func.{Func}
 use Rattle.zs_term.specs.declared.term.Func.TheVariants.{First, Second, Size, Merge, Const, Add, Mul}
 use Rattle.zs_term.specs.declared.forms.Plain.{Plain}
-use Rattle.zs_term.specs.declared.forms.Plain.TheVariants.{OfForever, OfIdentity, OfElapsed}
-use Rattle.zs_term.specs.declared.forms.Unary.{Unary}
-use Rattle.zs_term.specs.declared.forms.Unary.TheVariants.{OfRecurs, OfSpaced, OfFixed, OfFibonacci, OfLinear, OfWindowed}
+use Rattle.zs_term.specs.declared.forms.Counted.{Counted}
 use Rattle.zs_term.specs.declared.forms.Infix.{Infix}
-use Rattle.zs_term.specs.declared.forms.Infix.TheVariants.{OfBoth, OfEither, OfAndThen}
+use Rattle.zs_term.specs.declared.forms.Infix.TheVariants.{Both, Either, AndThen}
 use Rattle.zs_term.specs.declared.forms.Method.{Method}
-use Rattle.zs_term.specs.declared.forms.Method.TheVariants.{OfInput, OfPicked, OfMap}
+use Rattle.zs_term.specs.declared.forms.Method.TheVariants.{WhileInput, WhileOutput, Map, ResetWhen}
 use Rattle.zs_term.specs.declared.forms.Action.{Action}
 use Rattle.zs_term.specs.declared.forms.Action.TheVariants.{Stopping, Resetting}
 use Rattle.zs_term.specs.declared.forms.Subject.{Subject}
 use Rattle.zs_term.specs.declared.forms.Subject.TheVariants.{Input, Picked}
+use Rattle.zs_term.specs.declared.forms.Piece.{Piece}
+use Rattle.zs_term.specs.declared.forms.Piece.TheVariants.{First as PieceFirst, Second as PieceSecond, Size as PieceSize}
 use Rattle.zs_term.specs.declared.forms.Scale.{Scale}
-use Rattle.zs_term.specs.declared.forms.Scale.TheVariants.{ByConst, ByAdd, ByMul}
+use Rattle.zs_term.specs.declared.forms.Scale.TheVariants.{Constant, Plus, Times}
 
-abbrev pub is_open : Mark → Bool
-is_open Open = true
-is_open _ = false
+-- the piece that a test reads
+abbrev pub piece_pick : Piece → Pick
+piece_pick PieceFirst = PickFirst
+piece_pick PieceSecond = PickSecond
+piece_pick PieceSize = PickSize
 
-abbrev pub is_close : Mark → Bool
-is_close Close = true
-is_close _ = false
-
-abbrev pub is_comma : Mark → Bool
-is_comma Comma = true
-is_comma _ = false
-
-abbrev pub is_dot : Mark → Bool
-is_dot Dot = true
-is_dot _ = false
-
-abbrev pub is_collect : Mark → Bool
-is_collect CollectAllWord = true
-is_collect _ = false
-
-abbrev pub is_exponential : Mark → Bool
-is_exponential ExponentialWord = true
-is_exponential _ = false
-
-abbrev pub plain_of : Mark → Option Plain
-plain_of ForeverWord = Some OfForever
-plain_of IdentityWord = Some OfIdentity
-plain_of ElapsedWord = Some OfElapsed
-plain_of _ = None
-
-abbrev pub unary_of : Mark → Option Unary
-unary_of RecursWord = Some OfRecurs
-unary_of SpacedWord = Some OfSpaced
-unary_of FixedWord = Some OfFixed
-unary_of FibonacciWord = Some OfFibonacci
-unary_of LinearWord = Some OfLinear
-unary_of WindowedWord = Some OfWindowed
-unary_of _ = None
-
-abbrev pub infix_of : Mark → Option Infix
-infix_of AndAnd = Some OfBoth
-infix_of OrOr = Some OfEither
-infix_of AndThenWord = Some OfAndThen
-infix_of _ = None
-
-abbrev pub method_of : Mark → Option Method
-method_of WhileInputWord = Some OfInput
-method_of WhileOutputWord = Some (OfPicked Stopping)
-method_of ResetWhenWord = Some (OfPicked Resetting)
-method_of MapWord = Some OfMap
-method_of _ = None
-
-abbrev pub cmp_of : Mark → Option Cmp
-cmp_of Less = Some Lt
-cmp_of LessOrEqual = Some Le
-cmp_of Equal = Some Eq
-cmp_of NotEqual = Some Ne
-cmp_of Greater = Some Gt
-cmp_of GreaterOrEqual = Some Ge
-cmp_of _ = None
-
--- a pick that is written
-abbrev pub pick_of : Mark → Option Pick
-pick_of FirstPart = Some PickFirst
-pick_of SecondPart = Some PickSecond
-pick_of SizeWord = Some PickSize
-pick_of _ = None
-
--- a function without a number
-abbrev pub func_of : Mark → Option Func
-func_of FirstPart = Some First
-func_of SecondPart = Some Second
-func_of SizeWord = Some Size
-func_of MergeWord = Some Merge
-func_of _ = None
-
--- a function with a number
-abbrev pub scale_of : Mark → Option Scale
-scale_of AsWord = Some ByConst
-scale_of Plus = Some ByAdd
-scale_of Times = Some ByMul
-scale_of _ = None
+-- the function that answers a piece
+abbrev pub piece_func : Piece → Func
+piece_func PieceFirst = First
+piece_func PieceSecond = Second
+piece_func PieceSize = Size
 
 abbrev pub scale_by : Scale → ℕ → Func
-scale_by ByConst n = Const n
-scale_by ByAdd n = Add n
-scale_by ByMul n = Mul n
+scale_by Constant n = Const n
+scale_by Plus n = Add n
+scale_by Times n = Mul n
 
 -- how terms are put together, from numbers as N keeps them
 pub record Make (A N : Type 0) : Type 0 where
   pub num : ℕ → N
   pub plain : Plain → A
-  pub leaf : Unary → N → A
+  pub counted : Counted → N → A
   pub growing : N → N → A
   pub join : Infix → A → A → A
   pub test : A → Subject → Cmp → N → A
@@ -133,8 +62,8 @@ pub data Frame (A : Type 0) : Type 0 where
 -- what was read since the innermost frame, and so what may come next
 pub data Mode (A N : Type 0) : Type 0 where
   start : Mode A N
-  opening : Unary → Mode A N
-  counting : Unary → Mode A N
+  opening : Counted → Mode A N
+  counting : Counted → Mode A N
   exp_opening : Mode A N
   exp_counting : Mode A N
   based : N → Mode A N
@@ -158,66 +87,104 @@ at fs m = record { frames = fs; mode = m }
 
 -- the mode behind `.word(`
 abbrev pub argument : {A N : Type 0} → Method → A → Mode A N
-argument OfInput a = testing a Input
-argument (OfPicked e) a = picking e a
-argument OfMap a = mapping a
-
--- the first that is there
-abbrev pub or_else : {X : Type 0} → Option X → Option X → Option X
-or_else (Some x) o = Some x
-or_else None o = o
+argument WhileInput a = testing a Input
+argument WhileOutput a = picking Stopping a
+argument Map a = mapping a
+argument ResetWhen a = picking Resetting a
 
 -- the first token of a term, but for `(`
 abbrev pub begin_leaf : {A N : Type 0} → Make A N → Mark → Option (Mode A N)
-begin_leaf make m =
-    or_else (option_map (λ p. after (make.plain p)) (plain_of m))
-    (or_else (option_map (λ u. opening u) (unary_of m)) (if is_exponential m then Some exp_opening else None))
+begin_leaf make (PlainWord p) = Some (after (make.plain p))
+begin_leaf make (CountedWord c) = Some (opening c)
+begin_leaf make ExponentialWord = Some exp_opening
+begin_leaf make _ = None
+
+-- `(`, which leads to a mode
+abbrev pub open_mark : {A N : Type 0} → Mode A N → Mark → Option (Mode A N)
+open_mark next Open = Some next
+open_mark next _ = None
+
+-- `)`, which leads to a mode
+abbrev pub close_mark : {A N : Type 0} → Mode A N → Mark → Option (Mode A N)
+close_mark next Close = Some next
+close_mark next _ = None
+
+-- behind `exponential(N`
+abbrev pub base_mark : {A N : Type 0} → Make A N → N → Mark → Option (Mode A N)
+base_mark make n Close = Some (after (make.growing n (make.num 2)))
+base_mark make n Comma = Some (factored n)
+base_mark make n _ = None
+
+-- behind `S.`
+abbrev pub dot_mark : {A N : Type 0} → Make A N → A → Mark → Option (Mode A N)
+dot_mark make a CollectAllWord = Some (after (make.collect a))
+dot_mark make a (MethodWord k) = Some (method k a)
+dot_mark make a _ = None
 
 -- a pick, or a comparison of the whole output
 abbrev pub pick_mark : {A N : Type 0} → Action → A → Mark → Option (Mode A N)
-pick_mark e a m =
-    or_else (option_map (λ p. testing a (Picked e p)) (pick_of m)) (option_map (λ c. comparing a (Picked e PickWhole) c) (cmp_of m))
+pick_mark e a (PieceWord p) = Some (testing a (Picked e (piece_pick p)))
+pick_mark e a (Comparison c) = Some (comparing a (Picked e PickWhole) c)
+pick_mark e a _ = None
+
+-- a comparison
+abbrev pub test_mark : {A N : Type 0} → A → Subject → Mark → Option (Mode A N)
+test_mark a s (Comparison c) = Some (comparing a s c)
+test_mark a s _ = None
+
+-- a function, or the front of one with a number
+abbrev pub map_mark : {A N : Type 0} → Make A N → A → Mark → Option (Mode A N)
+map_mark make a (PieceWord p) = Some (closing (make.apply a (piece_func p)))
+map_mark make a MergeWord = Some (closing (make.apply a Merge))
+map_mark make a (ScaleWord g) = Some (scaling a g)
+map_mark make a _ = None
 
 -- a word or symbol within a form
 abbrev pub inner_mark : {A N : Type 0} → Make A N → Mode A N → Mark → Option (Mode A N)
-inner_mark make start m = None
-inner_mark make (opening u) m = if is_open m then Some (counting u) else None
-inner_mark make (counting u) m = None
-inner_mark make exp_opening m = if is_open m then Some exp_counting else None
-inner_mark make exp_counting m = None
-inner_mark make (based n) m =
-    if is_close m then Some (after (make.growing n (make.num 2))) else (if is_comma m then Some (factored n) else None)
-inner_mark make (factored n) m = None
-inner_mark make (closing a) m = if is_close m then Some (after a) else None
-inner_mark make (after a) m = None
-inner_mark make (dotted a) m =
-    if is_collect m then Some (after (make.collect a)) else option_map (λ k. method k a) (method_of m)
-inner_mark make (method k a) m = if is_open m then Some (argument k a) else None
+inner_mark make (opening c) m = open_mark (counting c) m
+inner_mark make exp_opening m = open_mark exp_counting m
+inner_mark make (based n) m = base_mark make n m
+inner_mark make (closing a) m = close_mark (after a) m
+inner_mark make (dotted a) m = dot_mark make a m
+inner_mark make (method k a) m = open_mark (argument k a) m
 inner_mark make (picking e a) m = pick_mark e a m
-inner_mark make (testing a s) m = option_map (λ c. comparing a s c) (cmp_of m)
-inner_mark make (comparing a s c) m = None
-inner_mark make (mapping a) m =
-    or_else (option_map (λ f. closing (make.apply a f)) (func_of m)) (option_map (λ g. scaling a g) (scale_of m))
-inner_mark make (scaling a g) m = None
+inner_mark make (testing a s) m = test_mark a s m
+inner_mark make (mapping a) m = map_mark make a m
+inner_mark make _ m = None
 
 -- a number within a form
 abbrev pub inner_number : {A N : Type 0} → Make A N → Mode A N → N → Option (Mode A N)
-inner_number make (counting u) n = Some (closing (make.leaf u n))
+inner_number make (counting c) n = Some (closing (make.counted c n))
 inner_number make exp_counting n = Some (based n)
 inner_number make (factored b) n = Some (closing (make.growing b n))
 inner_number make (comparing a s c) n = Some (closing (make.test a s c n))
 inner_number make (scaling a g) n = Some (closing (make.scale a g n))
 inner_number make _ n = None
 
+-- an operator between two terms
+abbrev pub operator_mark : {A N : Type 0} → List (Frame A) → A → Mark → Option (State A N)
+operator_mark fs a (Operator i) = Some (at (right i a ∷ fs) start)
+operator_mark fs a _ = None
+
 -- behind a whole term in a frame
 abbrev pub join_mark : {A N : Type 0} → Make A N → List (Frame A) → A → Mark → Option (State A N)
 join_mark make [] a m = None
-join_mark make (left ∷ fs) a m = option_map (λ i. at (right i a ∷ fs) start) (infix_of m)
-join_mark make (right i a ∷ fs) b m = if is_close m then Some (at fs (after (make.join i a b))) else None
+join_mark make (left ∷ fs) a m = operator_mark fs a m
+join_mark make (right i a ∷ fs) b m = option_map (λ next. at fs next) (close_mark (after (make.join i a b)) m)
+
+-- `(` or a leaf, where a term begins
+abbrev pub start_mark : {A N : Type 0} → Make A N → List (Frame A) → Mark → Option (State A N)
+start_mark make fs Open = Some (at (left ∷ fs) start)
+start_mark make fs m = option_map (λ next. at fs next) (begin_leaf make m)
+
+-- behind a whole term
+abbrev pub after_mark : {A N : Type 0} → Make A N → List (Frame A) → A → Mark → Option (State A N)
+after_mark make fs a Dot = Some (at fs (dotted a))
+after_mark make fs a m = join_mark make fs a m
 
 abbrev pub step_mark : {A N : Type 0} → Make A N → List (Frame A) → Mode A N → Mark → Option (State A N)
-step_mark make fs start m = if is_open m then Some (at (left ∷ fs) start) else option_map (λ next. at fs next) (begin_leaf make m)
-step_mark make fs (after a) m = if is_dot m then Some (at fs (dotted a)) else join_mark make fs a m
+step_mark make fs start m = start_mark make fs m
+step_mark make fs (after a) m = after_mark make fs a m
 step_mark make fs k m = option_map (λ next. at fs next) (inner_mark make k m)
 
 abbrev pub step_number : {A N : Type 0} → Make A N → List (Frame A) → Mode A N → N → Option (State A N)
@@ -234,9 +201,9 @@ run make s (t ∷ ts) = run make (step make s t) ts
 
 -- a function of a term's output, with its number or without
 abbrev pub apply_func : {A N : Type 0} → Make A N → A → Func → A
-apply_func make a (Const n) = make.scale a ByConst (make.num n)
-apply_func make a (Add n) = make.scale a ByAdd (make.num n)
-apply_func make a (Mul n) = make.scale a ByMul (make.num n)
+apply_func make a (Const n) = make.scale a Constant (make.num n)
+apply_func make a (Add n) = make.scale a Plus (make.num n)
+apply_func make a (Mul n) = make.scale a Times (make.num n)
 apply_func make a First = make.apply a First
 apply_func make a Second = make.apply a Second
 apply_func make a Size = make.apply a Size
@@ -244,21 +211,14 @@ apply_func make a Merge = make.apply a Merge
 
 -- the value of a leaf
 abbrev pub leaf_value : {A N : Type 0} → Make A N → Leaf → A
-leaf_value make forever = make.plain OfForever
-leaf_value make (recurs n) = make.leaf OfRecurs (make.num n)
-leaf_value make (spaced n) = make.leaf OfSpaced (make.num n)
-leaf_value make (fixed n) = make.leaf OfFixed (make.num n)
+leaf_value make (plain p) = make.plain p
+leaf_value make (counted c n) = make.counted c (make.num n)
 leaf_value make (exponential b f) = make.growing (make.num b) (make.num f)
-leaf_value make (fibonacci n) = make.leaf OfFibonacci (make.num n)
-leaf_value make identity = make.plain OfIdentity
-leaf_value make elapsed = make.plain OfElapsed
-leaf_value make (linear n) = make.leaf OfLinear (make.num n)
-leaf_value make (windowed n) = make.leaf OfWindowed (make.num n)
 
 abbrev pub pairing_infix : Pairing → Infix
-pairing_infix both = OfBoth
-pairing_infix either = OfEither
-pairing_infix and_then = OfAndThen
+pairing_infix both = Both
+pairing_infix either = Either
+pairing_infix and_then = AndThen
 
 -- the value of a modifier over a part
 abbrev pub modifier_value : {A N : Type 0} → Make A N → A → Modifier → A
@@ -274,42 +234,27 @@ value make (leaf l) = leaf_value make l
 value make (two p a b) = make.join (pairing_infix p) (value make a) (value make b)
 value make (over s m) = modifier_value make (value make s) m
 
--- terms put together as terms
-abbrev pub plain_schedule : Plain → Schedule
-plain_schedule OfForever = leaf forever
-plain_schedule OfIdentity = leaf identity
-plain_schedule OfElapsed = leaf elapsed
+-- the operator between two schedules
+abbrev pub infix_pairing : Infix → Pairing
+infix_pairing Both = both
+infix_pairing Either = either
+infix_pairing AndThen = and_then
 
-abbrev pub unary_schedule : Unary → ℕ → Schedule
-unary_schedule OfRecurs n = leaf (recurs n)
-unary_schedule OfSpaced n = leaf (spaced n)
-unary_schedule OfFixed n = leaf (fixed n)
-unary_schedule OfFibonacci n = leaf (fibonacci n)
-unary_schedule OfLinear n = leaf (linear n)
-unary_schedule OfWindowed n = leaf (windowed n)
-
-abbrev pub growing_schedule : ℕ → ℕ → Schedule
-growing_schedule b f = leaf (exponential b f)
-
-abbrev pub infix_schedule : Infix → Schedule → Schedule → Schedule
-infix_schedule OfBoth a b = two both a b
-infix_schedule OfEither a b = two either a b
-infix_schedule OfAndThen a b = two and_then a b
-
-abbrev pub test_schedule : Subject → Schedule → Cmp → ℕ → Schedule
-test_schedule Input a c n = over a (while_input (record { cmp = c; than = n }))
-test_schedule (Picked Stopping p) a c n = over a (while_output p (record { cmp = c; than = n }))
-test_schedule (Picked Resetting p) a c n = over a (reset_when p (record { cmp = c; than = n }))
+-- what a test stands for behind a schedule
+abbrev pub test_modifier : Subject → Test → Modifier
+test_modifier Input t = while_input t
+test_modifier (Picked Stopping p) t = while_output p t
+test_modifier (Picked Resetting p) t = reset_when p t
 
 -- terms put together as terms
 abbrev pub plant : Make Schedule ℕ
 plant = record {
   num = λ n. n;
-  plain = plain_schedule;
-  leaf = unary_schedule;
-  growing = growing_schedule;
-  join = infix_schedule;
-  test = λ a s c n. test_schedule s a c n;
+  plain = λ p. leaf (plain p);
+  counted = λ c n. leaf (counted c n);
+  growing = λ b f. leaf (exponential b f);
+  join = λ i a b. two (infix_pairing i) a b;
+  test = λ a s c n. over a (test_modifier s (record { cmp = c; than = n }));
   collect = λ a. over a collect_all;
   apply = λ a f. over a (mapped f);
   scale = λ a g n. over a (mapped (scale_by g n));

@@ -2,7 +2,7 @@
 use Rattle.std.specs.Prelude.{ℕ, nat_lt, ◌^◌, ◌<◌, Option, Some, None, if◌then◌else◌}
 use Rattle.zs_term.specs.declared.term.Func.{Func}
 use Rattle.zs_term.specs.declared.term.Func.TheVariants.{First, Second, Size, Merge, Const, Add, Mul}
-use Rattle.zs_term.specs.Schedule.{Schedule, leaf, two, over, Leaf, forever, recurs, spaced, fixed, exponential, fibonacci, identity, elapsed, linear, windowed, Modifier, while_input, while_output, collect_all, mapped, reset_when}
+use Rattle.zs_term.specs.Schedule.{Schedule, leaf, two, over, Leaf, plain, counted, exponential, Modifier, while_input, while_output, collect_all, mapped, reset_when}
 
 -- a number, where it fits 64 bits
 abbrev pub fit : ℕ → Option ℕ
@@ -20,16 +20,9 @@ FuncFits (Mul n) = n < 2 ^ 64
 
 -- each number of a leaf fits
 abbrev pub LeafFits : Leaf → Type 0
-LeafFits forever = Unit {0}
-LeafFits (recurs n) = n < 2 ^ 64
-LeafFits (spaced n) = n < 2 ^ 64
-LeafFits (fixed n) = n < 2 ^ 64
+LeafFits (plain p) = Unit {0}
+LeafFits (counted c n) = n < 2 ^ 64
 LeafFits (exponential b f) = (b < 2 ^ 64) × (f < 2 ^ 64)
-LeafFits (fibonacci n) = n < 2 ^ 64
-LeafFits identity = Unit {0}
-LeafFits elapsed = Unit {0}
-LeafFits (linear n) = n < 2 ^ 64
-LeafFits (windowed n) = n < 2 ^ 64
 
 -- the number of a modifier fits
 abbrev pub ModifierFits : Modifier → Type 0

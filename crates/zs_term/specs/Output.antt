@@ -103,14 +103,16 @@ merge_in (left a) = a
 merge_in (right a) = a
 merge_in (listed xs) = listed xs
 
--- the number that a test reads of an output; 0 where the pick doesn't fit
+-- the number that a test reads of an output. Where a pick doesn't fit: `First` and `Second` read the output itself, 0 is read
+-- of what is no number, and what is no list has 0 items. No output of a schedule is read so, since it has its kind.
 abbrev pub picked : Pick → Output → ℕ
 picked Whole v = number_in v
 picked PickFirst v = number_in (first_in v)
 picked PickSecond v = number_in (second_in v)
 picked PickSize v = size_in v
 
--- a function's answer; the value itself where the function doesn't fit
+-- a function's answer. Where it doesn't fit: `First`, `Second` and `Merge` give the output itself, `Size` gives 0, and `Add` and
+-- `Mul` take 0 for what is no number. No output of a schedule meets these cases, since it has its kind.
 abbrev pub applied : Func → Output → Output
 applied First v = first_in v
 applied Second v = second_in v

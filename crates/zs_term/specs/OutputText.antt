@@ -22,7 +22,7 @@ abbrev mutual
   behind_text none = []
   behind_text (more x xs) = codes "," ++ (output_text x ++ behind_text xs)
 
--- the comma before an output of a list, but for the first
+-- the comma before an output of a list, but for the first: for a private contract
 abbrev pub comma_before : ℕ → List ℕ
 comma_before zero = []
 comma_before (suc place) = codes ","

@@ -1,9 +1,9 @@
 -- What the code keeps of the terms that it has read.
 use Rattle.std.specs.Prelude.{ℕ, ◌+◌, max, Bool, List, [], ◌∷◌, Option, Some, None, option_map, if◌then◌else◌}
-use Rattle.zs_term.specs.Schedule.{Schedule, over, collect_all, mapped, schedule_of}
+use Rattle.zs_term.specs.Schedule.{Schedule, leaf, two, over, plain, counted, exponential, collect_all, mapped, schedule_of}
 use Rattle.zs_term.specs.Saturating.{saturated}
 use Rattle.zs_term.specs.Number.{fit}
-use Rattle.zs_term.specs.Machine.{Make, Frame, left, right, Mode, start, opening, counting, exp_opening, exp_counting, based, factored, closing, after, dotted, method, picking, testing, comparing, mapping, scaling, plain_schedule, unary_schedule, growing_schedule, infix_schedule, test_schedule, scale_by}
+use Rattle.zs_term.specs.Machine.{Make, Frame, left, right, Mode, start, opening, counting, exp_opening, exp_counting, based, factored, closing, after, dotted, method, picking, testing, comparing, mapping, scaling, infix_pairing, test_modifier, scale_by}
 use Rattle.zs_term.specs.declared.term.Cmp.{Cmp}
 use Rattle.zs_term.specs.declared.term.Func.{Func}
 use Rattle.zs_term.specs.declared.forms.Infix.{Infix}
@@ -17,7 +17,7 @@ use Rattle.zs_term.specs.declared.parser.Frame.TheVariants.{Left, Right}
 use Rattle.zs_term.specs.declared.parser.Mode.{Mode as ModeKept}
 use Rattle.zs_term.specs.declared.parser.Mode.TheVariants.{Start, Opening, Counting, ExpOpening, ExpCounting, Based, Factored, Closing, After, Dotted, Method, Picking, Testing, Comparing, Mapping, Scaling}
 
--- the sizes of a term, cut at 2 ^ 64 - 1, and the term where terms are built and its numbers fit
+-- the sizes of a term, saturated at 2 ^ 64 - 1, and the term where terms are built and its numbers fit
 pub record Kept : Type 0 where
   pub depth : ℕ
   pub weight : ℕ
@@ -52,12 +52,12 @@ abbrev pub keep_join : Infix → Kept → Kept → Kept
 keep_join i a b = record {
   depth = saturated (max a.depth b.depth + 1);
   weight = one_more (saturated (a.weight + b.weight));
-  schedule = with_both (infix_schedule i) a.schedule b.schedule;
+  schedule = with_both (two (infix_pairing i)) a.schedule b.schedule;
 }
 
 -- a part under a test
 abbrev pub keep_test : Kept → Subject → Cmp → Option ℕ → Kept
-keep_test a s c n = keep_over a (test_weight s a.weight) (with_both (λ t k. test_schedule s t c k) a.schedule n)
+keep_test a s c n = keep_over a (test_weight s a.weight) (with_both (λ t k. over t (test_modifier s (record { cmp = c; than = k }))) a.schedule n)
 
 -- a part under `collectAll`
 abbrev pub keep_collect : Kept → Kept
@@ -75,9 +75,9 @@ keep_scale a g n = keep_over a (one_more a.weight) (with_both (λ t k. over t (m
 abbrev pub keep : Bool → Make Kept (Option ℕ)
 keep build = record {
   num = fit;
-  plain = λ p. keep_leaf build (Some (plain_schedule p));
-  leaf = λ u n. keep_leaf build (option_map (unary_schedule u) n);
-  growing = λ b f. keep_leaf build (with_both growing_schedule b f);
+  plain = λ p. keep_leaf build (Some (leaf (plain p)));
+  counted = λ c n. keep_leaf build (option_map (λ k. leaf (counted c k)) n);
+  growing = λ b f. keep_leaf build (with_both (λ x y. leaf (exponential x y)) b f);
   join = keep_join;
   test = keep_test;
   collect = keep_collect;
@@ -106,8 +106,8 @@ stack_of ks = stack_onto [] ks
 -- what the code keeps of the innermost form
 abbrev pub mode_of : ModeKept → Mode Kept (Option ℕ)
 mode_of Start = start
-mode_of (Opening u) = opening u
-mode_of (Counting u) = counting u
+mode_of (Opening c) = opening c
+mode_of (Counting c) = counting c
 mode_of ExpOpening = exp_opening
 mode_of ExpCounting = exp_counting
 mode_of (Based n) = based n

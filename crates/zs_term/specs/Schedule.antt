@@ -7,19 +7,44 @@ use Rattle.zs_term.specs.declared.term.Term.TheVariants.{Forever, Recurs, Spaced
 use Rattle.zs_term.specs.declared.term.Test.{Test}
 use Rattle.zs_term.specs.declared.term.Pick.{Pick}
 use Rattle.zs_term.specs.declared.term.Func.{Func}
+use Rattle.zs_term.specs.declared.forms.Plain.{Plain}
+use Rattle.zs_term.specs.declared.forms.Plain.TheVariants.{Forever as PlainForever, Identity as PlainIdentity, Elapsed as PlainElapsed}
+use Rattle.zs_term.specs.declared.forms.Counted.{Counted}
+use Rattle.zs_term.specs.declared.forms.Counted.TheVariants.{Recurs as CountedRecurs, Spaced as CountedSpaced, Fixed as CountedFixed, Fibonacci as CountedFibonacci, Linear as CountedLinear, Windowed as CountedWindowed}
 
--- a schedule without parts
+-- a schedule without parts: a word, a word with a number, or `exponential` with its base and factor
 pub data Leaf : Type 0 where
-  forever : Leaf
-  recurs : ℕ → Leaf
-  spaced : ℕ → Leaf
-  fixed : ℕ → Leaf
+  plain : Plain → Leaf
+  counted : Counted → ℕ → Leaf
   exponential : ℕ → ℕ → Leaf
-  fibonacci : ℕ → Leaf
-  identity : Leaf
-  elapsed : Leaf
-  linear : ℕ → Leaf
-  windowed : ℕ → Leaf
+
+-- the leaves by their words
+abbrev pub forever : Leaf
+forever = plain PlainForever
+
+abbrev pub identity : Leaf
+identity = plain PlainIdentity
+
+abbrev pub elapsed : Leaf
+elapsed = plain PlainElapsed
+
+abbrev pub recurs : ℕ → Leaf
+recurs k = counted CountedRecurs k
+
+abbrev pub spaced : ℕ → Leaf
+spaced d = counted CountedSpaced d
+
+abbrev pub fixed : ℕ → Leaf
+fixed p = counted CountedFixed p
+
+abbrev pub fibonacci : ℕ → Leaf
+fibonacci o = counted CountedFibonacci o
+
+abbrev pub linear : ℕ → Leaf
+linear n = counted CountedLinear n
+
+abbrev pub windowed : ℕ → Leaf
+windowed n = counted CountedWindowed n
 
 -- what stands between two schedules
 pub data Pairing : Type 0 where
@@ -95,7 +120,7 @@ has_factor _ = true
 
 -- whether a leaf's window is at least 1, where it has one
 abbrev pub has_window : Leaf → Bool
-has_window (windowed n) = nat_le 1 n
+has_window (counted CountedWindowed n) = nat_le 1 n
 has_window _ = true
 
 -- whether each factor is at least 1

@@ -4,47 +4,96 @@ use Rattle.std.specs.Char.{is_ascii_alphabetic, is_ascii_digit}
 use Rattle.std.specs.Str.{bytes_eq}
 use Rattle.std.specs.Str.Parse.{digits_value}
 use Rattle.zs_term.specs.declared.token.Mark.{Mark}
-use Rattle.zs_term.specs.declared.token.Mark.TheVariants.{ForeverWord, RecursWord, SpacedWord, FixedWord, ExponentialWord, FibonacciWord, IdentityWord, ElapsedWord, AndThenWord, WhileInputWord, WhileOutputWord, CollectAllWord, MapWord, SizeWord, MergeWord, AsWord, LinearWord, WindowedWord, ResetWhenWord, OtherWord, FirstPart, SecondPart, Open, Close, Comma, Dot, AndAnd, OrOr, Less, LessOrEqual, Equal, NotEqual, Greater, GreaterOrEqual, Plus, Times}
+use Rattle.zs_term.specs.declared.token.Mark.TheVariants.{PlainWord, CountedWord, ExponentialWord, Operator, MethodWord, CollectAllWord, Comparison, PieceWord, MergeWord, ScaleWord, OtherWord, Open, Close, Comma, Dot}
+use Rattle.zs_term.specs.declared.forms.Plain.{Plain}
+use Rattle.zs_term.specs.declared.forms.Plain.TheVariants.{Forever, Identity, Elapsed}
+use Rattle.zs_term.specs.declared.forms.Counted.{Counted}
+use Rattle.zs_term.specs.declared.forms.Counted.TheVariants.{Recurs, Spaced, Fixed, Fibonacci, Linear, Windowed}
+use Rattle.zs_term.specs.declared.forms.Infix.TheVariants.{Both, Either, AndThen}
+use Rattle.zs_term.specs.declared.forms.Method.{Method}
+use Rattle.zs_term.specs.declared.forms.Method.TheVariants.{WhileInput, WhileOutput, Map, ResetWhen}
+use Rattle.zs_term.specs.declared.forms.Piece.TheVariants.{First, Second, Size}
+use Rattle.zs_term.specs.declared.forms.Scale.TheVariants.{Constant, Plus, Times}
+use Rattle.zs_term.specs.declared.term.Cmp.TheVariants.{Lt, Le, Eq, Ne, Gt, Ge}
 
 -- a token: a number of any size, or a word or symbol
 pub data Token : Type 0 where
   number : ℕ → Token
   mark : Mark → Token
 
--- a word; one that no form of a term has is OtherWord
-abbrev pub word_mark : List ℕ → Mark
-word_mark w =
-    if bytes_eq w (codes "forever") then ForeverWord
-    else (if bytes_eq w (codes "recurs") then RecursWord
-    else (if bytes_eq w (codes "spaced") then SpacedWord
-    else (if bytes_eq w (codes "fixed") then FixedWord
-    else (if bytes_eq w (codes "exponential") then ExponentialWord
-    else (if bytes_eq w (codes "fibonacci") then FibonacciWord
-    else (if bytes_eq w (codes "identity") then IdentityWord
-    else (if bytes_eq w (codes "elapsed") then ElapsedWord
-    else (if bytes_eq w (codes "andThenEither") then AndThenWord
-    else (if bytes_eq w (codes "whileInput") then WhileInputWord
-    else (if bytes_eq w (codes "whileOutput") then WhileOutputWord
+-- the word of a leaf without numbers
+abbrev pub plain_word : Plain → List ℕ
+plain_word Forever = codes "forever"
+plain_word Identity = codes "identity"
+plain_word Elapsed = codes "elapsed"
+
+-- the word of a leaf with one number
+abbrev pub counted_word : Counted → List ℕ
+counted_word Recurs = codes "recurs"
+counted_word Spaced = codes "spaced"
+counted_word Fixed = codes "fixed"
+counted_word Fibonacci = codes "fibonacci"
+counted_word Linear = codes "linear"
+counted_word Windowed = codes "windowed"
+
+-- the leaf without numbers of a word
+abbrev pub plain_of : List ℕ → Option Plain
+plain_of w =
+    if bytes_eq w (plain_word Forever) then Some Forever
+    else (if bytes_eq w (plain_word Identity) then Some Identity
+    else (if bytes_eq w (plain_word Elapsed) then Some Elapsed
+    else None))
+
+-- the leaf with one number of a word
+abbrev pub counted_of : List ℕ → Option Counted
+counted_of w =
+    if bytes_eq w (counted_word Recurs) then Some Recurs
+    else (if bytes_eq w (counted_word Spaced) then Some Spaced
+    else (if bytes_eq w (counted_word Fixed) then Some Fixed
+    else (if bytes_eq w (counted_word Fibonacci) then Some Fibonacci
+    else (if bytes_eq w (counted_word Linear) then Some Linear
+    else (if bytes_eq w (counted_word Windowed) then Some Windowed
+    else None)))))
+
+-- what a word does behind a dot, before its arguments
+abbrev pub method_of : List ℕ → Option Method
+method_of w =
+    if bytes_eq w (codes "whileInput") then Some WhileInput
+    else (if bytes_eq w (codes "whileOutput") then Some WhileOutput
+    else (if bytes_eq w (codes "map") then Some Map
+    else (if bytes_eq w (codes "resetWhen") then Some ResetWhen
+    else None)))
+
+-- another word; one that no form of a term has is OtherWord
+abbrev pub other_mark : List ℕ → Mark
+other_mark w =
+    if bytes_eq w (codes "exponential") then ExponentialWord
+    else (if bytes_eq w (codes "andThenEither") then Operator AndThen
     else (if bytes_eq w (codes "collectAll") then CollectAllWord
-    else (if bytes_eq w (codes "map") then MapWord
-    else (if bytes_eq w (codes "size") then SizeWord
+    else (if bytes_eq w (codes "size") then PieceWord Size
     else (if bytes_eq w (codes "merge") then MergeWord
-    else (if bytes_eq w (codes "as") then AsWord
-    else (if bytes_eq w (codes "linear") then LinearWord
-    else (if bytes_eq w (codes "windowed") then WindowedWord
-    else (if bytes_eq w (codes "resetWhen") then ResetWhenWord
-    else OtherWord))))))))))))))))))
+    else (if bytes_eq w (codes "as") then ScaleWord Constant
+    else OtherWord)))))
+
+-- the mark of what was found, or another
+abbrev pub mark_or : {X : Type 0} → (X → Mark) → Option X → Mark → Mark
+mark_or as_mark (Some x) other = as_mark x
+mark_or as_mark None other = other
+
+-- a word
+abbrev pub word_mark : List ℕ → Mark
+word_mark w = mark_or PlainWord (plain_of w) (mark_or CountedWord (counted_of w) (mark_or MethodWord (method_of w) (other_mark w)))
 
 -- a symbol of two bytes: 95 is `_`, 49 `1`, 38 `&`, 124 `|`, 60 `<`, 61 `=`, 33 `!`, 62 `>`
 abbrev pub pair_mark : ℕ → ℕ → Option Mark
 pair_mark a b =
-    if a == 95 && b == 49 then Some FirstPart
-    else (if a == 95 && b == 50 then Some SecondPart
-    else (if a == 38 && b == 38 then Some AndAnd
-    else (if a == 124 && b == 124 then Some OrOr
-    else (if a == 60 && b == 61 then Some LessOrEqual
-    else (if a == 33 && b == 61 then Some NotEqual
-    else (if a == 62 && b == 61 then Some GreaterOrEqual
+    if a == 95 && b == 49 then Some (PieceWord First)
+    else (if a == 95 && b == 50 then Some (PieceWord Second)
+    else (if a == 38 && b == 38 then Some (Operator Both)
+    else (if a == 124 && b == 124 then Some (Operator Either)
+    else (if a == 60 && b == 61 then Some (Comparison Le)
+    else (if a == 33 && b == 61 then Some (Comparison Ne)
+    else (if a == 62 && b == 61 then Some (Comparison Ge)
     else None))))))
 
 -- a symbol of one byte: `(`, `)`, `,`, `.`, `<`, `=`, `>`, `+`, `*`
@@ -54,11 +103,11 @@ single_mark a =
     else (if a == 41 then Some Close
     else (if a == 44 then Some Comma
     else (if a == 46 then Some Dot
-    else (if a == 60 then Some Less
-    else (if a == 61 then Some Equal
-    else (if a == 62 then Some Greater
-    else (if a == 43 then Some Plus
-    else (if a == 42 then Some Times
+    else (if a == 60 then Some (Comparison Lt)
+    else (if a == 61 then Some (Comparison Eq)
+    else (if a == 62 then Some (Comparison Gt)
+    else (if a == 43 then Some (ScaleWord Plus)
+    else (if a == 42 then Some (ScaleWord Times)
     else None))))))))
 
 -- the letters at the front, as a word

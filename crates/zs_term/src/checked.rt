@@ -1,10 +1,11 @@
 // Terms that were checked.
 
-ghost use Rattle.std.specs.Prelude.{◌≡◌, Some, IfOk, IfErr, true, false, ◌↔◌};
+ghost use Rattle.std.specs.Prelude.{◌≡◌, ◌+◌, ◌*◌, ◌<◌, Some, IfOk, IfErr, true, false, ◌↔◌};
 ghost use Rattle.zs_term.specs.Schedule.{schedule_of, is_within_limits, has_factors};
 ghost use Rattle.zs_term.specs.OutputKind.{output_kind_of};
-ghost use Rattle.zs_term.specs.Kinds.{kind_of, IsSchedule};
+ghost use Rattle.zs_term.specs.Kinds.{kind_of, takes_memory, IsSchedule};
 ghost use Rattle.zs_term.specs.Causes.{IsTermCause};
+ghost use Rattle.zs_term.specs.Shape.{steps_to_give_up};
 
 use crate::fault::TermFault;
 use crate::inference::kind_of;
@@ -13,7 +14,7 @@ use crate::limits::{has_factors, has_windows, is_within_limits};
 use crate::term::Term;
 use std::alloc::Global;
 use std::marker::Model;
-use std::mem::drop;
+use std::mem::replace;
 
 /// A schedule: a term within the limits, with factors of at least 1, a kind, and windows of at least 1. Contracts see it as the term.
 #[derive(Drop)]
@@ -57,7 +58,7 @@ impl Checked {
     }
 }
 
-/// Checks a term: the schedule that it is, or the first fault of it. The term is given up on a refusal.
+/// Checks a term: the schedule that it is, or the first fault of it. The term is given up on a refusal, in the same stack however deep it is.
 pub fn check(alloc: Global, term: Term) -> Result<Checked, TermFault>
     ensures ok { IfOk result (λ checked. checked ≡ term) }
     ensures schedule { IfOk result (λ checked. IsSchedule (schedule_of checked)) }
@@ -65,11 +66,12 @@ pub fn check(alloc: Global, term: Term) -> Result<Checked, TermFault>
     ensures err { IfErr result (IsTermCause (schedule_of term)) }
     ensures too_big { result ≡ Err TermFault.TooBig ↔ is_within_limits (schedule_of term) ≡ false }
     ensures bad_factor { result ≡ Err TermFault.BadFactor ↔ ((is_within_limits (schedule_of term) ≡ true) × (has_factors (schedule_of term) ≡ false)) }
+    ensures memory { result ≡ Err TermFault.Memory → takes_memory (schedule_of term) ≡ true }
 {
     match judged(alloc, &term) {
         Ok(kind) => Ok(Checked { term, kind }),
         Err(fault) => {
-            drop(term);
+            give_up(term);
             Err(fault)
         }
     }
@@ -82,6 +84,7 @@ fn judged(alloc: Global, term: &Term) -> Result<Kind, TermFault>
     ensures err { IfErr result (IsTermCause (schedule_of term.now)) }
     ensures too_big { result ≡ Err TermFault.TooBig ↔ is_within_limits (schedule_of term.now) ≡ false }
     ensures bad_factor { result ≡ Err TermFault.BadFactor ↔ ((is_within_limits (schedule_of term.now) ≡ true) × (has_factors (schedule_of term.now) ≡ false)) }
+    ensures memory { result ≡ Err TermFault.Memory → takes_memory (schedule_of term.now) ≡ true }
 {
     if !is_within_limits(term) {
         return Err(TermFault::TooBig);
@@ -99,5 +102,59 @@ fn judged(alloc: Global, term: &Term) -> Result<Kind, TermFault>
                 Err(TermFault::BadWindow)
             }
         }
+    }
+}
+
+// Gives a term up node by node, since dropping it would take more of the stack the deeper it is.
+fn give_up(term: Term) {
+    let mut rest = term;
+    loop {
+        rest = match rest {
+            Term::Both(a, b) | Term::Either(a, b) | Term::AndThen(a, b) => turned(a, b),
+            Term::WhileInput(s, _)
+            | Term::WhileOutput(s, _, _)
+            | Term::CollectAll(s)
+            | Term::Map(s, _)
+            | Term::ResetWhen(s, _, _) => Box::into_inner(s),
+            Term::Forever
+            | Term::Recurs(_)
+            | Term::Spaced(_)
+            | Term::Fixed(_)
+            | Term::Exponential(_, _)
+            | Term::Fibonacci(_)
+            | Term::Identity
+            | Term::Elapsed
+            | Term::Linear(_)
+            | Term::Windowed(_) => return,
+        };
+    }
+}
+
+// Two parts with a node less, or turned to the right: `((a op b) op c)` becomes `(a op (b op c))`.
+#[tactic(auto, using(crate::proofs::Sizes::steps_positive))]
+fn turned(left: Box<Term>, right: Box<Term>) -> Term
+    ensures less { steps_to_give_up (schedule_of result) < 2 * steps_to_give_up (schedule_of left.value) + steps_to_give_up (schedule_of right.value) }
+{
+    let mut left = left;
+    match replace(&mut *left, Term::Forever) {
+        Term::Both(a, b) | Term::Either(a, b) | Term::AndThen(a, b) => {
+            *left = Term::Both(b, right);
+            Term::Both(a, left)
+        }
+        Term::WhileInput(s, _)
+        | Term::WhileOutput(s, _, _)
+        | Term::CollectAll(s)
+        | Term::Map(s, _)
+        | Term::ResetWhen(s, _, _) => Term::Both(s, right),
+        Term::Forever
+        | Term::Recurs(_)
+        | Term::Spaced(_)
+        | Term::Fixed(_)
+        | Term::Exponential(_, _)
+        | Term::Fibonacci(_)
+        | Term::Identity
+        | Term::Elapsed
+        | Term::Linear(_)
+        | Term::Windowed(_) => Box::into_inner(right),
     }
 }

@@ -1,59 +1,64 @@
-// The forms that the text of a term is made of.
+// The forms of terms: what the reader puts a term together from, and what a term is taken apart into.
 
 ghost use Rattle.std.specs.Prelude.{◌≡◌};
-ghost use Rattle.zs_term.specs.Machine.{is_open, is_close, is_comma, is_dot, is_collect, is_exponential, plain_of, unary_of, infix_of, method_of, cmp_of, pick_of, func_of, scale_of};
+ghost use Rattle.zs_term.specs.Schedule.{schedule_of, leaf, two, over, plain, counted};
+ghost use Rattle.zs_term.specs.Machine.{piece_pick, piece_func, infix_pairing, test_modifier, scale_by};
+ghost use Rattle.zs_term.specs.Parts.{test_weight};
+ghost use Rattle.zs_term.specs.Shape.{shape_schedule};
+ghost use Rattle.zs_term.specs.Token.{plain_word, counted_word};
 
-use crate::term::{Cmp, Func, Pick};
-use crate::token::Mark;
+use crate::term::{Cmp, Func, Pick, Term, Test};
 
 /// A leaf without numbers.
 #[derive(Clone, Copy, Drop)]
 pub enum Plain {
     /// `forever`
-    OfForever,
+    Forever,
     /// `identity`
-    OfIdentity,
+    Identity,
     /// `elapsed`
-    OfElapsed,
+    Elapsed,
 }
 
 /// A leaf with one number.
 #[derive(Clone, Copy, Drop)]
-pub enum Unary {
+pub enum Counted {
     /// `recurs`
-    OfRecurs,
+    Recurs,
     /// `spaced`
-    OfSpaced,
+    Spaced,
     /// `fixed`
-    OfFixed,
+    Fixed,
     /// `fibonacci`
-    OfFibonacci,
+    Fibonacci,
     /// `linear`
-    OfLinear,
+    Linear,
     /// `windowed`
-    OfWindowed,
+    Windowed,
 }
 
 /// An operator between two terms.
 #[derive(Clone, Copy, Drop)]
 pub enum Infix {
     /// `&&`
-    OfBoth,
+    Both,
     /// `||`
-    OfEither,
+    Either,
     /// `andThenEither`
-    OfAndThen,
+    AndThen,
 }
 
 /// What follows a term and a dot, and has arguments.
 #[derive(Clone, Copy, Drop)]
 pub enum Method {
     /// `.whileInput`
-    OfInput,
-    /// `.whileOutput` or `.resetWhen`
-    OfPicked(Action),
+    WhileInput,
+    /// `.whileOutput`
+    WhileOutput,
     /// `.map`
-    OfMap,
+    Map,
+    /// `.resetWhen`
+    ResetWhen,
 }
 
 /// What a test of a part of the output does.
@@ -74,161 +79,204 @@ pub enum Subject {
     Picked(Action, Pick),
 }
 
+/// A piece of an output: for a test to read, or for a function to answer.
+#[derive(Clone, Copy, Drop)]
+pub enum Piece {
+    /// `_1`
+    First,
+    /// `_2`
+    Second,
+    /// `size`
+    Size,
+}
+
 /// A function with a number.
 #[derive(Clone, Copy, Drop)]
 pub enum Scale {
     /// `as`
-    ByConst,
+    Constant,
     /// `+`
-    ByAdd,
+    Plus,
     /// `*`
-    ByMul,
+    Times,
 }
 
-impl Mark {
-    /// Whether this is `(`.
-    pub fn is_open(self) -> bool
-        ensures value { result ≡ is_open self }
-    {
-        matches!(&self, Mark::Open)
-    }
+/// What a term is made of. Here alone all its forms are told apart.
+#[derive(Clone, Copy, Drop)]
+pub enum Shape<'t> {
+    /// A leaf without numbers.
+    Plain(Plain),
+    /// A leaf with one number.
+    Counted(Counted, u64),
+    /// `exponential`, with its base and factor.
+    Exponential(u64, u64),
+    /// Two terms and the operator between them.
+    Joined(Infix, &'t Term, &'t Term),
+    /// A term with a test behind it.
+    Tested(&'t Term, Subject, Test),
+    /// A term with `.collectAll` behind it.
+    Collected(&'t Term),
+    /// A term with `.map` behind it.
+    Mapped(&'t Term, Func),
+}
 
-    /// Whether this is `)`.
-    pub fn is_close(self) -> bool
-        ensures value { result ≡ is_close self }
-    {
-        matches!(&self, Mark::Close)
-    }
-
-    /// Whether this is a comma.
-    pub fn is_comma(self) -> bool
-        ensures value { result ≡ is_comma self }
-    {
-        matches!(&self, Mark::Comma)
-    }
-
-    /// Whether this is a dot.
-    pub fn is_dot(self) -> bool
-        ensures value { result ≡ is_dot self }
-    {
-        matches!(&self, Mark::Dot)
-    }
-
-    /// Whether this is `collectAll`.
-    pub fn is_collect(self) -> bool
-        ensures value { result ≡ is_collect self }
-    {
-        matches!(&self, Mark::CollectAllWord)
-    }
-
-    /// Whether this is `exponential`.
-    pub fn is_exponential(self) -> bool
-        ensures value { result ≡ is_exponential self }
-    {
-        matches!(&self, Mark::ExponentialWord)
-    }
-
-    /// The leaf without numbers.
-    pub fn plain(self) -> Option<Plain>
-        ensures value { result ≡ plain_of self }
+impl Term {
+    /// What the term is made of.
+    pub(crate) fn shape(&self) -> Shape<'_>
+        ensures value { shape_schedule result ≡ schedule_of self.now }
     {
         match self {
-            Mark::ForeverWord => Some(Plain::OfForever),
-            Mark::IdentityWord => Some(Plain::OfIdentity),
-            Mark::ElapsedWord => Some(Plain::OfElapsed),
-            _ => None,
+            Term::Forever => Shape::Plain(Plain::Forever),
+            Term::Recurs(n) => Shape::Counted(Counted::Recurs, *n),
+            Term::Spaced(n) => Shape::Counted(Counted::Spaced, *n),
+            Term::Fixed(n) => Shape::Counted(Counted::Fixed, *n),
+            Term::Exponential(base, factor) => Shape::Exponential(*base, *factor),
+            Term::Fibonacci(n) => Shape::Counted(Counted::Fibonacci, *n),
+            Term::Identity => Shape::Plain(Plain::Identity),
+            Term::Elapsed => Shape::Plain(Plain::Elapsed),
+            Term::Linear(n) => Shape::Counted(Counted::Linear, *n),
+            Term::Windowed(n) => Shape::Counted(Counted::Windowed, *n),
+            Term::Both(a, b) => Shape::Joined(Infix::Both, a, b),
+            Term::Either(a, b) => Shape::Joined(Infix::Either, a, b),
+            Term::AndThen(a, b) => Shape::Joined(Infix::AndThen, a, b),
+            Term::WhileInput(s, test) => Shape::Tested(s, Subject::Input, *test),
+            Term::WhileOutput(s, pick, test) => {
+                Shape::Tested(s, Subject::Picked(Action::Stopping, *pick), *test)
+            }
+            Term::CollectAll(s) => Shape::Collected(s),
+            Term::Map(s, func) => Shape::Mapped(s, *func),
+            Term::ResetWhen(s, pick, test) => {
+                Shape::Tested(s, Subject::Picked(Action::Resetting, *pick), *test)
+            }
+        }
+    }
+}
+
+impl Plain {
+    /// The word.
+    pub fn word(self) -> &'static str
+        ensures value { result.now ≡ plain_word self }
+    {
+        match self {
+            Plain::Forever => "forever",
+            Plain::Identity => "identity",
+            Plain::Elapsed => "elapsed",
         }
     }
 
-    /// The leaf with one number.
-    pub fn unary(self) -> Option<Unary>
-        ensures value { result ≡ unary_of self }
+    /// The term.
+    pub fn of(self) -> Term
+        ensures value { schedule_of result ≡ leaf (plain self) }
     {
         match self {
-            Mark::RecursWord => Some(Unary::OfRecurs),
-            Mark::SpacedWord => Some(Unary::OfSpaced),
-            Mark::FixedWord => Some(Unary::OfFixed),
-            Mark::FibonacciWord => Some(Unary::OfFibonacci),
-            Mark::LinearWord => Some(Unary::OfLinear),
-            Mark::WindowedWord => Some(Unary::OfWindowed),
-            _ => None,
+            Plain::Forever => Term::Forever,
+            Plain::Identity => Term::Identity,
+            Plain::Elapsed => Term::Elapsed,
+        }
+    }
+}
+
+impl Counted {
+    /// The word.
+    pub fn word(self) -> &'static str
+        ensures value { result.now ≡ counted_word self }
+    {
+        match self {
+            Counted::Recurs => "recurs",
+            Counted::Spaced => "spaced",
+            Counted::Fixed => "fixed",
+            Counted::Fibonacci => "fibonacci",
+            Counted::Linear => "linear",
+            Counted::Windowed => "windowed",
         }
     }
 
-    /// The operator between two terms.
-    pub fn infix(self) -> Option<Infix>
-        ensures value { result ≡ infix_of self }
+    /// The term with a number.
+    pub fn of(self, n: u64) -> Term
+        ensures value { schedule_of result ≡ leaf (counted self n) }
     {
         match self {
-            Mark::AndAnd => Some(Infix::OfBoth),
-            Mark::OrOr => Some(Infix::OfEither),
-            Mark::AndThenWord => Some(Infix::OfAndThen),
-            _ => None,
+            Counted::Recurs => Term::Recurs(n),
+            Counted::Spaced => Term::Spaced(n),
+            Counted::Fixed => Term::Fixed(n),
+            Counted::Fibonacci => Term::Fibonacci(n),
+            Counted::Linear => Term::Linear(n),
+            Counted::Windowed => Term::Windowed(n),
+        }
+    }
+}
+
+impl Infix {
+    /// The term over two parts.
+    pub fn of(self, left: Box<Term>, right: Box<Term>) -> Term
+        ensures value { schedule_of result ≡ two (infix_pairing self) (schedule_of left.value) (schedule_of right.value) }
+    {
+        match self {
+            Infix::Both => Term::Both(left, right),
+            Infix::Either => Term::Either(left, right),
+            Infix::AndThen => Term::AndThen(left, right),
+        }
+    }
+}
+
+impl Subject {
+    /// The term with this test over a part.
+    pub fn of(self, term: Box<Term>, test: Test) -> Term
+        ensures value { schedule_of result ≡ over (schedule_of term.value) (test_modifier self test) }
+    {
+        match self {
+            Subject::Input => Term::WhileInput(term, test),
+            Subject::Picked(Action::Stopping, pick) => Term::WhileOutput(term, pick, test),
+            Subject::Picked(Action::Resetting, pick) => Term::ResetWhen(term, pick, test),
         }
     }
 
-    /// What follows a dot and has arguments.
-    pub fn method(self) -> Option<Method>
-        ensures value { result ≡ method_of self }
+    /// The weight of a form with this test over a part of a weight.
+    pub fn weight_over(self, weight: u64) -> u64
+        ensures value { result ≡ test_weight self weight }
     {
         match self {
-            Mark::WhileInputWord => Some(Method::OfInput),
-            Mark::WhileOutputWord => Some(Method::OfPicked(Action::Stopping)),
-            Mark::ResetWhenWord => Some(Method::OfPicked(Action::Resetting)),
-            Mark::MapWord => Some(Method::OfMap),
-            _ => None,
+            Subject::Input | Subject::Picked(Action::Stopping, _) => weight.saturating_add(1),
+            Subject::Picked(Action::Resetting, _) => weight
+                .saturating_add(weight)
+                .saturating_add(1),
+        }
+    }
+}
+
+impl Piece {
+    /// The piece that a test reads.
+    pub fn pick(self) -> Pick
+        ensures value { result ≡ piece_pick self }
+    {
+        match self {
+            Piece::First => Pick::First,
+            Piece::Second => Pick::Second,
+            Piece::Size => Pick::Size,
         }
     }
 
-    /// The comparison.
-    pub fn cmp(self) -> Option<Cmp>
-        ensures value { result ≡ cmp_of self }
+    /// The function that answers the piece.
+    pub fn func(self) -> Func
+        ensures value { result ≡ piece_func self }
     {
         match self {
-            Mark::Less => Some(Cmp::Lt),
-            Mark::LessOrEqual => Some(Cmp::Le),
-            Mark::Equal => Some(Cmp::Eq),
-            Mark::NotEqual => Some(Cmp::Ne),
-            Mark::Greater => Some(Cmp::Gt),
-            Mark::GreaterOrEqual => Some(Cmp::Ge),
-            _ => None,
+            Piece::First => Func::First,
+            Piece::Second => Func::Second,
+            Piece::Size => Func::Size,
         }
     }
+}
 
-    /// The pick that is written.
-    pub fn pick(self) -> Option<Pick>
-        ensures value { result ≡ pick_of self }
+impl Scale {
+    /// The function with this number.
+    pub fn by(self, n: u64) -> Func
+        ensures value { result ≡ scale_by self n }
     {
         match self {
-            Mark::FirstPart => Some(Pick::First),
-            Mark::SecondPart => Some(Pick::Second),
-            Mark::SizeWord => Some(Pick::Size),
-            _ => None,
-        }
-    }
-
-    /// The function without a number.
-    pub fn func(self) -> Option<Func>
-        ensures value { result ≡ func_of self }
-    {
-        match self {
-            Mark::FirstPart => Some(Func::First),
-            Mark::SecondPart => Some(Func::Second),
-            Mark::SizeWord => Some(Func::Size),
-            Mark::MergeWord => Some(Func::Merge),
-            _ => None,
-        }
-    }
-
-    /// The function with a number.
-    pub fn scale(self) -> Option<Scale>
-        ensures value { result ≡ scale_of self }
-    {
-        match self {
-            Mark::AsWord => Some(Scale::ByConst),
-            Mark::Plus => Some(Scale::ByAdd),
-            Mark::Times => Some(Scale::ByMul),
-            _ => None,
+            Scale::Constant => Func::Const(n),
+            Scale::Plus => Func::Add(n),
+            Scale::Times => Func::Mul(n),
         }
     }
 }

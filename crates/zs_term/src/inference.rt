@@ -1,10 +1,12 @@
 // The kinds of terms.
 
-ghost use Rattle.std.specs.Prelude.{◌≡◌, Some, None, IfOk, if◌then◌else◌};
+ghost use Rattle.std.specs.Prelude.{◌≡◌, Some, None, true, IfOk, IfErr, if◌then◌else◌};
 ghost use Rattle.zs_term.specs.Schedule.{schedule_of};
-ghost use Rattle.zs_term.specs.OutputKind.{output_kind_of, is_same_kind, num, pair_of, sum_of};
-ghost use Rattle.zs_term.specs.Kinds.{kind_of, answers, fits, is_num, found_kind_of, joined, where_fits, list_kind, mapped_kind};
+ghost use Rattle.zs_term.specs.OutputKind.{output_kind_of, is_same_kind, num};
+ghost use Rattle.zs_term.specs.Kinds.{kind_of, takes_memory, answers, fits, is_num, found_kind_of, joined, pairing_kind, where_fits, list_kind, mapped_kind};
+ghost use Rattle.zs_term.specs.Machine.{infix_pairing};
 
+use crate::forms::{Infix, Shape, Subject};
 use crate::kind::Kind;
 use crate::term::{Func, Pick, Term};
 use std::alloc::{AllocError, Global};
@@ -12,55 +14,36 @@ use std::alloc::{AllocError, Global};
 // The kind of a term, where it has one.
 pub(crate) fn kind_of(alloc: Global, term: &Term) -> Result<Option<Kind>, AllocError>
     ensures value { IfOk result (λ k. found_kind_of k ≡ kind_of (schedule_of term.now)) }
+    ensures memory { IfErr result (λ _. takes_memory (schedule_of term.now) ≡ true) }
 {
-    match term {
-        Term::Both(a, b) | Term::Either(a, b) => {
-            pair_kind(alloc, kind_of(alloc, a)?, kind_of(alloc, b)?)
-        }
-        Term::AndThen(a, b) => sum_kind(alloc, kind_of(alloc, a)?, kind_of(alloc, b)?),
-        Term::WhileInput(s, _test) => kind_of(alloc, s),
-        Term::WhileOutput(s, pick, _test) | Term::ResetWhen(s, pick, _test) => {
-            Ok(where_fits(*pick, kind_of(alloc, s)?))
-        }
-        Term::CollectAll(s) => list_kind(alloc, kind_of(alloc, s)?),
-        Term::Map(s, func) => Ok(mapped_kind(*func, kind_of(alloc, s)?)),
-        Term::Forever
-        | Term::Recurs(_)
-        | Term::Spaced(_)
-        | Term::Fixed(_)
-        | Term::Exponential(_, _)
-        | Term::Fibonacci(_)
-        | Term::Identity
-        | Term::Elapsed
-        | Term::Linear(_)
-        | Term::Windowed(_) => Ok(Some(Kind::Num)),
+    match term.shape() {
+        Shape::Plain(_) | Shape::Counted(_, _) | Shape::Exponential(_, _) => Ok(Some(Kind::Num)),
+        Shape::Joined(form, a, b) => joined(alloc, form, kind_of(alloc, a)?, kind_of(alloc, b)?),
+        Shape::Tested(s, Subject::Input, _) => kind_of(alloc, s),
+        Shape::Tested(s, Subject::Picked(_, pick), _) => Ok(where_fits(pick, kind_of(alloc, s)?)),
+        Shape::Collected(s) => list_kind(alloc, kind_of(alloc, s)?),
+        Shape::Mapped(s, func) => Ok(mapped_kind(func, kind_of(alloc, s)?)),
     }
 }
 
-// The kind of pairs, where both parts have one.
-fn pair_kind(
+// The kind of two schedules' outputs, where both have one.
+fn joined(
     alloc: Global,
+    form: Infix,
     first: Option<Kind>,
     second: Option<Kind>,
 ) -> Result<Option<Kind>, AllocError>
-    ensures value { IfOk result (λ k. found_kind_of k ≡ joined pair_of (found_kind_of first) (found_kind_of second)) }
+    ensures value { IfOk result (λ k. found_kind_of k ≡ joined (pairing_kind (infix_pairing form)) (found_kind_of first) (found_kind_of second)) }
 {
     match (first, second) {
-        (Some(x), Some(y)) => Ok(Some(Kind::Pair(boxed(alloc, x)?, boxed(alloc, y)?))),
-        _ => Ok(None),
-    }
-}
-
-// The kind of either, where both parts have one.
-fn sum_kind(
-    alloc: Global,
-    first: Option<Kind>,
-    second: Option<Kind>,
-) -> Result<Option<Kind>, AllocError>
-    ensures value { IfOk result (λ k. found_kind_of k ≡ joined sum_of (found_kind_of first) (found_kind_of second)) }
-{
-    match (first, second) {
-        (Some(x), Some(y)) => Ok(Some(Kind::Sum(boxed(alloc, x)?, boxed(alloc, y)?))),
+        (Some(x), Some(y)) => {
+            let x = boxed(alloc, x)?;
+            let y = boxed(alloc, y)?;
+            Ok(Some(match form {
+                Infix::Both | Infix::Either => Kind::Pair(x, y),
+                Infix::AndThen => Kind::Sum(x, y),
+            }))
+        }
         _ => Ok(None),
     }
 }

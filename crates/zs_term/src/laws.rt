@@ -1,7 +1,13 @@
 // Laws of spellings, texts and faults.
 
-ghost use Rattle.zs_term.specs.Laws.{OneTerm, OneFault, OneVerdict, RoundTrip};
+ghost use Rattle.zs_term.specs.Laws.{OneTerm, OneFault, OneVerdict, CanonicalSpells, RoundTrip};
+ghost use Rattle.zs_term.specs.Places.{TokensOfText};
 ghost use Rattle.zs_term.specs.Verdict.{VerdictIsTheOne};
+
+/// The tokens of a text are those that stand in it: each is the longest at its place, with nothing but spaces before it.
+pub fn tokens_of_text()
+    ensures law { TokensOfText }
+{}
 
 /// No token list spells two terms.
 pub fn one_term()
@@ -16,6 +22,11 @@ pub fn one_fault()
 /// A text that spells a schedule is refused for no cause but want of memory.
 pub fn one_verdict()
     ensures law { OneVerdict }
+{}
+
+/// The canonical spelling of a term spells it, whatever its size and kind.
+pub fn canonical_spells()
+    ensures law { CanonicalSpells }
 {}
 
 /// The canonical spelling of a schedule is read as the schedule.

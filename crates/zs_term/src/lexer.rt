@@ -5,10 +5,12 @@ ghost use Rattle.std.specs.Char.{is_ascii_alphabetic, is_ascii_digit, digit_valu
 ghost use Rattle.std.specs.Int.{IsInRange};
 ghost use Rattle.std.specs.Str.{bytes_eq};
 ghost use Rattle.std.specs.Str.Parse.{AllDigits, digits_value};
-ghost use Rattle.zs_term.specs.Token.{word_mark, pair_mark, single_mark, number_at, token_at, lex};
+ghost use Rattle.zs_term.specs.Token.{plain_of, counted_of, method_of, other_mark, word_mark, pair_mark, single_mark, number_at, token_at, lex};
 ghost use Rattle.zs_term.specs.Scan.{IsFoundAs, Scans};
 ghost use Rattle.zs_term.specs.Number.{fit};
 
+use crate::forms::{Counted, Infix, Method, Piece, Plain, Scale};
+use crate::term::Cmp;
 use crate::token::{Lexeme, Mark};
 
 // How many letters stand at the front.
@@ -50,96 +52,121 @@ fn is_word(letters: &[u8], word: &str) -> bool
     letters == word.as_bytes()
 }
 
-// The word of these letters.
-fn word(letters: &[u8]) -> Mark
-    ensures value { result ≡ word_mark letters.now }
+// The leaf without numbers of these letters.
+fn plain(letters: &[u8]) -> Option<Plain>
+    ensures value { result ≡ plain_of letters.now }
 {
-    if is_word(letters, "forever") {
-        return Mark::ForeverWord;
+    if is_word(letters, Plain::Forever.word()) {
+        return Some(Plain::Forever);
     }
-    if is_word(letters, "recurs") {
-        return Mark::RecursWord;
+    if is_word(letters, Plain::Identity.word()) {
+        return Some(Plain::Identity);
     }
-    if is_word(letters, "spaced") {
-        return Mark::SpacedWord;
+    if is_word(letters, Plain::Elapsed.word()) {
+        return Some(Plain::Elapsed);
     }
-    if is_word(letters, "fixed") {
-        return Mark::FixedWord;
+    None
+}
+
+// The leaf with one number of these letters.
+fn counted(letters: &[u8]) -> Option<Counted>
+    ensures value { result ≡ counted_of letters.now }
+{
+    if is_word(letters, Counted::Recurs.word()) {
+        return Some(Counted::Recurs);
     }
+    if is_word(letters, Counted::Spaced.word()) {
+        return Some(Counted::Spaced);
+    }
+    if is_word(letters, Counted::Fixed.word()) {
+        return Some(Counted::Fixed);
+    }
+    if is_word(letters, Counted::Fibonacci.word()) {
+        return Some(Counted::Fibonacci);
+    }
+    if is_word(letters, Counted::Linear.word()) {
+        return Some(Counted::Linear);
+    }
+    if is_word(letters, Counted::Windowed.word()) {
+        return Some(Counted::Windowed);
+    }
+    None
+}
+
+// What these letters do behind a dot, before their arguments.
+fn method(letters: &[u8]) -> Option<Method>
+    ensures value { result ≡ method_of letters.now }
+{
+    if is_word(letters, "whileInput") {
+        return Some(Method::WhileInput);
+    }
+    if is_word(letters, "whileOutput") {
+        return Some(Method::WhileOutput);
+    }
+    if is_word(letters, "map") {
+        return Some(Method::Map);
+    }
+    if is_word(letters, "resetWhen") {
+        return Some(Method::ResetWhen);
+    }
+    None
+}
+
+// What other letters are.
+fn other(letters: &[u8]) -> Mark
+    ensures value { result ≡ other_mark letters.now }
+{
     if is_word(letters, "exponential") {
         return Mark::ExponentialWord;
     }
-    if is_word(letters, "fibonacci") {
-        return Mark::FibonacciWord;
-    }
-    if is_word(letters, "identity") {
-        return Mark::IdentityWord;
-    }
-    if is_word(letters, "elapsed") {
-        return Mark::ElapsedWord;
-    }
     if is_word(letters, "andThenEither") {
-        return Mark::AndThenWord;
-    }
-    if is_word(letters, "whileInput") {
-        return Mark::WhileInputWord;
-    }
-    if is_word(letters, "whileOutput") {
-        return Mark::WhileOutputWord;
+        return Mark::Operator(Infix::AndThen);
     }
     if is_word(letters, "collectAll") {
         return Mark::CollectAllWord;
     }
-    if is_word(letters, "map") {
-        return Mark::MapWord;
-    }
     if is_word(letters, "size") {
-        return Mark::SizeWord;
+        return Mark::PieceWord(Piece::Size);
     }
     if is_word(letters, "merge") {
         return Mark::MergeWord;
     }
     if is_word(letters, "as") {
-        return Mark::AsWord;
-    }
-    if is_word(letters, "linear") {
-        return Mark::LinearWord;
-    }
-    if is_word(letters, "windowed") {
-        return Mark::WindowedWord;
-    }
-    if is_word(letters, "resetWhen") {
-        return Mark::ResetWhenWord;
+        return Mark::ScaleWord(Scale::Constant);
     }
     Mark::OtherWord
+}
+
+// The word of these letters.
+fn word(letters: &[u8]) -> Mark
+    ensures value { result ≡ word_mark letters.now }
+{
+    if let Some(form) = plain(letters) {
+        return Mark::PlainWord(form);
+    }
+    if let Some(form) = counted(letters) {
+        return Mark::CountedWord(form);
+    }
+    if let Some(form) = method(letters) {
+        return Mark::MethodWord(form);
+    }
+    other(letters)
 }
 
 // The symbol of two bytes.
 fn pair(first: u8, second: u8) -> Option<Mark>
     ensures value { result ≡ pair_mark first second }
 {
-    if first == b'_' && second == b'1' {
-        return Some(Mark::FirstPart);
+    match (first, second) {
+        (b'_', b'1') => Some(Mark::PieceWord(Piece::First)),
+        (b'_', b'2') => Some(Mark::PieceWord(Piece::Second)),
+        (b'&', b'&') => Some(Mark::Operator(Infix::Both)),
+        (b'|', b'|') => Some(Mark::Operator(Infix::Either)),
+        (b'<', b'=') => Some(Mark::Comparison(Cmp::Le)),
+        (b'!', b'=') => Some(Mark::Comparison(Cmp::Ne)),
+        (b'>', b'=') => Some(Mark::Comparison(Cmp::Ge)),
+        _ => None,
     }
-    if first == b'_' && second == b'2' {
-        return Some(Mark::SecondPart);
-    }
-    if first == b'&' && second == b'&' {
-        return Some(Mark::AndAnd);
-    }
-    if first == b'|' && second == b'|' {
-        return Some(Mark::OrOr);
-    }
-    if first == b'<' && second == b'=' {
-        return Some(Mark::LessOrEqual);
-    }
-    if first == b'!' && second == b'=' {
-        return Some(Mark::NotEqual);
-    }
-    if first == b'>' && second == b'=' {
-        return Some(Mark::GreaterOrEqual);
-    }
-    None
 }
 
 // The symbol of one byte.
@@ -151,11 +178,11 @@ fn single(byte: u8) -> Option<Mark>
         b')' => Some(Mark::Close),
         b',' => Some(Mark::Comma),
         b'.' => Some(Mark::Dot),
-        b'<' => Some(Mark::Less),
-        b'=' => Some(Mark::Equal),
-        b'>' => Some(Mark::Greater),
-        b'+' => Some(Mark::Plus),
-        b'*' => Some(Mark::Times),
+        b'<' => Some(Mark::Comparison(Cmp::Lt)),
+        b'=' => Some(Mark::Comparison(Cmp::Eq)),
+        b'>' => Some(Mark::Comparison(Cmp::Gt)),
+        b'+' => Some(Mark::ScaleWord(Scale::Plus)),
+        b'*' => Some(Mark::ScaleWord(Scale::Times)),
         _ => None,
     }
 }

@@ -29,8 +29,10 @@ mod token;
 pub use checked::{Checked, check};
 pub use fault::TermFault;
 pub use kind::Kind;
-pub use laws::{one_fault, one_term, one_verdict, round_trip, verdict_is_the_one};
-pub use limits::{MAX_DEPTH, MAX_WEIGHT};
+pub use laws::{
+    canonical_spells, one_fault, one_term, one_verdict, round_trip, tokens_of_text,
+    verdict_is_the_one,
+};
 pub use out_text::{NoMemory, append_out, write_out};
 pub use outputs::{Out, Outs, copy_all, make_left, make_list, make_pair, make_right};
 pub use printer::write;

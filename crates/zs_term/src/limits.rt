@@ -3,13 +3,14 @@
 ghost use Rattle.std.specs.Prelude.{◌≡◌, ◌<◌, ◌≤◌, ◌+◌, ◌⊎◌, IfSome, IfNone};
 ghost use Rattle.zs_term.specs.Schedule.{schedule_of, is_within_limits, has_factors, has_windows, depth, weight};
 
+use crate::forms::{Action, Counted, Shape, Subject};
 use crate::term::Term;
 
 /// The greatest depth of a schedule.
-pub const MAX_DEPTH: u64 = 64;
+pub(crate) const MAX_DEPTH: u64 = 64;
 
 /// The greatest weight of a schedule.
-pub const MAX_WEIGHT: u64 = 1000;
+pub(crate) const MAX_WEIGHT: u64 = 1000;
 
 // Whether a term keeps within the greatest depth and weight. It looks no deeper than that depth.
 pub(crate) fn is_within_limits(term: &Term) -> bool
@@ -26,29 +27,17 @@ fn room_left(term: &Term, levels: u64, nodes: u64) -> Option<u64>
     if levels == 0 || nodes == 0 {
         return None;
     }
-    match term {
-        Term::Both(a, b) | Term::Either(a, b) | Term::AndThen(a, b) => {
-            room_left(b, levels - 1, room_left(a, levels - 1, nodes - 1)?)
-        }
-        Term::WhileInput(s, _)
-        | Term::WhileOutput(s, _, _)
-        | Term::CollectAll(s)
-        | Term::Map(s, _) => room_left(s, levels - 1, nodes - 1),
-        Term::ResetWhen(s, _pick, _test) => room_left(
+    match term.shape() {
+        Shape::Plain(_) | Shape::Counted(_, _) | Shape::Exponential(_, _) => Some(nodes - 1),
+        Shape::Joined(_, a, b) => room_left(b, levels - 1, room_left(a, levels - 1, nodes - 1)?),
+        Shape::Tested(s, Subject::Picked(Action::Resetting, _), _) => room_left(
             s,
             levels - 1,
             room_left(s, levels - 1, nodes - 1)?,
         ),
-        Term::Forever
-        | Term::Recurs(_)
-        | Term::Spaced(_)
-        | Term::Fixed(_)
-        | Term::Exponential(_, _)
-        | Term::Fibonacci(_)
-        | Term::Identity
-        | Term::Elapsed
-        | Term::Linear(_)
-        | Term::Windowed(_) => Some(nodes - 1),
+        Shape::Tested(s, _, _) | Shape::Collected(s) | Shape::Mapped(s, _) => {
+            room_left(s, levels - 1, nodes - 1)
+        }
     }
 }
 
@@ -56,24 +45,11 @@ fn room_left(term: &Term, levels: u64, nodes: u64) -> Option<u64>
 pub(crate) fn has_factors(term: &Term) -> bool
     ensures value { result ≡ has_factors (schedule_of term.now) }
 {
-    match term {
-        Term::Exponential(_base, factor) => *factor >= 1,
-        Term::Both(a, b) | Term::Either(a, b) | Term::AndThen(a, b) => has_factors(a)
-            && has_factors(b),
-        Term::WhileInput(s, _)
-        | Term::WhileOutput(s, _, _)
-        | Term::CollectAll(s)
-        | Term::Map(s, _)
-        | Term::ResetWhen(s, _, _) => has_factors(s),
-        Term::Forever
-        | Term::Recurs(_)
-        | Term::Spaced(_)
-        | Term::Fixed(_)
-        | Term::Fibonacci(_)
-        | Term::Identity
-        | Term::Elapsed
-        | Term::Linear(_)
-        | Term::Windowed(_) => true,
+    match term.shape() {
+        Shape::Exponential(_, factor) => factor >= 1,
+        Shape::Plain(_) | Shape::Counted(_, _) => true,
+        Shape::Joined(_, a, b) => has_factors(a) && has_factors(b),
+        Shape::Tested(s, _, _) | Shape::Collected(s) | Shape::Mapped(s, _) => has_factors(s),
     }
 }
 
@@ -81,23 +57,10 @@ pub(crate) fn has_factors(term: &Term) -> bool
 pub(crate) fn has_windows(term: &Term) -> bool
     ensures value { result ≡ has_windows (schedule_of term.now) }
 {
-    match term {
-        Term::Windowed(window) => *window >= 1,
-        Term::Both(a, b) | Term::Either(a, b) | Term::AndThen(a, b) => has_windows(a)
-            && has_windows(b),
-        Term::WhileInput(s, _)
-        | Term::WhileOutput(s, _, _)
-        | Term::CollectAll(s)
-        | Term::Map(s, _)
-        | Term::ResetWhen(s, _, _) => has_windows(s),
-        Term::Forever
-        | Term::Recurs(_)
-        | Term::Spaced(_)
-        | Term::Fixed(_)
-        | Term::Exponential(_, _)
-        | Term::Fibonacci(_)
-        | Term::Identity
-        | Term::Elapsed
-        | Term::Linear(_) => true,
+    match term.shape() {
+        Shape::Counted(Counted::Windowed, window) => window >= 1,
+        Shape::Plain(_) | Shape::Counted(_, _) | Shape::Exponential(_, _) => true,
+        Shape::Joined(_, a, b) => has_windows(a) && has_windows(b),
+        Shape::Tested(s, _, _) | Shape::Collected(s) | Shape::Mapped(s, _) => has_windows(s),
     }
 }

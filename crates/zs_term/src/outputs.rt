@@ -43,14 +43,6 @@ impl Outs {
     {
         &self.items
     }
-
-    /// The outputs themselves.
-    pub fn into_items(self) -> Vec<Out>
-        ensures value { result.items ≡ outs_list self }
-    {
-        let Outs { items } = self;
-        items
-    }
 }
 
 impl Out {
@@ -69,6 +61,65 @@ impl Out {
             Out::Left(a) => Ok(Out::Left(Box::new(alloc, a.copy(alloc)?)?)),
             Out::Right(a) => Ok(Out::Right(Box::new(alloc, a.copy(alloc)?)?)),
             Out::Items(outs) => Ok(Out::Items(Outs::new(copy_all(alloc, outs.items())?))),
+        }
+    }
+
+    /// The number, or 0 of another output.
+    pub(crate) fn number(&self) -> u64
+        ensures value { result ≡ number_in (output_of self.now) }
+    {
+        match self {
+            Out::Num(n) => *n,
+            Out::Pair(_, _) | Out::Left(_) | Out::Right(_) | Out::Items(_) => 0,
+        }
+    }
+
+    /// The number of items, or 0 of another output.
+    pub(crate) fn size(&self) -> u64
+        ensures value { result ≡ size_in (output_of self.now) }
+    {
+        match self {
+            Out::Items(outs) => outs.items().len() as u64,
+            Out::Num(_) | Out::Pair(_, _) | Out::Left(_) | Out::Right(_) => 0,
+        }
+    }
+
+    /// The first part of a pair, or the output itself.
+    pub(crate) fn into_first(self) -> Out
+        ensures value { output_of result ≡ first_in (output_of self) }
+    {
+        match self {
+            Out::Pair(a, _b) => Box::into_inner(a),
+            Out::Num(n) => Out::Num(n),
+            Out::Left(a) => Out::Left(a),
+            Out::Right(a) => Out::Right(a),
+            Out::Items(outs) => Out::Items(outs),
+        }
+    }
+
+    /// The second part of a pair, or the output itself.
+    pub(crate) fn into_second(self) -> Out
+        ensures value { output_of result ≡ second_in (output_of self) }
+    {
+        match self {
+            Out::Pair(_a, b) => Box::into_inner(b),
+            Out::Num(n) => Out::Num(n),
+            Out::Left(a) => Out::Left(a),
+            Out::Right(a) => Out::Right(a),
+            Out::Items(outs) => Out::Items(outs),
+        }
+    }
+
+    /// What stands in a side of a choice, or the output itself.
+    pub(crate) fn into_merged(self) -> Out
+        ensures value { output_of result ≡ merge_in (output_of self) }
+    {
+        match self {
+            Out::Left(a) => Box::into_inner(a),
+            Out::Right(b) => Box::into_inner(b),
+            Out::Num(n) => Out::Num(n),
+            Out::Pair(a, b) => Out::Pair(a, b),
+            Out::Items(outs) => Out::Items(outs),
         }
     }
 }
@@ -108,6 +159,13 @@ pub fn make_right(alloc: Global, out: Out) -> Result<Out, AllocError>
     Ok(Out::Right(Box::new(alloc, out)?))
 }
 
+/// An output that is a list.
+pub fn make_list(items: Vec<Out>) -> Out
+    ensures value { output_of result ≡ listed (outputs_of items.items) }
+{
+    Out::Items(Outs::new(items))
+}
+
 impl Test {
     /// Whether a number passes.
     pub fn passes(self, x: u64) -> bool
@@ -124,30 +182,9 @@ impl Test {
     }
 }
 
-impl Out {
-    /// The number, or 0 of another output.
-    pub fn number(&self) -> u64
-        ensures value { result ≡ number_in (output_of self.now) }
-    {
-        match self {
-            Out::Num(n) => *n,
-            Out::Pair(_, _) | Out::Left(_) | Out::Right(_) | Out::Items(_) => 0,
-        }
-    }
-
-    /// The number of items, or 0 of another output.
-    pub fn size(&self) -> u64
-        ensures value { result ≡ size_in (output_of self.now) }
-    {
-        match self {
-            Out::Items(outs) => outs.items().len() as u64,
-            Out::Num(_) | Out::Pair(_, _) | Out::Left(_) | Out::Right(_) => 0,
-        }
-    }
-}
-
 impl Pick {
-    /// The number that is picked, or 0 where the pick doesn't fit.
+    /// The number that is picked. Where the pick doesn't fit: `_1` and `_2` read the output itself, 0 is read of what is no number,
+    /// and what is no list has 0 items.
     pub fn read(self, out: &Out) -> u64
         ensures value { result ≡ picked self (output_of out.now) }
     {
@@ -166,49 +203,9 @@ impl Pick {
     }
 }
 
-impl Out {
-    /// The first part of a pair, or the output itself.
-    pub fn into_first(self) -> Out
-        ensures value { output_of result ≡ first_in (output_of self) }
-    {
-        match self {
-            Out::Pair(a, _b) => Box::into_inner(a),
-            Out::Num(n) => Out::Num(n),
-            Out::Left(a) => Out::Left(a),
-            Out::Right(a) => Out::Right(a),
-            Out::Items(outs) => Out::Items(outs),
-        }
-    }
-
-    /// The second part of a pair, or the output itself.
-    pub fn into_second(self) -> Out
-        ensures value { output_of result ≡ second_in (output_of self) }
-    {
-        match self {
-            Out::Pair(_a, b) => Box::into_inner(b),
-            Out::Num(n) => Out::Num(n),
-            Out::Left(a) => Out::Left(a),
-            Out::Right(a) => Out::Right(a),
-            Out::Items(outs) => Out::Items(outs),
-        }
-    }
-
-    /// What stands in a side of a choice, or the output itself.
-    pub fn into_merged(self) -> Out
-        ensures value { output_of result ≡ merge_in (output_of self) }
-    {
-        match self {
-            Out::Left(a) => Box::into_inner(a),
-            Out::Right(b) => Box::into_inner(b),
-            Out::Num(n) => Out::Num(n),
-            Out::Pair(a, b) => Out::Pair(a, b),
-            Out::Items(outs) => Out::Items(outs),
-        }
-    }
-}
-
 impl Func {
-    /// The function's answer, or the output itself where the function doesn't fit.
+    /// The function's answer. Where it doesn't fit: `_1`, `_2` and `merge` give the output itself, `size` gives 0, and `+` and `*`
+    /// take 0 for what is no number.
     pub fn apply(self, out: Out) -> Out
         ensures value { output_of result ≡ applied self (output_of out) }
     {
@@ -222,11 +219,4 @@ impl Func {
             Func::Mul(n) => Out::Num(out.number().saturating_mul(n)),
         }
     }
-}
-
-/// An output that is a list.
-pub fn make_list(items: Vec<Out>) -> Out
-    ensures value { output_of result ≡ listed (outputs_of items.items) }
-{
-    Out::Items(Outs::new(items))
 }

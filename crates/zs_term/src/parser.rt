@@ -1,12 +1,12 @@
 // What has been read of a text, and which token may come next.
 
-ghost use Rattle.std.specs.Prelude.{◌≡◌, Option, Some, None, option_map, IfOk};
-ghost use Rattle.zs_term.specs.Machine.{begin_leaf, inner_mark, pick_mark, join_mark, step_mark, step_number, argument, at, start, based, dotted, mapping};
+ghost use Rattle.std.specs.Prelude.{◌≡◌, option_map, IfOk};
+ghost use Rattle.zs_term.specs.Machine.{argument, begin_leaf, open_mark, close_mark, base_mark, dot_mark, pick_mark, test_mark, map_mark, inner_mark, join_mark, step_mark, step_number, at};
 ghost use Rattle.zs_term.specs.Parts.{kept_of, mode_of, stack_of, keep};
 
-use crate::forms::{Action, Infix, Method, Scale, Subject, Unary};
+use crate::forms::{Action, Counted, Infix, Method, Scale, Subject};
 use crate::part::Part;
-use crate::term::{Cmp, Pick};
+use crate::term::{Cmp, Func, Pick};
 use crate::token::Mark;
 use std::alloc::{AllocError, Global};
 
@@ -25,9 +25,9 @@ pub enum Mode {
     /// Nothing: a term begins here.
     Start,
     /// `word`, before its `(`.
-    Opening(Unary),
+    Opening(Counted),
     /// `word(`
-    Counting(Unary),
+    Counting(Counted),
     /// `exponential`
     ExpOpening,
     /// `exponential(`
@@ -60,14 +60,15 @@ pub enum Mode {
 fn begin_leaf(alloc: Global, build: bool, mark: Mark) -> Result<Option<Mode>, AllocError>
     ensures value { IfOk result (λ next. option_map mode_of next ≡ begin_leaf (keep build) mark) }
 {
-    if let Some(form) = mark.plain() {
-        let part = Part::plain(alloc, build, form)?;
-        return Ok(Some(Mode::After(part)));
+    match mark {
+        Mark::PlainWord(form) => {
+            let part = Part::plain(alloc, build, form)?;
+            Ok(Some(Mode::After(part)))
+        }
+        Mark::CountedWord(form) => Ok(Some(Mode::Opening(form))),
+        Mark::ExponentialWord => Ok(Some(Mode::ExpOpening)),
+        _ => Ok(None),
     }
-    if let Some(form) = mark.unary() {
-        return Ok(Some(Mode::Opening(form)));
-    }
-    Ok(mark.is_exponential().then_some(Mode::ExpOpening))
 }
 
 // Behind `exponential(N`.
@@ -77,13 +78,16 @@ fn behind_base(
     base: Option<u64>,
     mark: Mark,
 ) -> Result<Option<Mode>, AllocError>
-    ensures value { IfOk result (λ next. option_map mode_of next ≡ inner_mark (keep build) (based base) mark) }
+    ensures value { IfOk result (λ next. option_map mode_of next ≡ base_mark (keep build) base mark) }
 {
-    if mark.is_close() {
-        let part = Part::growing(alloc, build, base, Some(2))?;
-        return Ok(Some(Mode::After(part)));
+    match mark {
+        Mark::Close => {
+            let part = Part::growing(alloc, build, base, Some(2))?;
+            Ok(Some(Mode::After(part)))
+        }
+        Mark::Comma => Ok(Some(Mode::Factored(base))),
+        _ => Ok(None),
     }
-    Ok(mark.is_comma().then_some(Mode::Factored(base)))
 }
 
 // Behind `S.`.
@@ -93,15 +97,15 @@ fn behind_dot(
     part: Part,
     mark: Mark,
 ) -> Result<Option<Mode>, AllocError>
-    ensures value { IfOk result (λ next. option_map mode_of next ≡ inner_mark (keep build) (dotted (kept_of part)) mark) }
+    ensures value { IfOk result (λ next. option_map mode_of next ≡ dot_mark (keep build) (kept_of part) mark) }
 {
-    if mark.is_collect() {
-        let whole = Part::collect(alloc, part)?;
-        return Ok(Some(Mode::After(whole)));
-    }
-    match mark.method() {
-        Some(method) => Ok(Some(Mode::Method(method, part))),
-        None => Ok(None),
+    match mark {
+        Mark::CollectAllWord => {
+            let whole = Part::collect(alloc, part)?;
+            Ok(Some(Mode::After(whole)))
+        }
+        Mark::MethodWord(method) => Ok(Some(Mode::Method(method, part))),
+        _ => Ok(None),
     }
 }
 
@@ -110,9 +114,10 @@ fn argument_of(method: Method, part: Part) -> Mode
     ensures value { mode_of result ≡ argument method (kept_of part) }
 {
     match method {
-        Method::OfInput => Mode::Testing(part, Subject::Input),
-        Method::OfPicked(action) => Mode::Picking(action, part),
-        Method::OfMap => Mode::Mapping(part),
+        Method::WhileInput => Mode::Testing(part, Subject::Input),
+        Method::WhileOutput => Mode::Picking(Action::Stopping, part),
+        Method::Map => Mode::Mapping(part),
+        Method::ResetWhen => Mode::Picking(Action::Resetting, part),
     }
 }
 
@@ -120,12 +125,24 @@ fn argument_of(method: Method, part: Part) -> Mode
 fn pick_or_compare(action: Action, part: Part, mark: Mark) -> Option<Mode>
     ensures value { option_map mode_of result ≡ pick_mark action (kept_of part) mark }
 {
-    if let Some(pick) = mark.pick() {
-        return Some(Mode::Testing(part, Subject::Picked(action, pick)));
+    match mark {
+        Mark::PieceWord(piece) => Some(Mode::Testing(part, Subject::Picked(action, piece.pick()))),
+        Mark::Comparison(cmp) => Some(Mode::Comparing(
+            part,
+            Subject::Picked(action, Pick::Whole),
+            cmp,
+        )),
+        _ => None,
     }
-    match mark.cmp() {
-        Some(cmp) => Some(Mode::Comparing(part, Subject::Picked(action, Pick::Whole), cmp)),
-        None => None,
+}
+
+// A comparison.
+fn compare(part: Part, subject: Subject, mark: Mark) -> Option<Mode>
+    ensures value { option_map mode_of result ≡ test_mark (kept_of part) subject mark }
+{
+    match mark {
+        Mark::Comparison(cmp) => Some(Mode::Comparing(part, subject, cmp)),
+        _ => None,
     }
 }
 
@@ -136,15 +153,39 @@ fn func_or_scale(
     part: Part,
     mark: Mark,
 ) -> Result<Option<Mode>, AllocError>
-    ensures value { IfOk result (λ next. option_map mode_of next ≡ inner_mark (keep build) (mapping (kept_of part)) mark) }
+    ensures value { IfOk result (λ next. option_map mode_of next ≡ map_mark (keep build) (kept_of part) mark) }
 {
-    if let Some(func) = mark.func() {
-        let whole = Part::apply(alloc, part, func)?;
-        return Ok(Some(Mode::Closing(whole)));
+    match mark {
+        Mark::PieceWord(piece) => {
+            let whole = Part::apply(alloc, part, piece.func())?;
+            Ok(Some(Mode::Closing(whole)))
+        }
+        Mark::MergeWord => {
+            let whole = Part::apply(alloc, part, Func::Merge)?;
+            Ok(Some(Mode::Closing(whole)))
+        }
+        Mark::ScaleWord(scale) => Ok(Some(Mode::Scaling(part, scale))),
+        _ => Ok(None),
     }
-    match mark.scale() {
-        Some(scale) => Ok(Some(Mode::Scaling(part, scale))),
-        None => Ok(None),
+}
+
+// Whether this is `(`, which leads to a mode.
+fn on_open(next: Mode, mark: Mark) -> Option<Mode>
+    ensures value { option_map mode_of result ≡ open_mark (mode_of next) mark }
+{
+    match mark {
+        Mark::Open => Some(next),
+        _ => None,
+    }
+}
+
+// Whether this is `)`, which leads to a mode.
+fn on_close(next: Mode, mark: Mark) -> Option<Mode>
+    ensures value { option_map mode_of result ≡ close_mark (mode_of next) mark }
+{
+    match mark {
+        Mark::Close => Some(next),
+        _ => None,
     }
 }
 
@@ -161,21 +202,20 @@ fn join_behind(
 {
     match frames.pop() {
         None => Ok(None),
-        Some(Frame::Left) => match mark.infix() {
-            Some(form) => {
+        Some(Frame::Left) => match mark {
+            Mark::Operator(form) => {
                 frames.push(Frame::Right(form, part))?;
                 Ok(Some(Mode::Start))
             }
-            None => Ok(None),
+            _ => Ok(None),
         },
-        Some(Frame::Right(form, left)) => {
-            if mark.is_close() {
+        Some(Frame::Right(form, left)) => match mark {
+            Mark::Close => {
                 let joined = Part::join(alloc, form, left, part)?;
                 Ok(Some(Mode::After(joined)))
-            } else {
-                Ok(None)
             }
-        }
+            _ => Ok(None),
+        },
     }
 }
 
@@ -189,25 +229,14 @@ fn within_form(
     ensures value { IfOk result (λ next. option_map mode_of next ≡ inner_mark (keep build) (mode_of mode) mark) }
 {
     match mode {
-        Mode::Opening(form) => Ok(mark.is_open().then_some(Mode::Counting(form))),
-        Mode::ExpOpening => Ok(mark.is_open().then_some(Mode::ExpCounting)),
+        Mode::Opening(form) => Ok(on_open(Mode::Counting(form), mark)),
+        Mode::ExpOpening => Ok(on_open(Mode::ExpCounting, mark)),
         Mode::Based(base) => behind_base(alloc, build, base, mark),
-        Mode::Closing(part) => Ok(if mark.is_close() {
-            Some(Mode::After(part))
-        } else {
-            None
-        }),
+        Mode::Closing(part) => Ok(on_close(Mode::After(part), mark)),
         Mode::Dotted(part) => behind_dot(alloc, build, part, mark),
-        Mode::Method(method, part) => Ok(if mark.is_open() {
-            Some(argument_of(method, part))
-        } else {
-            None
-        }),
+        Mode::Method(method, part) => Ok(on_open(argument_of(method, part), mark)),
         Mode::Picking(action, part) => Ok(pick_or_compare(action, part, mark)),
-        Mode::Testing(part, subject) => match mark.cmp() {
-            Some(cmp) => Ok(Some(Mode::Comparing(part, subject, cmp))),
-            None => Ok(None),
-        },
+        Mode::Testing(part, subject) => Ok(compare(part, subject, mark)),
         Mode::Mapping(part) => func_or_scale(alloc, build, part, mark),
         Mode::Start
         | Mode::After(_)
@@ -231,38 +260,18 @@ pub fn after_mark(
     ensures value { IfOk result (λ next. option_map (λ m. at (stack_of frames.new.items) (mode_of m)) next ≡ step_mark (keep build) (stack_of frames.old.items) (mode_of mode) mark) }
 {
     match mode {
-        Mode::Start => {
-            if mark.is_open() {
+        Mode::Start => match mark {
+            Mark::Open => {
                 frames.push(Frame::Left)?;
-                return Ok(Some(Mode::Start));
+                Ok(Some(Mode::Start))
             }
-            begin_leaf(alloc, build, mark)
-        }
-        Mode::After(part) => {
-            if mark.is_dot() {
-                return Ok(Some(Mode::Dotted(part)));
-            }
-            join_behind(alloc, build, frames, part, mark)
-        }
-        Mode::Opening(form) => within_form(alloc, build, Mode::Opening(form), mark),
-        Mode::ExpOpening => within_form(alloc, build, Mode::ExpOpening, mark),
-        Mode::Based(base) => within_form(alloc, build, Mode::Based(base), mark),
-        Mode::Closing(part) => within_form(alloc, build, Mode::Closing(part), mark),
-        Mode::Dotted(part) => within_form(alloc, build, Mode::Dotted(part), mark),
-        Mode::Method(method, part) => within_form(alloc, build, Mode::Method(method, part), mark),
-        Mode::Picking(action, part) => within_form(alloc, build, Mode::Picking(action, part), mark),
-        Mode::Testing(part, subject) => within_form(
-            alloc,
-            build,
-            Mode::Testing(part, subject),
-            mark,
-        ),
-        Mode::Mapping(part) => within_form(alloc, build, Mode::Mapping(part), mark),
-        Mode::Counting(_)
-        | Mode::ExpCounting
-        | Mode::Factored(_)
-        | Mode::Comparing(_, _, _)
-        | Mode::Scaling(_, _) => Ok(None),
+            _ => begin_leaf(alloc, build, mark),
+        },
+        Mode::After(part) => match mark {
+            Mark::Dot => Ok(Some(Mode::Dotted(part))),
+            _ => join_behind(alloc, build, frames, part, mark),
+        },
+        mode => within_form(alloc, build, mode, mark),
     }
 }
 
@@ -277,7 +286,7 @@ pub fn after_number(
 {
     match mode {
         Mode::Counting(form) => {
-            let part = Part::unary(alloc, build, form, value)?;
+            let part = Part::counted(alloc, build, form, value)?;
             Ok(Some(Mode::Closing(part)))
         }
         Mode::ExpCounting => Ok(Some(Mode::Based(value))),

@@ -1,20 +1,18 @@
 // Whole terms that the reader has put together.
 
-ghost use Rattle.std.specs.Prelude.{◌≡◌, Option, Some, None, IfOk};
-ghost use Rattle.zs_term.specs.Schedule.{schedule_of};
-ghost use Rattle.zs_term.specs.Machine.{plain_schedule, unary_schedule, infix_schedule, test_schedule, scale_by};
-ghost use Rattle.zs_term.specs.Parts.{kept_of, keep, keep_join, keep_test, keep_collect, keep_apply, keep_scale, test_weight};
+ghost use Rattle.std.specs.Prelude.{◌≡◌, IfOk};
+ghost use Rattle.zs_term.specs.Parts.{kept_of, keep, keep_join, keep_test, keep_collect, keep_apply, keep_scale};
 
-use crate::forms::{Action, Infix, Plain, Scale, Subject, Unary};
+use crate::forms::{Counted, Infix, Plain, Scale, Subject};
 use crate::term::{Cmp, Func, Term, Test};
 use std::alloc::{AllocError, Global};
 
 /// A whole term that was read: its sizes, and the term itself where terms are built and its numbers fit.
 #[derive(Drop)]
 pub struct Part {
-    /// The depth, cut at 2 ^ 64 - 1.
+    /// The depth, at most 2 ^ 64 - 1.
     pub depth: u64,
-    /// The weight, cut at 2 ^ 64 - 1.
+    /// The weight, at most 2 ^ 64 - 1.
     pub weight: u64,
     /// The term, if it was built.
     pub term: Option<Box<Term>>,
@@ -33,13 +31,13 @@ impl Part {
     }
 
     /// A leaf with a number.
-    pub fn unary(
+    pub fn counted(
         alloc: Global,
         build: bool,
-        form: Unary,
+        form: Counted,
         value: Option<u64>,
     ) -> Result<Part, AllocError>
-        ensures value { IfOk result (λ part. kept_of part ≡ (keep build).leaf form value) }
+        ensures value { IfOk result (λ part. kept_of part ≡ (keep build).counted form value) }
     {
         let mut term = None;
         if build {
@@ -116,7 +114,7 @@ impl Part {
         if let Some(a) = part.term
             && let Some(than) = value
         {
-            term = Some(Box::new(alloc, subject.of(a, cmp, than))?);
+            term = Some(Box::new(alloc, subject.of(a, Test { cmp, than }))?);
         }
         Ok(Part {
             depth,
@@ -181,89 +179,5 @@ impl Part {
             weight,
             term,
         })
-    }
-}
-
-impl Plain {
-    // The term of this form.
-    fn of(self) -> Term
-        ensures value { schedule_of result ≡ plain_schedule self }
-    {
-        match self {
-            Plain::OfForever => Term::Forever,
-            Plain::OfIdentity => Term::Identity,
-            Plain::OfElapsed => Term::Elapsed,
-        }
-    }
-}
-
-impl Unary {
-    // The term of this form with a number.
-    fn of(self, n: u64) -> Term
-        ensures value { schedule_of result ≡ unary_schedule self n }
-    {
-        match self {
-            Unary::OfRecurs => Term::Recurs(n),
-            Unary::OfSpaced => Term::Spaced(n),
-            Unary::OfFixed => Term::Fixed(n),
-            Unary::OfFibonacci => Term::Fibonacci(n),
-            Unary::OfLinear => Term::Linear(n),
-            Unary::OfWindowed => Term::Windowed(n),
-        }
-    }
-}
-
-impl Infix {
-    // The term of this form over two parts.
-    fn of(self, left: Box<Term>, right: Box<Term>) -> Term
-        ensures value { schedule_of result ≡ infix_schedule self (schedule_of left.value) (schedule_of right.value) }
-    {
-        match self {
-            Infix::OfBoth => Term::Both(left, right),
-            Infix::OfEither => Term::Either(left, right),
-            Infix::OfAndThen => Term::AndThen(left, right),
-        }
-    }
-}
-
-impl Subject {
-    // The term with this test over a part.
-    fn of(self, term: Box<Term>, cmp: Cmp, than: u64) -> Term
-        ensures value { schedule_of result ≡ test_schedule self (schedule_of term.value) cmp than }
-    {
-        let test = Test { cmp, than };
-        match self {
-            Subject::Input => Term::WhileInput(term, test),
-            Subject::Picked(action, pick) => match action {
-                Action::Stopping => Term::WhileOutput(term, pick, test),
-                Action::Resetting => Term::ResetWhen(term, pick, test),
-            },
-        }
-    }
-
-    // The weight of a form with this test over a part of a weight.
-    fn weight_over(self, weight: u64) -> u64
-        ensures value { result ≡ test_weight self weight }
-    {
-        match self {
-            Subject::Input => weight.saturating_add(1),
-            Subject::Picked(action, _pick) => match action {
-                Action::Stopping => weight.saturating_add(1),
-                Action::Resetting => weight.saturating_add(weight).saturating_add(1),
-            },
-        }
-    }
-}
-
-impl Scale {
-    // The function with this number.
-    fn by(self, n: u64) -> Func
-        ensures value { result ≡ scale_by self n }
-    {
-        match self {
-            Scale::ByConst => Func::Const(n),
-            Scale::ByAdd => Func::Add(n),
-            Scale::ByMul => Func::Mul(n),
-        }
     }
 }

@@ -3,11 +3,13 @@
 ghost use Rattle.std.specs.Prelude.{◌≡◌, ◌<◌, ◌^◌, ◌++◌, IfOk, OnOk, string_bytes, codes};
 ghost use Rattle.std.specs.Fmt.{decimal};
 ghost use Rattle.zs_term.specs.Schedule.{schedule_of, exponential};
-ghost use Rattle.zs_term.specs.Number.{HasFittingNumbers, FuncFits};
+ghost use Rattle.zs_term.specs.Number.{HasFittingNumbers, ModifierFits, FuncFits};
+ghost use Rattle.zs_term.specs.Machine.{infix_pairing, test_modifier};
 ghost use Rattle.zs_term.specs.Causes.{SpellsSchedule};
-ghost use Rattle.zs_term.specs.Canonical.{canonical_text, leaf_text, cmp_text, pick_text, func_text, test_text, and_then_text, while_input_text, while_output_text, reset_when_text, exponential_text, number_text, infix_text};
+ghost use Rattle.zs_term.specs.Canonical.{canonical_text, leaf_text, pairing_text, modifier_text, cmp_text, pick_text, func_text, test_text, while_input_text, while_output_text, reset_when_text, exponential_text, number_text, infix_text};
 
 use crate::checked::Checked;
+use crate::forms::{Action, Infix, Shape, Subject};
 use crate::out_text::NoMemory;
 use crate::term::{Cmp, Func, Pick, Term, Test};
 use std::alloc::{AllocError, Global};
@@ -29,39 +31,22 @@ pub fn write(alloc: Global, checked: &Checked) -> Result<String, NoMemory>
 fn append(text: &mut String, term: &Term) -> Result<(), AllocError>
     ensures text { OnOk result (string_bytes text.new ≡ string_bytes text.old ++ canonical_text (schedule_of term.now)) }
 {
-    match term {
-        Term::Forever => text.push_str("forever"),
-        Term::Recurs(n) => append_number(text, "recurs(", *n),
-        Term::Spaced(n) => append_number(text, "spaced(", *n),
-        Term::Fixed(n) => append_number(text, "fixed(", *n),
-        Term::Exponential(b, f) => append_exponential(text, *b, *f),
-        Term::Fibonacci(n) => append_number(text, "fibonacci(", *n),
-        Term::Identity => text.push_str("identity"),
-        Term::Elapsed => text.push_str("elapsed"),
-        Term::Linear(n) => append_number(text, "linear(", *n),
-        Term::Windowed(n) => append_number(text, "windowed(", *n),
-        Term::Both(a, b) => append_infix(text, a, " && ", b),
-        Term::Either(a, b) => append_infix(text, a, " || ", b),
-        Term::AndThen(a, b) => append_infix(text, a, and_then_word(), b),
-        Term::WhileInput(a, test) => {
+    match term.shape() {
+        Shape::Plain(form) => text.push_str(form.word()),
+        Shape::Counted(form, n) => append_number(text, form.word(), n),
+        Shape::Exponential(base, factor) => append_exponential(text, base, factor),
+        Shape::Joined(form, a, b) => append_infix(text, a, infix_text(form), b),
+        Shape::Tested(a, subject, test) => {
             append(text, a)?;
-            append_tested(text, while_input_word(), *test)
+            append_tested(text, subject, test)
         }
-        Term::WhileOutput(a, pick, test) => {
-            append(text, a)?;
-            append_picked(text, while_output_word(), *pick, *test)
-        }
-        Term::CollectAll(a) => {
+        Shape::Collected(a) => {
             append(text, a)?;
             text.push_str(".collectAll")
         }
-        Term::Map(a, func) => {
+        Shape::Mapped(a, func) => {
             append(text, a)?;
-            append_map(text, *func)
-        }
-        Term::ResetWhen(a, pick, test) => {
-            append(text, a)?;
-            append_picked(text, reset_when_word(), *pick, *test)
+            append_map(text, func)
         }
     }
 }
@@ -78,11 +63,12 @@ fn append_infix(text: &mut String, a: &Term, operator: &str, b: &Term) -> Result
     text.push_str(")")
 }
 
-// Adds a word with its parenthesis, a number and the parenthesis behind it.
+// Adds a word and a number in parentheses.
 fn append_number(text: &mut String, word: &str, number: u64) -> Result<(), AllocError>
     ensures text { OnOk result (string_bytes text.new ≡ string_bytes text.old ++ number_text word.now number) }
 {
     text.push_str(word)?;
+    text.push_str("(")?;
     write!(text, "{number})")
 }
 
@@ -112,12 +98,16 @@ fn append_test(text: &mut String, test: Test) -> Result<(), AllocError>
     write!(text, "{than})")
 }
 
-// The operator of two schedules in turn.
+// What stands between two schedules.
 #[tactic(auto, unfolding(crate::specs::Canonical::and_then_text))]
-fn and_then_word() -> &'static str
-    ensures text { result.now ≡ and_then_text }
+fn infix_text(form: Infix) -> &'static str
+    ensures text { result.now ≡ pairing_text (infix_pairing form) }
 {
-    " andThenEither "
+    match form {
+        Infix::Both => " && ",
+        Infix::Either => " || ",
+        Infix::AndThen => " andThenEither ",
+    }
 }
 
 // What stands before the test of an input.
@@ -144,20 +134,36 @@ fn reset_when_word() -> &'static str
     ".resetWhen("
 }
 
+// Adds what stands behind a schedule and its dot for a test.
+fn append_tested(text: &mut String, subject: Subject, test: Test) -> Result<(), AllocError>
+    ensures text { OnOk result (string_bytes text.new ≡ string_bytes text.old ++ modifier_text (test_modifier subject test)) }
+{
+    match subject {
+        Subject::Input => {
+            text.push_str(while_input_word())?;
+            append_test(text, test)
+        }
+        Subject::Picked(Action::Stopping, pick) => append_picked(
+            text,
+            while_output_word(),
+            pick,
+            test,
+        ),
+        Subject::Picked(Action::Resetting, pick) => append_picked(
+            text,
+            reset_when_word(),
+            pick,
+            test,
+        ),
+    }
+}
+
 // Adds a word and a pick with its test.
 fn append_picked(text: &mut String, word: &str, pick: Pick, test: Test) -> Result<(), AllocError>
     ensures text { OnOk result (string_bytes text.new ≡ string_bytes text.old ++ (word.now ++ (pick_text pick ++ test_text test))) }
 {
     text.push_str(word)?;
     text.push_str(pick_text(pick))?;
-    append_test(text, test)
-}
-
-// Adds a word and a test.
-fn append_tested(text: &mut String, word: &str, test: Test) -> Result<(), AllocError>
-    ensures text { OnOk result (string_bytes text.new ≡ string_bytes text.old ++ (word.now ++ test_text test)) }
-{
-    text.push_str(word)?;
     append_test(text, test)
 }
 
@@ -184,7 +190,7 @@ fn cmp_text(cmp: Cmp) -> &'static str
     }
 }
 
-// A pick and the space behind it, where one is canonical_text.
+// A pick and the space behind it, where one is written.
 fn pick_text(pick: Pick) -> &'static str
     ensures value { result.now ≡ pick_text pick }
 {
@@ -211,34 +217,29 @@ fn append_func(text: &mut String, func: Func) -> Result<(), AllocError>
     }
 }
 
-// The numbers of a term fit 64 bits.
+// The numbers of a term fit 64 bits. It does nothing else: the proof that the spelling is read again rests on it.
 fn numbers_fit(term: &Term)
     ensures value { HasFittingNumbers (schedule_of term.now) }
 {
-    match term {
-        Term::Forever | Term::Identity | Term::Elapsed => {}
-        Term::Recurs(n)
-        | Term::Spaced(n)
-        | Term::Fixed(n)
-        | Term::Fibonacci(n)
-        | Term::Linear(n)
-        | Term::Windowed(n) => in_range(*n),
-        Term::Exponential(b, f) => {
-            in_range(*b);
-            in_range(*f);
+    match term.shape() {
+        Shape::Plain(_) => {}
+        Shape::Counted(_, n) => in_range(n),
+        Shape::Exponential(base, factor) => {
+            in_range(base);
+            in_range(factor);
         }
-        Term::Both(a, b) | Term::Either(a, b) | Term::AndThen(a, b) => {
+        Shape::Joined(_, a, b) => {
             numbers_fit(a);
             numbers_fit(b);
         }
-        Term::WhileInput(a, test) | Term::WhileOutput(a, _, test) | Term::ResetWhen(a, _, test) => {
+        Shape::Tested(a, subject, test) => {
             numbers_fit(a);
-            in_range(test.than);
+            test_fits(subject, test);
         }
-        Term::CollectAll(a) => numbers_fit(a),
-        Term::Map(a, func) => {
+        Shape::Collected(a) => numbers_fit(a),
+        Shape::Mapped(a, func) => {
             numbers_fit(a);
-            func_fits(*func);
+            func_fits(func);
         }
     }
 }
@@ -247,6 +248,16 @@ fn numbers_fit(term: &Term)
 fn in_range(n: u64)
     ensures value { n < 2 ^ 64 }
 {}
+
+// The number of a test fits 64 bits.
+fn test_fits(subject: Subject, test: Test)
+    ensures value { ModifierFits (test_modifier subject test) }
+{
+    in_range(test.than);
+    match subject {
+        Subject::Input | Subject::Picked(Action::Stopping | Action::Resetting, _) => {}
+    }
+}
 
 // The number of a function fits 64 bits.
 fn func_fits(func: Func)

@@ -52,13 +52,14 @@ pub enum Func {
     Merge,
     /// The number, whatever the output is: `as`.
     Const(u64),
-    /// The sum of a number and this one, cut at 18446744073709551615.
+    /// The sum of a number and this one, at most 18446744073709551615.
     Add(u64),
-    /// The product of a number and this one, cut at 18446744073709551615.
+    /// The product of a number and this one, at most 18446744073709551615.
     Mul(u64),
 }
 
-/// A schedule as it is written.
+/// A schedule as it is written. A term is dropped in as much of the stack as it is deep; `check` gives a term up in the same
+/// stack, whatever its depth.
 #[derive(Drop)]
 pub enum Term {
     /// Continues at once, always: `forever`.
@@ -67,7 +68,7 @@ pub enum Term {
     Recurs(u64),
     /// Continues so many milliseconds later: `spaced`.
     Spaced(u64),
-    /// Continues at the next multiple of so many milliseconds since the first step: `fixed`.
+    /// Continues at the next multiple of so many milliseconds since the first step, or at once where it is behind: `fixed`.
     Fixed(u64),
     /// Continues after a delay in milliseconds that grows by a factor: `exponential`.
     Exponential(u64, u64),
@@ -91,7 +92,7 @@ pub enum Term {
     WhileInput(Box<Term>, Test),
     /// Stops where the picked part of the output does not pass: `whileOutput`.
     WhileOutput(Box<Term>, Pick, Test),
-    /// Answers the list of the outputs so far: `collectAll`.
+    /// Answers the list of its part's outputs at the earlier steps, without those at which it was done: `collectAll`.
     CollectAll(Box<Term>),
     /// Answers a function of the output: `map`.
     Map(Box<Term>, Func),

@@ -1,52 +1,33 @@
 // The tokens of the text of terms.
 
-/// A word or a symbol.
+use crate::forms::{Counted, Infix, Method, Piece, Plain, Scale};
+use crate::term::Cmp;
+
+/// A word or a symbol, by what it is in a term.
 #[derive(Clone, Copy, Drop)]
 pub enum Mark {
-    /// `forever`
-    ForeverWord,
-    /// `recurs`
-    RecursWord,
-    /// `spaced`
-    SpacedWord,
-    /// `fixed`
-    FixedWord,
+    /// The word of a leaf without numbers.
+    PlainWord(Plain),
+    /// The word of a leaf with one number.
+    CountedWord(Counted),
     /// `exponential`
     ExponentialWord,
-    /// `fibonacci`
-    FibonacciWord,
-    /// `identity`
-    IdentityWord,
-    /// `elapsed`
-    ElapsedWord,
-    /// `andThenEither`
-    AndThenWord,
-    /// `whileInput`
-    WhileInputWord,
-    /// `whileOutput`
-    WhileOutputWord,
+    /// What stands between two terms.
+    Operator(Infix),
+    /// What stands behind a dot, and has arguments.
+    MethodWord(Method),
     /// `collectAll`
     CollectAllWord,
-    /// `map`
-    MapWord,
-    /// `size`
-    SizeWord,
+    /// A comparison.
+    Comparison(Cmp),
+    /// A piece of an output.
+    PieceWord(Piece),
     /// `merge`
     MergeWord,
-    /// `as`
-    AsWord,
-    /// `linear`
-    LinearWord,
-    /// `windowed`
-    WindowedWord,
-    /// `resetWhen`
-    ResetWhenWord,
+    /// The word or symbol of a function with a number.
+    ScaleWord(Scale),
     /// Letters that are no word of a form.
     OtherWord,
-    /// `_1`
-    FirstPart,
-    /// `_2`
-    SecondPart,
     /// `(`
     Open,
     /// `)`
@@ -55,26 +36,6 @@ pub enum Mark {
     Comma,
     /// `.`
     Dot,
-    /// `&&`
-    AndAnd,
-    /// `||`
-    OrOr,
-    /// `<`
-    Less,
-    /// `<=`
-    LessOrEqual,
-    /// `=`
-    Equal,
-    /// `!=`
-    NotEqual,
-    /// `>`
-    Greater,
-    /// `>=`
-    GreaterOrEqual,
-    /// `+`
-    Plus,
-    /// `*`
-    Times,
 }
 
 /// A token as the code keeps it: a number above 2 ^ 64 - 1 is `None`.

@@ -133,3 +133,20 @@ fn a_term_is_64_deep_at_most(rt: HostRuntime) {
     let deeper = chain(rt.alloc(), 64).expect(&rt, "memory");
     expect_verdict(&rt, deeper, "too big");
 }
+
+// So many operators over leaves, each on the left of the next.
+fn pairs(alloc: Global, times: u64) -> Result<Term, AllocError> {
+    let mut term = Term::Forever;
+    for _ in 0..times {
+        term = Term::Both(Box::new(alloc, term)?, Box::new(alloc, Term::Forever)?);
+    }
+    Ok(term)
+}
+
+#[test]
+fn a_term_of_any_depth_is_given_up(rt: HostRuntime) {
+    let chain = chain(rt.alloc(), 200_000).expect(&rt, "memory");
+    expect_verdict(&rt, chain, "too big");
+    let pairs = pairs(rt.alloc(), 200_000).expect(&rt, "memory");
+    expect_verdict(&rt, pairs, "too big");
+}

@@ -2,7 +2,7 @@
 use super::support::{expect_text, reading};
 use std::alloc::{Alloc, AllocError, Global};
 use std::process::Abort;
-use zs_term::{Out, make_left, make_list, make_pair, make_right, write_out};
+use zs_term::{Out, TermFault, make_left, make_list, make_pair, make_right, write_out};
 
 // Each text is read and spelled so, or refused so.
 fn expect_readings<R: Abort + Alloc<A = Global>>(rt: &R, rows: &[(&str, &str)]) {
@@ -94,6 +94,51 @@ fn tests_and_functions_are_read_and_have_one_spelling(rt: HostRuntime) {
         ),
     ];
     expect_readings(&rt, &rows);
+}
+
+// Each text is read, and is its own spelling.
+fn expect_spellings<R: Abort + Alloc<A = Global>>(rt: &R, texts: &[&str]) {
+    for text in texts {
+        let found = reading(rt.alloc(), text).expect(rt, "memory");
+        expect_text(rt, &found, text, text);
+    }
+}
+
+#[test]
+fn each_pick_function_and_comparison_is_written(rt: HostRuntime) {
+    let texts = [
+        "identity.whileOutput(< 1)",
+        "(identity && elapsed).whileOutput(_1 <= 1)",
+        "(identity && elapsed).whileOutput(_2 = 1)",
+        "identity.collectAll.whileOutput(size != 1)",
+        "identity.resetWhen(> 1)",
+        "(identity && elapsed).resetWhen(_1 >= 1)",
+        "(identity && elapsed).resetWhen(_2 < 1)",
+        "identity.collectAll.resetWhen(size <= 1)",
+        "(identity && elapsed).map(_1)",
+        "(identity && elapsed).map(_2)",
+        "identity.collectAll.map(size)",
+        "(identity andThenEither elapsed).map(merge)",
+        "identity.map(as 1).map(+ 2).map(* 3)",
+    ];
+    expect_spellings(&rt, &texts);
+}
+
+#[test]
+fn each_fault_has_its_text(rt: HostRuntime) {
+    let rows = [
+        (TermFault::NoTerm { at: 7 }, "no term at byte 7"),
+        (TermFault::TooBig, "too big"),
+        (TermFault::BadNumber { at: 8 }, "number too large at byte 8"),
+        (TermFault::BadFactor, "factor is 0"),
+        (TermFault::NoKind, "no kind"),
+        (TermFault::BadWindow, "window is 0"),
+        (TermFault::Memory, "out of memory"),
+    ];
+    for (fault, wanted) in rows {
+        let text = format!(in rt.alloc(); "{fault}").expect(&rt, "memory");
+        expect_text(&rt, &text, wanted, "a fault");
+    }
 }
 
 #[test]

@@ -1,0 +1,22 @@
+-- What the code takes a term apart into.
+use Rattle.std.specs.Prelude.{ℕ, ◌+◌, ◌*◌}
+use Rattle.zs_term.specs.Schedule.{Schedule, leaf, two, over, plain, counted, exponential, collect_all, mapped, schedule_of}
+use Rattle.zs_term.specs.Machine.{infix_pairing, test_modifier}
+use Rattle.zs_term.specs.declared.forms.Shape.{Shape}
+use Rattle.zs_term.specs.declared.forms.Shape.TheVariants.{Plain, Counted, Exponential, Joined, Tested, Collected, Mapped}
+
+-- the schedule of this shape
+abbrev pub shape_schedule : Shape → Schedule
+shape_schedule (Plain p) = leaf (plain p)
+shape_schedule (Counted c n) = leaf (counted c n)
+shape_schedule (Exponential b f) = leaf (exponential b f)
+shape_schedule (Joined i a b) = two (infix_pairing i) (schedule_of a.now) (schedule_of b.now)
+shape_schedule (Tested s j t) = over (schedule_of s.now) (test_modifier j t)
+shape_schedule (Collected s) = over (schedule_of s.now) collect_all
+shape_schedule (Mapped s f) = over (schedule_of s.now) (mapped f)
+
+-- in how many steps a term is given up, at most: what stands on the left of an operator is turned to the right first
+abbrev pub steps_to_give_up : Schedule → ℕ
+steps_to_give_up (leaf l) = 1
+steps_to_give_up (two p a b) = 2 * steps_to_give_up a + steps_to_give_up b
+steps_to_give_up (over s m) = 1 + steps_to_give_up s
