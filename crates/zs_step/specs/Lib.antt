@@ -2,6 +2,7 @@ pub mod History
 pub mod Answer
 pub mod Visits
 pub mod Intervals
+pub mod LeafState
 pub mod State
 pub mod Compiled
 pub mod Laws

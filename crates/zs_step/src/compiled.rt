@@ -7,7 +7,7 @@ ghost use Rattle.zs_step.specs.State.{state_schedule};
 use crate::fault::StepFault;
 use crate::state::{State, state_of};
 use crate::stepped::Stepped;
-use crate::stepping::step_node;
+use crate::stepping::{Step, step_node};
 use std::alloc::Global;
 use zs_term::Checked;
 
@@ -73,7 +73,12 @@ impl Compiled {
         if self.broken {
             return Err(StepFault::Memory);
         }
-        match step_node(&mut self.state, self.alloc, now, input) {
+        let step = Step {
+            alloc: self.alloc,
+            moment: now,
+            input,
+        };
+        match step_node(&mut self.state, &step) {
             Ok(stepped) => {
                 self.last = now;
                 Ok(stepped)

@@ -1,7 +1,7 @@
 // What a schedule answers to a whole history.
 
 ghost use Rattle.std.specs.Prelude.{◌≡◌, ◌<◌, ◌≤◌, ◌+◌, length, drop, take, IfOk, OnOk, IfSome, IfNone};
-ghost use Rattle.zs_term.specs.Schedule.{schedule_of};
+ghost use Rattle.zs_term.specs.Schedule.{schedule_of, two, over, and_then, while_output, collect_all, reset_when};
 ghost use Rattle.zs_term.specs.Saturating.{saturated};
 ghost use Rattle.zs_term.specs.Output.{passes, picked, output_of, outputs_of, outs_list, number, pair, applied};
 ghost use Rattle.zs_term.specs.OutputKind.{OutputKind, HasKind};
@@ -18,110 +18,141 @@ use crate::leaves::{
 use std::alloc::{AllocError, Global};
 use zs_term::{Checked, Func, Out, Pick, Term, Test, make_left, make_list, make_pair, make_right};
 
+// Moments and inputs, oldest first.
+type Pairs<'p> = &'p [(u64, u64)];
+
+// An output and a decision.
+type Answer = (Out, Decision);
+
 // The answer of a term at the last pair of a list of moments and inputs.
 #[cycle(evaluation)]
-fn evaluate(
-    alloc: Global,
-    term: &Term,
-    history: &[(u64, u64)],
-) -> Result<(Out, Decision), AllocError>
+fn evaluate(alloc: Global, term: &Term, history: Pairs<'_>) -> Result<Answer, AllocError>
     requires some { 0 < length history.now }
     ensures value { IfOk result (λ r. answer (output_of r.0) r.1 ≡ answer_of (schedule_of term.now) (history_of history.now)) }
 {
+    let now = last_moment(history);
     match term {
-        Term::Forever => Ok(counted(history, Decision::Next(last_moment(history)))),
+        Term::Forever => Ok(counted(history, Decision::Next(now))),
         Term::Recurs(k) => {
             let again = steps_before(history) < *k;
-            Ok(counted(history, Decision::Next(last_moment(history)).only_if(again)))
+            Ok(counted(history, Decision::Next(now).only_if(again)))
         }
-        Term::Spaced(delay) => Ok(counted(history, Decision::after(last_moment(history), *delay))),
+        Term::Spaced(delay) => Ok(counted(history, Decision::after(now, *delay))),
         Term::Fixed(period) => Ok(counted(history, Decision::Next(fixed_run(*period, history)))),
-        Term::Exponential(base, factor) => Ok(waiting(
-            history,
-            exponential_delay(*base, *factor, history),
-        )),
-        Term::Fibonacci(one) => Ok(waiting(history, fibonacci_delay(*one, history))),
-        Term::Identity => Ok((
-            Out::Num(last_input(history)),
-            Decision::Next(last_moment(history)),
-        )),
-        Term::Elapsed => {
-            let now = last_moment(history);
-            Ok((
-                Out::Num(now.saturating_sub(first_moment(history))),
-                Decision::Next(now),
-            ))
+        Term::Windowed(period) => {
+            let end = window_end(*period, first_moment(history), now);
+            Ok(counted(history, Decision::Next(end)))
         }
-        Term::Linear(n) => Ok(waiting(history, linear_delay(*n, history))),
-        Term::Windowed(n) => Ok(counted(
-            history,
-            Decision::Next(window_end(*n, first_moment(history), last_moment(history))),
-        )),
+        Term::Exponential(base, factor) => {
+            let delay = exponential_delay(*base, *factor, history);
+            Ok(waiting(history, delay))
+        }
+        Term::Fibonacci(one) => Ok(waiting(history, fibonacci_delay(*one, history))),
+        Term::Linear(unit) => Ok(waiting(history, linear_delay(*unit, history))),
+        Term::Identity => Ok((Out::Num(last_input(history)), Decision::Next(now))),
+        Term::Elapsed => {
+            let time = now.saturating_sub(first_moment(history));
+            Ok((Out::Num(time), Decision::Next(now)))
+        }
         Term::Both(a, b) => {
-            let x = evaluate(alloc, a, history)?;
-            let y = evaluate(alloc, b, history)?;
+            let (x, y) = (evaluate(alloc, a, history)?, evaluate(alloc, b, history)?);
             let decision = x.1.later(y.1);
             paired(alloc, x.0, y.0, decision)
         }
         Term::Either(a, b) => {
-            let x = evaluate(alloc, a, history)?;
-            let y = evaluate(alloc, b, history)?;
+            let (x, y) = (evaluate(alloc, a, history)?, evaluate(alloc, b, history)?);
             let decision = x.1.earlier(y.1);
             paired(alloc, x.0, y.0, decision)
         }
-        Term::AndThen(a, b) => {
-            let first: &Term = a;
-            let second: &Term = b;
-            match first_done(alloc, first, history)? {
-                None => {
-                    let (out, decision) = evaluate(alloc, first, history)?;
-                    Ok((make_left(alloc, out)?, decision))
-                }
-                Some(k) => {
-                    let rest = from_index(history, k);
-                    let (out, decision) = evaluate(alloc, second, rest)?;
-                    Ok((make_right(alloc, out)?, decision))
-                }
-            }
+        Term::AndThen(a, b) => in_turn(alloc, a, b, history),
+        Term::WhileInput(s, test) => {
+            let passed = test.passes(last_input(history));
+            Ok(only_if(evaluate(alloc, s, history)?, passed))
         }
-        Term::WhileInput(s, test) => Ok(only_if(
-            evaluate(alloc, s, history)?,
-            test.passes(last_input(history)),
-        )),
-        Term::WhileOutput(s, pick, test) => {
-            let x = evaluate(alloc, s, history)?;
-            let passed = test.passes(pick.read(&x.0));
-            Ok(only_if(x, passed))
-        }
-        Term::CollectAll(s) => {
-            let part: &Term = s;
-            let last = evaluate(alloc, part, history)?;
-            let items = outputs_before(alloc, part, history)?;
-            Ok((make_list(items), decision_of(last)))
-        }
+        Term::WhileOutput(s, pick, test) => while_output(alloc, s, *pick, *test, history),
+        Term::CollectAll(s) => collecting(alloc, s, history),
         Term::Map(s, func) => Ok(mapped(evaluate(alloc, s, history)?, *func)),
-        Term::ResetWhen(s, pick, test) => {
-            let inner: &Term = s;
-            let start = reset_start(alloc, inner, *pick, *test, history)?;
-            evaluate(alloc, inner, from_index(history, start))
+        Term::ResetWhen(s, pick, test) => since_last_reset(alloc, s, *pick, *test, history),
+    }
+}
+
+// The answer of two terms in turn: the first, or the second from the pair on at which the first is done.
+#[cycle(evaluation)]
+fn in_turn(
+    alloc: Global,
+    first: &Term,
+    second: &Term,
+    history: Pairs<'_>,
+) -> Result<Answer, AllocError>
+    requires some { 0 < length history.now }
+    ensures value { IfOk result (λ r. answer (output_of r.0) r.1 ≡ answer_of (two and_then (schedule_of first.now) (schedule_of second.now)) (history_of history.now)) }
+{
+    match first_done(alloc, first, history)? {
+        None => {
+            let (out, decision) = evaluate(alloc, first, history)?;
+            Ok((make_left(alloc, out)?, decision))
+        }
+        Some(k) => {
+            let rest = from_index(history, k);
+            let (out, decision) = evaluate(alloc, second, rest)?;
+            Ok((make_right(alloc, out)?, decision))
         }
     }
 }
 
-// A pair of two outputs, with a decision.
-fn paired(
+// The answer of a term that goes on while its output passes.
+#[cycle(evaluation)]
+fn while_output(
     alloc: Global,
-    first: Out,
-    second: Out,
-    decision: Decision,
-) -> Result<(Out, Decision), AllocError>
+    part: &Term,
+    pick: Pick,
+    test: Test,
+    history: Pairs<'_>,
+) -> Result<Answer, AllocError>
+    requires some { 0 < length history.now }
+    ensures value { IfOk result (λ r. answer (output_of r.0) r.1 ≡ answer_of (over (schedule_of part.now) (while_output pick test)) (history_of history.now)) }
+{
+    let x = evaluate(alloc, part, history)?;
+    let passed = test.passes(pick.read(&x.0));
+    Ok(only_if(x, passed))
+}
+
+// The answer of a term whose outputs are collected.
+#[cycle(evaluation)]
+fn collecting(alloc: Global, part: &Term, history: Pairs<'_>) -> Result<Answer, AllocError>
+    requires some { 0 < length history.now }
+    ensures value { IfOk result (λ r. answer (output_of r.0) r.1 ≡ answer_of (over (schedule_of part.now) collect_all) (history_of history.now)) }
+{
+    let last = evaluate(alloc, part, history)?;
+    let items = outputs_before(alloc, part, history)?;
+    Ok((make_list(items), decision_of(last)))
+}
+
+// The answer of a term since its last reset.
+#[cycle(evaluation)]
+fn since_last_reset(
+    alloc: Global,
+    part: &Term,
+    pick: Pick,
+    test: Test,
+    history: Pairs<'_>,
+) -> Result<Answer, AllocError>
+    requires some { 0 < length history.now }
+    ensures value { IfOk result (λ r. answer (output_of r.0) r.1 ≡ answer_of (over (schedule_of part.now) (reset_when pick test)) (history_of history.now)) }
+{
+    let start = reset_start(alloc, part, pick, test, history)?;
+    evaluate(alloc, part, from_index(history, start))
+}
+
+// A pair of two outputs, with a decision.
+fn paired(alloc: Global, first: Out, second: Out, decision: Decision) -> Result<Answer, AllocError>
     ensures value { IfOk result (λ r. answer (output_of r.0) r.1 ≡ answer (pair (output_of first) (output_of second)) decision) }
 {
     Ok((make_pair(alloc, first, second)?, decision))
 }
 
 // An answer that stops unless a test passed.
-fn only_if(from: (Out, Decision), passed: bool) -> (Out, Decision)
+fn only_if(from: Answer, passed: bool) -> Answer
     ensures value { answer (output_of result.0) result.1 ≡ answer (output_of from.0) (only_if passed from.1) }
 {
     let (out, decision) = from;
@@ -129,7 +160,7 @@ fn only_if(from: (Out, Decision), passed: bool) -> (Out, Decision)
 }
 
 // An answer with a function of its output.
-fn mapped(from: (Out, Decision), func: Func) -> (Out, Decision)
+fn mapped(from: Answer, func: Func) -> Answer
     ensures value { answer (output_of result.0) result.1 ≡ answer (applied func (output_of from.0)) from.1 }
 {
     let (out, decision) = from;
@@ -137,7 +168,7 @@ fn mapped(from: (Out, Decision), func: Func) -> (Out, Decision)
 }
 
 // An answer with the number of earlier steps.
-fn counted(history: &[(u64, u64)], decision: Decision) -> (Out, Decision)
+fn counted(history: Pairs<'_>, decision: Decision) -> Answer
     requires some { 0 < length history.now }
     ensures value { answer (output_of result.0) result.1 ≡ answer (number (saturated (length (earlier (history_of history.now))))) decision }
 {
@@ -145,7 +176,7 @@ fn counted(history: &[(u64, u64)], decision: Decision) -> (Out, Decision)
 }
 
 // An answer that waits for a delay.
-fn waiting(history: &[(u64, u64)], delay: u64) -> (Out, Decision)
+fn waiting(history: Pairs<'_>, delay: u64) -> Answer
     requires some { 0 < length history.now }
     ensures value { answer (output_of result.0) result.1 ≡ waits delay (history_of history.now) }
 {
@@ -156,7 +187,7 @@ fn waiting(history: &[(u64, u64)], delay: u64) -> (Out, Decision)
 }
 
 // The pairs from an index on.
-fn from_index(history: &[(u64, u64)], k: usize) -> &[(u64, u64)]
+fn from_index(history: Pairs<'_>, k: usize) -> Pairs<'_>
     requires some { k < length history.now }
     ensures rest { result.now ≡ drop k history.now }
     ensures some { 0 < length result.now }
@@ -165,7 +196,7 @@ fn from_index(history: &[(u64, u64)], k: usize) -> &[(u64, u64)]
 }
 
 // The decision of an answer alone.
-fn decision_of(answer: (Out, Decision)) -> Decision
+fn decision_of(answer: Answer) -> Decision
     ensures value { result ≡ answer.1 }
 {
     let (_out, decision) = answer;
@@ -173,7 +204,7 @@ fn decision_of(answer: (Out, Decision)) -> Decision
 }
 
 // Keeps the output of an answer that continues.
-pub(crate) fn collect(items: &mut Vec<Out>, answer: (Out, Decision)) -> Result<(), AllocError>
+fn collect(items: &mut Vec<Out>, answer: Answer) -> Result<(), AllocError>
     ensures value { OnOk result (outputs_of items.new.items ≡ collect_if (is_next answer.1) (outputs_of items.old.items) (output_of answer.0)) }
 {
     let (out, decision) = answer;
@@ -185,11 +216,7 @@ pub(crate) fn collect(items: &mut Vec<Out>, answer: (Out, Decision)) -> Result<(
 
 // The index of the pair at which a schedule is done for the first time.
 #[cycle(evaluation)]
-fn first_done(
-    alloc: Global,
-    term: &Term,
-    history: &[(u64, u64)],
-) -> Result<Option<usize>, AllocError>
+fn first_done(alloc: Global, term: &Term, history: Pairs<'_>) -> Result<Option<usize>, AllocError>
     ensures none { IfOk result (λ k. IfNone k (from_done (answer_of (schedule_of term.now)) (history_of history.now) ≡ None)) }
     ensures some { IfOk result (λ k. IfSome k (λ i. from_done (answer_of (schedule_of term.now)) (history_of history.now) ≡ Some (history_of (drop i history.now)))) }
     ensures within { IfOk result (λ k. IfSome k (λ i. i < length history.now)) }
@@ -205,7 +232,7 @@ fn first_done(
 }
 
 // The pairs from an index on, up to another one and with it.
-fn between(history: &[(u64, u64)], from: usize, last: usize) -> &[(u64, u64)]
+fn between(history: Pairs<'_>, from: usize, last: usize) -> Pairs<'_>
     requires order { from ≤ last }
     requires within { last < length history.now }
     ensures part { result.now ≡ drop from (take (last + 1) history.now) }
@@ -222,7 +249,7 @@ fn reset_start(
     term: &Term,
     pick: Pick,
     test: Test,
-    history: &[(u64, u64)],
+    history: Pairs<'_>,
 ) -> Result<usize, AllocError>
     requires some { 0 < length history.now }
     ensures since { IfOk result (λ i. since_reset (answer_of (schedule_of term.now)) pick test (history_of history.now) ≡ history_of (drop i history.now)) }
@@ -239,7 +266,7 @@ fn reset_start(
 }
 
 // Whether the output of an answer passes a test.
-fn passed(answer: (Out, Decision), pick: Pick, test: Test) -> bool
+fn passed(answer: Answer, pick: Pick, test: Test) -> bool
     ensures value { result ≡ passes test (picked pick (output_of answer.0)) }
 {
     let (out, _decision) = answer;
@@ -248,11 +275,7 @@ fn passed(answer: (Out, Decision), pick: Pick, test: Test) -> bool
 
 // The outputs of a schedule at the earlier steps at which it continued.
 #[cycle(evaluation)]
-fn outputs_before(
-    alloc: Global,
-    term: &Term,
-    history: &[(u64, u64)],
-) -> Result<Vec<Out>, AllocError>
+fn outputs_before(alloc: Global, term: &Term, history: Pairs<'_>) -> Result<Vec<Out>, AllocError>
     requires some { 0 < length history.now }
     ensures value { IfOk result (λ v. outputs_of v.items ≡ collected (answer_of (schedule_of term.now)) (earlier (history_of history.now))) }
 {
@@ -271,7 +294,7 @@ fn outputs_before(
 pub fn plain(
     alloc: Global,
     checked: &Checked,
-    history: &[(u64, u64)],
+    history: Pairs<'_>,
 ) -> Result<(Out, Decision), StepFault>
     requires some { 0 < length history.now }
     requires order { IsInOrder (history_of history.now) }

@@ -17,6 +17,7 @@ mod fault;
 mod following;
 mod interval;
 mod laws;
+mod leaf_state;
 mod leaves;
 mod state;
 mod stepped;

@@ -1,6 +1,6 @@
 use Rattle.std.proofs.Common.{◌≡◌, ◌<◌, ◌≤◌, ◌-◌, ◌+◌, length, drop, take, sym, ap, ◌∙◌, arith, refl, rules, subst, IfOk}
 use Rattle.zs_term.specs.Output.{output_of, outputs_of}
-use Rattle.zs_term.specs.Schedule.{schedule_of}
+use Rattle.zs_term.specs.Schedule.{schedule_of, over, reset_when}
 use Rattle.zs_step.specs.History.{history_of}
 use Rattle.zs_step.specs.Answer.{Answer, answer, answer_of, is_next}
 use Rattle.zs_step.proofs.Sequels.{sequel-first, sequel-second, from_done-go, from_done-stop, collected-turn, collected-last, collected-answer}
@@ -8,12 +8,12 @@ use Rattle.zs_step.proofs.Resets.{reset-goes-on, reset-begins}
 use Rattle.zs_step.proofs.evaluation.+evaluation.Goals.{reset_start-then-passed, reset_start-else-passed}
 use Rattle.zs_step.proofs.evaluation.+evaluation.Goals as goal
 
-pub evaluate-returns-in_ok-make_left-in-None : goal.evaluate-returns-in_ok-make_left-in-None
-evaluate-returns-in_ok-make_left-in-None t c =
+pub in_turn-returns-in_ok-make_left-in-None : goal.in_turn-returns-in_ok-make_left-in-None
+in_turn-returns-in_ok-make_left-in-None t c =
     record {
       value =
-          sequel-first (answer_of (schedule_of c.deref-first.result.now)) (answer_of (schedule_of c.deref-second.result.now)) _ _ _ _ _
-          c.in-None.is c.in_ok-first_done-in-AndThen.ensures.none c.in_ok-out-in-None.ensures.value c.in_ok-make_left-in-None.ensures.ok
+          sequel-first (answer_of (schedule_of c.args.first.now)) (answer_of (schedule_of c.args.second.now)) _ _ _ _ _
+          c.in-None.is c.in_ok-first_done.ensures.none c.in_ok-out-in-None.ensures.value c.in_ok-make_left-in-None.ensures.ok
           ∙ search rules;
     }
 
@@ -48,23 +48,23 @@ outputs_before-returns t c =
           collected-last (answer_of (schedule_of c.args.term.now)) c.args.history.now c.loop-i.i (outputs_of c.loop-i.items.items) c.requires.some e c.loop-i.invariant;
     }
 
-pub evaluate-returns-in_ok-make_right-in-Some : goal.evaluate-returns-in_ok-make_right-in-Some
-evaluate-returns-in_ok-make_right-in-Some t c =
+pub in_turn-returns-in_ok-make_right-in-Some : goal.in_turn-returns-in_ok-make_right-in-Some
+in_turn-returns-in_ok-make_right-in-Some t c =
     record {
       value =
-          sequel-second (answer_of (schedule_of c.deref-first.result.now)) (answer_of (schedule_of c.deref-second.result.now)) (history_of c.args.history.now) c.args.history.now _ c.in-Some.k _ _ _
-          c.in-Some.is c.in_ok-first_done-in-AndThen.ensures.some
-          (c.in_ok-out-in-Some.ensures.value ∙ ap (λ h. answer_of (schedule_of c.deref-second.result.now) (history_of h)) c.from_index-rest.ensures.rest)
+          sequel-second (answer_of (schedule_of c.args.first.now)) (answer_of (schedule_of c.args.second.now)) (history_of c.args.history.now) c.args.history.now _ c.in-Some.k _ _ _
+          c.in-Some.is c.in_ok-first_done.ensures.some
+          (c.in_ok-out-in-Some.ensures.value ∙ ap (λ h. answer_of (schedule_of c.args.second.now) (history_of h)) c.from_index-rest.ensures.rest)
           c.in_ok-make_right-in-Some.ensures.ok
           ∙ search rules;
     }
 
-pub evaluate-returns-in_ok-items-in-CollectAll : goal.evaluate-returns-in_ok-items-in-CollectAll
-evaluate-returns-in_ok-items-in-CollectAll t c =
+pub collecting-returns : goal.collecting-returns
+collecting-returns t c =
     record {
       value =
-          collected-answer (answer_of (schedule_of c.deref-part.result.now)) (history_of c.args.history.now) _ _ _ _ _
-          c.make_list.ensures.value c.in_ok-items-in-CollectAll.ensures.value c.decision_of.ensures.value c.in_ok-last-in-CollectAll.ensures.value
+          collected-answer (answer_of (schedule_of c.args.part.now)) (history_of c.args.history.now) _ _ _ _ _
+          c.make_list.ensures.value c.in_ok-items.ensures.value c.decision_of.ensures.value c.in_ok-last.ensures.value
           ∙ search rules;
     }
 
@@ -91,13 +91,12 @@ reset_start-loop-i-preserved t c =
       )
     ]
 
-pub evaluate-returns-in_ok-start-in-ResetWhen : goal.evaluate-returns-in_ok-start-in-ResetWhen
-evaluate-returns-in_ok-start-in-ResetWhen t c =
-    let same : answer_of (schedule_of c.deref-inner.result.now) (history_of c.from_index.result.now) ≡ answer_of (schedule_of c.args.term.now) (history_of c.args.history.now) =
-    ap (λ h. answer_of (schedule_of c.deref-inner.result.now) (history_of h)) c.from_index.ensures.rest
-    ∙ ap (answer_of (schedule_of c.deref-inner.result.now)) (sym c.in_ok-start-in-ResetWhen.ensures.since)
-    ∙ search rules in
+pub since_last_reset-returns : goal.since_last_reset-returns
+since_last_reset-returns t c =
+    let same : answer_of (schedule_of c.args.part.now) (history_of c.from_index.result.now) ≡ answer_of (over (schedule_of c.args.part.now) (reset_when c.args.pick c.args.test)) (history_of c.args.history.now) =
+    ap (λ h. answer_of (schedule_of c.args.part.now) (history_of h)) c.from_index.ensures.rest
+    ∙ ap (answer_of (schedule_of c.args.part.now)) (sym c.in_ok-start.ensures.since) in
     record {
       value =
-          subst (λ (w : Answer). IfOk c.evaluate-in-ResetWhen.result (λ r. answer (output_of r.0) r.1 ≡ w)) same c.evaluate-in-ResetWhen.ensures.value;
+          subst (λ (w : Answer). IfOk c.evaluate.result (λ r. answer (output_of r.0) r.1 ≡ w)) same c.evaluate.ensures.value;
     }

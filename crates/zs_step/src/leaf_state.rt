@@ -1,0 +1,148 @@
+// The state of a schedule without parts.
+
+ghost use Rattle.std.specs.Prelude.{◌≡◌, ◌+◌, ◌∷◌, [], nat_eq, if◌then◌else◌};
+ghost use Rattle.zs_term.specs.Saturating.{saturated};
+ghost use Rattle.zs_term.specs.Output.{number};
+ghost use Rattle.zs_step.specs.History.{History};
+ghost use Rattle.zs_step.specs.Answer.{answer, leaf_answer};
+ghost use Rattle.zs_step.specs.LeafState.{state_leaf, StandsForSteps, LeafRepresents};
+
+use crate::decision::Decision;
+use crate::leaves::{run_after, window_end};
+
+// The number of steps so far, and the moment of the first one.
+#[derive(Drop)]
+pub(crate) struct Past {
+    steps: u64,
+    first: u64,
+}
+
+impl Past {
+    // No step so far.
+    pub(crate) fn none() -> Past
+        ensures represents { StandsForSteps result [] }
+    {
+        Past { steps: 0, first: 0 }
+    }
+
+    // One more step: answers how many there were before it.
+    fn count(&mut self, now: u64) -> u64
+        ensures before { result ≡ self.old.steps }
+        ensures steps { self.new.steps ≡ saturated (self.old.steps + 1) }
+        ensures first { self.new.first ≡ (if nat_eq self.old.steps 0 then now else self.old.first) }
+    {
+        let before = self.steps;
+        if before == 0 {
+            self.first = now;
+        }
+        self.steps = before.saturating_add(1);
+        before
+    }
+}
+
+// A leaf's own numbers, and what its next step has to know of the steps so far.
+#[derive(Drop)]
+pub(crate) enum LeafState {
+    Forever { steps: u64 },
+    Recurs { limit: u64, steps: u64 },
+    Spaced { delay: u64, steps: u64 },
+    // `run` is the next run.
+    Fixed { period: u64, past: Past, run: u64 },
+    // `wait` is the delay of the next step.
+    Exponential { base: u64, factor: u64, wait: u64 },
+    // `last` is the delay of the last step, and `next` that of the next one.
+    Fibonacci { one: u64, last: u64, next: u64 },
+    Identity,
+    Elapsed { past: Past },
+    // `last` is the delay of the last step.
+    Linear { unit: u64, last: u64 },
+    Windowed { period: u64, past: Past },
+}
+
+impl LeafState {
+    // One more step: its output and its decision.
+    pub(crate) fn step(&mut self, now: u64, input: u64) -> (u64, Decision)
+        ensures same { state_leaf self.new ≡ state_leaf self.old }
+        ensures answered { (h : History) → LeafRepresents self.old h → answer (number result.0) result.1 ≡ leaf_answer (state_leaf self.old) ((now, input) ∷ h) }
+        ensures stands { (h : History) → LeafRepresents self.old h → LeafRepresents self.new ((now, input) ∷ h) }
+    {
+        match self {
+            LeafState::Forever { steps } => (count(steps), Decision::Next(now)),
+            LeafState::Recurs { limit, steps } => {
+                let before = count(steps);
+                (before, Decision::Next(now).only_if(before < *limit))
+            }
+            LeafState::Spaced { delay, steps } => (count(steps), Decision::after(now, *delay)),
+            LeafState::Fixed { period, past, run } => {
+                let before = past.count(now);
+                if before == 0 {
+                    *run = now.saturating_add(*period);
+                } else {
+                    *run = run_after(*period, past.first, *run, now);
+                }
+                (before, Decision::Next(*run))
+            }
+            LeafState::Exponential { factor, wait, .. } => {
+                let delay = *wait;
+                *wait = delay.saturating_mul(*factor);
+                (delay, Decision::after(now, delay))
+            }
+            LeafState::Fibonacci { last, next, .. } => {
+                let delay = *next;
+                *next = delay.saturating_add(*last);
+                *last = delay;
+                (delay, Decision::after(now, delay))
+            }
+            LeafState::Identity => (input, Decision::Next(now)),
+            LeafState::Elapsed { past } => {
+                let _before = past.count(now);
+                (now.saturating_sub(past.first), Decision::Next(now))
+            }
+            LeafState::Linear { unit, last } => {
+                let delay = last.saturating_add(*unit);
+                *last = delay;
+                (delay, Decision::after(now, delay))
+            }
+            LeafState::Windowed { period, past } => {
+                let before = past.count(now);
+                let end = window_end(*period, past.first, now);
+                (before, Decision::Next(end))
+            }
+        }
+    }
+
+    // Makes it stand for the empty list again.
+    pub(crate) fn clear(&mut self)
+        ensures same { state_leaf self.new ≡ state_leaf self.old }
+        ensures represents { LeafRepresents self.new [] }
+    {
+        match self {
+            LeafState::Forever { steps } => *steps = 0,
+            LeafState::Recurs { steps, .. } => *steps = 0,
+            LeafState::Spaced { steps, .. } => *steps = 0,
+            LeafState::Fixed { past, run, .. } => {
+                *past = Past::none();
+                *run = 0;
+            }
+            LeafState::Exponential { base, wait, .. } => *wait = *base,
+            LeafState::Fibonacci { one, last, next } => {
+                *last = 0;
+                *next = *one;
+            }
+            LeafState::Identity => {}
+            LeafState::Elapsed { past } => *past = Past::none(),
+            LeafState::Linear { last, .. } => *last = 0,
+            LeafState::Windowed { past, .. } => *past = Past::none(),
+        }
+    }
+}
+
+// Counts a step, and answers how many there were before it.
+fn count(steps: &mut u64) -> u64
+    ensures before { result ≡ steps.old }
+    ensures counted { steps.new ≡ saturated (steps.old + 1) }
+{
+    let before = *steps;
+    *steps = before.saturating_add(1);
+    before
+}
