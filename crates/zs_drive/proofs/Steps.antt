@@ -75,7 +75,7 @@ module _ (job : JobRecord) (seen : ℕ) where
       sym (whole ∙ ap (after attempts) soon)
 
   -- the attempt that runs ends
-  closes : (others : List AttemptedValue) (s w : ℕ) → AllEnded others → w ≤ seen
+  pub closes : (others : List AttemptedValue) (s w : ℕ) → AllEnded others → w ≤ seen
       → extended job seen [] (record { attempts = others ++ runs s ∷ []; due = Some w; ending = None })
       ≡ after others (let outcome = (beat_after job (history_of others)).outcome in by_outcome job (resume job seen) (history_of others) s seen outcome (ending_by_outcome job.mode outcome))
   unfolding extend extend_last close

@@ -1,11 +1,12 @@
 -- What one poll makes of the fields of a task.
-use Rattle.std.specs.Prelude.{◌≡◌, ℕ, ◌≤◌, ◌<◌, [], ◌∷◌, ◌++◌, ⊤}
+use Rattle.std.specs.Prelude.{◌≡◌, ℕ, ◌≤◌, ◌<◌, [], ◌∷◌, ◌++◌, None, ⊤}
 use Rattle.zs_effect.specs.declared.script.Outcome.{Outcome}
 use Rattle.zs_step.specs.Compiled.{StandsFor}
+use Rattle.zs_drive.specs.declared.job.Mode.{Mode}
 use Rattle.zs_drive.specs.declared.progress.Phase.{Phase}
 use Rattle.zs_drive.specs.declared.progress.Phase.TheVariants.{Waiting, Running, Over}
 use Rattle.zs_drive.specs.declared.progress.Progress.{Progress}
-use Rattle.zs_drive.specs.Timeline.{number_of}
+use Rattle.zs_drive.specs.Timeline.{number_of, ending_by_outcome}
 use Rattle.zs_drive.specs.Recorded.{history_of}
 use Rattle.zs_drive.specs.Progress.{due_of, ending_of, job_value_in, attempts_of, moments_in, IsProgress, HasState}
 
@@ -58,6 +59,12 @@ abbrev pub IsDuePhase : ℕ → Phase → Type 0
 IsDuePhase seen (Waiting due) = due ≤ seen
 IsDuePhase seen (Running attempt) = attempt.end ≤ seen
 IsDuePhase seen (Over ending) = ⊥
+
+-- a due poll takes memory: an attempt begins, or its outcome does not itself end the job
+abbrev pub TakesMemory : Mode → Phase → Type 0
+TakesMemory mode (Waiting due) = ⊤
+TakesMemory mode (Running attempt) = ending_by_outcome mode attempt.outcome ≡ None
+TakesMemory mode (Over ending) = ⊥
 
 -- nothing was done, but a running attempt may have seen a later moment, and the schedule may have been stepped
 pub record IsKept (old new : Progress) : Type 0 where

@@ -1,5 +1,5 @@
 //! The steps of a task, over its fields.
-ghost use Rattle.std.specs.Prelude.{◌≡◌, ℕ, ◌+◌, ◌≤◌, ◌<◌, List, [], ◌∷◌, ◌++◌, map, length, OnOk, OnErr, IfOk, vec_len};
+ghost use Rattle.std.specs.Prelude.{◌≡◌, ℕ, ◌+◌, ◌≤◌, ◌<◌, List, [], ◌∷◌, ◌++◌, map, length, None, OnOk, OnErr, IfOk, vec_len};
 ghost use Rattle.futures.specs.Poll.{IfReady, OnPending};
 ghost use Rattle.futures.specs.Task.{IsArmed, Keeps};
 ghost use Rattle.zs_term.specs.Saturating.{saturated};
@@ -12,7 +12,7 @@ ghost use Rattle.zs_step.specs.Compiled.{StandsFor, last_seen, compiled_term, co
 ghost use Rattle.zs_drive.specs.Values.{AttemptedValue, attempted_of, ended_of, step_of};
 ghost use Rattle.zs_drive.specs.Recorded.{history_of};
 ghost use Rattle.zs_drive.specs.Progress.{IsProgress, HasState, attempts_of, due_of, ending_of};
-ghost use Rattle.zs_drive.specs.Turns.{Advances, Stays, IsWaitingTo, HasRunTo, WasAsked, IsOver, IsEarly, IsDuePhase, IsKept, IsSame};
+ghost use Rattle.zs_drive.specs.Turns.{Advances, Stays, IsWaitingTo, HasRunTo, WasAsked, IsOver, IsEarly, IsDuePhase, IsKept, IsSame, TakesMemory};
 
 use crate::fault::DriveFault;
 use crate::job::Mode;
@@ -176,6 +176,7 @@ impl Progress {
         requires script { IsScript self.old.script }
         ensures ok { OnOk result (Advances self.old self.new) }
         ensures err { OnErr result (Stays self.old self.new) }
+        ensures asked { OnErr result (ending_by_outcome self.old.mode outcome ≡ None) }
     {
         match end_by_outcome(self.mode, outcome) {
             Some(ending) => {
@@ -290,6 +291,7 @@ impl Progress {
         ensures due { IsDuePhase self.old.seen self.old.phase
             → IfReady result (λ done. OnOk done (Advances self.old self.new) × OnErr done (IsKept self.old self.new)) }
         ensures answers { IsDuePhase self.old.seen self.old.phase → OnPending result ⊥ }
+        ensures refused { IfReady result (λ done. OnErr done (TakesMemory self.old.mode self.old.phase)) }
         ensures armed { OnPending result (IsArmed cx.new) }
         ensures kept { Keeps cx.old cx.new }
     {

@@ -6,7 +6,7 @@ ghost use Rattle.zs_effect.specs.Scripts.{IsScript};
 ghost use Rattle.zs_drive.specs.Clocks.{AreTicks, max_tick};
 ghost use Rattle.zs_drive.specs.Values.{job_of, attempted_of};
 ghost use Rattle.zs_drive.specs.Timeline.{poll_moments};
-ghost use Rattle.zs_drive.specs.Tasks.{current_timeline, timeline_at, polled, reply_of, MatchMemory, IsDue};
+ghost use Rattle.zs_drive.specs.Tasks.{current_timeline, timeline_at, polled, reply_of, MatchMemory, IsDue, EndsByOutcome};
 
 use crate::fault::DriveFault;
 use crate::job::{Job, Mode};
@@ -117,9 +117,10 @@ impl Task {
         self.progress.records.as_slice()
     }
 
-    /// How the job ended, if it has.
+    /// How the job ended, if it has. A broken task has not.
     pub fn ending(&self) -> Option<Ending>
         ensures value { result ≡ (current_timeline self.now).ending }
+        ensures unbroken { IfSome result (λ _. self.now.broken ≡ false) }
     {
         self.progress.phase.ending()
     }
@@ -159,8 +160,11 @@ impl Future for Task {
             (((self.old.broken ≡ true) ⊎ IsDue self.old) × (self.new ≡ record self.old { broken = true })) ⊤ }
         ensures early { self.old.broken ≡ false → IsSomeAnd (current_timeline self.old).due (λ due. self.old.seen < due)
             → (result ≡ Poll.Pending) × (self.new ≡ self.old) }
-        ensures over { self.old.broken ≡ false → IfSome (current_timeline self.old).ending (λ ending.
+        ensures over { IfSome (current_timeline self.old).ending (λ ending.
             (result ≡ Poll.Ready (Ok ending)) × (self.new ≡ self.old)) }
+        // A success of a retry and a failure of a repeat take no memory, so they are never lost for want of it.
+        ensures outcome { self.old.broken ≡ false → (ending : Ending) → EndsByOutcome self.old ending
+            → result ≡ Poll.Ready (Ok ending) }
         ensures same { (self.new.number ≡ self.old.number) × (self.new.job ≡ self.old.job) × (self.new.seen ≡ self.old.seen) }
         ensures armed { OnPending result (IsArmed cx.new) }
         ensures kept { Keeps cx.old cx.new }
