@@ -5,7 +5,7 @@ ghost use Rattle.zs_agenda.specs.declared.fault.AgendaFault.TheVariants.{Memory}
 use crate::fault::AgendaFault;
 use crate::index::{add, forget, put, take_back};
 use std::alloc::Global;
-use std::collections::BTreeMap;
+use std::collections::{BTreeMap, HashMap};
 use std::marker::Model;
 
 /// A timer queue: one moment, in milliseconds, for each job that waits. Jobs are told apart by their numbers.
@@ -13,7 +13,7 @@ use std::marker::Model;
 pub struct Agenda {
     alloc: Global,
     by_moment: BTreeMap<u64, Vec<u64>>,
-    by_job: BTreeMap<u64, u64>,
+    by_job: HashMap<u64, u64>,
     last_taken: Option<u64>,
 }
 
@@ -43,7 +43,7 @@ impl Agenda {
         Ok(Agenda {
             alloc,
             by_moment: BTreeMap::new(alloc),
-            by_job: BTreeMap::new(alloc),
+            by_job: HashMap::new(alloc),
             last_taken: None,
         })
     }
