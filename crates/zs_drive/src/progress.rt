@@ -1,5 +1,6 @@
 //! The steps of a task, over its fields.
 ghost use Rattle.std.specs.Prelude.{◌≡◌, ℕ, ◌+◌, ◌≤◌, ◌<◌, List, [], ◌∷◌, ◌++◌, map, length, None, OnOk, OnErr, IfOk, vec_len};
+ghost use Rattle.std.specs.Vec.{vec_capacity};
 ghost use Rattle.futures.specs.Poll.{IfReady, OnPending};
 ghost use Rattle.futures.specs.Task.{IsArmed, Keeps};
 ghost use Rattle.zs_term.specs.Saturating.{saturated};
@@ -111,10 +112,11 @@ fn end_by_schedule(mode: Mode, outcome: Outcome) -> Ending
     }
 }
 
-// Of a refusal the list is as it was.
+// Of a refusal the list is as it was. Only a full one is refused.
 fn add<T: Drop>(list: &mut Vec<T>, item: T) -> Result<(), DriveFault>
     ensures ok { OnOk result (list.new.items ≡ list.old.items ++ item ∷ []) }
     ensures err { OnErr result (list.new.items ≡ list.old.items) }
+    ensures full { OnErr result (vec_capacity list.old ≤ vec_len list.old) }
 {
     match list.push(item) {
         Ok(()) => Ok(()),
@@ -143,6 +145,7 @@ impl Progress {
         requires script { IsScript self.old.script }
         ensures ok { OnOk result (Advances self.old self.new) }
         ensures err { OnErr result (Stays self.old self.new) }
+        ensures full { OnErr result (vec_capacity self.old.records ≤ vec_len self.old.records) }
     {
         let begun = self.seen;
         let attempted = Attempted { begun, ended: None };
@@ -218,6 +221,7 @@ impl Progress {
         requires script { IsScript self.old.script }
         ensures ok { OnOk result (Advances self.old self.new) }
         ensures err { OnErr result (Stays self.old self.new) }
+        ensures full { OnErr result (vec_capacity self.old.records ≤ vec_len self.old.records) }
     {
         match decision {
             Decision::Stop => {
@@ -267,6 +271,7 @@ impl Progress {
             → attempts_of self.old ≡ others ++ record { begun = s; ended = None } ∷ []
             → attempts_of self.new ≡ others ++ ended_attempt s self.old.seen outcome (step_of (Some step)) ∷ record { begun = self.old.seen; ended = None } ∷ []) }
         ensures err { OnErr result (Stays self.old self.new) }
+        ensures full { OnErr result (vec_capacity self.old.records ≤ vec_len self.old.records) }
     {
         let at = self.seen;
         let index = self.records.len() - 1;
