@@ -48,7 +48,8 @@ impl Agenda {
         })
     }
 
-    /// Arms the timer of a job that has none. For want of memory the queue stays as it was.
+    /// Arms the timer of a job that has none, at a moment, in milliseconds, later than the last one taken. For want of memory it
+    /// answers `Memory`, and the queue stays as it was.
     pub fn set(&mut self, job: u64, moment: u64) -> Result<(), AgendaFault>
         requires absent { map.get self.old.moments job ≡ None }
         requires ahead { IsAfter self.old.last_taken moment }
@@ -74,7 +75,7 @@ impl Agenda {
         self.by_job.contains_key(&job)
     }
 
-    /// The last moment that was taken.
+    /// The last moment that was taken, in milliseconds, if one was.
     pub fn taken(&self) -> Option<u64>
         ensures value { result ≡ self.now.last_taken }
     {
@@ -82,7 +83,7 @@ impl Agenda {
         self.last_taken
     }
 
-    /// The least moment for which a timer is armed.
+    /// The least moment for which a timer is armed, in milliseconds, or `None` where none is.
     pub fn next(&self) -> Option<u64>
         ensures none { IsNone result ↔ (self.now.moments ≡ map.empty) }
         ensures least { IfSome result (IsLeastMoment self.now.moments) }
@@ -94,7 +95,8 @@ impl Agenda {
         }
     }
 
-    /// Fires the timers of the least moment, and answers it with all its jobs in rising number. It takes no memory.
+    /// Fires the timers of the least moment, and answers it, in milliseconds, with all its jobs in rising number, or `None` where no
+    /// timer is armed. It takes no memory.
     pub fn take(&mut self) -> Result<Option<(u64, Vec<u64>)>, AgendaFault>
         ensures succeeds { IsOk result }
         ensures none { IfOk result (λ taken. IsNone taken ↔ (self.old.moments ≡ map.empty)) }

@@ -13,7 +13,8 @@ use Rattle.zs_drive.specs.declared.record.Ending.{Ending}
 use Rattle.zs_drive.specs.Clocks.{first_tick_from, AllBefore, max_tick}
 use Rattle.zs_drive.specs.Values.{JobRecord, AttemptedValue}
 use Rattle.zs_drive.specs.Timeline.{Timeline, before, number_of, ending_by_outcome, beat_after, by_answer, by_outcome, from_wait, from_begin, from, timeline_of, moments_of, poll_moments}
-use Rattle.zs_drive.specs.Recorded.{pair_of, longer_by, history_from, history_of, AllEnded, IsOnTimeline}
+use Rattle.zs_drive.specs.Recorded.{AllEnded, IsOnTimeline}
+use Rattle.zs_drive.specs.DriverRules.{pair_of, longer_by, history_from, history_after}
 use Rattle.zs_drive.proofs.Ticks.{left, first_tick_from-from, first_tick_from-before, left-none, left-length, left-after, AllBefore-none}
 use Rattle.zs_drive.proofs.Moments.{AllBefore-later, AreTicks-append, fold-append, moments-one, moments-two}
 use Rattle.zs_drive.proofs.Extending.{beat-takes, extend, extend_last, extended, timeline_of-append}
@@ -84,8 +85,8 @@ extend-ended job c h (attempt ∷ first) rest due ending all =
       | Some end ↦ λ some. ap (before attempt) (extend-ended job c (pair_of end ∷ h) first rest due ending all.1)
     ] all.0
 
-pub history_of-running : (attempts : List AttemptedValue) (s : ℕ) → history_of (attempts ++ record { begun = s; ended = None } ∷ []) ≡ history_of attempts
-history_of-running attempts s = fold-append _ [] attempts (record { begun = s; ended = None } ∷ [])
+pub history_after-running : (attempts : List AttemptedValue) (s : ℕ) → history_after (attempts ++ record { begun = s; ended = None } ∷ []) ≡ history_after attempts
+history_after-running attempts s = fold-append _ [] attempts (record { begun = s; ended = None } ∷ [])
 
 module _ (job : JobRecord) (script : IsScript job.script) where
   -- the moments so far are before a moment at which the job is due

@@ -22,7 +22,8 @@ use Rattle.zs_drive.specs.declared.progress.Progress.{Progress}
 use Rattle.zs_drive.specs.declared.task.Task.TheInside.{Inside}
 use Rattle.zs_drive.specs.Values.{JobRecord, AttemptedValue}
 use Rattle.zs_drive.specs.Timeline.{Timeline, waiting, running, number_of, ending_by_outcome, ending_by_schedule, beat_after, by_answer, by_outcome, timeline_of, poll_moments}
-use Rattle.zs_drive.specs.Recorded.{AllEnded, IsOnTimeline, history_of}
+use Rattle.zs_drive.specs.Recorded.{AllEnded, IsOnTimeline}
+use Rattle.zs_drive.specs.DriverRules.{history_after}
 use Rattle.zs_drive.specs.Progress.{IsProgress, job_in, attempts_of, moments_in, due_of}
 use Rattle.zs_drive.specs.Turns.{IsOver, IsEarly, IsDuePhase, TakesMemory}
 use Rattle.zs_drive.specs.Tasks.{TaskValue, current_timeline, polled, EndsByOutcome}
@@ -87,7 +88,7 @@ asked-unlike p (Running attempt) is progress script due takes outcome ending giv
     let s = phase.1 in
     let last = phase.2 in
     let soon : attempt.end ≤ p.seen = rw is at due in
-    let asked = (beat_after job (history_of others)).outcome in
+    let asked = (beat_after job (history_after others)).outcome in
     let none : ending_by_outcome p.mode attempt.outcome ≡ None = rw is at takes in
     let none_asked : ending_by_outcome p.mode asked ≡ None = ap (ending_by_outcome p.mode) (sym last.outcome) ∙ none in
     let stands : IsOnTimeline job (record { attempts = others ++ runs s ∷ []; due = Some attempt.end; ending = None }) p.polls = rw (is, last.last) at progress.on_timeline in
@@ -95,8 +96,8 @@ asked-unlike p (Running attempt) is progress script due takes outcome ending giv
     let moved : timeline_of job (moments_in p ++ p.seen ∷ []) ≡ timeline_of job (poll_moments (others ++ runs s ∷ []) ++ p.seen ∷ []) =
     ap (λ (attempts : List AttemptedValue). timeline_of job (poll_moments attempts ++ p.seen ∷ [])) last.last in
     let by = ap (λ (timeline : Timeline). timeline.ending) (moved ∙ made) in
-    let ends_so : (by_outcome job (resume job p.seen) (history_of others) s p.seen asked (ending_by_outcome job.mode asked)).ending ≡ Some ending = sym by ∙ ends in
-    outcome-unlike job p.seen (history_of others) s asked outcome ending none_asked gives (rw none_asked at ends_so)
+    let ends_so : (by_outcome job (resume job p.seen) (history_after others) s p.seen asked (ending_by_outcome job.mode asked)).ending ≡ Some ending = sym by ∙ ends in
+    outcome-unlike job p.seen (history_after others) s asked outcome ending none_asked gives (rw none_asked at ends_so)
 asked-unlike p (Over over) is progress script due takes outcome ending gives ends = absurd (rw is at due)
 
 -- what is waited for has come, where it is neither early nor over

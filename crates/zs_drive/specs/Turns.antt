@@ -7,7 +7,7 @@ use Rattle.zs_drive.specs.declared.progress.Phase.{Phase}
 use Rattle.zs_drive.specs.declared.progress.Phase.TheVariants.{Waiting, Running, Over}
 use Rattle.zs_drive.specs.declared.progress.Progress.{Progress}
 use Rattle.zs_drive.specs.Timeline.{number_of, ending_by_outcome}
-use Rattle.zs_drive.specs.Recorded.{history_of}
+use Rattle.zs_drive.specs.DriverRules.{history_after}
 use Rattle.zs_drive.specs.Progress.{due_of, ending_of, job_value_in, attempts_of, moments_in, IsProgress, HasState}
 
 -- one due poll was done at the moment seen
@@ -40,7 +40,7 @@ HasRunTo seen outcome (Over ending) = ⊥
 
 -- the schedule's state stands for the records with the outcome of the attempt that has just ended
 abbrev pub WasAsked : Progress → Outcome → Type 0
-WasAsked p outcome = StandsFor p.compiled ((p.seen, number_of outcome) ∷ history_of (attempts_of p))
+WasAsked p outcome = StandsFor p.compiled ((p.seen, number_of outcome) ∷ history_after (attempts_of p))
 
 -- the job is over
 abbrev pub IsOver : Phase → Type 0
@@ -67,7 +67,7 @@ TakesMemory mode (Running attempt) = ending_by_outcome mode attempt.outcome ≡ 
 TakesMemory mode (Over ending) = ⊥
 
 -- nothing was done, but a running attempt may have seen a later moment, and the schedule may have been stepped
-pub record IsKept (old new : Progress) : Type 0 where
+pub record StandsStill (old new : Progress) : Type 0 where
   pub progress : IsProgress new
   pub records : new.records.items ≡ old.records.items
   pub job : job_value_in new ≡ job_value_in old
@@ -77,4 +77,4 @@ pub record IsKept (old new : Progress) : Type 0 where
 
 -- nothing was done at all
 abbrev pub IsSame : Progress → Progress → Type 0
-IsSame old new = IsKept old new × HasState new
+IsSame old new = StandsStill old new × HasState new
