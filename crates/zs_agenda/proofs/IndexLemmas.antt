@@ -1,5 +1,5 @@
 -- Lemmas on the two maps of an agenda.
-use Rattle.std.proofs.Common.{◌≡◌, ◌≢◌, ◌<◌, ◌≤◌, ◌+◌, ◌==◌, ◌↔◌, ◌||◌, ℕ, suc, Bool, true, false, cond, List, [], ◌∷◌, length, Option, Some, None, IsSome, Contains, refl, sym, ap, subst, ◌∙◌, arith, nat_lt, nat_cmp, insert, unwrap_or}
+use Rattle.std.proofs.Common.{◌≡◌, ◌≢◌, ◌<◌, ◌≤◌, ◌+◌, ◌==◌, ◌↔◌, ◌||◌, ℕ, suc, Bool, true, false, cond, List, [], ◌∷◌, length, Option, Some, None, IsSome, Contains, refl, sym, ap, subst, ◌∙◌, arith, nat_eq, nat_lt, nat_cmp, insert, unwrap_or}
 use Rattle.std.proofs.lemmas.Bool.Decides.{nat_tests, Decides-eqb}
 use Rattle.std.proofs.lemmas.List.Elements.{All-from_recursion, All-contains, Contains-append_right}
 use Rattle.std.proofs.lemmas.Map.Keys.{IsStrictlyIncreasing-from_sorted, le_from_not_gt}
@@ -13,7 +13,7 @@ use Rattle.std.specs.Map.{lookup}
 use Rattle.std.specs.Global.{Vec}
 use Rattle.std.specs.declared.cmp.Ordering.TheVariants.{Less}
 use Rattle.zs_agenda.specs.Timers.{Moments, IsAfter, IsLeastMoment, Takes}
-use Rattle.zs_agenda.specs.Indexes.{ByJob, ByMoment, Puts, Forgets, HasSameMoments, IsAgenda, items_of, jobs_at, is_among, IsRising, placed, moments_of, Agrees}
+use Rattle.zs_agenda.specs.Indexes.{ByJob, ByMoment, Puts, Forgets, HasSameMoments, IsAgenda, items_of, jobs_at, moment_in, is_among, IsRising, placed, moments_of, Agrees}
 
 -- ---- lists of jobs
 -- what holds of each element still holds in a weaker form
@@ -137,28 +137,30 @@ has-first [] h = absurd (h refl)
 has-first (j ∷ js) h = (j, ap (λ (b : Bool). b || has j js) ((Decides-eqb j j).1 refl))
 
 -- ---- look-ups
+-- the place of a key is where it is equal
+pub tied : (a b : ℕ) → tree.is_at (nat_cmp a) b ≡ (a == b)
+tied a b = unsigned_tied a b
+
 -- two ways to look a job up in the entries
-find-lookup : (q : ℕ) (es : List (ℕ × ℕ)) → map_of.find nat_cmp q es ≡ lookup (tree.is_at (nat_cmp q)) es
+find-lookup : (q : ℕ) (es : List (ℕ × ℕ)) → map_of.find nat_cmp q es ≡ lookup (nat_eq q) es
 find-lookup q [] = refl
-find-lookup q (e ∷ es) = ap (λ (o : Option ℕ). cond (tree.is_at (nat_cmp q) e.0) (Some e.1) o) (find-lookup q es)
+find-lookup q (e ∷ es) =
+    ap (λ (o : Option ℕ). cond (tree.is_at (nat_cmp q) e.0) (Some e.1) o) (find-lookup q es)
+    ∙ ap (λ (b : Bool). cond b (Some e.1) (lookup (nat_eq q) es)) (tied q e.0)
 
 -- callers see the moment that the map has
-pub get-moments_of : (m : ByJob) (q : ℕ) → map_of.get (moments_of m) q ≡ tree.get nat_cmp m q
+pub get-moments_of : (m : ByJob) (q : ℕ) → map_of.get (moments_of m) q ≡ moment_in m q
 get-moments_of m q = map_of.get-from_entries nat_cmp_total m.entries q ∙ find-lookup q m.entries
 
 -- maps with the same look-ups look the same to callers
-pub same_moments : (m n : ByJob) → ((q : ℕ) → tree.get nat_cmp n q ≡ tree.get nat_cmp m q) → moments_of n ≡ moments_of m
+pub same_moments : (m n : ByJob) → ((q : ℕ) → moment_in n q ≡ moment_in m q) → moments_of n ≡ moments_of m
 same_moments m n h =
     map_of.same_map nat_cmp_total map_of.nat_cmp-IsAntisymmetric _ _ (λ q. get-moments_of n q ∙ h q ∙ sym (get-moments_of m q))
 
 -- a map in which no job is found looks empty to callers
-pub no_moments : (m : ByJob) → ((q : ℕ) → tree.get nat_cmp m q ≡ None) → moments_of m ≡ map_of.empty
+pub no_moments : (m : ByJob) → ((q : ℕ) → moment_in m q ≡ None) → moments_of m ≡ map_of.empty
 no_moments m h =
     map_of.same_map nat_cmp_total map_of.nat_cmp-IsAntisymmetric _ _ (λ q. get-moments_of m q ∙ h q ∙ sym (map_of.get-empty nat_cmp q))
-
--- the place of a key is where it is equal
-pub tied : (a b : ℕ) → tree.is_at (nat_cmp a) b ≡ (a == b)
-tied a b = unsigned_tied a b
 
 -- ---- a job that comes in
 module _ (jobs_of jobs_of' : ℕ → Option (List ℕ)) (moment_of moment_of' : ℕ → Option ℕ) (taken : Option ℕ) where
@@ -332,9 +334,9 @@ cond-or false true o = refl
 cond-or false false o = refl
 
 -- one more job goes out
-pub forget_more : (x q : ℕ) (b : Bool) (new old first : Option ℕ) → new ≡ cond (tree.is_at (nat_cmp x) q) None old → old ≡ cond b None first → new ≡ cond (b || (x == q)) None first
+pub forget_more : (x q : ℕ) (b : Bool) (new old first : Option ℕ) → new ≡ cond (x == q) None old → old ≡ cond b None first → new ≡ cond (b || (x == q)) None first
 forget_more x q b new old first n o =
-    n ∙ ap (λ (t : Bool). cond t None old) (tied x q) ∙ ap (λ (p : Option ℕ). cond (x == q) None p) o ∙ cond-or b (x == q) first
+    n ∙ ap (λ (p : Option ℕ). cond (x == q) None p) o ∙ cond-or b (x == q) first
 
 -- ---- the first entry of the map by moment
 -- a list comes from a vector
@@ -358,20 +360,20 @@ module _ (m : ByMoment) (n : ByJob) (taken : Option ℕ) (h : IsAgenda m n taken
   -- the first moment is the least, as callers see it
   pub least-moment : (t : ℕ) (js : List ℕ) → IsFirst (jobs_at m) t js → IsLeastMoment (moments_of n) t
   least-moment t js i = record {
-    some_job = let set : (q : ℕ) × (tree.get nat_cmp n q ≡ Some t) = first-set _ _ taken t js h i in (set.0, get-moments_of n set.0 ∙ set.1);
-    least = λ q s e. first-least (jobs_at m) (tree.get nat_cmp n) taken t js h i q s (sym (get-moments_of n q) ∙ e);
+    some_job = let set : (q : ℕ) × (moment_in n q ≡ Some t) = first-set _ _ taken t js h i in (set.0, get-moments_of n set.0 ∙ set.1);
+    least = λ q s e. first-least (jobs_at m) (moment_in n) taken t js h i q s (sym (get-moments_of n q) ∙ e);
   }
 
   -- with a first list, callers see no empty queue
   pub some-moment : (t : ℕ) (js : List ℕ) → IsFirst (jobs_at m) t js → moments_of n ≡ map_of.empty → ⊥
   some-moment t js i e =
-      let set : (q : ℕ) × (tree.get nat_cmp n q ≡ Some t) = first-set _ _ taken t js h i in
+      let set : (q : ℕ) × (moment_in n q ≡ Some t) = first-set _ _ taken t js h i in
       let none : map_of.get (moments_of n) set.0 ≡ None = ap (λ (k : Moments). map_of.get k set.0) e ∙ map_of.get-empty nat_cmp set.0 in
       let some : None ≡ Some t = sym none ∙ get-moments_of n set.0 ∙ set.1 in
       cc
 
   -- without a list no job is set
-  no_job : ((t : ℕ) → jobs_at m t ≡ None) → (q : ℕ) (o : Option ℕ) → tree.get nat_cmp n q ≡ o → o ≡ None
+  no_job : ((t : ℕ) → jobs_at m t ≡ None) → (q : ℕ) (o : Option ℕ) → moment_in n q ≡ o → o ≡ None
   no_job none q None e = refl
   no_job none q (Some t) e =
       let among : is_among q (jobs_at m t) ≡ true = (h.agree q t).0 e in
@@ -379,7 +381,7 @@ module _ (m : ByMoment) (n : ByJob) (taken : Option ℕ) (h : IsAgenda m n taken
 
   -- without an entry, callers see an empty queue
   pub no-moment : (0 < length m.entries → ⊥) → moments_of n ≡ map_of.empty
-  no-moment e = no_moments n (λ q. no_job (λ t. ap items_of (no_entry m.entries e t)) q (tree.get nat_cmp n q) refl)
+  no-moment e = no_moments n (λ q. no_job (λ t. ap items_of (no_entry m.entries e t)) q (moment_in n q) refl)
 
 -- equality either way round
 eqb-swap : (a b : ℕ) → (a == b) ≡ (b == a)
@@ -391,16 +393,16 @@ pub moments_of-put : (m n : ByJob) (job moment : ℕ) → Puts m n job moment �
 moments_of-put m n job moment p =
     map_of.same_map nat_cmp_total map_of.nat_cmp-IsAntisymmetric _ _ (λ q.
     get-moments_of n q ∙ p q
-    ∙ ap (λ (b : Bool). cond b (Some moment) (tree.get nat_cmp m q)) (eqb-swap job q ∙ sym (unsigned_tied q job))
+    ∙ ap (λ (b : Bool). cond b (Some moment) (moment_in m q)) (eqb-swap job q ∙ sym (unsigned_tied q job))
     ∙ ap (λ (o : Option ℕ). cond (eq_by_cmp nat_cmp q job) (Some moment) o) (sym (get-moments_of m q))
     ∙ sym (map_of.get-insert nat_cmp_total (moments_of m) job moment q))
 
 -- a job that was put and taken back
-pub put_and_forgotten : (m n k : ByJob) (job moment : ℕ) → tree.get nat_cmp m job ≡ None → Puts m n job moment → Forgets n k (job ∷ []) → HasSameMoments m k
+pub put_and_forgotten : (m n k : ByJob) (job moment : ℕ) → moment_in m job ≡ None → Puts m n job moment → Forgets n k (job ∷ []) → HasSameMoments m k
 put_and_forgotten m n k job moment none p f q =
-    f q ∙ elim (job == q) as (λ b. (job == q) ≡ b → cond (b || false) None (tree.get nat_cmp n q) ≡ tree.get nat_cmp m q) [
-      | true ↦ λ is. let same : job ≡ q = (Decides-eqb job q).0 is in sym none ∙ ap (tree.get nat_cmp m) same
-      | false ↦ λ is. p q ∙ ap (λ (b : Bool). cond b (Some moment) (tree.get nat_cmp m q)) is
+    f q ∙ elim (job == q) as (λ b. (job == q) ≡ b → cond (b || false) None (moment_in n q) ≡ moment_in m q) [
+      | true ↦ λ is. let same : job ≡ q = (Decides-eqb job q).0 is in sym none ∙ ap (moment_in m) same
+      | false ↦ λ is. p q ∙ ap (λ (b : Bool). cond b (Some moment) (moment_in m q)) is
     ] refl
 
 -- ---- what the take of the first moment leaves
@@ -419,25 +421,25 @@ module _ (m m' : ByMoment) (n n' : ByJob) (taken : Option ℕ) (t : ℕ) (v : Ve
   first = first-of m t v here least
 
   -- the moments once its jobs are gone
-  out : (q : ℕ) → tree.get nat_cmp n' q ≡ cond (has q v.items) None (tree.get nat_cmp n q)
-  out q = f q ∙ ap (λ (l : List ℕ). cond (has q l) None (tree.get nat_cmp n q)) same
+  out : (q : ℕ) → moment_in n' q ≡ cond (has q v.items) None (moment_in n q)
+  out q = f q ∙ ap (λ (l : List ℕ). cond (has q l) None (moment_in n q)) same
 
   -- the invariant stands after a take
   pub take-IsAgenda : IsAgenda m' n' (Some t)
-  take-IsAgenda = taken-Agrees (jobs_at m) (tree.get nat_cmp n) taken t v.items (jobs_at m') (tree.get nat_cmp n') (popped m m' t u) out h first
+  take-IsAgenda = taken-Agrees (jobs_at m) (moment_in n) taken t v.items (jobs_at m') (moment_in n') (popped m m' t u) out h first
 
   -- a take, as callers see it
   pub take-Takes : Takes (record { moments = moments_of n; last_taken = taken }) (record { moments = moments_of n'; last_taken = Some t }) t v.items
   take-Takes = record {
     is_least = least-moment m n taken h t v.items first;
-    is_after = first-after (jobs_at m) (tree.get nat_cmp n) taken t v.items h first;
+    is_after = first-after (jobs_at m) (moment_in n) taken t v.items h first;
     all_jobs = λ q.
-        let one : (tree.get nat_cmp n q ≡ Some t) ↔ (has q v.items ≡ true) = first-jobs (jobs_at m) (tree.get nat_cmp n) taken t v.items h first q in
+        let one : (moment_in n q ≡ Some t) ↔ (has q v.items ≡ true) = first-jobs (jobs_at m) (moment_in n) taken t v.items h first q in
         let two : Contains v.items q ↔ (has q v.items ≡ true) = Contains-has-iff q v.items in
         ((λ e. get-moments_of n q ∙ one.1 (two.0 e)), (λ e. two.1 (one.0 (sym (get-moments_of n q) ∙ e))));
     in_order = IsStrictlyIncreasing-rising v.items (h.rising t v.items first.here);
     others_stay = λ q s.
-        let one : (tree.get nat_cmp n' q ≡ Some s) ↔ ((tree.get nat_cmp n q ≡ Some s) × (s ≢ t)) = taken-others (jobs_at m) (tree.get nat_cmp n) taken t v.items (jobs_at m') (tree.get nat_cmp n') (popped m m' t u) out h first q s in
+        let one : (moment_in n' q ≡ Some s) ↔ ((moment_in n q ≡ Some s) × (s ≢ t)) = taken-others (jobs_at m) (moment_in n) taken t v.items (jobs_at m') (moment_in n') (popped m m' t u) out h first q s in
         rw (get-moments_of n' q, get-moments_of n q) one;
     is_last = refl;
   }

@@ -1,11 +1,15 @@
--- How an agenda is stored: a map from each moment to its jobs, and a map from each job to its moment. `IsAgenda`
--- is its invariant: the two agree, each list rises, none is empty, and each moment is later than the last one taken.
+-- How an agenda is stored: an ordered map from each moment to its jobs, and a hash map from each job to its moment.
+-- `IsAgenda` is its invariant: the two agree, each list rises, none is empty, and each moment is later than the last one taken.
 -- Callers never meet these words; `proofs/IndexLemmas.antt` shows that each step keeps the invariant.
-use Rattle.std.specs.Prelude.{◌≡◌, ◌≢◌, ◌<◌, ◌↔◌, ◌==◌, ℕ, Bool, true, false, nat_lt, List, [], ◌∷◌, Option, Some, None, if◌then◌else◌, unwrap_or}
+use Rattle.std.specs.Prelude.{◌≡◌, ◌≢◌, ◌<◌, ◌≤◌, ◌↔◌, ◌==◌, ℕ, Bool, true, false, nat_eq, nat_lt, List, [], ◌∷◌, Option, Some, None, if◌then◌else◌, unwrap_or, vec_len, ⊤}
 use Rattle.std.specs.Global.{Vec}
+use Rattle.std.specs.Vec.{vec_capacity}
 use Rattle.std.specs.List.{AllByRecursion, list_any}
 use Rattle.std.specs.Ordering.{nat_cmp}
 use Rattle.std.specs.BTreeMap.{BTreeMap, get}
+use Rattle.std.specs.HashMap as hash
+use Rattle.std.specs.declared.hash.FoldHasher.{FoldHasher}
+use Rattle.std.specs.declared.hash.BuildHasherDefault.{BuildHasherDefault}
 use Rattle.std.specs.FinMap.{from_entries}
 use Rattle.zs_agenda.specs.Timers.{Moments, IsAfter}
 
@@ -15,7 +19,7 @@ ByMoment = BTreeMap ℕ (Vec ℕ)
 
 -- the map by job, as the code has it
 abbrev pub ByJob : Type 0
-ByJob = BTreeMap ℕ ℕ
+ByJob = hash.HashMap ℕ ℕ (BuildHasherDefault FoldHasher)
 
 -- the items of a vector, where there is one
 abbrev pub items_of : Option (Vec ℕ) → Option (List ℕ)
@@ -41,6 +45,11 @@ abbrev pub placed : ℕ → List ℕ → List ℕ
 placed job [] = job ∷ []
 placed job (j ∷ js) = if nat_lt j job then j ∷ placed job js else job ∷ j ∷ js
 
+-- no list stands here, or it is full: one more job takes memory
+abbrev pub HasNoRoom : Option (Vec ℕ) → Type 0
+HasNoRoom None = ⊤
+HasNoRoom (Some jobs) = vec_capacity jobs ≤ vec_len jobs
+
 -- new is old with one more job at the moment
 abbrev pub Adds : ByMoment → ByMoment → ℕ → ℕ → Type 0
 Adds old new moment job = (t : ℕ) → jobs_at new t ≡ (if t == moment then Some (placed job (unwrap_or (jobs_at old moment) [])) else jobs_at old t)
@@ -49,17 +58,21 @@ Adds old new moment job = (t : ℕ) → jobs_at new t ≡ (if t == moment then S
 abbrev pub HasSameJobs : ByMoment → ByMoment → Type 0
 HasSameJobs old new = (t : ℕ) → jobs_at new t ≡ jobs_at old t
 
+-- the moment of a job, where it has one
+abbrev pub moment_in : ByJob → ℕ → Option ℕ
+moment_in m job = hash.get nat_eq m job
+
 -- new is old with this moment for the job
 abbrev pub Puts : ByJob → ByJob → ℕ → ℕ → Type 0
-Puts old new job moment = (q : ℕ) → get nat_cmp new q ≡ (if job == q then Some moment else get nat_cmp old q)
+Puts old new job moment = (q : ℕ) → moment_in new q ≡ (if job == q then Some moment else moment_in old q)
 
 -- the same moment of each job
 abbrev pub HasSameMoments : ByJob → ByJob → Type 0
-HasSameMoments old new = (q : ℕ) → get nat_cmp new q ≡ get nat_cmp old q
+HasSameMoments old new = (q : ℕ) → moment_in new q ≡ moment_in old q
 
 -- new is old without the moments of these jobs
 abbrev pub Forgets : ByJob → ByJob → List ℕ → Type 0
-Forgets old new jobs = (job : ℕ) → get nat_cmp new job ≡ (if list_any (λ j. j == job) jobs then None else get nat_cmp old job)
+Forgets old new jobs = (job : ℕ) → moment_in new job ≡ (if list_any (λ j. j == job) jobs then None else moment_in old job)
 
 -- the moment of each job, as callers see it
 abbrev pub moments_of : ByJob → Moments
@@ -75,4 +88,4 @@ pub record Agrees (jobs_of : ℕ → Option (List ℕ)) (moment_of : ℕ → Opt
 
 -- the invariant of an agenda
 abbrev pub IsAgenda : ByMoment → ByJob → Option ℕ → Type 0
-IsAgenda m n taken = Agrees (jobs_at m) (get nat_cmp n) taken
+IsAgenda m n taken = Agrees (jobs_at m) (moment_in n) taken

@@ -4,6 +4,6 @@ use Rattle.zs_agenda.specs.declared.clock.Source.{Source}
 use Rattle.zs_agenda.specs.declared.clock.Source.TheVariants.{EveryMs, Listed}
 
 -- each millisecond up to a last one, or the items of the vector
-abbrev pub ticks_of : Source → Ticks
-ticks_of (EveryMs last) = every_ms last
-ticks_of (Listed ticks) = listed ticks.items
+abbrev pub ticks_in : Source → Ticks
+ticks_in (EveryMs last) = every_ms last
+ticks_in (Listed ticks) = listed ticks.items

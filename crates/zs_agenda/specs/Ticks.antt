@@ -8,6 +8,10 @@ use Rattle.std.specs.List.Sorted.{IsStrictlyIncreasing}
 abbrev pub max_horizon : ℕ
 max_horizon = 999999999999999
 
+-- the greatest number of ticks in a list
+abbrev pub max_ticks : ℕ
+max_ticks = 1000000
+
 -- each millisecond from 0 up to a last one, or the moments of a list
 pub data Ticks : Type 0 where
   every_ms : ℕ → Ticks
@@ -38,11 +42,11 @@ abbrev pub horizon : Ticks → ℕ
 horizon (every_ms last) = last
 horizon (listed ticks) = slice_index ticks (length ticks - 1)
 
--- the lists that a clock may have: some ticks but at most a million, each later than the one before it,
+-- the lists that a clock may have: some ticks but not too many, each later than the one before it,
 -- and the last within the limit
 pub record IsTickList (ticks : List ℕ) : Type 0 where
   pub some : 0 < length ticks
-  pub few : length ticks ≤ 1000000
+  pub few : length ticks ≤ max_ticks
   pub rising : IsStrictlyIncreasing ticks
   pub limit : slice_index ticks (length ticks - 1) ≤ max_horizon
 

@@ -5,7 +5,7 @@ ghost use Rattle.zs_agenda.specs.declared.fault.AgendaFault.TheVariants.{Memory}
 use crate::fault::AgendaFault;
 use crate::index::{add, forget, put, take_back};
 use std::alloc::Global;
-use std::collections::BTreeMap;
+use std::collections::{BTreeMap, HashMap};
 use std::marker::Model;
 
 /// A timer queue: one moment, in milliseconds, for each job that waits. Jobs are told apart by their numbers.
@@ -13,7 +13,7 @@ use std::marker::Model;
 pub struct Agenda {
     alloc: Global,
     by_moment: BTreeMap<u64, Vec<u64>>,
-    by_job: BTreeMap<u64, u64>,
+    by_job: HashMap<u64, u64>,
     last_taken: Option<u64>,
 }
 
@@ -43,12 +43,13 @@ impl Agenda {
         Ok(Agenda {
             alloc,
             by_moment: BTreeMap::new(alloc),
-            by_job: BTreeMap::new(alloc),
+            by_job: HashMap::new(alloc),
             last_taken: None,
         })
     }
 
-    /// Arms the timer of a job that has none. For want of memory the queue stays as it was.
+    /// Arms the timer of a job that has none, at a moment, in milliseconds, later than the last one taken. For want of memory it
+    /// answers `Memory`, and the queue stays as it was.
     pub fn set(&mut self, job: u64, moment: u64) -> Result<(), AgendaFault>
         requires absent { map.get self.old.moments job ≡ None }
         requires ahead { IsAfter self.old.last_taken moment }
@@ -74,7 +75,7 @@ impl Agenda {
         self.by_job.contains_key(&job)
     }
 
-    /// The last moment that was taken.
+    /// The last moment that was taken, in milliseconds, if one was.
     pub fn taken(&self) -> Option<u64>
         ensures value { result ≡ self.now.last_taken }
     {
@@ -82,7 +83,7 @@ impl Agenda {
         self.last_taken
     }
 
-    /// The least moment for which a timer is armed.
+    /// The least moment for which a timer is armed, in milliseconds, or `None` where none is.
     pub fn next(&self) -> Option<u64>
         ensures none { IsNone result ↔ (self.now.moments ≡ map.empty) }
         ensures least { IfSome result (IsLeastMoment self.now.moments) }
@@ -94,7 +95,8 @@ impl Agenda {
         }
     }
 
-    /// Fires the timers of the least moment, and answers it with all its jobs in rising number. It takes no memory.
+    /// Fires the timers of the least moment, and answers it, in milliseconds, with all its jobs in rising number, or `None` where no
+    /// timer is armed. It takes no memory.
     pub fn take(&mut self) -> Result<Option<(u64, Vec<u64>)>, AgendaFault>
         ensures succeeds { IsOk result }
         ensures none { IfOk result (λ taken. IsNone taken ↔ (self.old.moments ≡ map.empty)) }

@@ -25,13 +25,13 @@ pub struct Clock {
 
 impl Model for Clock {
     ghost use Rattle.zs_agenda.specs.Ticks.{Ticks, IsClock};
-    ghost use Rattle.zs_agenda.specs.Sources.{ticks_of};
+    ghost use Rattle.zs_agenda.specs.Sources.{ticks_in};
 
     ghost Value = { Ticks };
 
-    ghost view = { λ c. ticks_of c.source };
+    ghost view = { λ c. ticks_in c.source };
 
-    ghost invariant = { λ c. IsClock (ticks_of c.source) };
+    ghost invariant = { λ c. IsClock (ticks_in c.source) };
 }
 
 impl Clock {
@@ -65,7 +65,7 @@ impl Clock {
         }
     }
 
-    /// The last tick.
+    /// The last tick, in milliseconds: at most 999,999,999,999,999.
     pub fn horizon(&self) -> u64
         ensures value { result ≡ horizon self.now }
         // In other words: it is a tick, and there is none after it.
@@ -81,7 +81,7 @@ impl Clock {
         }
     }
 
-    /// The least tick at or after `due`. Of a list of n ticks it looks at about log2(n).
+    /// The least tick at or after `due`, in milliseconds, or `None` where no tick is left. Of a list of n ticks it looks at about log2(n).
     pub fn tick(&self, due: u64) -> Option<u64>
         ensures value { result ≡ first_tick self.now due }
         // In other words: None where no tick is left, else the least one that is not too early.

@@ -1,10 +1,16 @@
-// The steps on the two maps of a timer queue: from each moment to its jobs, and from each job to its moment.
-ghost use Rattle.std.specs.Prelude.{◌≡◌, [], ◌∷◌, nat_lt, IfSome, OnOk, OnErr};
+// The steps on the two maps of a timer queue: from each moment to its jobs, and from each job to its moment. The second
+// is looked up by job alone, so it has no order. A step gives up only where a map or a list is full (`full`).
+ghost use Rattle.std.specs.Prelude.{◌≡◌, ◌≤◌, [], ◌∷◌, nat_lt, vec_len, IfSome, OnOk, OnErr};
 ghost use Rattle.std.specs.List.{prefix_len};
-ghost use Rattle.zs_agenda.specs.Indexes.{Adds, Forgets, HasSameJobs, HasSameMoments, IsRising, Puts, jobs_at, placed};
+ghost use Rattle.std.specs.Ordering.{nat_cmp};
+ghost use Rattle.std.specs.Vec.{vec_capacity};
+ghost use Rattle.std.specs.BTreeMap.{get};
+ghost use Rattle.std.specs.HashMap.{spare};
+ghost use Rattle.zs_agenda.specs.Indexes.{Adds, Forgets, HasNoRoom, HasSameJobs, HasSameMoments, IsRising, Puts, jobs_at, placed};
 
 use std::alloc::{AllocError, Global};
-use std::collections::BTreeMap;
+use std::collections::btree_map::Entry;
+use std::collections::{BTreeMap, HashMap};
 
 // How many jobs stand before a job that is to come in.
 fn place_of(jobs: &[u64], job: u64) -> usize
@@ -20,12 +26,11 @@ fn put_in_order(jobs: &mut Vec<u64>, job: u64) -> Result<(), AllocError>
     requires rising { IsRising jobs.old.items }
     ensures ok { OnOk result (jobs.new.items ≡ placed job jobs.old.items) }
     ensures err { OnErr result (jobs.new.items ≡ jobs.old.items) }
+    ensures full { OnErr result (vec_capacity jobs.old ≤ vec_len jobs.old) }
 {
     let place = place_of(jobs, job);
-    match jobs.insert(place, job) {
-        Ok(()) => Ok(()),
-        Err(_) => Err(AllocError),
-    }
+    jobs.insert(place, job)?;
+    Ok(())
 }
 
 // Adds a job at a moment, whose jobs so far rise.
@@ -38,40 +43,38 @@ pub(crate) fn add(
     requires rising { IfSome (jobs_at by_moment.old moment) IsRising }
     ensures ok { OnOk result (Adds by_moment.old by_moment.new moment job) }
     ensures err { OnErr result (HasSameJobs by_moment.old by_moment.new) }
+    ensures full { OnErr result (HasNoRoom (get nat_cmp by_moment.old moment)) }
 {
-    if let Some(jobs) = by_moment.get_mut(&moment) {
-        return put_in_order(jobs, job);
-    }
-    let mut jobs = Vec::new(alloc);
-    if jobs.push(job).is_err() {
-        return Err(AllocError);
-    }
-    match by_moment.insert(moment, jobs) {
-        Ok(_) => Ok(()),
-        Err(_) => Err(AllocError),
+    match by_moment.entry(moment)? {
+        Entry::Occupied(entry) => put_in_order(entry.into_mut(), job),
+        Entry::Vacant(entry) => {
+            let mut jobs = Vec::new(alloc);
+            jobs.push(job)?;
+            entry.insert(jobs);
+            Ok(())
+        }
     }
 }
 
 // Puts the moment of a job that has none.
-pub(crate) fn put(by_job: &mut BTreeMap<u64, u64>, job: u64, moment: u64) -> Result<(), AllocError>
+pub(crate) fn put(by_job: &mut HashMap<u64, u64>, job: u64, moment: u64) -> Result<(), AllocError>
     ensures ok { OnOk result (Puts by_job.old by_job.new job moment) }
     ensures err { OnErr result (HasSameMoments by_job.old by_job.new) }
+    ensures full { OnErr result (spare by_job.old ≡ 0) }
 {
-    match by_job.insert(job, moment) {
-        Ok(_) => Ok(()),
-        Err(_) => Err(AllocError),
-    }
+    by_job.insert(job, moment)?;
+    Ok(())
 }
 
 // Takes the growth of `put` back. It takes no memory.
-pub(crate) fn take_back(by_job: &mut BTreeMap<u64, u64>, job: u64)
+pub(crate) fn take_back(by_job: &mut HashMap<u64, u64>, job: u64)
     ensures forgets { Forgets by_job.old by_job.new (job ∷ []) }
 {
     by_job.remove(&job);
 }
 
 // Takes out the moments of these jobs.
-pub(crate) fn forget(by_job: &mut BTreeMap<u64, u64>, jobs: &[u64])
+pub(crate) fn forget(by_job: &mut HashMap<u64, u64>, jobs: &[u64])
     ensures forgets { Forgets by_job.old by_job.new jobs.now }
 {
     for job in jobs {

@@ -18,13 +18,14 @@ use Rattle.zs_step.specs.History.{History}
 use Rattle.zs_step.specs.Answer.{Answer}
 use Rattle.zs_step.specs.Compiled.{StandsFor}
 use Rattle.zs_drive.specs.Timeline.{Timeline, poll_moments, number_of, beat_after, ended_attempt}
-use Rattle.zs_drive.specs.Recorded.{AllEnded, IsOnTimeline, IsStepped, history_of}
+use Rattle.zs_drive.specs.Recorded.{AllEnded, IsOnTimeline, IsStepped}
+use Rattle.zs_drive.specs.DriverRules.{history_after}
 use Rattle.zs_drive.specs.Progress.{IsProgress, IsPhase, IsSteppedIn, HasState, job_in, attempts_of, timeline_in, due_of, ending_of}
-use Rattle.zs_drive.specs.Turns.{Advances, Stays, IsKept, IsWaitingTo, HasRunTo, WasAsked}
+use Rattle.zs_drive.specs.Turns.{Advances, Stays, StandsStill, IsWaitingTo, HasRunTo, WasAsked}
 use Rattle.zs_drive.proofs.Moments.{length-clock}
 use Rattle.zs_drive.proofs.Extending.{extended}
-use Rattle.zs_drive.proofs.Records.{advance, history_of-running}
-use Rattle.zs_drive.proofs.Steps.{runs, begins, length-history_of, history_of-ended, AllEnded-append, moments-begun, moments-ended, moments-restarted}
+use Rattle.zs_drive.proofs.Records.{advance, history_after-running}
+use Rattle.zs_drive.proofs.Steps.{runs, begins, length-history_after, history_after-ended, AllEnded-append, moments-begun, moments-ended, moments-restarted}
 
 -- one more poll can be counted
 pub polls-fit : (p : Progress) → IsProgress p → Fits w64 (p.polls + 1)
@@ -60,8 +61,8 @@ begin-advances p records beat attempt (Waiting x) is progress state waits next s
     let entry : beat ≡ entry_at job.script (length attempts + 1) = rw count next in
     let end : attempt.end ≡ saturated (p.seen + (entry_at job.script (length attempts + 1)).ms) =
     ap (λ (a : AttemptValue). a.end) started ∙ ap (λ (b : Beat). saturated (p.seen + b.ms)) entry in
-    let outcome : attempt.outcome ≡ (entry_at job.script (length (history_of attempts) + 1)).outcome =
-    rw (length-history_of attempts all) (ap (λ (a : AttemptValue). a.outcome) started ∙ ap (λ (b : Beat). b.outcome) entry) in
+    let outcome : attempt.outcome ≡ (entry_at job.script (length (history_after attempts) + 1)).outcome =
+    rw (length-history_after attempts all) (ap (λ (a : AttemptValue). a.outcome) started ∙ ap (λ (b : Beat). b.outcome) entry) in
     let saw : attempt.seen ≤ p.seen = rw started (omega arith) in
     record {
       progress = record {
@@ -69,7 +70,7 @@ begin-advances p records beat attempt (Waiting x) is progress state waits next s
         phase = (attempts, p.seen, record { last = grown; ended = all; outcome = outcome; saw = saw });
         bounded = progress.bounded;
       };
-      state = record { stands = rw (grown, history_of-running attempts p.seen) kept.stands; past = kept.past };
+      state = record { stands = rw (grown, history_after-running attempts p.seen) kept.stands; past = kept.past };
       moments = rw grown steps.1;
       job = refl;
       seen = refl;
@@ -79,22 +80,22 @@ begin-advances p records beat attempt (Over ending) is progress state waits next
 
 -- the history that the schedule was asked about
 pub asked-history : (p : Progress) (outcome : Outcome) (others : List AttemptedValue) (s : ℕ) → attempts_of p ≡ others ++ runs s ∷ []
-    → ((p.seen, number_of outcome) ∷ history_of (attempts_of p)) ≡ ((p.seen, number_of outcome) ∷ history_of others)
-asked-history p outcome others s last = ap (λ (h : History). (p.seen, number_of outcome) ∷ h) (ap history_of last ∙ history_of-running others s)
+    → ((p.seen, number_of outcome) ∷ history_after (attempts_of p)) ≡ ((p.seen, number_of outcome) ∷ history_after others)
+asked-history p outcome others s last = ap (λ (h : History). (p.seen, number_of outcome) ∷ h) (ap history_after last ∙ history_after-running others s)
 
 -- the attempt that ran ends, and none begins
-pub settle-advances : (p q : Progress) (outcome : Outcome) (step : Option Answer) (now later : Phase) → p.phase ≡ now
+pub end_attempt-advances : (p q : Progress) (outcome : Outcome) (step : Option Answer) (now later : Phase) → p.phase ≡ now
     → IsProgress p → HasRunTo p.seen outcome p.phase → IsScript p.script
     → q ≡ record p { records = q.records; phase = later; polls = p.polls + 1 }
     → ((others : List AttemptedValue) (s : ℕ) → attempts_of p ≡ others ++ runs s ∷ [] → attempts_of q ≡ others ++ ended_attempt s p.seen outcome step ∷ [])
-    → ((others : List AttemptedValue) (s w : ℕ) → attempts_of p ≡ others ++ runs s ∷ [] → AllEnded others → w ≤ p.seen → outcome ≡ (beat_after (job_in p) (history_of others)).outcome
+    → ((others : List AttemptedValue) (s w : ℕ) → attempts_of p ≡ others ++ runs s ∷ [] → AllEnded others → w ≤ p.seen → outcome ≡ (beat_after (job_in p) (history_after others)).outcome
     → record { attempts = others ++ ended_attempt s p.seen outcome step ∷ []; due = due_of later; ending = ending_of later }
     ≡ extended (job_in p) p.seen [] (record { attempts = others ++ runs s ∷ []; due = Some w; ending = None }))
     → ((others : List AttemptedValue) (s : ℕ) → attempts_of p ≡ others ++ runs s ∷ [] → AllEnded others
     → IsPhase (job_in p) (others ++ ended_attempt s p.seen outcome step ∷ []) p.seen later
     × IsSteppedIn (others ++ ended_attempt s p.seen outcome step ∷ []) p.compiled p.seen later)
     → Advances p q
-settle-advances p q outcome step (Running attempt) later is progress run script rest closed made kept =
+end_attempt-advances p q outcome step (Running attempt) later is progress run script rest closed made kept =
     let job = job_in p in
     let run_to = rw is at run in
     let phase = rw is at progress.phase in
@@ -103,7 +104,7 @@ settle-advances p q outcome step (Running attempt) later is progress run script 
     let last = phase.2 in
     let attempts = attempts_of p in
     let stands : IsOnTimeline job (record { attempts = others ++ runs s ∷ []; due = Some attempt.end; ending = None }) p.polls = rw (is, last.last) at progress.on_timeline in
-    let own : outcome ≡ (beat_after job (history_of others)).outcome = run_to.1 ∙ last.outcome in
+    let own : outcome ≡ (beat_after job (history_after others)).outcome = run_to.1 ∙ last.outcome in
     let new : Timeline = record { attempts = others ++ ended_attempt s p.seen outcome step ∷ []; due = due_of later; ending = ending_of later } in
     let steps = advance job script (others ++ runs s ∷ []) attempt.end p.seen p.polls new stands run_to.0 progress.bounded
     (made others s attempt.end last.last last.ended run_to.0 own)
@@ -119,8 +120,8 @@ settle-advances p q outcome step (Running attempt) later is progress run script 
       seen = refl;
     } in
     subst (Advances p) (sym rest) whole
-settle-advances p q outcome step (Waiting x) later is progress run script rest closed made kept = absurd (rw is at run)
-settle-advances p q outcome step (Over ending) later is progress run script rest closed made kept = absurd (rw is at run)
+end_attempt-advances p q outcome step (Waiting x) later is progress run script rest closed made kept = absurd (rw is at run)
+end_attempt-advances p q outcome step (Over ending) later is progress run script rest closed made kept = absurd (rw is at run)
 
 -- the attempt that ran ends, and the next begins
 pub restart-advances : (p q : Progress) (outcome : Outcome) (step : Option Answer) (beat : Beat) (attempt : AttemptValue) (now : Phase) → p.phase ≡ now
@@ -129,7 +130,7 @@ pub restart-advances : (p q : Progress) (outcome : Outcome) (step : Option Answe
     → q ≡ record p { records = q.records; phase = Running attempt; polls = p.polls + 1 }
     → attempt ≡ record { outcome = beat.outcome; end = saturated (p.seen + beat.ms); seen = p.seen }
     → ((others : List AttemptedValue) (s : ℕ) → attempts_of p ≡ others ++ runs s ∷ [] → attempts_of q ≡ others ++ ended_attempt s p.seen outcome step ∷ runs p.seen ∷ [])
-    → ((others : List AttemptedValue) (s w : ℕ) → AllEnded others → w ≤ p.seen → outcome ≡ (beat_after (job_in p) (history_of others)).outcome
+    → ((others : List AttemptedValue) (s w : ℕ) → AllEnded others → w ≤ p.seen → outcome ≡ (beat_after (job_in p) (history_after others)).outcome
     → attempts_of p ≡ others ++ runs s ∷ []
     → record { attempts = others ++ ended_attempt s p.seen outcome step ∷ runs p.seen ∷ []; due = Some (saturated (p.seen + (entry_at p.script (length (others ++ runs s ∷ []) + 1)).ms)); ending = None }
     ≡ extended (job_in p) p.seen [] (record { attempts = others ++ runs s ∷ []; due = Some w; ending = None }))
@@ -142,7 +143,7 @@ restart-advances p q outcome step beat attempt (Running old) is progress run scr
     let s = phase.1 in
     let last = phase.2 in
     let stands : IsOnTimeline job (record { attempts = others ++ runs s ∷ []; due = Some old.end; ending = None }) p.polls = rw (is, last.last) at progress.on_timeline in
-    let own : outcome ≡ (beat_after job (history_of others)).outcome = run_to.1 ∙ last.outcome in
+    let own : outcome ≡ (beat_after job (history_after others)).outcome = run_to.1 ∙ last.outcome in
     let new : Timeline = record { attempts = others ++ ended_attempt s p.seen outcome step ∷ runs p.seen ∷ []; due = Some (saturated (p.seen + (entry_at p.script (length (others ++ runs s ∷ []) + 1)).ms)); ending = None } in
     let steps = advance job script (others ++ runs s ∷ []) old.end p.seen p.polls new stands run_to.0 progress.bounded
     (made others s old.end last.ended run_to.0 own last.last)
@@ -156,9 +157,9 @@ restart-advances p q outcome step beat attempt (Running old) is progress run scr
     let ended : List AttemptedValue = others ++ ended_attempt s p.seen outcome step ∷ [] in
     let split : others ++ ended_attempt s p.seen outcome step ∷ runs p.seen ∷ [] ≡ ended ++ runs p.seen ∷ [] = sym (append_assoc others (ended_attempt s p.seen outcome step ∷ []) (runs p.seen ∷ [])) in
     let all : AllEnded ended = AllEnded-append others s p.seen outcome step last.ended in
-    let numbered : length (others ++ runs s ∷ []) ≡ length (history_of ended) =
-    length-append others (runs s ∷ []) ∙ sym (length-append others (ended_attempt s p.seen outcome step ∷ [])) ∙ sym (length-history_of ended all) in
-    let result : attempt.outcome ≡ (entry_at job.script (length (history_of ended) + 1)).outcome =
+    let numbered : length (others ++ runs s ∷ []) ≡ length (history_after ended) =
+    length-append others (runs s ∷ []) ∙ sym (length-append others (ended_attempt s p.seen outcome step ∷ [])) ∙ sym (length-history_after ended all) in
+    let result : attempt.outcome ≡ (entry_at job.script (length (history_after ended) + 1)).outcome =
     rw (← numbered) (ap (λ (a : AttemptValue). a.outcome) started ∙ ap (λ (b : Beat). b.outcome) entry) in
     let saw : attempt.seen ≤ p.seen = rw started (omega arith) in
     let whole : Advances p (record p { records = q.records; phase = Running attempt; polls = p.polls + 1 }) = record {
@@ -169,7 +170,7 @@ restart-advances p q outcome step beat attempt (Running old) is progress run scr
       };
       state = record {
         stands = subst (StandsFor p.compiled)
-            (asked-history p outcome others s last.last ∙ sym (history_of-ended others s p.seen outcome step) ∙ sym (history_of-running ended p.seen) ∙ ap history_of (sym split ∙ sym grown))
+            (asked-history p outcome others s last.last ∙ sym (history_after-ended others s p.seen outcome step) ∙ sym (history_after-running ended p.seen) ∙ ap history_after (sym split ∙ sym grown))
             asked;
         past = let seen = asked.last in omega arith;
       };
@@ -185,13 +186,13 @@ restart-advances p q outcome step beat attempt (Over ending) is progress run scr
 pub IsStepped-asked : (p : Progress) (outcome : Outcome) (others : List AttemptedValue) (s : ℕ) (step : Option Answer) → WasAsked p outcome → attempts_of p ≡ others ++ runs s ∷ []
     → IsStepped (others ++ ended_attempt s p.seen outcome step ∷ []) p.compiled p.seen
 IsStepped-asked p outcome others s step asked last = record {
-  stands = subst (StandsFor p.compiled) (asked-history p outcome others s last ∙ sym (history_of-ended others s p.seen outcome step)) asked;
+  stands = subst (StandsFor p.compiled) (asked-history p outcome others s last ∙ sym (history_after-ended others s p.seen outcome step)) asked;
   past = let seen = asked.last in omega arith;
 }
 
 -- after a refusal
-pub IsKept-stays : (p q : Progress) → IsProgress p → Stays p q → IsKept p q
-IsKept-stays p q progress stays = record {
+pub StandsStill-stays : (p q : Progress) → IsProgress p → Stays p q → StandsStill p q
+StandsStill-stays p q progress stays = record {
   progress = record {
     on_timeline = subst (λ (job : JobRecord). IsOnTimeline job (timeline_in q) q.polls) (sym (ap record_of stays.job)) (rw (stays.records, stays.phase, stays.polls) progress.on_timeline);
     phase = subst (λ (job : JobRecord). IsPhase job (attempts_of q) q.seen q.phase) (sym (ap record_of stays.job)) (rw (stays.records, stays.phase, stays.seen) progress.phase);

@@ -5,6 +5,7 @@ pub mod Moments
 pub mod Records
 pub mod Steps
 pub mod Advancing
+pub mod Refusing
 pub mod Beginning
 pub mod OnClocks
 pub mod Following

@@ -14,7 +14,8 @@ use Rattle.zs_drive.specs.declared.record.Ending.{Ending}
 use Rattle.zs_drive.specs.Clocks.{first_tick_from, RisesFrom, AllBefore, AreTicks, max_tick}
 use Rattle.zs_drive.specs.Values.{JobRecord, AttemptedValue}
 use Rattle.zs_drive.specs.Timeline.{Timeline, number_of, ending_by_outcome, ending_by_schedule, ended_attempt, beat_after, from, timeline_of, moments_of, poll_moments}
-use Rattle.zs_drive.specs.Recorded.{AllEnded, IsOnTimeline, history_of}
+use Rattle.zs_drive.specs.Recorded.{AllEnded, IsOnTimeline}
+use Rattle.zs_drive.specs.DriverRules.{history_after}
 use Rattle.zs_drive.specs.Tasks.{timeline_at}
 use Rattle.zs_drive.specs.DriverLaws.{polls_on, IsReached, FirstPollsSuffice}
 use Rattle.zs_drive.proofs.Ticks.{lt_cases, first_tick_from-some, first_tick_from-none, first_tick_from-past, tick_one-at}
@@ -170,8 +171,8 @@ module _ (job : JobRecord) (script : IsScript job.script) where
           (inl (moments-ended others s c outcome step)) place
 
       -- the schedule decides
-      decided : (outcome : Outcome) → outcome ≡ (beat_after job (history_of others)).outcome → ending_by_outcome job.mode outcome ≡ None
-          → (output : Output) (decision : Decision) → answer output decision ≡ answer_of job.schedule ((c, number_of outcome) ∷ history_of others)
+      decided : (outcome : Outcome) → outcome ≡ (beat_after job (history_after others)).outcome → ending_by_outcome job.mode outcome ≡ None
+          → (output : Output) (decision : Decision) → answer output decision ≡ answer_of job.schedule ((c, number_of outcome) ∷ history_after others)
           → Grows ticks c (record { attempts = others ++ runs s ∷ []; due = Some w; ending = None })
       decided outcome own none output Stop answered =
           closed outcome (Some (answer output Stop)) None (Some (ending_by_schedule job.mode outcome))
@@ -200,8 +201,8 @@ module _ (job : JobRecord) (script : IsScript job.script) where
 
       ends-grows : Grows ticks c (record { attempts = others ++ runs s ∷ []; due = Some w; ending = None })
       ends-grows =
-          let outcome = (beat_after job (history_of others)).outcome in
-          let answered = answer_of job.schedule ((c, number_of outcome) ∷ history_of others) in
+          let outcome = (beat_after job (history_after others)).outcome in
+          let answered = answer_of job.schedule ((c, number_of outcome) ∷ history_after others) in
           elim (ending_by_outcome job.mode outcome) as (λ o. ending_by_outcome job.mode outcome ≡ o → Grows ticks c (record { attempts = others ++ runs s ∷ []; due = Some w; ending = None })) [
             | Some ending ↦ λ by. closed outcome None None (Some ending) (ends-by_outcome job c others s w outcome all due refl ending by) (inl refl)
             | None ↦ λ none. decided outcome refl none answered.output answered.decision refl

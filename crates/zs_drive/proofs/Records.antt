@@ -13,7 +13,8 @@ use Rattle.zs_drive.specs.declared.record.Ending.{Ending}
 use Rattle.zs_drive.specs.Clocks.{first_tick_from, AllBefore, max_tick}
 use Rattle.zs_drive.specs.Values.{JobRecord, AttemptedValue}
 use Rattle.zs_drive.specs.Timeline.{Timeline, before, number_of, ending_by_outcome, beat_after, by_answer, by_outcome, from_wait, from_begin, from, timeline_of, moments_of, poll_moments}
-use Rattle.zs_drive.specs.Recorded.{pair_of, longer_by, history_from, history_of, AllEnded, IsOnTimeline}
+use Rattle.zs_drive.specs.Recorded.{AllEnded, IsOnTimeline}
+use Rattle.zs_drive.specs.DriverRules.{pair_of, longer_by, history_from, history_after}
 use Rattle.zs_drive.proofs.Ticks.{left, first_tick_from-from, first_tick_from-before, left-none, left-length, left-after, AllBefore-none}
 use Rattle.zs_drive.proofs.Moments.{AllBefore-later, AreTicks-append, fold-append, moments-one, moments-two}
 use Rattle.zs_drive.proofs.Extending.{beat-takes, extend, extend_last, extended, timeline_of-append}
@@ -84,10 +85,27 @@ extend-ended job c h (attempt ∷ first) rest due ending all =
       | Some end ↦ λ some. ap (before attempt) (extend-ended job c (pair_of end ∷ h) first rest due ending all.1)
     ] all.0
 
-pub history_of-running : (attempts : List AttemptedValue) (s : ℕ) → history_of (attempts ++ record { begun = s; ended = None } ∷ []) ≡ history_of attempts
-history_of-running attempts s = fold-append _ [] attempts (record { begun = s; ended = None } ∷ [])
+pub history_after-running : (attempts : List AttemptedValue) (s : ℕ) → history_after (attempts ++ record { begun = s; ended = None } ∷ []) ≡ history_after attempts
+history_after-running attempts s = fold-append _ [] attempts (record { begun = s; ended = None } ∷ [])
 
 module _ (job : JobRecord) (script : IsScript job.script) where
+  -- the moments so far are before a moment at which the job is due
+  due-later : (attempts : List AttemptedValue) (x seen polls : ℕ) → IsOnTimeline job (record { attempts = attempts; due = Some x; ending = None }) polls → x ≤ seen
+      → AllBefore (poll_moments attempts) seen
+  due-later attempts x seen polls stands due =
+      let moments = poll_moments attempts in
+      let waits : first_tick_from moments x ≡ None =
+      timeline_of-waits job moments script (max_tick + 1) (omega arith) stands.clock.bounded x (sym (ap (λ (timeline : Timeline). timeline.due) stands.same)) in
+      AllBefore-later moments x seen (AllBefore-none moments x waits) due
+
+  -- where a due poll at a moment brings the job
+  pub polled-extended : (attempts : List AttemptedValue) (x seen polls : ℕ) → IsOnTimeline job (record { attempts = attempts; due = Some x; ending = None }) polls
+      → x ≤ seen → seen ≤ max_tick
+      → timeline_of job (poll_moments attempts ++ seen ∷ []) ≡ extended job seen [] (record { attempts = attempts; due = Some x; ending = None })
+  polled-extended attempts x seen polls stands due bounded =
+      timeline_of-append job script (poll_moments attempts) seen (due-later attempts x seen polls stands due) (omega arith)
+      ∙ ap (extended job seen []) (sym stands.same)
+
   -- what a due poll at a moment makes of a job's timeline
   pub advance : (attempts : List AttemptedValue) (x seen polls : ℕ) (new : Timeline)
       → IsOnTimeline job (record { attempts = attempts; due = Some x; ending = None }) polls → x ≤ seen → seen ≤ max_tick
@@ -98,14 +116,11 @@ module _ (job : JobRecord) (script : IsScript job.script) where
   unfolding poll_moments
   advance attempts x seen polls new stands due bounded made few more =
       let moments = poll_moments attempts in
-      let waits : first_tick_from moments x ≡ None =
-      timeline_of-waits job moments script (max_tick + 1) (omega arith) stands.clock.bounded x (sym (ap (λ (timeline : Timeline). timeline.due) stands.same)) in
-      let past : AllBefore moments seen = AllBefore-later moments x seen (AllBefore-none moments x waits) due in
+      let past : AllBefore moments seen = due-later attempts x seen polls stands due in
       let grown : poll_moments new.attempts ≡ moments ++ seen ∷ [] =
-      elim more [ inl one ↦ rw one (moments-one (flat_map moments_of attempts) seen past) | inr two ↦ rw two (moments-two (flat_map moments_of attempts) seen past) ] in
-      let extends = timeline_of-append job script moments seen past (omega arith) in (
+      elim more [ inl one ↦ rw one (moments-one (flat_map moments_of attempts) seen past) | inr two ↦ rw two (moments-two (flat_map moments_of attempts) seen past) ] in (
         record {
-          same = rw grown (made ∙ sym (extends ∙ ap (extended job seen []) (sym stands.same)));
+          same = rw grown (made ∙ sym (polled-extended attempts x seen polls stands due bounded));
           clock = rw grown (AreTicks-append moments seen stands.clock past bounded);
           counted = rw (grown, length-append moments (seen ∷ [])) (omega (arith, stands.counted));
           few = omega (arith, stands.few);

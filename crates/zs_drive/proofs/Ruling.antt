@@ -13,11 +13,12 @@ use Rattle.zs_drive.specs.declared.record.Ending.{Ending}
 use Rattle.zs_drive.specs.Clocks.{first_tick_from}
 use Rattle.zs_drive.specs.Values.{JobRecord, AttemptedValue, EndedValue}
 use Rattle.zs_drive.specs.Timeline.{Timeline, number_of, ending_by_outcome, ended_attempt, beat_after}
-use Rattle.zs_drive.specs.Recorded.{history_of, AllEnded}
+use Rattle.zs_drive.specs.Recorded.{AllEnded}
+use Rattle.zs_drive.specs.DriverRules.{history_after}
 use Rattle.zs_drive.proofs.Follows.{GoesOn, IsAsked, EndsAt, Follows}
 use Rattle.zs_drive.specs.DriverRules.{IsTimeline, EndsBy, BeginsAfter, BeginsOn, asked_unless}
 use Rattle.zs_drive.proofs.Ticks.{lt_cases, first_tick_from-from}
-use Rattle.zs_drive.proofs.Steps.{length-history_of, history_of-ended, AllEnded-append}
+use Rattle.zs_drive.proofs.Steps.{length-history_after, history_after-ended, AllEnded-append}
 
 -- the least tick at or after x is the least at or after itself
 pub first_tick_from-again : (ticks : List ℕ) (x e : ℕ) → first_tick_from ticks x ≡ Some e → first_tick_from ticks e ≡ Some e
@@ -68,8 +69,8 @@ module _ (job : JobRecord) (ticks : List ℕ) where
         → timeline.attempts ≡ p ++ record { begun = s; ended = Some (record { at = e; outcome = outcome; step = step }) } ∷ later
         → first_tick_from ticks w ≡ Some e → ending_by_outcome job.mode outcome ≡ None → step ≡ Some (answer output decision)
         → ((y : ℕ) → step ≡ Some (answer output (Next y)) → Starts (max y e) timeline.due timeline.ending later
-        → Follows job ticks later timeline.due timeline.ending ((e, number_of outcome) ∷ history_of p) (max y e))
-        → GoesOn job ticks (Follows job ticks later timeline.due timeline.ending) (history_of p) later timeline.due timeline.ending (record { at = e; outcome = outcome; step = step }) decision
+        → Follows job ticks later timeline.due timeline.ending ((e, number_of outcome) ∷ history_after p) (max y e))
+        → GoesOn job ticks (Follows job ticks later timeline.due timeline.ending) (history_after p) later timeline.due timeline.ending (record { at = e; outcome = outcome; step = step }) decision
     down-goes p later s w e outcome step output Stop is at by stepped again =
         let a : AttemptedValue = record { begun = s; ended = Some (record { at = e; outcome = outcome; step = step }) } in
         let empty : later ≡ [] = no-later p later a is (λ b begins. rw stepped at begins) in
@@ -81,27 +82,27 @@ module _ (job : JobRecord) (ticks : List ℕ) where
     down-asked : (p later : List AttemptedValue) (s w e : ℕ) (outcome : Outcome) (step : Option Answer) (by : Option Ending)
         → timeline.attempts ≡ p ++ record { begun = s; ended = Some (record { at = e; outcome = outcome; step = step }) } ∷ later
         → first_tick_from ticks w ≡ Some e → ending_by_outcome job.mode outcome ≡ by
-        → step ≡ asked_unless job ticks by (answer_of job.schedule ((e, number_of outcome) ∷ history_of p))
+        → step ≡ asked_unless job ticks by (answer_of job.schedule ((e, number_of outcome) ∷ history_after p))
         → ((y : ℕ) (output : Output) → step ≡ Some (answer output (Next y)) → Starts (max y e) timeline.due timeline.ending later
-        → Follows job ticks later timeline.due timeline.ending ((e, number_of outcome) ∷ history_of p) (max y e))
-        → IsAsked job ticks (Follows job ticks later timeline.due timeline.ending) (history_of p) later timeline.due timeline.ending (record { at = e; outcome = outcome; step = step }) by
+        → Follows job ticks later timeline.due timeline.ending ((e, number_of outcome) ∷ history_after p) (max y e))
+        → IsAsked job ticks (Follows job ticks later timeline.due timeline.ending) (history_after p) later timeline.due timeline.ending (record { at = e; outcome = outcome; step = step }) by
     down-asked p later s w e outcome step (Some x) is at by stepped again =
         let a : AttemptedValue = record { begun = s; ended = Some (record { at = e; outcome = outcome; step = step }) } in
         let empty : later ≡ [] = no-later p later a is (λ b begins. rw stepped at begins) in
         let stops = rw by at (t.last p a (is ∙ ap (λ (l : List AttemptedValue). p ++ a ∷ l) empty)) in
         (stepped, empty, stops.0, stops.1)
     down-asked p later s w e outcome step None is at by stepped again =
-        let answered = answer_of job.schedule ((e, number_of outcome) ∷ history_of p) in
+        let answered = answer_of job.schedule ((e, number_of outcome) ∷ history_after p) in
         (stepped, down-goes p later s w e outcome step answered.output answered.decision is at by stepped (λ y. again y answered.output))
 
     down-end : (p later : List AttemptedValue) (s : ℕ) (ended : Option EndedValue) → AllEnded p
         → timeline.attempts ≡ p ++ record { begun = s; ended = ended } ∷ later
         → ((e y : ℕ) (outcome : Outcome) (step : Option Answer) → ended ≡ Some (record { at = e; outcome = outcome; step = step }) → Starts (max y e) timeline.due timeline.ending later
-        → Follows job ticks later timeline.due timeline.ending ((e, number_of outcome) ∷ history_of p) (max y e))
-        → EndsAt job ticks (Follows job ticks later timeline.due timeline.ending) (history_of p) later timeline.due timeline.ending (saturated (s + (beat_after job (history_of p)).ms)) ended
+        → Follows job ticks later timeline.due timeline.ending ((e, number_of outcome) ∷ history_after p) (max y e))
+        → EndsAt job ticks (Follows job ticks later timeline.due timeline.ending) (history_after p) later timeline.due timeline.ending (saturated (s + (beat_after job (history_after p)).ms)) ended
     down-end p later s None all is again =
         let a : AttemptedValue = record { begun = s; ended = None } in
-        let count : length p ≡ length (history_of p) = sym (length-history_of p all) in
+        let count : length p ≡ length (history_after p) = sym (length-history_after p all) in
         let at : first_tick_from ticks (saturated (s + (entry_at job.script (length p + 1)).ms)) ≡ None = t.ends p later a is in
         let empty : later ≡ [] = no-later p later a is (λ b begins. begins) in
         let stops : (timeline.due ≡ Some (saturated (s + (entry_at job.script (length p + 1)).ms))) × (timeline.ending ≡ None) = t.last p a (is ∙ ap (λ (l : List AttemptedValue). p ++ a ∷ l) empty) in
@@ -109,19 +110,19 @@ module _ (job : JobRecord) (ticks : List ℕ) where
         (rw count at at, empty, rw count at waits, stops.1)
     down-end p later s (Some end) all is again =
         let a : AttemptedValue = record { begun = s; ended = Some end } in
-        let count : length p ≡ length (history_of p) = sym (length-history_of p all) in
+        let count : length p ≡ length (history_after p) = sym (length-history_after p all) in
         let ends : EndsBy job ticks p s end = t.ends p later a is in
         let at : first_tick_from ticks (saturated (s + (entry_at job.script (length p + 1)).ms)) ≡ Some end.at = ends.at in
         let own : end.outcome ≡ (entry_at job.script (length p + 1)).outcome = ends.outcome in
-        let late : first_tick_from ticks (saturated (s + (beat_after job (history_of p)).ms)) ≡ Some end.at = rw count at at in (
+        let late : first_tick_from ticks (saturated (s + (beat_after job (history_after p)).ms)) ≡ Some end.at = rw count at at in (
           late,
           rw count at own,
-          down-asked p later s (saturated (s + (beat_after job (history_of p)).ms)) end.at end.outcome end.step (ending_by_outcome job.mode end.outcome) is late refl ends.step
+          down-asked p later s (saturated (s + (beat_after job (history_after p)).ms)) end.at end.outcome end.step (ending_by_outcome job.mode end.outcome) is late refl ends.step
               (λ y output stepped. again end.at y end.outcome end.step refl),
         )
 
     down : (attempts p : List AttemptedValue) (x : ℕ) → AllEnded p → timeline.attempts ≡ p ++ attempts → Starts x timeline.due timeline.ending attempts
-        → Follows job ticks attempts timeline.due timeline.ending (history_of p) x
+        → Follows job ticks attempts timeline.due timeline.ending (history_after p) x
     unfolding Follows
     down [] p x all is starts = starts
     down (a ∷ later) p x all is starts = (
@@ -130,7 +131,7 @@ module _ (job : JobRecord) (ticks : List ℕ) where
           let q : AttemptedValue = ended_attempt a.begun e outcome step in
           let same : a ≡ q = ap (λ (o : Option EndedValue). record { begun = a.begun; ended = o }) ended in
           let split : timeline.attempts ≡ (p ++ q ∷ []) ++ later = is ∙ ap (λ (b : AttemptedValue). p ++ b ∷ later) same ∙ sym (append_assoc p (q ∷ []) later) in
-          subst (λ (h : History). Follows job ticks later timeline.due timeline.ending h (max y e)) (history_of-ended p a.begun e outcome step)
+          subst (λ (h : History). Follows job ticks later timeline.due timeline.ending h (max y e)) (history_after-ended p a.begun e outcome step)
           (down later (p ++ q ∷ []) (max y e) (AllEnded-append p a.begun e outcome step all) split begins)),
     )
 

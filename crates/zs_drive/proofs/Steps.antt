@@ -17,7 +17,8 @@ use Rattle.zs_step.specs.declared.decision.Decision.TheVariants.{Stop, Next}
 use Rattle.zs_drive.specs.declared.record.Ending.{Ending}
 use Rattle.zs_drive.specs.Values.{JobRecord, AttemptedValue, attempted_of, ended_of}
 use Rattle.zs_drive.specs.Timeline.{Timeline, before, waiting, running, number_of, ended_attempt, ending_by_outcome, ending_by_schedule, beat_after, by_answer, by_outcome, moments_of}
-use Rattle.zs_drive.specs.Recorded.{pair_of, longer_by, history_from, history_of, AllEnded}
+use Rattle.zs_drive.specs.Recorded.{AllEnded}
+use Rattle.zs_drive.specs.DriverRules.{pair_of, longer_by, history_from, history_after}
 use Rattle.zs_drive.proofs.Ticks.{lt_cases}
 use Rattle.zs_drive.proofs.Moments.{fold-append, flat_map-append}
 use Rattle.zs_drive.proofs.Extending.{resume, close, extend, extend_none, extend_last, extended}
@@ -34,8 +35,8 @@ length-history_from h (attempt ∷ attempts) all =
     elim attempt.ended as (λ o. IsSome o → length (history_from (longer_by h o) attempts) ≡ length h + suc (length attempts))
     [ None ↦ λ some. cc | Some end ↦ λ some. let rest = length-history_from (pair_of end ∷ h) attempts all.1 in omega arith ] all.0
 
-pub length-history_of : (attempts : List AttemptedValue) → AllEnded attempts → length (history_of attempts) ≡ length attempts
-length-history_of attempts all = length-history_from [] attempts all ∙ omega arith
+pub length-history_after : (attempts : List AttemptedValue) → AllEnded attempts → length (history_after attempts) ≡ length attempts
+length-history_after attempts all = length-history_from [] attempts all ∙ omega arith
 
 pub AllEnded-append : (attempts : List AttemptedValue) (s e : ℕ) (outcome : Outcome) (step : Option Answer) → AllEnded attempts
     → AllEnded (attempts ++ ended_attempt s e outcome step ∷ [])
@@ -43,9 +44,9 @@ unfolding AllEnded
 AllEnded-append [] s e outcome step all = (refl, tt)
 AllEnded-append (attempt ∷ attempts) s e outcome step all = (all.0, AllEnded-append attempts s e outcome step all.1)
 
-pub history_of-ended : (attempts : List AttemptedValue) (s e : ℕ) (outcome : Outcome) (step : Option Answer)
-    → history_of (attempts ++ ended_attempt s e outcome step ∷ []) ≡ (e, number_of outcome) ∷ history_of attempts
-history_of-ended attempts s e outcome step = fold-append _ [] attempts (ended_attempt s e outcome step ∷ [])
+pub history_after-ended : (attempts : List AttemptedValue) (s e : ℕ) (outcome : Outcome) (step : Option Answer)
+    → history_after (attempts ++ ended_attempt s e outcome step ∷ []) ≡ (e, number_of outcome) ∷ history_after attempts
+history_after-ended attempts s e outcome step = fold-append _ [] attempts (ended_attempt s e outcome step ∷ [])
 
 -- an element in the middle of a list is written
 pub set-middle : {A : Type 0} (xs : List A) (y z : A) (ys : List A) → slice_set (xs ++ y ∷ ys) (length xs) z ≡ xs ++ z ∷ ys
@@ -69,23 +70,23 @@ module _ (job : JobRecord) (seen : ℕ) where
       ≡ extended job seen [] (record { attempts = attempts; due = Some x; ending = None })
   unfolding extend extend_none
   begins attempts x all due =
-      let same : length (history_of attempts) ≡ length attempts = length-history_of attempts all in
+      let same : length (history_after attempts) ≡ length attempts = length-history_after attempts all in
       let whole = rw (append-nil attempts) at (extend-ended job seen [] attempts [] (Some x) None all) in
-      let soon = rw same at (resume-soon (history_of attempts) x due) in
+      let soon = rw same at (resume-soon (history_after attempts) x due) in
       sym (whole ∙ ap (after attempts) soon)
 
   -- the attempt that runs ends
-  closes : (others : List AttemptedValue) (s w : ℕ) → AllEnded others → w ≤ seen
+  pub closes : (others : List AttemptedValue) (s w : ℕ) → AllEnded others → w ≤ seen
       → extended job seen [] (record { attempts = others ++ runs s ∷ []; due = Some w; ending = None })
-      ≡ after others (let outcome = (beat_after job (history_of others)).outcome in by_outcome job (resume job seen) (history_of others) s seen outcome (ending_by_outcome job.mode outcome))
+      ≡ after others (let outcome = (beat_after job (history_after others)).outcome in by_outcome job (resume job seen) (history_after others) s seen outcome (ending_by_outcome job.mode outcome))
   unfolding extend extend_last close
   closes others s w all due =
       extend-ended job seen [] others (runs s ∷ []) (Some w) None all
-      ∙ ap (after others) (lt_cases seen w (λ b. (if b then running s w else (let outcome = (beat_after job (history_of others)).outcome in by_outcome job (resume job seen) (history_of others) s seen outcome (ending_by_outcome job.mode outcome)))
-      ≡ (let outcome = (beat_after job (history_of others)).outcome in by_outcome job (resume job seen) (history_of others) s seen outcome (ending_by_outcome job.mode outcome)))
+      ∙ ap (after others) (lt_cases seen w (λ b. (if b then running s w else (let outcome = (beat_after job (history_after others)).outcome in by_outcome job (resume job seen) (history_after others) s seen outcome (ending_by_outcome job.mode outcome)))
+      ≡ (let outcome = (beat_after job (history_after others)).outcome in by_outcome job (resume job seen) (history_after others) s seen outcome (ending_by_outcome job.mode outcome)))
       (λ l. absurd (omega arith)) (λ _. refl))
 
-  module _ (others : List AttemptedValue) (s w : ℕ) (outcome : Outcome) (all : AllEnded others) (due : w ≤ seen) (is : outcome ≡ (beat_after job (history_of others)).outcome) where
+  module _ (others : List AttemptedValue) (s w : ℕ) (outcome : Outcome) (all : AllEnded others) (due : w ≤ seen) (is : outcome ≡ (beat_after job (history_after others)).outcome) where
     -- the outcome itself ends the job
     pub ends-by_outcome : (ending : Ending) → ending_by_outcome job.mode outcome ≡ Some ending
         → record { attempts = others ++ ended_attempt s seen outcome None ∷ []; due = None; ending = Some ending }
@@ -96,35 +97,35 @@ module _ (job : JobRecord) (seen : ℕ) where
 
     -- the schedule is asked, and answers this
     module _ (none : ending_by_outcome job.mode outcome ≡ None) where
-      pub ends-by_answer : (output : Output) (decision : Decision) → answer output decision ≡ answer_of job.schedule ((seen, number_of outcome) ∷ history_of others)
+      pub ends-by_answer : (output : Output) (decision : Decision) → answer output decision ≡ answer_of job.schedule ((seen, number_of outcome) ∷ history_after others)
           → extended job seen [] (record { attempts = others ++ runs s ∷ []; due = Some w; ending = None })
-          ≡ after others (by_answer job (resume job seen) ((seen, number_of outcome) ∷ history_of others) s seen outcome output decision)
+          ≡ after others (by_answer job (resume job seen) ((seen, number_of outcome) ∷ history_after others) s seen outcome output decision)
       unfolding by_outcome
       ends-by_answer output decision answered =
           let whole = rw (← is, none, ← answered) at (closes others s w all due) in whole
 
-  module _ (others : List AttemptedValue) (s w : ℕ) (outcome : Outcome) (all : AllEnded others) (due : w ≤ seen) (is : outcome ≡ (beat_after job (history_of others)).outcome)
+  module _ (others : List AttemptedValue) (s w : ℕ) (outcome : Outcome) (all : AllEnded others) (due : w ≤ seen) (is : outcome ≡ (beat_after job (history_after others)).outcome)
       (none : ending_by_outcome job.mode outcome ≡ None) (output : Output) where
     -- the schedule is done
-    pub stops : answer output Stop ≡ answer_of job.schedule ((seen, number_of outcome) ∷ history_of others)
+    pub stops : answer output Stop ≡ answer_of job.schedule ((seen, number_of outcome) ∷ history_after others)
         → record { attempts = others ++ ended_attempt s seen outcome (Some (answer output Stop)) ∷ []; due = None; ending = Some (ending_by_schedule job.mode outcome) }
         ≡ extended job seen [] (record { attempts = others ++ runs s ∷ []; due = Some w; ending = None })
     unfolding by_answer
     stops answered = sym (ends-by_answer others s w outcome all due is none output Stop answered)
 
     -- the next attempt is later
-    pub waits : (x : ℕ) → answer output (Next x) ≡ answer_of job.schedule ((seen, number_of outcome) ∷ history_of others) → seen < x
+    pub waits : (x : ℕ) → answer output (Next x) ≡ answer_of job.schedule ((seen, number_of outcome) ∷ history_after others) → seen < x
         → record { attempts = others ++ ended_attempt s seen outcome (Some (answer output (Next x))) ∷ []; due = Some x; ending = None }
         ≡ extended job seen [] (record { attempts = others ++ runs s ∷ []; due = Some w; ending = None })
     unfolding by_answer
     waits x answered later =
         let greater : max x seen ≡ x = omega arith in
-        let whole = rw (greater, resume-late ((seen, number_of outcome) ∷ history_of others) x later)
+        let whole = rw (greater, resume-late ((seen, number_of outcome) ∷ history_after others) x later)
         at (ends-by_answer others s w outcome all due is none output (Next x) answered) in
         sym whole
 
     -- the next attempt begins in the same poll
-    pub restarts : (x : ℕ) → answer output (Next x) ≡ answer_of job.schedule ((seen, number_of outcome) ∷ history_of others) → x ≤ seen
+    pub restarts : (x : ℕ) → answer output (Next x) ≡ answer_of job.schedule ((seen, number_of outcome) ∷ history_after others) → x ≤ seen
         → record {
           attempts = others ++ ended_attempt s seen outcome (Some (answer output (Next x))) ∷ runs seen ∷ [];
           due = Some (saturated (seen + (entry_at job.script (length (others ++ runs s ∷ []) + 1)).ms));
@@ -134,9 +135,9 @@ module _ (job : JobRecord) (seen : ℕ) where
     unfolding by_answer
     restarts x answered soon =
         let greater : max x seen ≡ seen = omega arith in
-        let longer = (seen, number_of outcome) ∷ history_of others in
+        let longer = (seen, number_of outcome) ∷ history_after others in
         let same : length longer ≡ length (others ++ runs s ∷ []) =
-        let n = length-history_of others all in let m = length-append others (runs s ∷ []) in omega arith in
+        let n = length-history_after others all in let m = length-append others (runs s ∷ []) in omega arith in
         let begun = rw same at (resume-soon longer seen (omega arith)) in
         let whole = rw greater at (ends-by_answer others s w outcome all due is none output (Next x) answered) in
         sym (whole ∙ ap (λ (timeline : Timeline). after others (before (ended_attempt s seen outcome (Some (answer output (Next x)))) timeline)) begun)

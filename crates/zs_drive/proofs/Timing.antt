@@ -13,11 +13,12 @@ use Rattle.zs_drive.specs.declared.record.Ending.{Ending}
 use Rattle.zs_drive.specs.Clocks.{first_tick_from}
 use Rattle.zs_drive.specs.Values.{JobRecord, AttemptedValue, EndedValue}
 use Rattle.zs_drive.specs.Timeline.{Timeline, number_of, ending_by_outcome, ended_attempt, beat_after}
-use Rattle.zs_drive.specs.Recorded.{history_of, AllEnded}
+use Rattle.zs_drive.specs.Recorded.{AllEnded}
+use Rattle.zs_drive.specs.DriverRules.{history_after}
 use Rattle.zs_drive.proofs.Follows.{GoesOn, IsAsked, EndsAt, Follows}
 use Rattle.zs_drive.specs.DriverRules.{IsTimeline, IsEnd, IsLast, StopsBy, StopsOn, BeginsAfter, asked_unless}
 use Rattle.zs_drive.proofs.Ticks.{lt_cases}
-use Rattle.zs_drive.proofs.Steps.{length-history_of, history_of-ended, AllEnded-append}
+use Rattle.zs_drive.proofs.Steps.{length-history_after, history_after-ended, AllEnded-append}
 use Rattle.zs_drive.proofs.Ruling.{first_tick_from-again}
 
 not-empty : (xs ys : List AttemptedValue) (a : AttemptedValue) → xs ++ a ∷ ys ≡ [] → ⊥
@@ -61,20 +62,20 @@ module _ (job : JobRecord) (ticks : List ℕ) (due : Option ℕ) (ending : Optio
   record Reaches (p later : List AttemptedValue) (a : AttemptedValue) : Type 0 where
     pub x : ℕ
     pub all : AllEnded p
-    pub follows : Follows job ticks (a ∷ later) due ending (history_of p) x
+    pub follows : Follows job ticks (a ∷ later) due ending (history_after p) x
 
   reaches : (earlier later : List AttemptedValue) (a : AttemptedValue) (p : List AttemptedValue) (x : ℕ) → AllEnded p
-      → Follows job ticks (earlier ++ a ∷ later) due ending (history_of p) x → Reaches (p ++ earlier) later a
+      → Follows job ticks (earlier ++ a ∷ later) due ending (history_after p) x → Reaches (p ++ earlier) later a
   unfolding Follows
   reaches [] later a p x all follows = rw (append-nil p) (record { x = x; all = all; follows = follows })
   reaches (b ∷ earlier) later a p x all follows =
-      let g = goes (earlier ++ a ∷ later) (history_of p) (saturated (b.begun + (beat_after job (history_of p)).ms)) b.ended (not-empty earlier later a) follows.1 in
+      let g = goes (earlier ++ a ∷ later) (history_after p) (saturated (b.begun + (beat_after job (history_after p)).ms)) b.ended (not-empty earlier later a) follows.1 in
       let step : Option Answer = Some (answer g.output (Next g.y)) in
       let q : AttemptedValue = ended_attempt b.begun g.e g.outcome step in
       let same : b ≡ q = ap (λ (o : Option EndedValue). record { begun = b.begun; ended = o }) g.is in
       let rest : Reaches ((p ++ q ∷ []) ++ earlier) later a =
       reaches earlier later a (p ++ q ∷ []) (max g.y g.e) (AllEnded-append p b.begun g.e g.outcome step all)
-      (subst (λ (h : History). Follows job ticks (earlier ++ a ∷ later) due ending h (max g.y g.e)) (sym (history_of-ended p b.begun g.e g.outcome step)) g.follows) in
+      (subst (λ (h : History). Follows job ticks (earlier ++ a ∷ later) due ending h (max g.y g.e)) (sym (history_after-ended p b.begun g.e g.outcome step)) g.follows) in
       subst (λ (ps : List AttemptedValue). Reaches ps later a) (append_assoc p (q ∷ []) earlier ∙ ap (λ (c : AttemptedValue). p ++ c ∷ earlier) (sym same)) rest
 
   -- how an attempt ended
@@ -85,16 +86,16 @@ module _ (job : JobRecord) (ticks : List ℕ) (due : Option ℕ) (ending : Optio
   step-asked later h end None asked = asked.0
 
   end-keeps : (p later : List AttemptedValue) (s : ℕ) (ended : Option EndedValue) → AllEnded p
-      → EndsAt job ticks (Follows job ticks later due ending) (history_of p) later due ending (saturated (s + (beat_after job (history_of p)).ms)) ended
+      → EndsAt job ticks (Follows job ticks later due ending) (history_after p) later due ending (saturated (s + (beat_after job (history_after p)).ms)) ended
       → IsEnd job ticks p s ended
   end-keeps p later s None all ends =
-      let count : length (history_of p) ≡ length p = length-history_of p all in
-      let at : first_tick_from ticks (saturated (s + (entry_at job.script (length (history_of p) + 1)).ms)) ≡ None = ends.0 in rw count at at
+      let count : length (history_after p) ≡ length p = length-history_after p all in
+      let at : first_tick_from ticks (saturated (s + (entry_at job.script (length (history_after p) + 1)).ms)) ≡ None = ends.0 in rw count at at
   end-keeps p later s (Some end) all ends =
-      let count : length (history_of p) ≡ length p = length-history_of p all in
-      let at : first_tick_from ticks (saturated (s + (entry_at job.script (length (history_of p) + 1)).ms)) ≡ Some end.at = ends.0 in
-      let own : end.outcome ≡ (entry_at job.script (length (history_of p) + 1)).outcome = ends.1 in
-      record { at = rw count at at; outcome = rw count at own; step = step-asked later (history_of p) end (ending_by_outcome job.mode end.outcome) ends.2 }
+      let count : length (history_after p) ≡ length p = length-history_after p all in
+      let at : first_tick_from ticks (saturated (s + (entry_at job.script (length (history_after p) + 1)).ms)) ≡ Some end.at = ends.0 in
+      let own : end.outcome ≡ (entry_at job.script (length (history_after p) + 1)).outcome = ends.1 in
+      record { at = rw count at at; outcome = rw count at own; step = step-asked later (history_after p) end (ending_by_outcome job.mode end.outcome) ends.2 }
 
   -- when the next attempt begins
   next-keeps : (later : List AttemptedValue) (b : AttemptedValue) (h : History) (w : ℕ) (ended : Option EndedValue) → Goes (b ∷ later) h w ended → BeginsAfter job ticks b.begun ended
@@ -127,13 +128,13 @@ module _ (job : JobRecord) (ticks : List ℕ) (due : Option ℕ) (ending : Optio
       rw asked.0 (last-on h w end (answer_of job.schedule ((end.at, number_of end.outcome) ∷ h)).decision at asked.1)
 
   last-keeps : (p : List AttemptedValue) (s : ℕ) (ended : Option EndedValue) → AllEnded p
-      → EndsAt job ticks (Follows job ticks [] due ending) (history_of p) [] due ending (saturated (s + (beat_after job (history_of p)).ms)) ended
+      → EndsAt job ticks (Follows job ticks [] due ending) (history_after p) [] due ending (saturated (s + (beat_after job (history_after p)).ms)) ended
       → IsLast job ticks p s due ending ended
   last-keeps p s None all ends =
-      let count : length (history_of p) ≡ length p = length-history_of p all in
-      let waits : due ≡ Some (saturated (s + (entry_at job.script (length (history_of p) + 1)).ms)) = ends.2 in (rw count at waits, ends.3)
+      let count : length (history_after p) ≡ length p = length-history_after p all in
+      let waits : due ≡ Some (saturated (s + (entry_at job.script (length (history_after p) + 1)).ms)) = ends.2 in (rw count at waits, ends.3)
   last-keeps p s (Some end) all ends =
-      last-by (history_of p) (saturated (s + (beat_after job (history_of p)).ms)) end (ending_by_outcome job.mode end.outcome) ends.0 ends.2
+      last-by (history_after p) (saturated (s + (beat_after job (history_after p)).ms)) end (ending_by_outcome job.mode end.outcome) ends.0 ends.2
 
 module _ (job : JobRecord) (ticks : List ℕ) where
   -- a timeline that follows from the start on keeps the rules at each place
@@ -149,7 +150,7 @@ module _ (job : JobRecord) (ticks : List ℕ) where
         ends = λ earlier later a is. let r = at earlier later a is in end-keeps job ticks timeline.due timeline.ending earlier later a.begun a.ended r.all r.follows.1;
         next = λ earlier later a b is.
             let r = at earlier (b ∷ later) a is in
-            next-keeps job ticks timeline.due timeline.ending later b (history_of earlier) (saturated (a.begun + (beat_after job (history_of earlier)).ms)) a.ended
-            (goes job ticks timeline.due timeline.ending (b ∷ later) (history_of earlier) (saturated (a.begun + (beat_after job (history_of earlier)).ms)) a.ended (not-empty [] later b) r.follows.1);
+            next-keeps job ticks timeline.due timeline.ending later b (history_after earlier) (saturated (a.begun + (beat_after job (history_after earlier)).ms)) a.ended
+            (goes job ticks timeline.due timeline.ending (b ∷ later) (history_after earlier) (saturated (a.begun + (beat_after job (history_after earlier)).ms)) a.ended (not-empty [] later b) r.follows.1);
         last = λ earlier a is. let r = at earlier [] a is in last-keeps job ticks timeline.due timeline.ending earlier a.begun a.ended r.all r.follows.1;
       }

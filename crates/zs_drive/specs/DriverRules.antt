@@ -1,16 +1,33 @@
 -- The rules of ZIO's `retry` and `repeat` on a clock, for each place in the list of a job's attempts. None recurs:
 -- a reader of `Timeline` need not follow its recursion, since the law `one_timeline` says that it is the one list that keeps them.
-use Rattle.std.specs.Prelude.{◌≡◌, ℕ, ◌+◌, ◌≤◌, ◌<◌, List, [], ◌∷◌, ◌++◌, length, Option, Some, None}
+use Rattle.std.specs.Prelude.{◌≡◌, ℕ, ◌+◌, ◌≤◌, ◌<◌, List, [], ◌∷◌, ◌++◌, length, fold, Option, Some, None}
 use Rattle.zs_term.specs.Saturating.{saturated}
 use Rattle.zs_effect.specs.Scripts.{IsScript, entry_at}
 use Rattle.zs_step.specs.declared.decision.Decision.{Decision}
 use Rattle.zs_step.specs.declared.decision.Decision.TheVariants.{Stop, Next}
+use Rattle.zs_step.specs.History.{History}
 use Rattle.zs_step.specs.Answer.{Answer, answer_of}
 use Rattle.zs_drive.specs.declared.record.Ending.{Ending}
 use Rattle.zs_drive.specs.Clocks.{first_tick_from, AreTicks}
 use Rattle.zs_drive.specs.Values.{JobRecord, AttemptedValue, EndedValue}
 use Rattle.zs_drive.specs.Timeline.{Timeline, from, timeline_of, number_of, ending_by_outcome, ending_by_schedule}
-use Rattle.zs_drive.specs.Recorded.{history_of}
+
+-- what the end of an attempt adds to the history of the schedule
+abbrev pub pair_of : EndedValue → ℕ × ℕ
+pair_of ended = (ended.at, number_of ended.outcome)
+
+-- an attempt that runs adds nothing
+abbrev pub longer_by : History → Option EndedValue → History
+longer_by h None = h
+longer_by h (Some ended) = pair_of ended ∷ h
+
+-- a history with the ends of these attempts, the last one first
+abbrev pub history_from : History → List AttemptedValue → History
+history_from h attempts = fold (λ g attempt. longer_by g attempt.ended) h attempts
+
+-- the history that the schedule is asked about after these attempts
+abbrev pub history_after : List AttemptedValue → History
+history_after attempts = history_from [] attempts
 
 module _ (job : JobRecord) (ticks : List ℕ) where
   -- the moment that an attempt waits for which began at s, after these
@@ -26,7 +43,7 @@ module _ (job : JobRecord) (ticks : List ℕ) where
   pub record EndsBy (earlier : List AttemptedValue) (s : ℕ) (end : EndedValue) : Type 0 where
     pub at : first_tick_from ticks (end_due earlier s) ≡ Some end.at
     pub outcome : end.outcome ≡ (entry_at job.script (length earlier + 1)).outcome
-    pub step : end.step ≡ asked_unless (ending_by_outcome job.mode end.outcome) (answer_of job.schedule ((end.at, number_of end.outcome) ∷ history_of earlier))
+    pub step : end.step ≡ asked_unless (ending_by_outcome job.mode end.outcome) (answer_of job.schedule ((end.at, number_of end.outcome) ∷ history_after earlier))
 
   -- it runs where there is no tick for its end
   abbrev pub IsEnd : List AttemptedValue → ℕ → Option EndedValue → Type 0

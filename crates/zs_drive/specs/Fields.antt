@@ -1,16 +1,17 @@
 -- The fields of a task, and what is seen of them.
-use Rattle.std.specs.Prelude.{◌≡◌, false}
+use Rattle.std.specs.Prelude.{◌≡◌, false, true, None}
 use Rattle.zs_effect.specs.Scripts.{IsScript}
 use Rattle.zs_drive.specs.declared.task.Task.TheInside.{Inside}
 use Rattle.zs_drive.specs.Tasks.{TaskValue}
-use Rattle.zs_drive.specs.Progress.{moments_in, job_value_in, IsProgress, HasState}
+use Rattle.zs_drive.specs.Progress.{moments_in, job_value_in, ending_of, IsProgress, HasState}
 
 -- the value that contracts see
 abbrev pub task_of : Inside → TaskValue
 task_of t = record { number = t.number; job = job_value_in t.progress; moments = moments_in t.progress; seen = t.progress.seen; broken = t.broken }
 
--- a broken task may have lost its schedule's state
+-- a broken task may have lost its schedule's state, and has not ended
 pub record IsTask (t : Inside) : Type 0 where
   pub progress : IsProgress t.progress
   pub state : t.broken ≡ false → HasState t.progress
   pub script : IsScript t.progress.script
+  pub unended : t.broken ≡ true → ending_of t.progress.phase ≡ None

@@ -1,11 +1,12 @@
 -- What contracts see of a task, and what a poll makes of it.
-use Rattle.std.specs.Prelude.{ℕ, ◌≤◌, Bool, List, [], ◌∷◌, ◌++◌, Option, Some, None, Result, Ok, Err, IsSomeAnd, nat_lt, if◌then◌else◌}
+use Rattle.std.specs.Prelude.{◌≡◌, ℕ, ◌≤◌, Bool, List, [], ◌∷◌, ◌++◌, Option, Some, None, Result, Ok, Err, IsSomeAnd, nat_lt, if◌then◌else◌}
 use Rattle.futures.specs.declared.task.Poll.{Poll}
 use Rattle.futures.specs.declared.task.Poll.TheVariants.{Ready, Pending}
+use Rattle.zs_effect.specs.declared.script.Outcome.{Outcome}
 use Rattle.zs_drive.specs.declared.record.Ending.{Ending}
 use Rattle.zs_drive.specs.declared.fault.DriveFault.{DriveFault}
 use Rattle.zs_drive.specs.Values.{JobValue, JobRecord, record_of}
-use Rattle.zs_drive.specs.Timeline.{Timeline, timeline_of}
+use Rattle.zs_drive.specs.Timeline.{Timeline, timeline_of, ending_by_outcome}
 
 -- a job with the moments at which it was polled while it was due
 pub record TaskValue : Type 0 where
@@ -35,6 +36,12 @@ polled_when task (Some due) = if nat_lt task.seen due then task else record task
 -- A poll at or past the moment waited for adds the moment seen. Another changes nothing.
 abbrev pub polled : TaskValue → TaskValue
 polled task = polled_when task (current_timeline task).due
+
+-- the next poll comes to this ending, which an outcome itself gives: a retry has a success, or a repeat a failure
+pub record EndsByOutcome (task : TaskValue) (ending : Ending) : Type 0 where
+  pub outcome : Outcome
+  pub gives : ending_by_outcome task.job.mode outcome ≡ Some ending
+  pub ends : (current_timeline (polled task)).ending ≡ Some ending
 
 -- a poll answers the ending, if there is one
 abbrev pub reply_of : Option Ending → Poll (Result Ending DriveFault)

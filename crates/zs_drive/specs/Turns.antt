@@ -1,12 +1,13 @@
 -- What one poll makes of the fields of a task.
-use Rattle.std.specs.Prelude.{◌≡◌, ℕ, ◌≤◌, ◌<◌, [], ◌∷◌, ◌++◌, ⊤}
+use Rattle.std.specs.Prelude.{◌≡◌, ℕ, ◌≤◌, ◌<◌, [], ◌∷◌, ◌++◌, None, ⊤}
 use Rattle.zs_effect.specs.declared.script.Outcome.{Outcome}
 use Rattle.zs_step.specs.Compiled.{StandsFor}
+use Rattle.zs_drive.specs.declared.job.Mode.{Mode}
 use Rattle.zs_drive.specs.declared.progress.Phase.{Phase}
 use Rattle.zs_drive.specs.declared.progress.Phase.TheVariants.{Waiting, Running, Over}
 use Rattle.zs_drive.specs.declared.progress.Progress.{Progress}
-use Rattle.zs_drive.specs.Timeline.{number_of}
-use Rattle.zs_drive.specs.Recorded.{history_of}
+use Rattle.zs_drive.specs.Timeline.{number_of, ending_by_outcome}
+use Rattle.zs_drive.specs.DriverRules.{history_after}
 use Rattle.zs_drive.specs.Progress.{due_of, ending_of, job_value_in, attempts_of, moments_in, IsProgress, HasState}
 
 -- one due poll was done at the moment seen
@@ -39,7 +40,7 @@ HasRunTo seen outcome (Over ending) = ⊥
 
 -- the schedule's state stands for the records with the outcome of the attempt that has just ended
 abbrev pub WasAsked : Progress → Outcome → Type 0
-WasAsked p outcome = StandsFor p.compiled ((p.seen, number_of outcome) ∷ history_of (attempts_of p))
+WasAsked p outcome = StandsFor p.compiled ((p.seen, number_of outcome) ∷ history_after (attempts_of p))
 
 -- the job is over
 abbrev pub IsOver : Phase → Type 0
@@ -59,8 +60,14 @@ IsDuePhase seen (Waiting due) = due ≤ seen
 IsDuePhase seen (Running attempt) = attempt.end ≤ seen
 IsDuePhase seen (Over ending) = ⊥
 
+-- a due poll takes memory: an attempt begins, or its outcome does not itself end the job
+abbrev pub TakesMemory : Mode → Phase → Type 0
+TakesMemory mode (Waiting due) = ⊤
+TakesMemory mode (Running attempt) = ending_by_outcome mode attempt.outcome ≡ None
+TakesMemory mode (Over ending) = ⊥
+
 -- nothing was done, but a running attempt may have seen a later moment, and the schedule may have been stepped
-pub record IsKept (old new : Progress) : Type 0 where
+pub record StandsStill (old new : Progress) : Type 0 where
   pub progress : IsProgress new
   pub records : new.records.items ≡ old.records.items
   pub job : job_value_in new ≡ job_value_in old
@@ -70,4 +77,4 @@ pub record IsKept (old new : Progress) : Type 0 where
 
 -- nothing was done at all
 abbrev pub IsSame : Progress → Progress → Type 0
-IsSame old new = IsKept old new × HasState new
+IsSame old new = StandsStill old new × HasState new

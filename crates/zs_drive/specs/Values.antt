@@ -22,8 +22,8 @@ pub record JobValue : Type 0 where
   pub script : List Beat
 
 -- what a job stands for
-abbrev pub job_of : Job → JobValue
-job_of job = record { name = string_bytes job.name; mode = job.mode; schedule = job.schedule; start = job.start; script = job.script }
+abbrev pub job_value : Job → JobValue
+job_value job = record { name = string_bytes job.name; mode = job.mode; schedule = job.schedule; start = job.start; script = job.script }
 
 -- a job as plain mathematics: its schedule is a tree with no places in memory
 pub record JobRecord : Type 0 where
@@ -39,7 +39,7 @@ record_of job = record { name = job.name; mode = job.mode; schedule = schedule_o
 
 -- what a job stands for, as plain mathematics
 abbrev pub job_record : Job → JobRecord
-job_record job = record_of (job_of job)
+job_record job = record_of (job_value job)
 
 -- the end of an attempt: when, how, and what the schedule answered, where it was asked
 pub record EndedValue : Type 0 where

@@ -1,5 +1,6 @@
 //! The steps of a task, over its fields.
-ghost use Rattle.std.specs.Prelude.{◌≡◌, ℕ, ◌+◌, ◌≤◌, ◌<◌, List, [], ◌∷◌, ◌++◌, map, length, OnOk, OnErr, IfOk, vec_len};
+ghost use Rattle.std.specs.Prelude.{◌≡◌, ℕ, ◌+◌, ◌≤◌, ◌<◌, List, [], ◌∷◌, ◌++◌, map, length, None, OnOk, OnErr, IfOk, vec_len};
+ghost use Rattle.std.specs.Vec.{vec_capacity};
 ghost use Rattle.futures.specs.Poll.{IfReady, OnPending};
 ghost use Rattle.futures.specs.Task.{IsArmed, Keeps};
 ghost use Rattle.zs_term.specs.Saturating.{saturated};
@@ -10,9 +11,9 @@ ghost use Rattle.zs_step.specs.History.{History};
 ghost use Rattle.zs_step.specs.Answer.{answer, answer_of};
 ghost use Rattle.zs_step.specs.Compiled.{StandsFor, last_seen, compiled_term, compiled_schedule};
 ghost use Rattle.zs_drive.specs.Values.{AttemptedValue, attempted_of, ended_of, step_of};
-ghost use Rattle.zs_drive.specs.Recorded.{history_of};
+ghost use Rattle.zs_drive.specs.DriverRules.{history_after};
 ghost use Rattle.zs_drive.specs.Progress.{IsProgress, HasState, attempts_of, due_of, ending_of};
-ghost use Rattle.zs_drive.specs.Turns.{Advances, Stays, IsWaitingTo, HasRunTo, WasAsked, IsOver, IsEarly, IsDuePhase, IsKept, IsSame};
+ghost use Rattle.zs_drive.specs.Turns.{Advances, Stays, IsWaitingTo, HasRunTo, WasAsked, IsOver, IsEarly, IsDuePhase, StandsStill, IsSame, TakesMemory};
 
 use crate::fault::DriveFault;
 use crate::job::Mode;
@@ -111,10 +112,11 @@ fn end_by_schedule(mode: Mode, outcome: Outcome) -> Ending
     }
 }
 
-// Of a refusal the list is as it was.
+// Of a refusal the list is as it was. Only a full one is refused.
 fn add<T: Drop>(list: &mut Vec<T>, item: T) -> Result<(), DriveFault>
     ensures ok { OnOk result (list.new.items ≡ list.old.items ++ item ∷ []) }
     ensures err { OnErr result (list.new.items ≡ list.old.items) }
+    ensures full { OnErr result (vec_capacity list.old ≤ vec_len list.old) }
 {
     match list.push(item) {
         Ok(()) => Ok(()),
@@ -143,6 +145,7 @@ impl Progress {
         requires script { IsScript self.old.script }
         ensures ok { OnOk result (Advances self.old self.new) }
         ensures err { OnErr result (Stays self.old self.new) }
+        ensures full { OnErr result (vec_capacity self.old.records ≤ vec_len self.old.records) }
     {
         let begun = self.seen;
         let attempted = Attempted { begun, ended: None };
@@ -176,6 +179,7 @@ impl Progress {
         requires script { IsScript self.old.script }
         ensures ok { OnOk result (Advances self.old self.new) }
         ensures err { OnErr result (Stays self.old self.new) }
+        ensures asked { OnErr result (ending_by_outcome self.old.mode outcome ≡ None) }
     {
         match end_by_outcome(self.mode, outcome) {
             Some(ending) => {
@@ -197,7 +201,7 @@ impl Progress {
         requires script { IsScript self.old.script }
         ensures value { Advances self.old self.new }
     {
-        self.settle(outcome, None, Phase::Over(ending));
+        self.end_attempt(outcome, None, Phase::Over(ending));
     }
 
     // The schedule has answered this.
@@ -212,20 +216,21 @@ impl Progress {
         requires state { WasAsked self.old outcome }
         requires running { HasRunTo self.old.seen outcome self.old.phase }
         requires goes_on { ending_by_outcome self.old.mode outcome ≡ None }
-        requires answer { answer (output_of out) decision ≡ answer_of (compiled_schedule self.old.compiled) ((self.old.seen, number_of outcome) ∷ history_of (attempts_of self.old)) }
+        requires answer { answer (output_of out) decision ≡ answer_of (compiled_schedule self.old.compiled) ((self.old.seen, number_of outcome) ∷ history_after (attempts_of self.old)) }
         requires beat { next ≡ entry_at self.old.script (length self.old.records.items + 1) }
         requires script { IsScript self.old.script }
         ensures ok { OnOk result (Advances self.old self.new) }
         ensures err { OnErr result (Stays self.old self.new) }
+        ensures full { OnErr result (vec_capacity self.old.records ≤ vec_len self.old.records) }
     {
         match decision {
             Decision::Stop => {
                 let ending = end_by_schedule(self.mode, outcome);
-                self.settle(outcome, Some((out, decision)), Phase::Over(ending));
+                self.end_attempt(outcome, Some((out, decision)), Phase::Over(ending));
                 Ok(())
             }
             Decision::Next(due) if due > self.seen => {
-                self.settle(outcome, Some((out, decision)), Phase::Waiting(due));
+                self.end_attempt(outcome, Some((out, decision)), Phase::Waiting(due));
                 Ok(())
             }
             Decision::Next(_) => self.restart(outcome, (out, decision), next),
@@ -233,7 +238,7 @@ impl Progress {
     }
 
     // The last attempt ends, and none begins.
-    fn settle(&mut self, outcome: Outcome, step: Option<(Out, Decision)>, phase: Phase)
+    fn end_attempt(&mut self, outcome: Outcome, step: Option<(Out, Decision)>, phase: Phase)
         requires progress { IsProgress self.old }
         requires running { HasRunTo self.old.seen outcome self.old.phase }
         ensures rest { self.new ≡ record self.old { records = self.new.records; phase = phase; polls = self.old.polls + 1 } }
@@ -266,6 +271,7 @@ impl Progress {
             → attempts_of self.old ≡ others ++ record { begun = s; ended = None } ∷ []
             → attempts_of self.new ≡ others ++ ended_attempt s self.old.seen outcome (step_of (Some step)) ∷ record { begun = self.old.seen; ended = None } ∷ []) }
         ensures err { OnErr result (Stays self.old self.new) }
+        ensures full { OnErr result (vec_capacity self.old.records ≤ vec_len self.old.records) }
     {
         let at = self.seen;
         let index = self.records.len() - 1;
@@ -288,8 +294,9 @@ impl Progress {
         ensures over { IsOver self.old.phase → (result ≡ Poll.Ready (Ok tt)) × IsSame self.old self.new }
         ensures early { IsEarly self.old.seen self.old.phase → (result ≡ Poll.Pending) × IsSame self.old self.new }
         ensures due { IsDuePhase self.old.seen self.old.phase
-            → IfReady result (λ done. OnOk done (Advances self.old self.new) × OnErr done (IsKept self.old self.new)) }
+            → IfReady result (λ done. OnOk done (Advances self.old self.new) × OnErr done (StandsStill self.old self.new)) }
         ensures answers { IsDuePhase self.old.seen self.old.phase → OnPending result ⊥ }
+        ensures refused { IfReady result (λ done. OnErr done (TakesMemory self.old.mode self.old.phase)) }
         ensures armed { OnPending result (IsArmed cx.new) }
         ensures kept { Keeps cx.old cx.new }
     {

@@ -4,9 +4,9 @@ ghost use Rattle.futures.specs.Poll.{OnPending};
 ghost use Rattle.futures.specs.Task.{IsArmed, Keeps};
 ghost use Rattle.zs_effect.specs.Scripts.{IsScript};
 ghost use Rattle.zs_drive.specs.Clocks.{AreTicks, max_tick};
-ghost use Rattle.zs_drive.specs.Values.{job_of, attempted_of};
+ghost use Rattle.zs_drive.specs.Values.{job_value, attempted_of};
 ghost use Rattle.zs_drive.specs.Timeline.{poll_moments};
-ghost use Rattle.zs_drive.specs.Tasks.{current_timeline, timeline_at, polled, reply_of, MatchMemory, IsDue};
+ghost use Rattle.zs_drive.specs.Tasks.{current_timeline, timeline_at, polled, reply_of, MatchMemory, IsDue, EndsByOutcome};
 
 use crate::fault::DriveFault;
 use crate::job::{Job, Mode};
@@ -43,9 +43,9 @@ impl Model for Task {
 }
 
 impl Task {
-    /// The task of a job, which has seen moment 0. A refused growth gives up the job.
+    /// The task of a job, which has seen moment 0. For want of memory it answers `Memory`, and the job is given up.
     pub fn new(alloc: Global, number: u64, job: Job) -> Result<Task, DriveFault>
-        ensures made { IfOk result (λ task. task ≡ record { number = number; job = job_of job; moments = []; seen = 0; broken = false }) }
+        ensures made { IfOk result (λ task. task ≡ record { number = number; job = job_value job; moments = []; seen = 0; broken = false }) }
         ensures script { IfOk result (λ task. IsScript task.job.script) }
         ensures memory { IfErr result (λ fault. fault ≡ DriveFault.Memory) }
     {
@@ -117,9 +117,10 @@ impl Task {
         self.progress.records.as_slice()
     }
 
-    /// How the job ended, if it has.
+    /// How the job ended, if it has. A broken task has not.
     pub fn ending(&self) -> Option<Ending>
         ensures value { result ≡ (current_timeline self.now).ending }
+        ensures unbroken { IfSome result (λ _. self.now.broken ≡ false) }
     {
         self.progress.phase.ending()
     }
@@ -138,7 +139,7 @@ impl Task {
         self.progress.phase.due()
     }
 
-    /// Tells it the moment at which the next poll comes, in milliseconds.
+    /// Tells it the moment at which the next poll comes, in milliseconds: not before the last one seen, and at most 999,999,999,999,999.
     pub fn see(&mut self, now: u64)
         requires later { self.old.seen ≤ now }
         requires bounded { now ≤ max_tick }
@@ -151,7 +152,8 @@ impl Task {
 impl Future for Task {
     type Output = Result<Ending, DriveFault>;
 
-    /// At or past the moment waited for: ends the attempt, asks the schedule, and begins the next attempt where it may.
+    /// At or past the moment waited for: ends the attempt, asks the schedule, and begins the next attempt where it may. Where it finds no
+    /// memory it answers `Memory`, and the task is broken.
     fn poll(&mut self, cx: &mut Context<'_>) -> Poll<Result<Ending, DriveFault>>
         ensures answered { MatchMemory result ⊤
             ((self.old.broken ≡ false) × (self.new ≡ polled self.old) × (result ≡ reply_of (current_timeline self.new).ending)) }
@@ -159,8 +161,11 @@ impl Future for Task {
             (((self.old.broken ≡ true) ⊎ IsDue self.old) × (self.new ≡ record self.old { broken = true })) ⊤ }
         ensures early { self.old.broken ≡ false → IsSomeAnd (current_timeline self.old).due (λ due. self.old.seen < due)
             → (result ≡ Poll.Pending) × (self.new ≡ self.old) }
-        ensures over { self.old.broken ≡ false → IfSome (current_timeline self.old).ending (λ ending.
+        ensures over { IfSome (current_timeline self.old).ending (λ ending.
             (result ≡ Poll.Ready (Ok ending)) × (self.new ≡ self.old)) }
+        // A success of a retry and a failure of a repeat take no memory, so they are never lost for want of it.
+        ensures outcome { self.old.broken ≡ false → (ending : Ending) → EndsByOutcome self.old ending
+            → result ≡ Poll.Ready (Ok ending) }
         ensures same { (self.new.number ≡ self.old.number) × (self.new.job ≡ self.old.job) × (self.new.seen ≡ self.old.seen) }
         ensures armed { OnPending result (IsArmed cx.new) }
         ensures kept { Keeps cx.old cx.new }

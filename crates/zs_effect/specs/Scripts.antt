@@ -6,17 +6,21 @@ use Rattle.zs_effect.specs.declared.script.Outcome.TheVariants.{Good}
 use Rattle.zs_effect.specs.declared.script.ScriptFault.{ScriptFault}
 use Rattle.zs_effect.specs.declared.script.ScriptFault.TheVariants.{Empty, TooLong, ZeroMs}
 
--- 1 to 1,000 entries, each of at least 1 ms
+-- the greatest number of entries
+abbrev pub max_beats : ℕ
+max_beats = 1000
+
+-- some entries, but not too many, each of at least 1 ms
 pub record IsScript (beats : List Beat) : Type 0 where
   pub some : 1 ≤ length beats
-  pub few : length beats ≤ 1000
+  pub few : length beats ≤ max_beats
   pub timed : All (λ beat. 1 ≤ beat.ms) beats
 
 -- the fault that comes first in the order of the variants
 abbrev pub IsFirstFault : List Beat → ScriptFault → Type 0
 IsFirstFault beats Empty = beats ≡ []
-IsFirstFault beats TooLong = 1000 < length beats
-IsFirstFault beats ZeroMs = (1 ≤ length beats) × (length beats ≤ 1000) × Any (λ beat. beat.ms ≡ 0) beats
+IsFirstFault beats TooLong = max_beats < length beats
+IsFirstFault beats ZeroMs = (1 ≤ length beats) × (length beats ≤ max_beats) × Any (λ beat. beat.ms ≡ 0) beats
 
 -- stands where a list has no entry
 abbrev pub no_entry : Beat

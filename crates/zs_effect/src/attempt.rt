@@ -26,7 +26,7 @@ impl Model for Attempt {
 }
 
 impl Attempt {
-    /// Begins an attempt at a moment, in milliseconds. Its end saturates.
+    /// Begins an attempt at a moment, in milliseconds. Its end saturates at 2^64 - 1.
     pub fn start(beat: Beat, now: u64) -> Attempt
         ensures value { result ≡ record { outcome = beat.outcome; end = saturated (now + beat.ms); seen = now } }
     {
@@ -44,7 +44,7 @@ impl Attempt {
         self.end
     }
 
-    /// Tells it the moment at which the next poll comes, in milliseconds.
+    /// Tells it the moment at which the next poll comes, in milliseconds, not before the last one that it saw.
     pub fn see(&mut self, now: u64)
         requires later { self.old.seen ≤ now }
         ensures value { self.new ≡ record self.old { seen = now } }

@@ -6,7 +6,7 @@ use std::marker::Model;
 use thiserror::Error;
 
 /// The greatest number of entries.
-const MOST_BEATS: usize = 1000;
+const MAX_BEATS: usize = 1000;
 
 /// How an attempt ends: with a value, or with an error code.
 #[derive(Clone, Copy, Debug, Drop, PartialEq, Eq)]
@@ -20,7 +20,7 @@ pub enum Outcome {
 /// One entry of a script: how long an attempt takes, and how it ends.
 #[derive(Clone, Copy, Debug, Drop, PartialEq, Eq)]
 pub struct Beat {
-    /// How long it takes, in milliseconds.
+    /// How long it takes, in milliseconds: in a script at least 1.
     pub ms: u64,
     /// How it ends.
     pub outcome: Outcome,
@@ -60,7 +60,7 @@ impl Model for Script {
 }
 
 impl Script {
-    /// A script of 1 to 1,000 entries, each of at least 1 ms. A refused list is given up.
+    /// A script of 1 to 1,000 entries, each of at least 1 ms. A list that is none is given up, for its first `ScriptFault`.
     pub fn new(beats: Vec<Beat>) -> Result<Script, ScriptFault>
         ensures kept { MatchResult result (λ script. script ≡ beats.items) (λ _. Unit {0}) }
         ensures script { MatchResult result (λ _. IsScript beats.items) (IsFirstFault beats.items) }
@@ -68,7 +68,7 @@ impl Script {
         if beats.is_empty() {
             return Err(ScriptFault::Empty);
         }
-        if beats.len() > MOST_BEATS {
+        if beats.len() > MAX_BEATS {
             return Err(ScriptFault::TooLong);
         }
         if beats.iter().any(|beat| beat.ms == 0) {

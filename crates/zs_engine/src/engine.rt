@@ -2,7 +2,7 @@ ghost use Rattle.std.specs.Prelude.{◌≡◌, ℕ, ◌≤◌, ◌<◌, List, []
 ghost use Rattle.std.specs.FinMap.{empty, get};
 ghost use Rattle.zs_term.specs.Saturating.{max_moment};
 ghost use Rattle.zs_drive.specs.Tasks.{current_timeline};
-ghost use Rattle.zs_drive.specs.Values.{job_of};
+ghost use Rattle.zs_drive.specs.Values.{job_value};
 ghost use Rattle.zs_engine.specs.Times.{ticks_of, next_of, IsLater};
 ghost use Rattle.zs_engine.specs.Rounds.{jobs_in, set_next};
 ghost use Rattle.zs_engine.specs.Answers.{IsAnswer};
@@ -66,7 +66,7 @@ impl Engine {
     // Takes in one more job.
     pub fn add(&mut self, job: Job) -> Result<(), EngineFault>
         requires new { IsNew self.old.clock (jobs_in self.old.slots.items) self.old }
-        ensures new { OnOk result (IsNew self.old.clock (jobs_in self.old.slots.items ++ job_of job ∷ []) self.new) }
+        ensures new { OnOk result (IsNew self.old.clock (jobs_in self.old.slots.items ++ job_value job ∷ []) self.new) }
     {
         let task = Task::new(self.alloc, self.slots.len() as u64, job)?;
         match set_timer(&self.clock, &mut self.agenda, &task) {

@@ -14,6 +14,20 @@ use zs_drive::{DriveFault, Ending, Job, Mode, Task};
 use zs_effect::{Beat, Script};
 use zs_term::read;
 
+// A job with the name `a`.
+fn job(alloc: Global, mode: Mode, schedule: &str, start: u64, beats: &[Beat]) -> Result<Job, Fail> {
+    let name = String::from_str(alloc, "a")?;
+    let script = Script::new(Vec::from_slice(alloc, beats)?)?;
+    let schedule = read(alloc, schedule)?;
+    Ok(Job {
+        name,
+        mode,
+        schedule,
+        start,
+        script,
+    })
+}
+
 // The task with the number 7, of a job with the name `a`.
 fn task_of(
     alloc: Global,
@@ -24,17 +38,7 @@ fn task_of(
 ) -> Result<Task, Fail>
     ensures seen { IfOk result (λ task. task.seen ≡ 0) }
 {
-    let name = String::from_str(alloc, "a")?;
-    let script = Script::new(Vec::from_slice(alloc, beats)?)?;
-    let schedule = read(alloc, schedule)?;
-    let job = Job {
-        name,
-        mode,
-        schedule,
-        start,
-        script,
-    };
-    Ok(Task::new(alloc, 7, job)?)
+    Ok(Task::new(alloc, 7, job(alloc, mode, schedule, start, beats)?)?)
 }
 
 // A caller of `poll` knows of a mock no more than this.
@@ -226,6 +230,33 @@ fn an_end_saturates(rt: HostRuntime) -> Result<(), Fail> {
     expect(&rt, Mode::Repeat, "spaced(0)", 3, &beats, 20, wanted)
 }
 
+#[test]
+fn a_job_may_make_1002_attempts(rt: HostRuntime) -> Result<(), Fail> {
+    let wanted = "1002 polls, due Some(1002), ending None, last Some((1001, None))";
+    expect(&rt, Mode::Repeat, "forever", 0, &[good(1, 5)], 1001, wanted)
+}
+
+#[test]
+fn a_job_may_wait_for_the_greatest_moment(rt: HostRuntime) -> Result<(), Fail> {
+    let schedule = "spaced(18446744073709551615)";
+    let wanted = "2 polls, due Some(18446744073709551615), ending None, last Some((0, Some(4)))";
+    expect(&rt, Mode::Repeat, schedule, 0, &[good(4, 1)], 1000, wanted)
+}
+
+#[test]
+fn a_job_may_start_at_the_greatest_moment(rt: HostRuntime) -> Result<(), Fail> {
+    let wanted = "0 polls, due Some(18446744073709551615), ending None, last None";
+    expect(
+        &rt,
+        Mode::Retry,
+        "recurs(3)",
+        u64::MAX,
+        &[bad(5, 7)],
+        1000,
+        wanted,
+    )
+}
+
 // What a task is known by, and what it waits for.
 fn known(alloc: Global, task: &Task) -> Result<String, AllocError> {
     let (number, name, mode, due) = (task.number(), task.name(), task.mode(), task.due());
@@ -257,8 +288,8 @@ fn poll_at_each<R: Abort + Alloc<A = Global>>(
     for moment in moments {
         let now = *moment;
         assert!(rt;
-            last <= now && now < 10000,
-            "a moment before an earlier one"
+            last <= now && now <= 999_999_999_999_999,
+            "a moment before an earlier one, or past the last"
         );
         last = now;
         task.see(now);
@@ -311,6 +342,25 @@ Ready(Ok(Succeeded(1))), 2 polls, due None
 Ready(Ok(Succeeded(1))), 2 polls, due None
 ";
     expect_polls(&rt, 0, &[good(5, 1)], &[0, 5, 5], wanted)
+}
+
+#[test]
+fn a_job_may_begin_at_the_last_moment_of_a_clock(rt: HostRuntime) -> Result<(), Fail> {
+    let last = 999_999_999_999_999;
+    let wanted = "7 a Retry, broken false, due Some(999999999999999)
+Pending, 1 polls, due Some(1000000000000004)
+";
+    expect_polls(&rt, last, &[bad(5, 7)], &[last], wanted)
+}
+
+#[test]
+fn a_task_may_have_any_number(rt: HostRuntime) -> Result<(), Fail> {
+    let job = job(rt.alloc(), Mode::Retry, "recurs(3)", 0, &[bad(5, 7)])?;
+    let task = Task::new(rt.alloc(), u64::MAX, job)?;
+    let number = task.number();
+    drop(task);
+    assert!(rt; number == u64::MAX);
+    Ok(())
 }
 
 #[test]

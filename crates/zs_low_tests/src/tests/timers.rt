@@ -69,6 +69,48 @@ fn far_moments_fire_in_order(rt: HostRuntime) {
     expect_takes(&rt, &mut agenda, &last);
 }
 
+#[test]
+fn any_job_number_can_be_set(rt: HostRuntime) {
+    let mut agenda = Agenda::new(rt.alloc()).expect(&rt, "memory");
+    set_all(&rt, &mut agenda, &[(u64::MAX, 7), (10_000, 7), (9_999, 7)]);
+    let takes = ["Ok(Some((7, [9999, 10000, 18446744073709551615])))"];
+    expect_takes(&rt, &mut agenda, &takes);
+}
+
+// How many of so many jobs could be set, each to a moment of its own or all to one.
+fn count_set(agenda: &mut Agenda, jobs: u64, is_shared: bool) -> u64 {
+    let mut set = 0u64;
+    for job in 0..jobs {
+        let moment = if is_shared { jobs } else { job };
+        if is_set_now(agenda, job, moment) {
+            set = set.saturating_add(1);
+        }
+    }
+    set
+}
+
+// How many jobs the next take fires.
+fn taken_jobs(agenda: &mut Agenda) -> Option<usize> {
+    match agenda.take() {
+        Ok(Some((_, jobs))) => Some(jobs.len()),
+        Ok(None) | Err(_) => None,
+    }
+}
+
+#[test]
+fn twenty_thousand_jobs_can_be_set(rt: HostRuntime) {
+    let mut apart = Agenda::new(rt.alloc()).expect(&rt, "memory");
+    let set = count_set(&mut apart, 20_000, false);
+    let first = taken_jobs(&mut apart);
+    drop(apart);
+    assert!(rt; set == 20_000 && first == Some(1));
+    let mut together = Agenda::new(rt.alloc()).expect(&rt, "memory");
+    let set = count_set(&mut together, 20_000, true);
+    let first = taken_jobs(&mut together);
+    drop(together);
+    assert!(rt; set == 20_000 && first == Some(20_000));
+}
+
 // The tick at or after each of these moments.
 fn expect_ticks(rt: &impl Abort, clock: &Clock, rows: &[(u64, Option<u64>)]) {
     for (due, wanted) in rows {

@@ -1,7 +1,6 @@
-use Rattle.std.proofs.Common.{◌≡◌, None, Result, Ok, Err, OnErr, refl, sym, ap, ◌∙◌, subst, nat_cmp}
+use Rattle.std.proofs.Common.{◌≡◌, None, Result, Ok, Err, OnErr, refl, sym, ap, ◌∙◌, subst}
 use Rattle.std.specs.FinMap as map
-use Rattle.std.specs.BTreeMap as tree
-use Rattle.zs_agenda.specs.Indexes.{ByJob, HasSameMoments, jobs_at, moments_of}
+use Rattle.zs_agenda.specs.Indexes.{ByJob, HasSameMoments, jobs_at, moment_in, moments_of}
 use Rattle.zs_agenda.specs.Timers.{Timers, IsAfter}
 use Rattle.zs_agenda.proofs.IndexLemmas.{added-Agrees, same-Agrees, same_moments, moments_of-put, get-moments_of, put_and_forgotten}
 use Rattle.zs_agenda.proofs.agenda.Agenda.set.Goals as goal
@@ -9,9 +8,9 @@ use Rattle.zs_agenda.proofs.agenda.Agenda.set.Goals as goal
 pub invariant_of-self-in-Ok : goal.invariant_of-self-in-Ok
 invariant_of-self-in-Ok c =
     let n : ByJob = c.self.inside.by_job in
-    let unset : tree.get nat_cmp n c.args.job ≡ None = sym (get-moments_of n c.args.job) ∙ ap (λ (t : Timers). map.get t.moments c.args.job) c.self.view_is ∙ c.requires.absent in
+    let unset : moment_in n c.args.job ≡ None = sym (get-moments_of n c.args.job) ∙ ap (λ (t : Timers). map.get t.moments c.args.job) c.self.view_is ∙ c.requires.absent in
     let later : IsAfter c.self.inside.last_taken c.args.moment = subst (λ (t : Timers). IsAfter t.last_taken c.args.moment) (sym c.self.view_is) c.requires.ahead in
-    added-Agrees (jobs_at c.self.inside.by_moment) (jobs_at c.add.new.by_moment) (tree.get nat_cmp n) (tree.get nat_cmp c.put.new.by_job) c.self.inside.last_taken c.args.job c.args.moment
+    added-Agrees (jobs_at c.self.inside.by_moment) (jobs_at c.add.new.by_moment) (moment_in n) (moment_in c.put.new.by_job) c.self.inside.last_taken c.args.job c.args.moment
     c.in-Ok.ensures.ok c.in_ok-put.ensures.ok c.self.invariant unset later
 
 pub returns-in-Ok-clause-ok : goal.returns-in-Ok-clause-ok
@@ -25,15 +24,15 @@ returns-in-Ok-clause-ok c =
 pub invariant_of-self-in-Err : goal.invariant_of-self-in-Err
 invariant_of-self-in-Err c =
     let n : ByJob = c.self.inside.by_job in
-    let unset : tree.get nat_cmp n c.args.job ≡ None = sym (get-moments_of n c.args.job) ∙ ap (λ (t : Timers). map.get t.moments c.args.job) c.self.view_is ∙ c.requires.absent in
+    let unset : moment_in n c.args.job ≡ None = sym (get-moments_of n c.args.job) ∙ ap (λ (t : Timers). map.get t.moments c.args.job) c.self.view_is ∙ c.requires.absent in
     let same : HasSameMoments n c.take_back.new.by_job = put_and_forgotten n c.put.new.by_job c.take_back.new.by_job c.args.job c.args.moment unset c.in_ok-put.ensures.ok c.take_back.ensures.forgets in
-    same-Agrees (jobs_at c.self.inside.by_moment) (jobs_at c.add.new.by_moment) (tree.get nat_cmp n) (tree.get nat_cmp c.take_back.new.by_job) c.self.inside.last_taken
+    same-Agrees (jobs_at c.self.inside.by_moment) (jobs_at c.add.new.by_moment) (moment_in n) (moment_in c.take_back.new.by_job) c.self.inside.last_taken
     c.in-Err.ensures.err same c.self.invariant
 
 pub returns-in-Err-clause-err : goal.returns-in-Err-clause-err
 returns-in-Err-clause-err c =
     let n : ByJob = c.self.inside.by_job in
-    let unset : tree.get nat_cmp n c.args.job ≡ None = sym (get-moments_of n c.args.job) ∙ ap (λ (t : Timers). map.get t.moments c.args.job) c.self.view_is ∙ c.requires.absent in
+    let unset : moment_in n c.args.job ≡ None = sym (get-moments_of n c.args.job) ∙ ap (λ (t : Timers). map.get t.moments c.args.job) c.self.view_is ∙ c.requires.absent in
     let same : HasSameMoments n c.take_back.new.by_job = put_and_forgotten n c.put.new.by_job c.take_back.new.by_job c.args.job c.args.moment unset c.in_ok-put.ensures.ok c.take_back.ensures.forgets in
     rw (same_moments n c.take_back.new.by_job same) c.self.view_is
 

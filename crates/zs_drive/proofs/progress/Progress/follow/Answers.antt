@@ -8,7 +8,7 @@ use Rattle.zs_step.specs.declared.decision.Decision.TheVariants.{Next}
 use Rattle.zs_drive.specs.declared.progress.Phase.TheVariants.{Waiting, Over}
 use Rattle.zs_drive.specs.Progress.{job_in}
 use Rattle.zs_drive.proofs.Steps.{AllEnded-append, stops, waits, restarts}
-use Rattle.zs_drive.proofs.Advancing.{settle-advances, restart-advances, asked-history, IsStepped-asked}
+use Rattle.zs_drive.proofs.Advancing.{end_attempt-advances, restart-advances, asked-history, IsStepped-asked}
 use Rattle.zs_drive.proofs.progress.Progress.follow.Goals as goal
 
 pub returns-in-Stop-clause-ok : goal.returns-in-Stop-clause-ok
@@ -16,8 +16,8 @@ returns-in-Stop-clause-ok c =
     let p = c.args.self.now in
     let output = output_of c.args.out in
     let answered = rw c.in-Stop.is at c.requires.answer in
-    settle-advances p c.settle.new.self c.args.outcome (Some (answer output c.args.decision)) p.phase (Over c.end_by_schedule-ending.result) refl
-    c.requires.progress c.requires.running c.requires.script c.settle.ensures.rest c.settle.ensures.ended
+    end_attempt-advances p c.end_attempt.new.self c.args.outcome (Some (answer output c.args.decision)) p.phase (Over c.end_by_schedule-ending.result) refl
+    c.requires.progress c.requires.running c.requires.script c.end_attempt.ensures.rest c.end_attempt.ensures.ended
     (λ others s w last all due own.
     rw (c.in-Stop.is, c.end_by_schedule-ending.ensures.value)
     (stops (job_in p) p.seen others s w c.args.outcome all due own c.requires.goes_on output
@@ -29,8 +29,8 @@ returns-in-Next-clause-ok c =
     let p = c.args.self.now in
     let output = output_of c.args.out in
     let answered = rw c.in-Next.is at c.requires.answer in
-    settle-advances p c.settle-in-Next.new.self c.args.outcome (Some (answer output (Next c.in-Next.due))) p.phase (Waiting c.in-Next.due) refl
-    c.requires.progress c.requires.running c.requires.script c.settle-in-Next.ensures.rest c.settle-in-Next.ensures.ended
+    end_attempt-advances p c.end_attempt-in-Next.new.self c.args.outcome (Some (answer output (Next c.in-Next.due))) p.phase (Waiting c.in-Next.due) refl
+    c.requires.progress c.requires.running c.requires.script c.end_attempt-in-Next.ensures.rest c.end_attempt-in-Next.ensures.ended
     (λ others s w last all due own.
     waits (job_in p) p.seen others s w c.args.outcome all due own c.requires.goes_on output c.in-Next.due
     (answered ∙ ap (answer_of (compiled_schedule p.compiled)) (asked-history p c.args.outcome others s last)) c.if-due-self.true)

@@ -1,4 +1,4 @@
-use Rattle.std.proofs.Common.{refl, arith}
+use Rattle.std.proofs.Common.{◌≡◌, false, true, refl, arith}
 use Rattle.zs_drive.specs.Values.{job_record}
 use Rattle.zs_drive.specs.Timeline.{poll_moments}
 use Rattle.zs_drive.proofs.Beginning.{IsOnTimeline-new, IsStepped-new, AllEnded-new}
@@ -13,6 +13,7 @@ invariant_of-result c = record {
   };
   state = λ _. rw c.new-2.ensures.items (IsStepped-new c.in-Ok.compiled 0 c.in-Ok.ensures.stands);
   script = rw (← c.script.view_is) c.script.invariant;
+  unended = λ broken. let clash : false ≡ true = broken in cc;
 }
 
 pub returns-clause-made : goal.returns-clause-made

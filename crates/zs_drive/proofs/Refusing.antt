@@ -1,0 +1,136 @@
+-- Where a due poll takes memory, it comes to no ending that an outcome itself gives.
+use Rattle.std.proofs.Common.{◌≡◌, ℕ, ◌+◌, ◌≤◌, max, List, [], ◌∷◌, ◌++◌, if◌then◌else◌, refl, sym, ◌∙◌, ap, arith}
+use Rattle.std.specs.Prelude.{Some, None, Result, Ok, Err, OnErr}
+use Rattle.futures.specs.Poll.{IfReady}
+use Rattle.futures.specs.declared.task.Poll.{Poll}
+use Rattle.futures.specs.declared.task.Poll.TheVariants.{Ready, Pending}
+use Rattle.zs_term.specs.Saturating.{saturated}
+use Rattle.zs_term.specs.Output.{Output}
+use Rattle.zs_effect.specs.Scripts.{IsScript}
+use Rattle.zs_effect.specs.declared.script.Outcome.{Outcome}
+use Rattle.zs_effect.specs.declared.script.Outcome.TheVariants.{Good, Bad}
+use Rattle.zs_step.specs.History.{History}
+use Rattle.zs_step.specs.Answer.{answer_of}
+use Rattle.zs_step.specs.declared.decision.Decision.{Decision}
+use Rattle.zs_step.specs.declared.decision.Decision.TheVariants.{Stop, Next}
+use Rattle.zs_drive.specs.declared.job.Mode.{Mode}
+use Rattle.zs_drive.specs.declared.job.Mode.TheVariants.{Retry, Repeat}
+use Rattle.zs_drive.specs.declared.record.Ending.{Ending}
+use Rattle.zs_drive.specs.declared.progress.Phase.{Phase}
+use Rattle.zs_drive.specs.declared.progress.Phase.TheVariants.{Waiting, Running, Over}
+use Rattle.zs_drive.specs.declared.progress.Progress.{Progress}
+use Rattle.zs_drive.specs.declared.task.Task.TheInside.{Inside}
+use Rattle.zs_drive.specs.Values.{JobRecord, AttemptedValue}
+use Rattle.zs_drive.specs.Timeline.{Timeline, waiting, running, number_of, ending_by_outcome, ending_by_schedule, beat_after, by_answer, by_outcome, timeline_of, poll_moments}
+use Rattle.zs_drive.specs.Recorded.{AllEnded, IsOnTimeline}
+use Rattle.zs_drive.specs.DriverRules.{history_after}
+use Rattle.zs_drive.specs.Progress.{IsProgress, job_in, attempts_of, moments_in, due_of}
+use Rattle.zs_drive.specs.Turns.{IsOver, IsEarly, IsDuePhase, TakesMemory}
+use Rattle.zs_drive.specs.Tasks.{TaskValue, current_timeline, polled, EndsByOutcome}
+use Rattle.zs_drive.specs.Fields.{task_of, IsTask}
+use Rattle.zs_drive.proofs.Ticks.{lt_cases}
+use Rattle.zs_drive.proofs.Extending.{resume}
+use Rattle.zs_drive.proofs.Records.{polled-extended}
+use Rattle.zs_drive.proofs.Steps.{runs, begins, closes}
+
+-- an outcome itself gives no ending that the schedule gives after an outcome which does not itself end the job
+unlike-endings : (mode : Mode) (asked outcome : Outcome) (ending : Ending) → ending_by_outcome mode asked ≡ None → ending_by_outcome mode outcome ≡ Some ending
+    → ending ≡ ending_by_schedule mode asked → ⊥
+unlike-endings Retry (Good value) outcome ending none gives same = cc
+unlike-endings Retry (Bad code) (Good value) ending none gives same = cc
+unlike-endings Retry (Bad code) (Bad other) ending none gives same = cc
+unlike-endings Repeat (Good value) (Good other) ending none gives same = cc
+unlike-endings Repeat (Good value) (Bad code) ending none gives same = cc
+unlike-endings Repeat (Bad code) outcome ending none gives same = cc
+
+module _ (job : JobRecord) (seen : ℕ) where
+  -- a job that waits, or that begins an attempt, has not ended
+  resume-open : (h : History) (x : ℕ) → (resume job seen h x).ending ≡ None
+  unfolding resume
+  resume-open h x = lt_cases seen x (λ b. (if b then waiting x else running seen (saturated (seen + (beat_after job h).ms))).ending ≡ None) (λ _. refl) (λ _. refl)
+
+  -- what the schedule answers ends the job in its own way, if at all
+  answer-unlike : (h : History) (s : ℕ) (asked outcome : Outcome) (output : Output) (decision : Decision) (ending : Ending)
+      → ending_by_outcome job.mode asked ≡ None → ending_by_outcome job.mode outcome ≡ Some ending
+      → (by_answer job (resume job seen) h s seen asked output decision).ending ≡ Some ending → ⊥
+  unfolding by_answer
+  answer-unlike h s asked outcome output Stop ending none gives ends =
+      let same : ending ≡ ending_by_schedule job.mode asked = cc in unlike-endings job.mode asked outcome ending none gives same
+  answer-unlike h s asked outcome output (Next x) ending none gives ends =
+      let clash : None ≡ Some ending = sym (resume-open h (max x seen)) ∙ ends in cc
+
+  -- so does an attempt whose outcome does not itself end the job
+  outcome-unlike : (h : History) (s : ℕ) (asked outcome : Outcome) (ending : Ending)
+      → ending_by_outcome job.mode asked ≡ None → ending_by_outcome job.mode outcome ≡ Some ending
+      → (by_outcome job (resume job seen) h s seen asked None).ending ≡ Some ending → ⊥
+  unfolding by_outcome
+  outcome-unlike h s asked outcome ending none gives ends =
+      let longer = (seen, number_of asked) ∷ h in
+      let answered = answer_of job.schedule longer in
+      answer-unlike longer s asked outcome answered.output answered.decision ending none gives ends
+
+-- a due poll that takes memory comes to no ending that an outcome itself gives
+pub asked-unlike : (p : Progress) (phase : Phase) → p.phase ≡ phase → IsProgress p → IsScript p.script → IsDuePhase p.seen p.phase → TakesMemory p.mode p.phase
+    → (outcome : Outcome) (ending : Ending) → ending_by_outcome p.mode outcome ≡ Some ending
+    → (timeline_of (job_in p) (moments_in p ++ p.seen ∷ [])).ending ≡ Some ending → ⊥
+asked-unlike p (Waiting x) is progress script due takes outcome ending gives ends =
+    let job = job_in p in
+    let attempts = attempts_of p in
+    let all : AllEnded attempts = rw is at progress.phase in
+    let soon : x ≤ p.seen = rw is at due in
+    let stands : IsOnTimeline job (record { attempts = attempts; due = Some x; ending = None }) p.polls = rw is at progress.on_timeline in
+    let made = polled-extended job script attempts x p.seen p.polls stands soon progress.bounded ∙ sym (begins job p.seen attempts x all soon) in
+    let clash : None ≡ Some ending = sym (ap (λ (timeline : Timeline). timeline.ending) made) ∙ ends in cc
+asked-unlike p (Running attempt) is progress script due takes outcome ending gives ends =
+    let job = job_in p in
+    let phase = rw is at progress.phase in
+    let others = phase.0 in
+    let s = phase.1 in
+    let last = phase.2 in
+    let soon : attempt.end ≤ p.seen = rw is at due in
+    let asked = (beat_after job (history_after others)).outcome in
+    let none : ending_by_outcome p.mode attempt.outcome ≡ None = rw is at takes in
+    let none_asked : ending_by_outcome p.mode asked ≡ None = ap (ending_by_outcome p.mode) (sym last.outcome) ∙ none in
+    let stands : IsOnTimeline job (record { attempts = others ++ runs s ∷ []; due = Some attempt.end; ending = None }) p.polls = rw (is, last.last) at progress.on_timeline in
+    let made = polled-extended job script (others ++ runs s ∷ []) attempt.end p.seen p.polls stands soon progress.bounded ∙ closes job p.seen others s attempt.end last.ended soon in
+    let moved : timeline_of job (moments_in p ++ p.seen ∷ []) ≡ timeline_of job (poll_moments (others ++ runs s ∷ []) ++ p.seen ∷ []) =
+    ap (λ (attempts : List AttemptedValue). timeline_of job (poll_moments attempts ++ p.seen ∷ [])) last.last in
+    let by = ap (λ (timeline : Timeline). timeline.ending) (moved ∙ made) in
+    let ends_so : (by_outcome job (resume job p.seen) (history_after others) s p.seen asked (ending_by_outcome job.mode asked)).ending ≡ Some ending = sym by ∙ ends in
+    outcome-unlike job p.seen (history_after others) s asked outcome ending none_asked gives (rw none_asked at ends_so)
+asked-unlike p (Over over) is progress script due takes outcome ending gives ends = absurd (rw is at due)
+
+-- what is waited for has come, where it is neither early nor over
+due-phase : (seen : ℕ) (phase : Phase) → (IsEarly seen phase → ⊥) → (IsOver phase → ⊥) → IsDuePhase seen phase
+due-phase seen (Waiting due) early over = lt_cases seen due (λ _. due ≤ seen) (λ l. absurd (early l)) (λ l. l)
+due-phase seen (Running attempt) early over = lt_cases seen attempt.end (λ _. attempt.end ≤ seen) (λ l. absurd (early l)) (λ l. l)
+due-phase seen (Over ending) early over = absurd (over tt)
+
+-- where a poll of a task brings it that waits for a moment which has come
+polled-at : (t : Inside) (x : ℕ) → x ≤ t.progress.seen → (current_timeline (task_of t)).due ≡ Some x
+    → (current_timeline (polled (task_of t))).ending ≡ (timeline_of (job_in t.progress) (moments_in t.progress ++ t.progress.seen ∷ [])).ending
+polled-at t x soon waits =
+    let p = t.progress in
+    let later : TaskValue = record (task_of t) { moments = moments_in p ++ p.seen ∷ [] } in
+    rw waits (lt_cases p.seen x (λ b. (current_timeline (if b then task_of t else later)).ending ≡ (timeline_of (job_in p) (moments_in p ++ p.seen ∷ [])).ending)
+    (λ l. absurd (omega arith)) (λ _. refl))
+
+-- where a poll of a task that is due brings it
+polled-ending : (t : Inside) (phase : Phase) → t.progress.phase ≡ phase → IsProgress t.progress → IsDuePhase t.progress.seen t.progress.phase
+    → (current_timeline (polled (task_of t))).ending ≡ (timeline_of (job_in t.progress) (moments_in t.progress ++ t.progress.seen ∷ [])).ending
+polled-ending t (Waiting x) is progress due = polled-at t x (rw is at due) (ap (λ (timeline : Timeline). timeline.due) (sym progress.on_timeline.same) ∙ ap due_of is)
+polled-ending t (Running attempt) is progress due = polled-at t attempt.end (rw is at due) (ap (λ (timeline : Timeline). timeline.due) (sym progress.on_timeline.same) ∙ ap due_of is)
+polled-ending t (Over ending) is progress due = absurd (rw is at due)
+
+-- a refused turn of a task is due, takes memory, and comes to no ending that an outcome itself gives
+pub refused-EndsByOutcome : {T E : Type 0} (t : Inside) (turn : Poll (Result T E)) (fault : E) (done : T) → IsTask t → turn ≡ Ready (Err fault)
+    → (IsEarly t.progress.seen t.progress.phase → turn ≡ Pending) → (IsOver t.progress.phase → turn ≡ Ready (Ok done))
+    → IfReady turn (λ answer. OnErr answer (TakesMemory t.progress.mode t.progress.phase))
+    → (ending : Ending) → EndsByOutcome (task_of t) ending → ⊥
+refused-EndsByOutcome t turn fault done task refused early over takes ending ends =
+    let p = t.progress in
+    let due : IsDuePhase p.seen p.phase = due-phase p.seen p.phase (λ e. let other = early e in cc) (λ o. let other = over o in cc) in
+    let memory : TakesMemory p.mode p.phase = rw refused at takes in
+    let moved : (current_timeline (polled (task_of t))).ending ≡ (timeline_of (job_in p) (moments_in p ++ p.seen ∷ [])).ending =
+    polled-ending t p.phase refl task.progress due in
+    asked-unlike p p.phase refl task.progress task.script due memory ends.outcome ending ends.gives (sym moved ∙ ends.ends)
