@@ -94,7 +94,7 @@ progress_sent : IsSend compiled.the_row → IsSend attempted.the_row → IsSend 
 progress_sent c a = declared_send progress.the_type (search (rules, sendable, crosses) depth 20, (search (rules, sendable), (search sendable, (search (rules, sendable, crosses) depth 20, (c, (Vec-send attempted.the_row a, (search (rules, sendable), (search sendable, (search sendable, tt)))))))))
 
 task_fields : IsSend progress.the_row → IsSend task_inside.the_row
-task_fields p = declared_send task_inside.the_type (search sendable, (p, (search sendable, tt)))
+task_fields p = declared_send task_inside.the_type (search sendable, (Box-send progress.the_row p, (search sendable, tt)))
 
 task_sent : IsSend task_inside.the_row → IsSend task.the_row
 task_sent f = view_send task_inside.the_row _ _ _ _ f
