@@ -107,28 +107,28 @@ due-phase seen (Running attempt) early over = lt_cases seen attempt.end (λ _. a
 due-phase seen (Over ending) early over = absurd (over tt)
 
 -- where a poll of a task brings it that waits for a moment which has come
-polled-at : (t : Inside) (x : ℕ) → x ≤ t.progress.seen → (current_timeline (task_of t)).due ≡ Some x
-    → (current_timeline (polled (task_of t))).ending ≡ (timeline_of (job_in t.progress) (moments_in t.progress ++ t.progress.seen ∷ [])).ending
+polled-at : (t : Inside) (x : ℕ) → x ≤ t.progress.value.seen → (current_timeline (task_of t)).due ≡ Some x
+    → (current_timeline (polled (task_of t))).ending ≡ (timeline_of (job_in t.progress.value) (moments_in t.progress.value ++ t.progress.value.seen ∷ [])).ending
 polled-at t x soon waits =
-    let p = t.progress in
+    let p = t.progress.value in
     let later : TaskValue = record (task_of t) { moments = moments_in p ++ p.seen ∷ [] } in
     rw waits (lt_cases p.seen x (λ b. (current_timeline (if b then task_of t else later)).ending ≡ (timeline_of (job_in p) (moments_in p ++ p.seen ∷ [])).ending)
     (λ l. absurd (omega arith)) (λ _. refl))
 
 -- where a poll of a task that is due brings it
-polled-ending : (t : Inside) (phase : Phase) → t.progress.phase ≡ phase → IsProgress t.progress → IsDuePhase t.progress.seen t.progress.phase
-    → (current_timeline (polled (task_of t))).ending ≡ (timeline_of (job_in t.progress) (moments_in t.progress ++ t.progress.seen ∷ [])).ending
+polled-ending : (t : Inside) (phase : Phase) → t.progress.value.phase ≡ phase → IsProgress t.progress.value → IsDuePhase t.progress.value.seen t.progress.value.phase
+    → (current_timeline (polled (task_of t))).ending ≡ (timeline_of (job_in t.progress.value) (moments_in t.progress.value ++ t.progress.value.seen ∷ [])).ending
 polled-ending t (Waiting x) is progress due = polled-at t x (rw is at due) (ap (λ (timeline : Timeline). timeline.due) (sym progress.on_timeline.same) ∙ ap due_of is)
 polled-ending t (Running attempt) is progress due = polled-at t attempt.end (rw is at due) (ap (λ (timeline : Timeline). timeline.due) (sym progress.on_timeline.same) ∙ ap due_of is)
 polled-ending t (Over ending) is progress due = absurd (rw is at due)
 
 -- a refused turn of a task is due, takes memory, and comes to no ending that an outcome itself gives
 pub refused-EndsByOutcome : {T E : Type 0} (t : Inside) (turn : Poll (Result T E)) (fault : E) (done : T) → IsTask t → turn ≡ Ready (Err fault)
-    → (IsEarly t.progress.seen t.progress.phase → turn ≡ Pending) → (IsOver t.progress.phase → turn ≡ Ready (Ok done))
-    → IfReady turn (λ answer. OnErr answer (TakesMemory t.progress.mode t.progress.phase))
+    → (IsEarly t.progress.value.seen t.progress.value.phase → turn ≡ Pending) → (IsOver t.progress.value.phase → turn ≡ Ready (Ok done))
+    → IfReady turn (λ answer. OnErr answer (TakesMemory t.progress.value.mode t.progress.value.phase))
     → (ending : Ending) → EndsByOutcome (task_of t) ending → ⊥
 refused-EndsByOutcome t turn fault done task refused early over takes ending ends =
-    let p = t.progress in
+    let p = t.progress.value in
     let due : IsDuePhase p.seen p.phase = due-phase p.seen p.phase (λ e. let other = early e in cc) (λ o. let other = over o in cc) in
     let memory : TakesMemory p.mode p.phase = rw refused at takes in
     let moved : (current_timeline (polled (task_of t))).ending ≡ (timeline_of (job_in p) (moments_in p ++ p.seen ∷ [])).ending =

@@ -7,11 +7,11 @@ use Rattle.zs_drive.specs.Progress.{moments_in, job_value_in, ending_of, IsProgr
 
 -- the value that contracts see
 abbrev pub task_of : Inside → TaskValue
-task_of t = record { number = t.number; job = job_value_in t.progress; moments = moments_in t.progress; seen = t.progress.seen; broken = t.broken }
+task_of t = record { number = t.number; job = job_value_in t.progress.value; moments = moments_in t.progress.value; seen = t.progress.value.seen; broken = t.broken }
 
 -- a broken task may have lost its schedule's state, and has not ended
 pub record IsTask (t : Inside) : Type 0 where
-  pub progress : IsProgress t.progress
-  pub state : t.broken ≡ false → HasState t.progress
-  pub script : IsScript t.progress.script
-  pub unended : t.broken ≡ true → ending_of t.progress.phase ≡ None
+  pub progress : IsProgress t.progress.value
+  pub state : t.broken ≡ false → HasState t.progress.value
+  pub script : IsScript t.progress.value.script
+  pub unended : t.broken ≡ true → ending_of t.progress.value.phase ≡ None

@@ -22,8 +22,19 @@ use zs_step::{Compiled, StepFault};
 #[derive(Drop)]
 pub struct Task {
     number: u64,
-    progress: Progress,
+    progress: Box<Progress>,
     broken: bool,
+}
+
+// How far a job is, in memory of its own, so that a task is moved as three words.
+fn boxed(alloc: Global, progress: Progress) -> Result<Box<Progress>, DriveFault>
+    ensures value { IfOk result (λ b. b.value ≡ progress) }
+    ensures memory { IfErr result (λ fault. fault ≡ DriveFault.Memory) }
+{
+    match Box::new(alloc, progress) {
+        Ok(progress) => Ok(progress),
+        Err(_refused) => Err(DriveFault::Memory),
+    }
 }
 
 impl Model for Task {
@@ -71,6 +82,7 @@ impl Task {
             polls: 0,
             seen: 0,
         };
+        let progress = boxed(alloc, progress)?;
         Ok(Task {
             number,
             progress,

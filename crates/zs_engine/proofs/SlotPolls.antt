@@ -9,7 +9,7 @@ use Rattle.zs_drive.specs.Values.{JobValue}
 use Rattle.zs_drive.specs.Tasks.{TaskValue, current_timeline}
 use Rattle.std.specs.FinMap.{get}
 use Rattle.zs_pool.specs.Rounds.{polled_at, IsPolled, IsPollable}
-use Rattle.zs_pool.specs.Shares.{Counts}
+use Rattle.zs_pool.specs.Shares.{HasCounted}
 use Rattle.zs_engine.specs.declared.engine.Engine.{Engine}
 use Rattle.zs_engine.specs.Times.{ticks_of, next_of, IsLater}
 use Rattle.zs_engine.specs.Slots.{Slots, has}
@@ -113,7 +113,7 @@ module _ (old : Engine) (now n : ℕ) (left : List ℕ) (h : IsDueWith old.clock
       -- the task was polled and counted, and its timer is set
       pub turn-onward : (new : Engine) → Keeps old new → new.slots.items ≡ slice_set old.slots.items n (Some after)
           → new.agenda ≡ set_next old.agenda after.number (next_of (ticks_of old.clock) (current_timeline after).due)
-          → Counts old.seat 1 new.seat → IsDueWith old.clock (jobs_in old.slots.items) now left new
+          → HasCounted old.seat 1 new.seat → IsDueWith old.clock (jobs_in old.slots.items) now left new
       turn-onward new keeps put set counts =
           let slots : new.slots.items ≡ slice_set old.slots.items n (Some (polled_at now t)) = put ∙ ap (λ (u : TaskValue). slice_set old.slots.items n (Some u)) is in
           let agenda : new.agenda ≡ set_next old.agenda n (next_of (ticks_of old.clock) (current_timeline (polled_at now t)).due) =

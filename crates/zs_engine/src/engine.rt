@@ -3,6 +3,7 @@ ghost use Rattle.std.specs.FinMap.{empty, get};
 ghost use Rattle.zs_term.specs.Saturating.{max_moment};
 ghost use Rattle.zs_drive.specs.Tasks.{current_timeline};
 ghost use Rattle.zs_drive.specs.Values.{job_value};
+ghost use Rattle.zs_pool.specs.Limits.{max_tasks};
 ghost use Rattle.zs_engine.specs.Times.{ticks_of, next_of, IsLater};
 ghost use Rattle.zs_engine.specs.Rounds.{jobs_in, set_next};
 ghost use Rattle.zs_engine.specs.Answers.{IsAnswer};
@@ -110,7 +111,7 @@ impl Engine {
         number: u64,
         cx: &mut Context<'_>,
     ) -> Result<(), EngineFault>
-        requires few { length (jobs_in self.old.slots.items) ≤ 10000 }
+        requires few { length (jobs_in self.old.slots.items) ≤ max_tasks }
         requires due { (left : List ℕ) × IsDueWith self.old.clock (jobs_in self.old.slots.items) now (number ∷ left) self.old }
         ensures onward { OnOk result ((left : List ℕ) → IsDueWith self.old.clock (jobs_in self.old.slots.items) now (number ∷ left) self.old
             → IsDueWith self.old.clock (jobs_in self.old.slots.items) now left self.new) }
@@ -134,7 +135,7 @@ impl Engine {
         numbers: &[u64],
         cx: &mut Context<'_>,
     ) -> Result<(), EngineFault>
-        requires few { length (jobs_in self.old.slots.items) ≤ 10000 }
+        requires few { length (jobs_in self.old.slots.items) ≤ max_tasks }
         requires due { IsDueWith self.old.clock (jobs_in self.old.slots.items) now numbers.now self.old }
         ensures rests { OnOk result (RestsWith self.old.clock (jobs_in self.old.slots.items) self.new) }
         ensures taken { OnOk result (self.new.agenda.last_taken ≡ Some now) }
@@ -154,7 +155,7 @@ impl Engine {
         now: u64,
         numbers: &[u64],
     ) -> Result<(), EngineFault>
-        requires few { length (jobs_in self.old.slots.items) ≤ 10000 }
+        requires few { length (jobs_in self.old.slots.items) ≤ max_tasks }
         requires due { IsDueWith self.old.clock (jobs_in self.old.slots.items) now numbers.now self.old }
         ensures rests { OnOk result (RestsWith self.old.clock (jobs_in self.old.slots.items) self.new) }
         ensures taken { OnOk result (self.new.agenda.last_taken ≡ Some now) }
@@ -189,7 +190,7 @@ impl Engine {
         numbers: &[u64],
         cx: &mut Context<'_>,
     ) -> Result<(), EngineFault>
-        requires few { length (jobs_in self.old.slots.items) ≤ 10000 }
+        requires few { length (jobs_in self.old.slots.items) ≤ max_tasks }
         requires due { IsDueWith self.old.clock (jobs_in self.old.slots.items) now numbers.now self.old }
         ensures rests { OnOk result (RestsWith self.old.clock (jobs_in self.old.slots.items) self.new) }
         ensures taken { OnOk result (self.new.agenda.last_taken ≡ Some now) }
@@ -209,7 +210,7 @@ impl Engine {
         gate: &G,
         cx: &mut Context<'_>,
     ) -> Result<(), EngineFault>
-        requires few { length (jobs_in self.old.slots.items) ≤ 10000 }
+        requires few { length (jobs_in self.old.slots.items) ≤ max_tasks }
         requires rests { RestsWith self.old.clock (jobs_in self.old.slots.items) self.old }
         ensures rests { OnOk result (RestsWith self.old.clock (jobs_in self.old.slots.items) self.new) }
         ensures over { OnOk result (self.new.agenda.moments ≡ empty) }
@@ -227,7 +228,7 @@ impl Engine {
         cut: Cut,
         gate: &G,
     ) -> Result<(), EngineFault>
-        requires few { length (jobs_in self.old.slots.items) ≤ 10000 }
+        requires few { length (jobs_in self.old.slots.items) ≤ max_tasks }
         requires rests { RestsWith self.old.clock (jobs_in self.old.slots.items) self.old }
         ensures rests { OnOk result (RestsWith self.old.clock (jobs_in self.old.slots.items) self.new) }
         ensures over { OnOk result (self.new.agenda.moments ≡ empty) }

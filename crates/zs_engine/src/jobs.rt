@@ -1,5 +1,6 @@
 ghost use Rattle.std.specs.Prelude.{◌≤◌, length, map, IfOk};
 ghost use Rattle.zs_drive.specs.Values.{job_value};
+ghost use Rattle.zs_pool.specs.Limits.{max_tasks};
 ghost use Rattle.zs_engine.specs.Answers.{IsAnswer};
 
 use crate::answer::Answer;
@@ -21,7 +22,7 @@ pub fn run_jobs<G: Gate, R: Threads + Wait + Sync>(
     clock: Clock,
     jobs: Vec<Job>,
 ) -> Result<Answer, EngineFault>
-    requires few { length jobs.items ≤ 10000 }
+    requires few { length jobs.items ≤ max_tasks }
     ensures answer { IfOk result (IsAnswer clock (map job_value jobs.items)) }
 {
     let mut engine = Engine::new(alloc, clock)?;

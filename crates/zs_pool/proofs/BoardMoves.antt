@@ -12,7 +12,7 @@ use Rattle.crossbeam_queue.specs.Fifo.{Pushes, Pops, Forks, Merges, Learns, Held
 use Rattle.crossbeam_queue.proofs.Lists.{set_else}
 use Rattle.zs_pool.specs.Batches.{BatchValue}
 use Rattle.zs_pool.specs.Counter.{Counting}
-use Rattle.zs_pool.specs.declared.board_rule.Claims.{Claims}
+use Rattle.zs_pool.specs.declared.board.rule.Claims.{Claims}
 use Rattle.zs_term.specs.Saturating.{max_moment}
 use Rattle.zs_pool.specs.Board.{claims, Fits, BoardRun, Took, IsRest, IsFit}
 use Rattle.zs_pool.proofs.Views.{total_set, total_new, every_get, every_set, every_new, every_alone, every_map, gathered, gathered_alone, merged, newcomer, kept, grown}

@@ -18,12 +18,12 @@ use Rattle.std.specs.contracts.option.Option as option_type
 use Rattle.std.proofs.result.Result.TheSendSync as result
 use Rattle.zs_step.proofs.decision.Decision.TheSendSync as decision
 use Rattle.crossbeam_queue.specs.contracts.array_queue.TurnsTableRuleOptionDoingUnit.TheImpl as turns
-use Rattle.zs_pool.specs.contracts.board_rule.Claims as claims
-use Rattle.zs_pool.specs.contracts.board_rule.InTurn as in_turn
-use Rattle.zs_pool.specs.contracts.board_rule.InTurnProtocolClaims.TheImpl as in_turn_rule
-use Rattle.zs_pool.specs.contracts.shelf_rule.Hands as hands
-use Rattle.zs_pool.specs.contracts.shelf_rule.EachOnce as each_once
-use Rattle.zs_pool.specs.contracts.shelf_rule.EachOnceProtocolHands.TheImpl as each_once_rule
+use Rattle.zs_pool.specs.contracts.board.rule.Claims as claims
+use Rattle.zs_pool.specs.contracts.board.rule.InTurn as in_turn
+use Rattle.zs_pool.specs.contracts.board.rule.InTurnProtocolClaims.TheImpl as in_turn_rule
+use Rattle.zs_pool.specs.contracts.shelf.rule.Hands as hands
+use Rattle.zs_pool.specs.contracts.shelf.rule.EachOnce as each_once
+use Rattle.zs_pool.specs.contracts.shelf.rule.EachOnceProtocolHands.TheImpl as each_once_rule
 use Rattle.zs_term.proofs.term.Term.TheLaws.TheKnot as term_knot
 use Rattle.zs_term.proofs.kind.Kind.TheLaws.TheKnot as kind_knot
 use Rattle.zs_term.proofs.outputs.Out.TheLaws.TheKnot as out_knot
@@ -48,17 +48,17 @@ use Rattle.zs_pool.specs.contracts.polled.Polled as polled
 use Rattle.zs_pool.specs.contracts.polled.Polled.TheInside as polled_inside
 use Rattle.zs_pool.specs.contracts.board.Board as board
 use Rattle.zs_pool.specs.contracts.board.Board.TheInside as board_inside
-use Rattle.zs_pool.specs.contracts.board_pass.BoardPass as board_pass
-use Rattle.zs_pool.specs.contracts.board_pass.BoardPass.TheInside as board_pass_inside
+use Rattle.zs_pool.specs.contracts.board.BoardPass as board_pass
+use Rattle.zs_pool.specs.contracts.board.BoardPass.TheInside as board_pass_inside
 use Rattle.zs_pool.specs.contracts.shelf.Shelf as shelf
 use Rattle.zs_pool.specs.contracts.shelf.Shelf.TheInside as shelf_inside
-use Rattle.zs_pool.specs.contracts.shelf_pass.ShelfPass as shelf_pass
-use Rattle.zs_pool.specs.contracts.shelf_pass.ShelfPass.TheInside as shelf_pass_inside
-use Rattle.zs_pool.specs.contracts.rights.Rights as rights
-use Rattle.zs_pool.specs.contracts.worker.Worked as worked
-use Rattle.zs_pool.proofs.tally_seat.TallySeat.TheSendSync as tally_seat_sent
-use Rattle.zs_pool.proofs.counter.CounterSeat.TheSendSync as counter_seat
-use Rattle.zs_pool.proofs.counter.Counter.TheSendSync as counter
+use Rattle.zs_pool.specs.contracts.shelf.ShelfPass as shelf_pass
+use Rattle.zs_pool.specs.contracts.shelf.ShelfPass.TheInside as shelf_pass_inside
+use Rattle.zs_pool.specs.contracts.rounds.shared.Rights as rights
+use Rattle.zs_pool.specs.contracts.rounds.workers.Served as served
+use Rattle.zs_pool.proofs.tally.TallySeat.TheSendSync as tally_seat_sent
+use Rattle.zs_pool.proofs.board.counter.CounterSeat.TheSendSync as counter_seat
+use Rattle.zs_pool.proofs.board.counter.Counter.TheSendSync as counter
 
 term_field : IsSend (term.the_field).row
 term_field = term_knot.send-Term (search (rules, sendable)) Box-send (search (rules, sendable)) (search (rules, sendable)) (search (rules, sendable))
@@ -94,7 +94,7 @@ progress_sent : IsSend compiled.the_row → IsSend attempted.the_row → IsSend 
 progress_sent c a = declared_send progress.the_type (search (rules, sendable, crosses) depth 20, (search (rules, sendable), (search sendable, (search (rules, sendable, crosses) depth 20, (c, (Vec-send attempted.the_row a, (search (rules, sendable), (search sendable, (search sendable, tt)))))))))
 
 task_fields : IsSend progress.the_row → IsSend task_inside.the_row
-task_fields p = declared_send task_inside.the_type (search sendable, (p, (search sendable, tt)))
+task_fields p = declared_send task_inside.the_type (search sendable, (Box-send progress.the_row p, (search sendable, tt)))
 
 task_sent : IsSend task_inside.the_row → IsSend task.the_row
 task_sent f = view_send task_inside.the_row _ _ _ _ f
@@ -126,8 +126,8 @@ shelf_pass_sent f = view_send shelf_pass_inside.the_row _ _ _ _ f
 rights_sent : IsSend board_pass.the_row → IsSend shelf_pass.the_row → IsSend rights.the_row
 rights_sent b s = declared_send rights.the_type (b, (s, (tally_seat_sent.the_send, tt)))
 
-worked_sent : IsSend rights.the_row → IsSend polled.the_row → IsSend worked.the_row
-worked_sent r p = declared_send worked.the_type (r, (result.the_send _ _ (Vec-send polled.the_row p) (search (rules, sendable)), tt))
+served_sent : IsSend rights.the_row → IsSend polled.the_row → IsSend served.the_row
+served_sent r p = declared_send served.the_type (r, (result.the_send _ _ (Vec-send polled.the_row p) (search (rules, sendable)), tt))
 
 board_fields : IsSend batch.the_row → IsSync board_inside.the_row
 board_fields b = declared_sync board_inside.the_type (slotted.the_sync (option_type.the_row batch.the_row) _ _ _ (turns.ghosts batch.the_row (claims.the_row batch.the_row) in_turn.the_row (in_turn_rule.ghosts batch.the_row) turns.no_dict) heap.ghosts (option.the_send batch.the_row b) heap_send heap_sync frees, (counter.the_sync, (search sendable, tt)))
@@ -159,8 +159,8 @@ shelf_pass_send = shelf_pass_sent (shelf_pass_fields polled_send)
 pub rights_send : IsSend rights.the_row
 rights_send = rights_sent board_pass_send shelf_pass_send
 
-pub worked_send : IsSend worked.the_row
-worked_send = worked_sent rights_send polled_send
+pub served_send : IsSend served.the_row
+served_send = served_sent rights_send polled_send
 
 pub board_sync : IsSync board.the_row
 board_sync = board_shared (board_fields batch_send)
@@ -168,24 +168,27 @@ board_sync = board_shared (board_fields batch_send)
 pub shelf_sync : IsSync shelf.the_row
 shelf_sync = shelf_shared (shelf_fields polled_send)
 
--- what a closure captures, eight values of it
-pub captured_send : (ν : Sym) (A B C D E F G H : RattleType) → IsSend A → IsSend B → IsSend C → IsSend D → IsSend E → IsSend F → IsSend G → IsSend H
-    → IsSend (TupleAt ν (A ∷ B ∷ C ∷ D ∷ E ∷ F ∷ G ∷ H ∷ []))
-captured_send ν A B C D E F G H a b c d e f g h =
-    declared_send (type_at ν (A ∷ B ∷ C ∷ D ∷ E ∷ F ∷ G ∷ H ∷ [])) (
+-- a reference that is captured
+pub reference_send : (l : NamedLft) (R : RattleType) (one : One R.mir) → IsSync R → IsSend (as_row (shr_ref_field l R one))
+reference_send l R one s = as_row_send (shr_ref_field l R one) (shr_send l.mir l.lft R s)
+
+-- what a closure captures, ten values of it
+pub captured_send : (ν : Sym) (A B C D E F G H I J : RattleType) → IsSend A → IsSend B → IsSend C → IsSend D → IsSend E → IsSend F → IsSend G → IsSend H → IsSend I → IsSend J
+    → IsSend (TupleAt ν (A ∷ B ∷ C ∷ D ∷ E ∷ F ∷ G ∷ H ∷ I ∷ J ∷ []))
+captured_send ν A B C D E F G H I J a b c d e f g h i j =
+    declared_send (type_at ν (A ∷ B ∷ C ∷ D ∷ E ∷ F ∷ G ∷ H ∷ I ∷ J ∷ [])) (
       as_row_send (row_field A) a,
       (
         as_row_send (row_field B) b,
         (
           as_row_send (row_field C) c,
-          (as_row_send (row_field D) d, (as_row_send (row_field E) e, (as_row_send (row_field F) f, (as_row_send (row_field G) g, (as_row_send (row_field H) h, tt))))),
+          (
+            as_row_send (row_field D) d,
+            (as_row_send (row_field E) e, (as_row_send (row_field F) f, (as_row_send (row_field G) g, (as_row_send (row_field H) h, (as_row_send (row_field I) i, (as_row_send (row_field J) j, tt)))))),
+          ),
         ),
       ),
     )
-
--- a reference that is captured
-pub reference_send : (l : NamedLft) (R : RattleType) (one : One R.mir) → IsSync R → IsSend (as_row (shr_ref_field l R one))
-reference_send l R one s = as_row_send (shr_ref_field l R one) (shr_send l.mir l.lft R s)
 
 pub number_send : IsSend (UInt w64)
 number_send = search sendable

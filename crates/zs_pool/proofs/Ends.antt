@@ -7,19 +7,17 @@ use Rattle.std.specs.List.Sorted.{IsPermutation}
 use Rattle.std.proofs.Math.Seq.{drop-append_seam}
 use Rattle.std.proofs.lemmas.List.{get_or_append_left}
 use Rattle.std.proofs.lemmas.List.Elements.{All-nil, All-cons, All-drop}
-use Rattle.atomic_table.specs.Seated.{TableId}
 use Rattle.zs_drive.specs.Tasks.{TaskValue}
 use Rattle.zs_pool.specs.Batches.{BatchValue, tasks_of}
 use Rattle.zs_pool.specs.Messages.{PolledValue, IsPollAmong, numbers_of}
-use Rattle.zs_pool.specs.Board.{BoardId}
-use Rattle.zs_pool.specs.declared.rights.Rights.{Rights}
-use Rattle.zs_pool.specs.Shares.{Kept}
+use Rattle.zs_pool.specs.declared.rounds.shared.Rights.{Rights}
+use Rattle.zs_pool.specs.Shares.{Overflow}
 use Rattle.zs_pool.specs.Joined.{IsPart, IsWhole}
 use Rattle.zs_pool.proofs.Served.{collected, counted_all}
 
 -- what an `Ok` has
-at_ok : (P : Vec PolledValue Global → Type 0) (kept : Kept) (v : Vec PolledValue Global) → kept ≡ Ok v → IfOk kept P → P v
-at_ok P kept v is h = let K : Kept → Type 0 = λ k. IfOk k P in subst K is h
+at_ok : (P : Vec PolledValue Global → Type 0) (kept : Overflow) (v : Vec PolledValue Global) → kept ≡ Ok v → IfOk kept P → P v
+at_ok P kept v is h = let K : Overflow → Type 0 = λ k. IfOk k P in subst K is h
 
 pub if_ok : {E : Type 0} (P : List PolledValue → Type 0) (r : Result (Vec PolledValue Global) E) (ms : List PolledValue) → IfOk r (λ v. v.items ≡ ms) → P ms → IfOk r (λ v. P v.items)
 if_ok P (Err e) ms is h = tt
@@ -36,18 +34,20 @@ pub record Ended (now : ℕ) (all : List BatchValue) (first : ℕ) (room : ℕ) 
   pub count : r.seat.count ≡ first + length (tasks_of all)
   pub left : r.seat.allowance + length (tasks_of all) ≡ room
 
-pub ended : (now : ℕ) (board : BoardId) (shelf tally : TableId) (bs all : List BatchValue) (first room : ℕ) (r : Rights) (kept : Kept) (got left : List PolledValue) (k : Vec PolledValue Global)
-    → IsWhole now board shelf tally bs first room r kept got → bs ≡ all → kept ≡ Ok k → IsPermutation (range_with_len 0 (length r.pass.taken)) r.pass.taken → (r.pass.none ≡ true → length r.pass.taken ≡ length r.pass.batches)
-    → IsPermutation r.hand.put (r.hand.taken ++ left) → Ended now all first room r ((got ++ left) ++ k.items)
-ended now board shelf tally bs all first room r kept got left k w same is some whole moved =
-    let E : List BatchValue → Type 0 = λ l. Ended now l first room r ((got ++ left) ++ k.items) in
-    let p : IsPart now bs first room 0 r k.items = at_ok (λ ps. IsPart now bs first room 0 r ps.items) kept k is w.part in
-    let every : length r.pass.taken ≡ length bs = whole p.none ∙ ap length w.same in
-    let N : ℕ → Type 0 = λ n. IsPermutation (range_with_len 0 n) r.pass.taken in
+pub ended : (now : ℕ) (all : List BatchValue) (first r : Rights) (kept : Overflow) (messages left : List PolledValue) (k : Vec PolledValue Global)
+    → IsWhole now first r kept messages → first.board_pass.batches ≡ all → kept ≡ Ok k → IsPermutation (range_with_len 0 (length r.board_pass.taken)) r.board_pass.taken
+    → (r.board_pass.none ≡ true → length r.board_pass.taken ≡ length r.board_pass.batches) → IsPermutation r.shelf_pass.put (r.shelf_pass.taken ++ left)
+    → Ended now all first.seat.count first.seat.allowance r ((messages ++ left) ++ k.items)
+ended now all first r kept messages left k w same is some whole moved =
+    let bs = first.board_pass.batches in let count = first.seat.count in let room = first.seat.allowance in
+    let E : List BatchValue → Type 0 = λ l. Ended now l count room r ((messages ++ left) ++ k.items) in
+    let p : IsPart now bs count room 0 r k.items = at_ok (λ ps. IsPart now bs count room 0 r ps.items) kept k is w.part in
+    let every : length r.board_pass.taken ≡ length bs = whole p.none ∙ ap length w.same in
+    let N : ℕ → Type 0 = λ n. IsPermutation (range_with_len 0 n) r.board_pass.taken in
     let taken : N (length bs) = subst N every some in
-    let G : List PolledValue → Type 0 = λ l. IsPermutation r.hand.put (l ++ left) in
-    let ends = collected now bs r.pass.taken r.hand.put k.items got left taken (subst G w.taken moved) p.served in
-    let size = counted_all bs r.pass.taken taken in
+    let P : List PolledValue → Type 0 = λ l. IsPermutation r.shelf_pass.put (l ++ left) in
+    let ends = collected now bs r.board_pass.taken r.shelf_pass.put k.items messages left taken (subst P w.taken moved) p.served in
+    let size = counted_all bs r.board_pass.taken taken in
     let here : E bs = record {
       each = ends.0;
       whole = ends.1;

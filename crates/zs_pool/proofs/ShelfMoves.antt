@@ -8,7 +8,7 @@ use Rattle.std.proofs.lemmas.List.{append-nil, nil_from_length}
 use Rattle.std.proofs.lemmas.List.Sorted.{IsPermutation-refl, IsPermutation-sym, IsPermutation-trans, IsPermutation-append_left}
 use Rattle.crossbeam_queue.specs.Fifo.{Pushes, Pops, Forks, Merges, Learns, Held}
 use Rattle.crossbeam_queue.proofs.Lists.{set_else}
-use Rattle.zs_pool.specs.declared.shelf_rule.Hands.{Hands}
+use Rattle.zs_pool.specs.declared.shelf.rule.Hands.{Hands}
 use Rattle.zs_term.specs.Saturating.{max_moment}
 use Rattle.zs_pool.specs.Shelf.{hands, IdleIsEmpty, ShelfRun, IsLeft}
 use Rattle.zs_pool.proofs.Views.{total_set, total_new, every_set, every_new, every_map, gathered_alone, merged, newcomer, kept, grown}

@@ -10,7 +10,7 @@ use Rattle.std.specs.List.{sum_by}
 use Rattle.atomic_table.specs.Table.{State, Me, step, Allows, Splits, Joins, Final, Seen, opening}
 use Rattle.atomic_table.specs.Table.Act.{keeps}
 use Rattle.atomic_table.proofs.Lists.{set_else}
-use Rattle.zs_pool.specs.declared.tally_rule.Tallied.{Tallied}
+use Rattle.zs_pool.specs.declared.tally.rule.Tallied.{Tallied}
 use Rattle.zs_pool.specs.Runs.{Every}
 use Rattle.zs_pool.specs.Tally.{tallied, Lawful, Counted, Noted, Fitting, Loaded}
 use Rattle.zs_term.specs.Saturating.{max_moment}
@@ -35,7 +35,7 @@ changed views id v w n at below mine each =
 
 pub counts : (slots id : ℕ) (me : Me (Unit {0}) Tallied) → 1 ≤ me.0.allowance → Allows Rule slots id me 0 (λ n. (n + 1) % 2 ^ 64) (Counted (step slots 0 1 0 none) me)
 counts slots id me some_left s run same at fits =
-    let v = me.0 in let w : Tallied = tallied (v.count + 1) (v.allowance - 1) v.seen v.cut in
+    let v = me.0 in let w : Tallied = tallied (v.count + 1) (v.allowance - 1) v.seen v.noted in
     let views = s.views in let total = sum_by (λ u. u.count) views in
     let c = total_set (λ u. u.count) views id v w at in
     let a = total_set (λ u. u.allowance) views id v w at in
@@ -59,7 +59,7 @@ pub sees : (slots id : ℕ) (me : Me (Unit {0}) Tallied) → Allows Rule slots i
 sees slots id me s run same at fits =
     let v = me.0 in let views = s.views in let total = sum_by (λ u. u.count) views in let n = slice_index s.words 0 in
     let found : n ≡ total = ap (λ ws. slice_index ws 0) run.word in
-    let w : Tallied = tallied v.count v.allowance n v.cut in
+    let w : Tallied = tallied v.count v.allowance n v.noted in
     let c = total_set (λ u. u.count) views id v w at in
     let a = total_set (λ u. u.allowance) views id v w at in
     let has = total_has (λ u. u.count) views id v at in let has_left = total_has (λ u. u.allowance) views id v at in
@@ -112,9 +112,9 @@ notes slots id k me = keeping slots id me (λ n. either (n == k) k n) (tallied m
 pub fits : (slots id : ℕ) (me : Me (Unit {0}) Tallied) → Allows Rule slots id me 0 (λ n. n) (Fitting (step slots 0 0 0 none) me)
 fits slots id me = keeping slots id me (λ n. n) me.0 (Fitting (step slots 0 0 0 none) me) (λ n. refl) refl refl refl (λ n h. (h, refl))
 
-pub splits : (id : ℕ) (v : Tallied) → v.cut ≤ v.allowance → Splits Rule id v (tallied v.count (v.allowance - v.cut) v.seen 0) (tallied 0 v.cut v.seen 0)
+pub splits : (id : ℕ) (v : Tallied) → v.noted ≤ v.allowance → Splits Rule id v (tallied v.count (v.allowance - v.noted) v.seen 0) (tallied 0 v.noted v.seen 0)
 splits id v within s run at =
-    let l : Tallied = tallied v.count (v.allowance - v.cut) v.seen 0 in let r : Tallied = tallied 0 v.cut v.seen 0 in
+    let l : Tallied = tallied v.count (v.allowance - v.noted) v.seen 0 in let r : Tallied = tallied 0 v.noted v.seen 0 in
     let views = s.views in let total = sum_by (λ u. u.count) views in let vs = set views id l in
     let c = total_set (λ u. u.count) views id v l at in let a = total_set (λ u. u.allowance) views id v l at in
     let d = total_new (λ u. u.count) vs r in let b = total_new (λ u. u.allowance) vs r in

@@ -2,11 +2,12 @@
 use Rattle.std.specs.Prelude.{◌≡◌, ◌≤◌, ◌-◌, length, take, ℕ, List, All, Some, slice_get}
 use Rattle.std.specs.List.{flat_map}
 use Rattle.zs_drive.specs.Tasks.{TaskValue}
+use Rattle.zs_pool.specs.Limits.{max_workers, max_tasks}
 use Rattle.zs_pool.specs.Rounds.{IsPollable}
 
 -- the limits of a cut
 abbrev pub IsCut : ℕ → ℕ → Type 0
-IsCut workers grain = (1 ≤ workers) × (workers ≤ 64) × (1 ≤ grain) × (grain ≤ 10000)
+IsCut workers grain = (1 ≤ workers) × (workers ≤ max_workers) × (1 ≤ grain) × (grain ≤ max_tasks)
 
 -- a batch: its number, and its tasks
 pub record BatchValue : Type 0 where

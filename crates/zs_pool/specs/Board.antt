@@ -8,7 +8,7 @@ use Rattle.zs_pool.specs.Batches.{BatchValue, AreNumbered}
 use Rattle.zs_pool.specs.Counter.{Counting}
 use Rattle.zs_pool.specs.Runs.{Every}
 use Rattle.zs_term.specs.Saturating.{max_moment}
-use Rattle.zs_pool.specs.declared.board_rule.Claims.{Claims}
+use Rattle.zs_pool.specs.declared.board.rule.Claims.{Claims}
 
 module _ {T : Type 0} where
   -- a pass: its share, the batches that were put, and the numbers of those that it took

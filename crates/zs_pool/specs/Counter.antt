@@ -5,7 +5,7 @@ use Rattle.atomic_table.specs.Seated.{TableId}
 use Rattle.atomic_table.specs.Table.{State, Step, Me}
 use Rattle.zs_pool.specs.Runs.{Every}
 use Rattle.zs_term.specs.Saturating.{max_moment}
-use Rattle.zs_pool.specs.declared.counter_rule.Count.{Count}
+use Rattle.zs_pool.specs.declared.board.counter_rule.Count.{Count}
 
 abbrev pub counted : ℕ → ℕ → ℕ → Count
 counted share count seen = record { share = share; count = count; seen = seen }
@@ -30,8 +30,8 @@ abbrev pub Looked : Step (Unit {0}) → Me (Unit {0}) Count → ℕ → Me (Unit
 Looked st me n now = now ≡ (counted me.0.share me.0.count n, me.1)
 
 -- a seat with the whole share counted all that it saw
-abbrev pub Settled : Step (Unit {0}) → Me (Unit {0}) Count → ℕ → Me (Unit {0}) Count → Type 0
-Settled st me n now = (me.0.share ≡ max_moment → me.0.seen ≤ me.0.count) × (now ≡ me)
+abbrev pub Learned : Step (Unit {0}) → Me (Unit {0}) Count → ℕ → Me (Unit {0}) Count → Type 0
+Learned st me n now = (me.0.share ≡ max_moment → me.0.seen ≤ me.0.count) × (now ≡ me)
 
 -- a seat, as contracts see it
 pub record Counting : Type 0 where

@@ -3,40 +3,41 @@ use Rattle.std.specs.Prelude.{◌≡◌, ℕ, ◌+◌, true, List, ◌++◌, Ok,
 use Rattle.std.specs.Global.{Global}
 use Rattle.std.specs.List.{sum_by}
 use Rattle.std.specs.declared.thread.PromisedHandle.{PromisedHandle}
-use Rattle.atomic_table.specs.Seated.{TableId}
 use Rattle.zs_pool.specs.Batches.{BatchValue}
 use Rattle.zs_pool.specs.Messages.{PolledValue}
-use Rattle.zs_pool.specs.Board.{BoardId}
 use Rattle.zs_term.specs.Saturating.{max_moment}
-use Rattle.zs_pool.specs.declared.rights.Rights.{Rights}
-use Rattle.zs_pool.specs.declared.worker.Worked.{Worked}
-use Rattle.zs_pool.specs.declared.worker.WorkerPromise.{WorkerPromise}
-use Rattle.zs_pool.specs.Shares.{Kept, IsFresh, IsOf, Serves, sizes}
+use Rattle.zs_pool.specs.declared.rounds.shared.Shared.{Shared}
+use Rattle.zs_pool.specs.declared.rounds.shared.Rights.{Rights}
+use Rattle.zs_pool.specs.declared.rounds.workers.Served.{Served}
+use Rattle.zs_pool.specs.declared.rounds.workers.WorkerPromise.{WorkerPromise}
+use Rattle.zs_pool.specs.Shares.{Overflow, IsFresh, Serves, sizes}
 
 abbrev pub Worker : Type 0
-Worker = PromisedHandle Worked WorkerPromise
+Worker = PromisedHandle Served WorkerPromise
 
-abbrev pub Promised : ℕ → BoardId → TableId → TableId → List BatchValue → Worker → Type 0
-Promised now board shelf tally batches w = (w.promise.now ≡ now) × IsFresh board shelf tally batches w.promise.rights.value
+-- the worker serves the round from fresh rights
+abbrev pub Promised : {G : Type 0} → Shared G → List BatchValue → Worker → Type 0
+Promised shared batches w = (w.promise.moment ≡ shared.moment) × IsFresh shared batches w.promise.rights.value
 
 -- what all these workers may count
 abbrev pub allowed : List Worker → ℕ
 allowed ws = sum_by (λ w. w.promise.rights.value.seat.allowance) ws
 
-abbrev pub AreBoth : Kept → Kept → Vec PolledValue Global → Type 0
-AreBoth kept more v = (a : Vec PolledValue Global) × (b : Vec PolledValue Global) × (kept ≡ Ok a) × (more ≡ Ok b) × (v.items ≡ a.items ++ b.items)
+-- what one kept, and then what the other did
+abbrev pub AreBoth : Overflow → Overflow → Vec PolledValue Global → Type 0
+AreBoth overflow more v = (a : Vec PolledValue Global) × (b : Vec PolledValue Global) × (overflow ≡ Ok a) × (more ≡ Ok b) × (v.items ≡ a.items ++ b.items)
 
 -- the board was seen empty, and all that was claimed by the joined threads is put or kept, polled and counted. The others may count `spare`
 pub record IsPart (now : ℕ) (batches : List BatchValue) (first : ℕ) (room : ℕ) (spare : ℕ) (r : Rights) (kept : List PolledValue) : Type 0 where
-  pub served : Serves now batches r.pass.taken (r.hand.put ++ kept)
-  pub none : r.pass.none ≡ true
-  pub count : r.seat.count ≡ first + sizes batches r.pass.taken
-  pub left : r.seat.allowance + sizes batches r.pass.taken + spare ≡ room
+  pub served : Serves now batches r.board_pass.taken (r.shelf_pass.put ++ kept)
+  pub none : r.board_pass.none ≡ true
+  pub count : r.seat.count ≡ first + sizes batches r.board_pass.taken
+  pub left : r.seat.allowance + sizes batches r.board_pass.taken + spare ≡ room
 
--- all workers are joined
-pub record IsWhole (now : ℕ) (board : BoardId) (shelf : TableId) (tally : TableId) (batches : List BatchValue) (first : ℕ) (room : ℕ) (r : Rights) (kept : Kept) (got : List PolledValue) : Type 0 where
-  pub of : IsOf board shelf tally r
-  pub same : r.pass.batches ≡ batches
-  pub shares : (r.pass.share ≡ max_moment) × (r.hand.share ≡ max_moment)
-  pub taken : r.hand.taken ≡ got
-  pub part : IfOk kept (λ ps. IsPart now batches first room 0 r ps.items)
+-- all workers are joined into the rights with which the round began
+pub record IsWhole (moment : ℕ) (first : Rights) (r : Rights) (overflow : Overflow) (messages : List PolledValue) : Type 0 where
+  pub of : (r.board_pass.board ≡ first.board_pass.board) × (r.shelf_pass.shelf ≡ first.shelf_pass.shelf) × (r.seat.tally ≡ first.seat.tally)
+  pub same : r.board_pass.batches ≡ first.board_pass.batches
+  pub shares : (r.board_pass.share ≡ max_moment) × (r.shelf_pass.share ≡ max_moment)
+  pub taken : r.shelf_pass.taken ≡ messages
+  pub part : IfOk overflow (λ ps. IsPart moment first.board_pass.batches first.seat.count first.seat.allowance 0 r ps.items)

@@ -1,22 +1,26 @@
--- What a worker is given, and what it hands back.
+-- What a thread of a round is given, and what it hands back.
 use Rattle.std.specs.Prelude.{◌≡◌, ℕ, zero, suc, ◌+◌, ◌≤◌, length, true, false, List, [], ◌∷◌, ◌++◌, All, Result, IfOk, Vec}
 use Rattle.std.specs.Global.{Global}
 use Rattle.std.specs.List.{sum_by}
 use Rattle.std.specs.List.Sorted.{IsPermutation}
-use Rattle.atomic_table.specs.Seated.{TableId}
-use Rattle.zs_pool.specs.Batches.{BatchValue, tasks_of}
-use Rattle.zs_pool.specs.Messages.{PolledValue, IsPollAmong, numbers_of}
 use Rattle.std.specs.declared.alloc.AllocError.{AllocError}
-use Rattle.zs_pool.specs.Board.{BoardId}
+use Rattle.zs_term.specs.Saturating.{max_moment}
+use Rattle.zs_pool.specs.Limits.{max_workers}
+use Rattle.zs_pool.specs.Batches.{BatchValue, AllPollable, tasks_of}
+use Rattle.zs_pool.specs.Messages.{PolledValue, IsPollAmong, numbers_of}
+use Rattle.zs_pool.specs.Board.{claimer}
+use Rattle.zs_pool.specs.Shelf.{shelver}
 use Rattle.zs_pool.specs.Tally.{Seating}
-use Rattle.zs_pool.specs.declared.rights.Rights.{Rights}
+use Rattle.zs_pool.specs.declared.rounds.shared.Shared.{Shared}
+use Rattle.zs_pool.specs.declared.rounds.shared.Rights.{Rights}
 
-abbrev pub Kept : Type 0
-Kept = Result (Vec PolledValue Global) AllocError
+-- the messages for which the shelf had no room
+abbrev pub Overflow : Type 0
+Overflow = Result (Vec PolledValue Global) AllocError
 
 -- n tasks were polled and counted
-abbrev pub Counts : Seating → ℕ → Seating → Type 0
-Counts before n after = (after.tally ≡ before.tally) × (after.count ≡ before.count + n) × (after.allowance + n ≡ before.allowance)
+abbrev pub HasCounted : Seating → ℕ → Seating → Type 0
+HasCounted before n after = (after.tally ≡ before.tally) × (after.count ≡ before.count + n) × (after.allowance + n ≡ before.allowance)
 
 -- how many tasks batch k has
 abbrev pub size_at : List BatchValue → ℕ → ℕ
@@ -36,38 +40,57 @@ Serves now batches taken ps = All (IsPollAmong now batches) ps × IsPermutation 
 abbrev pub HandsIn : List PolledValue → List PolledValue → PolledValue → List PolledValue → List PolledValue → Type 0
 HandsIn put kept m put' kept' = IsPermutation ((put ++ kept) ++ m ∷ []) (put' ++ kept')
 
--- the passes are of this board and this shelf, and the seat is of this tally
-abbrev pub IsOf : BoardId → TableId → TableId → Rights → Type 0
-IsOf board shelf tally r = (r.pass.board ≡ board) × (r.hand.shelf ≡ shelf) × (r.seat.tally ≡ tally)
-
--- nothing was taken, put or answered None yet
-abbrev pub IsNew : List BatchValue → Rights → Type 0
-IsNew batches r = (r.pass.batches ≡ batches) × (r.pass.taken ≡ []) × (r.pass.none ≡ false) × (r.hand.put ≡ []) × (r.hand.taken ≡ [])
-
--- the rights of a started worker
-pub record IsFresh (board : BoardId) (shelf : TableId) (tally : TableId) (batches : List BatchValue) (r : Rights) : Type 0 where
-  pub of : IsOf board shelf tally r
-  pub new : IsNew batches r
-  pub pass_share : r.pass.share ≡ 1
-  pub hand_share : r.hand.share ≡ 1
-  pub count : r.seat.count ≡ 0
-  pub room : length (tasks_of batches) ≤ r.seat.allowance
-
--- the rights are of the same things as before, with the same shares, and took nothing from the shelf
-abbrev pub IsSame : Rights → Rights → Type 0
-IsSame r after =
-    IsOf r.pass.board r.hand.shelf r.seat.tally after
-    × (after.pass.batches ≡ r.pass.batches) × (after.pass.share ≡ r.pass.share) × (after.hand.share ≡ r.hand.share) × (after.hand.taken ≡ r.hand.taken)
-
--- the board was seen empty, and all that was claimed from it is put or kept, polled and counted
-abbrev pub HasServed : ℕ → Rights → Rights → Kept → Type 0
-HasServed now r after kept =
-    IfOk kept
-    (λ ps.
-    Serves now r.pass.batches after.pass.taken (after.hand.put ++ ps.items) × (after.pass.none ≡ true)
-    × (after.seat.count ≡ r.seat.count + sizes r.pass.batches after.pass.taken) × (after.seat.allowance + sizes r.pass.batches after.pass.taken ≡ r.seat.allowance))
-
 -- n times t
 abbrev pub rooms : ℕ → ℕ → ℕ
 rooms zero t = 0
 rooms (suc n) t = t + rooms n t
+
+-- nothing was taken, put or answered None yet
+abbrev pub IsNew : List BatchValue → Rights → Type 0
+IsNew batches r = (r.board_pass.batches ≡ batches) × (r.board_pass.taken ≡ []) × (r.board_pass.none ≡ false) × (r.shelf_pass.put ≡ []) × (r.shelf_pass.taken ≡ [])
+
+module _ {G : Type 0} where
+  -- the passes are of the round's board and shelf, and the seat is of its tally
+  abbrev pub IsOf : Shared G → Rights → Type 0
+  IsOf shared r = (r.board_pass.board ≡ shared.board.now) × (r.shelf_pass.shelf ≡ shared.shelf.now) × (r.seat.tally ≡ shared.tally.now)
+
+  -- The rights with which the calling thread begins: the whole board and the whole shelf, and an allowance for itself
+  -- and its helpers, each of which may count all tasks.
+  pub record IsFirst (shared : Shared G) (count : ℕ) (r : Rights) : Type 0 where
+    pub board_pass : r.board_pass ≡ claimer shared.board.now max_moment r.board_pass.batches [] false
+    pub shelf_pass : r.shelf_pass ≡ shelver shared.shelf.now max_moment [] []
+    pub tally : r.seat.tally ≡ shared.tally.now
+    pub helpers : count ≤ max_workers
+    pub room : shared.tasks + rooms count shared.tasks ≤ r.seat.allowance
+    pub tasks : length (tasks_of r.board_pass.batches) ≤ shared.tasks
+    pub pollable : AllPollable shared.moment r.board_pass.batches
+
+  -- the rights with which a thread can serve
+  pub record IsReady (shared : Shared G) (r : Rights) : Type 0 where
+    pub of : IsOf shared r
+    pub new : IsNew r.board_pass.batches r
+    pub room : length (tasks_of r.board_pass.batches) ≤ r.seat.allowance
+    pub pollable : AllPollable shared.moment r.board_pass.batches
+
+  -- the rights of a started worker
+  pub record IsFresh (shared : Shared G) (batches : List BatchValue) (r : Rights) : Type 0 where
+    pub of : IsOf shared r
+    pub new : IsNew batches r
+    pub board_share : r.board_pass.share ≡ 1
+    pub shelf_share : r.shelf_pass.share ≡ 1
+    pub count : r.seat.count ≡ 0
+    pub room : length (tasks_of batches) ≤ r.seat.allowance
+
+-- the rights are of the same things as before, with the same shares, and took nothing from the shelf
+abbrev pub IsSame : Rights → Rights → Type 0
+IsSame r after =
+    ((after.board_pass.board ≡ r.board_pass.board) × (after.shelf_pass.shelf ≡ r.shelf_pass.shelf) × (after.seat.tally ≡ r.seat.tally))
+    × (after.board_pass.batches ≡ r.board_pass.batches) × (after.board_pass.share ≡ r.board_pass.share) × (after.shelf_pass.share ≡ r.shelf_pass.share) × (after.shelf_pass.taken ≡ r.shelf_pass.taken)
+
+-- the board was seen empty, and all that was claimed from it is put or kept, polled and counted
+abbrev pub HasServed : ℕ → Rights → Rights → Overflow → Type 0
+HasServed now r after overflow =
+    IfOk overflow
+    (λ ps.
+    Serves now r.board_pass.batches after.board_pass.taken (after.shelf_pass.put ++ ps.items) × (after.board_pass.none ≡ true)
+    × (after.seat.count ≡ r.seat.count + sizes r.board_pass.batches after.board_pass.taken) × (after.seat.allowance + sizes r.board_pass.batches after.board_pass.taken ≡ r.seat.allowance))

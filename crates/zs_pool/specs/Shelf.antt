@@ -6,7 +6,7 @@ use Rattle.atomic_table.specs.Seated.{TableId}
 use Rattle.zs_pool.specs.Messages.{PolledValue}
 use Rattle.zs_pool.specs.Runs.{Every}
 use Rattle.zs_term.specs.Saturating.{max_moment}
-use Rattle.zs_pool.specs.declared.shelf_rule.Hands.{Hands}
+use Rattle.zs_pool.specs.declared.shelf.rule.Hands.{Hands}
 
 module _ {T : Type 0} where
   -- a pass: its share, what it put and what it took

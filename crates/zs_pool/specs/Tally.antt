@@ -5,10 +5,10 @@ use Rattle.atomic_table.specs.Seated.{TableId}
 use Rattle.atomic_table.specs.Table.{State, Step, Me}
 use Rattle.zs_term.specs.Saturating.{max_moment}
 use Rattle.zs_pool.specs.Runs.{Every}
-use Rattle.zs_pool.specs.declared.tally_rule.Tallied.{Tallied}
+use Rattle.zs_pool.specs.declared.tally.rule.Tallied.{Tallied}
 
 abbrev pub tallied : ℕ → ℕ → ℕ → ℕ → Tallied
-tallied count allowance seen cut = record { count = count; allowance = allowance; seen = seen; cut = cut }
+tallied count allowance seen noted = record { count = count; allowance = allowance; seen = seen; noted = noted }
 
 pub record TallyRun (words : List ℕ) (views : List Tallied) : Type 0 where
   -- the word is the sum of all counts
@@ -23,11 +23,11 @@ Lawful key s = TallyRun s.words s.views
 
 -- a seat adds one
 abbrev pub Counted : Step (Unit {0}) → Me (Unit {0}) Tallied → ℕ → Me (Unit {0}) Tallied → Type 0
-Counted st me n now = now ≡ (tallied (me.0.count + 1) (me.0.allowance - 1) me.0.seen me.0.cut, me.1)
+Counted st me n now = now ≡ (tallied (me.0.count + 1) (me.0.allowance - 1) me.0.seen me.0.noted, me.1)
 
 -- a seat sees the word
 abbrev pub Loaded : Step (Unit {0}) → Me (Unit {0}) Tallied → ℕ → Me (Unit {0}) Tallied → Type 0
-Loaded st me n now = (me.0.count ≤ n) × (me.0.seen ≤ n) × (n + me.0.allowance ≤ max_moment) × (now ≡ (tallied me.0.count me.0.allowance n me.0.cut, me.1))
+Loaded st me n now = (me.0.count ≤ n) × (me.0.seen ≤ n) × (n + me.0.allowance ≤ max_moment) × (now ≡ (tallied me.0.count me.0.allowance n me.0.noted, me.1))
 
 -- a seat notes how much it is about to hand on
 abbrev pub Noted : Step (Unit {0}) → Me (Unit {0}) Tallied → ℕ → Me (Unit {0}) Tallied → Type 0

@@ -7,10 +7,13 @@ ghost use Rattle.zs_pool.specs.Batches.{AreNumbered};
 ghost use Rattle.zs_pool.specs.Board.{claims, claimer};
 ghost use Rattle.zs_pool.specs.declared.fault.PoolFault.TheVariants.{Memory};
 
+mod counter;
+mod counter_rule;
+mod rule;
+
 use crate::batch::Batch;
-use crate::board_pass::BoardPass;
-use crate::board_rule::{Claims, Halves, InTurn, Puts, Takes};
-use crate::counter::{Counter, CounterSeat};
+use crate::board::counter::{Counter, CounterSeat};
+use crate::board::rule::{Claims, InTurn, Puts, Sharing, Takes};
 use crate::fault::PoolFault;
 use crossbeam_queue::{Pass, RuledArrayQueue};
 use std::alloc::Global;
@@ -18,14 +21,14 @@ use std::marker::Model;
 use std::sync::Wait;
 use std::thread;
 
-type Line = RuledArrayQueue<Batch, Claims<Batch>, InTurn>;
+type Queue = RuledArrayQueue<Batch, Claims<Batch>, InTurn>;
 
-type Place = Pass<Batch, Claims<Batch>>;
+type QueuePass = Pass<Batch, Claims<Batch>>;
 
 /// A work queue: batches in order, each claimed by one pass. Contracts see it as which one it is.
 #[derive(Drop)]
 pub struct Board {
-    queue: Line,
+    queue: Queue,
     counter: Counter,
     size: u64,
 }
@@ -38,8 +41,31 @@ impl Model for Board {
     ghost view = { λ b. record { queue = b.queue.table.shared.table_id; counter = b.counter; size = b.size } };
 }
 
+/// One thread's handle on a board: the right to claim batches.
+#[derive(Drop)]
+pub struct BoardPass {
+    queue: QueuePass,
+    seat: CounterSeat,
+    none: bool,
+}
+
+impl Model for BoardPass {
+    ghost use Rattle.std.specs.Prelude.{◌≡◌, [], length};
+    ghost use Rattle.zs_pool.specs.Board.{Claimer, claimer, IsFit};
+    ghost use Rattle.zs_term.specs.contracts.term.Term as e;
+    ghost use Rattle.std.specs.Coded.{codes};
+
+    ghost Value = { Claimer };
+
+    ghost coded = { Prim.hlevel (codes, e.the_row.coded) };
+
+    ghost view = { λ p. let v = p.queue.me.0.client in claimer (record { queue = p.queue.table_id; counter = p.seat.counter; size = length v.batches }) v.share v.batches v.taken p.none };
+
+    ghost invariant = { λ p. (p.queue.me.1 ≡ []) × IsFit p.queue.me.0.client p.seat p.none };
+}
+
 // Puts all batches.
-fn fill<R: Wait>(rt: &R, queue: &Line, pass: &mut Place, batches: Vec<Batch>)
+fn fill<R: Wait>(rt: &R, queue: &Queue, pass: &mut QueuePass, batches: Vec<Batch>)
     requires pass { IsPassOf queue.now pass.old × (view pass.old ≡ claims max_moment [] []) }
     requires room { length batches.items ≤ ruled_capacity queue.now }
     ensures pass { IsPassOf queue.now pass.new × (view pass.new ≡ claims max_moment batches.items []) }
@@ -63,20 +89,16 @@ impl Board {
         ensures memory { IfErr result (λ e. e ≡ Memory) }
     {
         let size = batches.len();
-        let Ok((counter, seat)) = Counter::new(alloc) else {
-            return Err(PoolFault::Memory);
-        };
-        let Ok((queue, mut place)) = Line::ruled(alloc, size.max(1)) else {
-            return Err(PoolFault::Memory);
-        };
-        fill(rt, &queue, &mut place, batches);
+        let (counter, seat) = Counter::new(alloc)?;
+        let (queue, mut queue_pass) = Queue::ruled(alloc, size.max(1))?;
+        fill(rt, &queue, &mut queue_pass, batches);
         let board = Board {
             queue,
             counter,
             size: size as u64,
         };
         let pass = BoardPass {
-            place,
+            queue: queue_pass,
             seat,
             none: false,
         };
@@ -99,13 +121,13 @@ impl Board {
     }
 
     // A pass with the whole share that saw the board empty took each batch once.
-    fn settle(&self, pass: &mut BoardPass)
+    fn learn_all_taken(&self, pass: &mut BoardPass)
         requires board { pass.old.board ≡ self.now }
         ensures same { pass.new ≡ pass.old }
         ensures whole { pass.old.share ≡ max_moment → pass.old.none ≡ true → IsPermutation (range_with_len 0 (length pass.old.batches)) pass.old.taken }
     {
-        self.queue.learn_as::<Takes>(&mut pass.place);
-        self.counter.settle(&mut pass.seat);
+        self.queue.learn_as::<Takes>(&mut pass.queue);
+        self.counter.learn_sum(&mut pass.seat);
     }
 
     /// The front batch. `None` only where all batches were claimed, and from then on for good.
@@ -119,10 +141,10 @@ impl Board {
         ensures whole { IfNone result (pass.old.share ≡ max_moment → IsPermutation (range_with_len 0 (length pass.old.batches)) pass.old.taken) }
     {
         if pass.none {
-            self.settle(pass);
+            self.learn_all_taken(pass);
             return None;
         }
-        match self.queue.pop_as::<Takes, R>(rt, &mut pass.place) {
+        match self.queue.pop_as::<Takes, R>(rt, &mut pass.queue) {
             Some(batch) => {
                 self.counter.add(&mut pass.seat);
                 Some(batch)
@@ -130,7 +152,7 @@ impl Board {
             None => {
                 self.wait_for_all(rt, &mut pass.seat);
                 pass.none = true;
-                self.settle(pass);
+                self.learn_all_taken(pass);
                 None
             }
         }
@@ -152,51 +174,24 @@ impl Board {
         // The room was made by `new`, so nothing grows here.
         ensures succeeds { IsOk result }
     {
-        let place = self.queue.another::<Halves>(&mut pass.place);
-        let BoardPass {
-            place: left,
-            seat,
-            none,
-        } = pass;
-        let (first, second) = self.counter.split(seat);
-        let first = BoardPass {
-            place: left,
-            seat: first,
-            none,
-        };
-        let second = BoardPass {
-            place,
-            seat: second,
-            none,
-        };
-        Ok((first, second))
+        let queue = self.queue.another::<Sharing>(&mut pass.queue);
+        let seat = self.counter.split(&mut pass.seat);
+        let none = pass.none;
+        Ok((pass, BoardPass { queue, seat, none }))
     }
 
     /// Makes one pass of two, which took what both took.
-    pub fn join<R>(&self, _rt: &R, pass: BoardPass, other: BoardPass) -> BoardPass
+    pub fn join<R>(&self, _rt: &R, mut pass: BoardPass, other: BoardPass) -> BoardPass
         requires pass { pass.board ≡ self.now }
         requires other { other.board ≡ self.now }
         ensures joined { result ≡ claimer self.now (pass.share + other.share) pass.batches (pass.taken ++ other.taken) (pass.none || other.none) }
         ensures whole { result.share ≡ max_moment → result.none ≡ true → IsPermutation (range_with_len 0 (length result.batches)) result.taken }
     {
-        let BoardPass {
-            mut place,
-            seat,
-            none,
-        } = pass;
-        let BoardPass {
-            place: theirs,
-            seat: other_seat,
-            none: other_none,
-        } = other;
-        self.queue.absorb::<Halves>(&mut place, theirs);
-        let seat = self.counter.join(seat, other_seat);
-        let mut pass = BoardPass {
-            place,
-            seat,
-            none: none || other_none,
-        };
-        self.settle(&mut pass);
+        let BoardPass { queue, seat, none } = other;
+        self.queue.absorb::<Sharing>(&mut pass.queue, queue);
+        self.counter.join(&mut pass.seat, seat);
+        pass.none = pass.none || none;
+        self.learn_all_taken(&mut pass);
         pass
     }
 
@@ -205,7 +200,7 @@ impl Board {
         self,
         rt: &R,
         alloc: Global,
-        pass: BoardPass,
+        mut pass: BoardPass,
     ) -> Result<Vec<Batch>, PoolFault>
         requires board { pass.board ≡ self }
         requires whole { pass.share ≡ max_moment }
@@ -214,19 +209,9 @@ impl Board {
         ensures left { IfOk result (λ v. v.items ≡ drop (length pass.taken) pass.batches) }
         ensures memory { IfErr result (λ e. e ≡ Memory) }
     {
-        let Board {
-            queue,
-            counter,
-            size: _,
-        } = self;
-        let BoardPass {
-            mut place,
-            mut seat,
-            none: _,
-        } = pass;
-        counter.settle(&mut seat);
-        queue.learn_as::<Takes>(&mut place);
-        drain(rt, alloc, &queue, &mut place)
+        self.counter.learn_sum(&mut pass.seat);
+        self.queue.learn_as::<Takes>(&mut pass.queue);
+        drain(rt, alloc, &self.queue, &mut pass.queue)
     }
 }
 
@@ -234,17 +219,17 @@ impl Board {
 fn drain<R: Wait>(
     rt: &R,
     alloc: Global,
-    queue: &Line,
-    place: &mut Place,
+    queue: &Queue,
+    pass: &mut QueuePass,
 ) -> Result<Vec<Batch>, PoolFault>
-    requires pass { IsPassOf queue.now place.old }
-    requires whole { (view place.old).share ≡ max_moment }
-    ensures left { let v = view place.old in IfOk result (λ left. left.items ≡ drop (length v.taken) v.batches) }
+    requires pass { IsPassOf queue.now pass.old }
+    requires whole { (view pass.old).share ≡ max_moment }
+    ensures left { let v = view pass.old in IfOk result (λ left. left.items ≡ drop (length v.taken) v.batches) }
     ensures memory { IfErr result (λ e. e ≡ Memory) }
 {
     let mut left = Vec::new(alloc);
     for _ in rt.forever() {
-        match queue.pop_as::<Takes, R>(rt, place) {
+        match queue.pop_as::<Takes, R>(rt, pass) {
             Some(batch) => left.push(batch)?,
             None => return Ok(left),
         }

@@ -1,7 +1,11 @@
-ghost use Rattle.std.specs.Prelude.{◌≡◌, ◌↔◌, ℕ, true, IsTrue, slice_get, Some};
+ghost use Rattle.std.specs.Prelude.{◌≡◌, ◌↔◌, ℕ, List, true, IsTrue, slice_get, Some, IfOk, IfErr, map};
+ghost use Rattle.std.specs.List.{AllZip};
 ghost use Rattle.zs_drive.specs.Tasks.{TaskValue};
+ghost use Rattle.zs_pool.specs.Rounds.{IsPolled, polled_at};
 ghost use Rattle.zs_pool.specs.Messages.{AllSaw};
+ghost use Rattle.zs_pool.specs.declared.fault.PoolFault.TheVariants.{Memory};
 
+use crate::fault::PoolFault;
 use std::marker::Model;
 use zs_drive::Task;
 
@@ -37,5 +41,21 @@ impl Polled {
         ensures saw { AllSaw self.entry.now.now self.entry.now.tasks }
     {
         self.tasks.iter().any(|task| task.broken())
+    }
+
+    // The tasks, unless one is broken.
+    pub(crate) fn into_tasks(self) -> Result<Vec<Task>, PoolFault>
+        ensures tasks { IfOk result (λ v. (now : ℕ) (before : List TaskValue) → AllZip (IsPolled now) before self.tasks → v.items ≡ map (polled_at now) before) }
+        ensures memory { IfErr result (λ e. e ≡ Memory) }
+    {
+        if self.broken() {
+            return Err(PoolFault::Memory);
+        }
+        let Polled {
+            number: _,
+            now: _,
+            tasks,
+        } = self;
+        Ok(tasks)
     }
 }

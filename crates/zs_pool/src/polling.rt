@@ -3,7 +3,7 @@ ghost use Rattle.std.specs.Prelude.{◌≡◌, ◌+◌, ◌≤◌, All, IfOk, If
 ghost use Rattle.std.specs.List.{AllZip};
 ghost use Rattle.zs_pool.specs.Rounds.{IsPollable, IsPolled};
 ghost use Rattle.zs_pool.specs.Messages.{AllSaw, IsPollOf};
-ghost use Rattle.zs_pool.specs.Shares.{Counts};
+ghost use Rattle.zs_pool.specs.Shares.{HasCounted};
 ghost use Rattle.zs_pool.specs.declared.fault.PoolFault.TheVariants.{Memory};
 
 use crate::batch::Batch;
@@ -11,8 +11,7 @@ use crate::fault::PoolFault;
 use crate::gate::Gate;
 use crate::polled::Polled;
 use crate::poller::Poller;
-use crate::tally::Tally;
-use crate::tally_seat::TallySeat;
+use crate::tally::{Tally, TallySeat};
 use futures::Future;
 use futures::task::Context;
 use std::alloc::Global;
@@ -40,7 +39,7 @@ pub fn poll_one<G: Gate>(
     requires allowance { 1 ≤ seat.old.allowance }
     requires pollable { IsPollable now task.old }
     ensures polled { IsPolled now task.old task.new }
-    ensures counted { Counts seat.old 1 seat.new }
+    ensures counted { HasCounted seat.old 1 seat.new }
 {
     let done = tally.seen(seat);
     gate.pass(task.number(), now, done);
@@ -48,6 +47,7 @@ pub fn poll_one<G: Gate>(
     tally.count(seat);
 }
 
+// Polls each task in order.
 fn poll_each<G: Gate>(
     gate: &G,
     tally: &Tally,
@@ -70,27 +70,6 @@ fn poll_each<G: Gate>(
     }
 }
 
-fn poll_all<G: Gate>(
-    gate: &G,
-    tally: &Tally,
-    seat: &mut TallySeat,
-    now: u64,
-    cx: &mut Context<'_>,
-    mut tasks: Vec<Task>,
-) -> Vec<Task>
-    requires tally { seat.old.tally ≡ tally.now }
-    requires allowance { length tasks.items ≤ seat.old.allowance }
-    requires pollable { All (IsPollable now) tasks.items }
-    ensures tally { seat.new.tally ≡ tally.now }
-    ensures count { seat.new.count ≡ seat.old.count + length tasks.items }
-    ensures allowance { seat.new.allowance + length tasks.items ≡ seat.old.allowance }
-    ensures polled { AllZip (IsPolled now) tasks.items result.items }
-    ensures saw { AllSaw now result.items }
-{
-    poll_each(gate, tally, seat, now, cx, tasks.as_mut_slice());
-    tasks
-}
-
 // Polls each task of the batch in order, under a context that others have used.
 pub fn poll_in<G: Gate>(
     gate: &G,
@@ -103,11 +82,11 @@ pub fn poll_in<G: Gate>(
     requires tally { seat.old.tally ≡ tally.now }
     requires allowance { length batch.tasks ≤ seat.old.allowance }
     requires pollable { All (IsPollable now) batch.tasks }
-    ensures counted { Counts seat.old (length batch.tasks) seat.new }
+    ensures counted { HasCounted seat.old (length batch.tasks) seat.new }
     ensures polled { IsPollOf now batch result }
 {
-    let Batch { number, tasks } = batch;
-    let tasks = poll_all(gate, tally, seat, now, cx, tasks);
+    let Batch { number, mut tasks } = batch;
+    poll_each(gate, tally, seat, now, cx, tasks.as_mut_slice());
     Polled { number, now, tasks }
 }
 
@@ -125,7 +104,7 @@ pub fn poll_batch<G: Gate, R>(
     requires allowance { length batch.tasks ≤ seat.old.allowance }
     requires pollable { All (IsPollable now) batch.tasks }
     ensures polled { IfOk result (IsPollOf now batch) }
-    ensures counted { OnOk result (Counts seat.old (length batch.tasks) seat.new) }
+    ensures counted { OnOk result (HasCounted seat.old (length batch.tasks) seat.new) }
     ensures kept { OnErr result (seat.new ≡ seat.old) }
     ensures memory { IfErr result (λ e. e ≡ Memory) }
 {

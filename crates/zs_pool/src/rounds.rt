@@ -1,59 +1,31 @@
 //! One moment's due tasks, polled by one thread or by several.
 ghost use Rattle.std.specs.Prelude.{◌≡◌, ◌≢◌, ◌+◌, ◌*◌, ◌≤◌, All, IfOk, IfErr, OnOk, map, length};
 ghost use Rattle.std.specs.List.Sorted.{IsStrictlyIncreasing};
+ghost use Rattle.zs_pool.specs.Limits.{max_tasks};
 ghost use Rattle.zs_pool.specs.Rounds.{polled_at, IsPollable};
 ghost use Rattle.zs_pool.specs.declared.fault.PoolFault.TheVariants.{Full};
 
+mod batches;
+pub mod cut;
+mod shared;
+mod sharing;
+mod workers;
+
 use crate::batch::Batch;
-use crate::cut::Cut;
-use crate::cutting::cut_into;
 use crate::fault::PoolFault;
 use crate::gate::Gate;
-use crate::gathering::in_order;
-use crate::polled::Polled;
 use crate::polling::poll_batch;
-use crate::sharing::poll_shared;
-use crate::tally::Tally;
-use crate::tally_seat::TallySeat;
+use crate::rounds::batches::{cut_into, in_order};
+use crate::rounds::cut::Cut;
+use crate::rounds::sharing::{Work, poll_shared};
+use crate::tally::{Tally, TallySeat};
 use std::alloc::Global;
 use std::snapshot::Snapshot;
 use std::sync::Wait;
 use std::thread::Threads;
 use zs_drive::Task;
 
-// Has the tasks polled by the calling thread, as one batch.
-fn poll_alone<G: Gate, R>(
-    rt: &R,
-    alloc: Global,
-    gate: &G,
-    tally: &Tally,
-    seat: &mut TallySeat,
-    now: u64,
-    tasks: Vec<Task>,
-) -> Result<Vec<Task>, PoolFault>
-    requires pollable { All (IsPollable now) tasks.items }
-    requires tally { seat.old.tally ≡ tally.now }
-    requires allowance { length tasks.items ≤ seat.old.allowance }
-    ensures tasks { IfOk result (λ after. after.items ≡ map (polled_at now) tasks.items) }
-    ensures tally { OnOk result (seat.new.tally ≡ tally.now) }
-    ensures count { OnOk result (seat.new.count ≡ seat.old.count + length tasks.items) }
-    ensures allowance { OnOk result (seat.new.allowance + length tasks.items ≡ seat.old.allowance) }
-    ensures fault { IfErr result (λ e. e ≢ Full) }
-{
-    let batch = Batch { number: 0, tasks };
-    let message = poll_batch(rt, alloc, gate, tally, seat, now, batch)?;
-    if message.broken() {
-        return Err(PoolFault::Memory);
-    }
-    let Polled {
-        number: _,
-        now: _,
-        tasks,
-    } = message;
-    Ok(tasks)
-}
-
-/// Polls each task once at `now`, and counts it. Workers claim batches of `grain` tasks until none is left.
+/// Polls each task once at `now`, in milliseconds, and counts it. Workers claim batches of `grain` tasks until none is left.
 ///
 /// A worker is a thread that is started for the round. The calling thread is one of them, and where one worker or one
 /// batch is all there is, it starts none. Every thread has ended when `round` answers. After a refusal the tasks are
@@ -68,7 +40,7 @@ pub fn round<G: Gate, R: Threads + Wait + Sync>(
     now: u64,
     tasks: Vec<Task>,
 ) -> Result<Vec<Task>, PoolFault>
-    requires few { length tasks.items ≤ 10000 }
+    requires few { length tasks.items ≤ max_tasks }
     requires rising { IsStrictlyIncreasing (map (λ task. task.number) tasks.items) }
     requires pollable { All (IsPollable now) tasks.items }
     requires tally { seat.old.tally ≡ tally.now }
@@ -79,17 +51,23 @@ pub fn round<G: Gate, R: Threads + Wait + Sync>(
     ensures allowance { OnOk result (seat.new.allowance + length tasks.items ≡ seat.old.allowance) }
     ensures fault { IfErr result (λ e. e ≢ Full) }
 {
-    let most = tasks.len() as u64;
-    if most == 0 {
+    let due = tasks.len() as u64;
+    if due == 0 {
         return Ok(tasks);
     }
-    if cut.workers() == 1 || most <= cut.grain() {
-        return poll_alone(rt, alloc, gate, tally, seat, now, tasks);
+    if cut.workers() == 1 || due <= cut.grain() {
+        let alone = Batch { number: 0, tasks };
+        let polled = poll_batch(rt, alloc, gate, tally, seat, now, alone)?;
+        return polled.into_tasks();
     }
     let batches = cut_into(alloc, cut.grain(), tasks)?;
-    let count = batches.len();
+    let size = batches.len();
     let known = Snapshot::of(&batches);
-    let helpers = count.min(cut.workers() as usize) - 1;
-    let messages = poll_shared(rt, alloc, gate, tally, seat, now, most, helpers, batches)?;
-    in_order(alloc, now, &known, count, messages)
+    let work = Work {
+        batches,
+        tasks: due,
+        helpers: size.min(cut.workers() as usize) - 1,
+    };
+    let messages = poll_shared(rt, alloc, gate, tally, seat, now, work)?;
+    in_order(alloc, now, &known, size, messages)
 }

@@ -3,25 +3,27 @@ ghost use Rattle.std.specs.List.Sorted.{IsPermutation};
 ghost use Rattle.crossbeam_queue.specs.Passes.{view, IsPassOf};
 ghost use Rattle.zs_term.specs.Saturating.{max_moment};
 ghost use Rattle.zs_pool.specs.declared.fault.PoolFault.TheVariants.{Memory, Full};
-ghost use Rattle.zs_pool.specs.Shelf.{hands, shelver};
+ghost use Rattle.zs_pool.specs.Limits.{max_tasks};
+ghost use Rattle.zs_pool.specs.Shelf.{shelver};
+
+mod rule;
 
 use crate::fault::PoolFault;
 use crate::polled::Polled;
-use crate::shelf_pass::ShelfPass;
-use crate::shelf_rule::{EachOnce, Halves, Hands, Puts, Takes};
+use crate::shelf::rule::{EachOnce, Hands, Puts, Sharing, Takes};
 use crossbeam_queue::{Pass, RuledArrayQueue};
 use std::alloc::Global;
 use std::marker::Model;
 use std::sync::Wait;
 
-type Line = RuledArrayQueue<Polled, Hands<Polled>, EachOnce>;
+type Queue = RuledArrayQueue<Polled, Hands<Polled>, EachOnce>;
 
-type Place = Pass<Polled, Hands<Polled>>;
+type QueuePass = Pass<Polled, Hands<Polled>>;
 
 /// A bounded queue of polled batches. Contracts see it as which one it is.
 #[derive(Drop)]
 pub struct Shelf {
-    queue: Line,
+    queue: Queue,
 }
 
 impl Model for Shelf {
@@ -32,17 +34,36 @@ impl Model for Shelf {
     ghost view = { λ s. s.queue.table.shared.table_id };
 }
 
+/// One thread's handle on a shelf: the right to put and to take.
+#[derive(Drop)]
+pub struct ShelfPass {
+    queue: QueuePass,
+}
+
+impl Model for ShelfPass {
+    ghost use Rattle.std.specs.Prelude.{◌≡◌, ◌<◌, []};
+    ghost use Rattle.zs_pool.specs.Shelf.{Shelver, shelver};
+    ghost use Rattle.zs_term.specs.contracts.term.Term as e;
+    ghost use Rattle.std.specs.Coded.{codes};
+
+    ghost Value = { Shelver };
+
+    ghost coded = { Prim.hlevel (codes, e.the_row.coded) };
+
+    ghost view = { λ p. let v = p.queue.me.0.client in shelver p.queue.table_id v.share v.put v.taken };
+
+    ghost invariant = { λ p. (p.queue.me.1 ≡ []) × (0 < p.queue.me.0.client.share) };
+}
+
 impl Shelf {
     /// A shelf with room for 1 to 10,000 batches, and its first pass. Want of memory is the only fault.
     pub fn new<R>(_rt: &R, alloc: Global, capacity: u64) -> Result<(Shelf, ShelfPass), PoolFault>
-        requires capacity { (1 ≤ capacity) × (capacity ≤ 10000) }
+        requires capacity { (1 ≤ capacity) × (capacity ≤ max_tasks) }
         ensures ok { IfOk result (λ r. r.1 ≡ shelver r.0 max_moment [] []) }
         ensures memory { IfErr result (λ e. e ≡ Memory) }
     {
-        let Ok((queue, place)) = Line::ruled(alloc, capacity as usize) else {
-            return Err(PoolFault::Memory);
-        };
-        Ok((Shelf { queue }, ShelfPass { place }))
+        let (queue, pass) = Queue::ruled(alloc, capacity as usize)?;
+        Ok((Shelf { queue }, ShelfPass { queue: pass }))
     }
 
     /// Puts a polled batch on the shelf, or hands it back where there was no room.
@@ -56,7 +77,7 @@ impl Shelf {
         ensures ok { OnOk result (pass.new ≡ shelver self.now pass.old.share (pass.old.put ++ message ∷ []) pass.old.taken) }
         ensures full { IfErr result (λ e. (e.0 ≡ message) × (e.1 ≡ Full) × (pass.new ≡ pass.old)) }
     {
-        match self.queue.push_as::<Puts, R>(rt, &mut pass.place, message) {
+        match self.queue.push_as::<Puts, R>(rt, &mut pass.queue, message) {
             Ok(()) => Ok(()),
             Err(message) => Err((message, PoolFault::Full)),
         }
@@ -68,7 +89,7 @@ impl Shelf {
         ensures taken { IfSome result (λ p. pass.new ≡ shelver self.now pass.old.share pass.old.put (pass.old.taken ++ p ∷ [])) }
         ensures none { IfNone result (pass.new ≡ pass.old) }
     {
-        self.queue.pop_as::<Takes, R>(rt, &mut pass.place)
+        self.queue.pop_as::<Takes, R>(rt, &mut pass.queue)
     }
 
     /// Hands one of the share to a new pass. The first keeps the lists.
@@ -87,8 +108,8 @@ impl Shelf {
         // The room was made by `new`, so nothing grows here.
         ensures succeeds { IsOk result }
     {
-        let place = self.queue.another::<Halves>(&mut pass.place);
-        Ok((pass, ShelfPass { place }))
+        let queue = self.queue.another::<Sharing>(&mut pass.queue);
+        Ok((pass, ShelfPass { queue }))
     }
 
     /// Makes one pass of two, which put and took what both did.
@@ -97,8 +118,8 @@ impl Shelf {
         requires other { other.shelf ≡ self.now }
         ensures joined { result ≡ shelver self.now (pass.share + other.share) (pass.put ++ other.put) (pass.taken ++ other.taken) }
     {
-        let ShelfPass { place: theirs } = other;
-        self.queue.absorb::<Halves>(&mut pass.place, theirs);
+        let ShelfPass { queue } = other;
+        self.queue.absorb::<Sharing>(&mut pass.queue, queue);
         pass
     }
 
@@ -107,16 +128,14 @@ impl Shelf {
         self,
         rt: &R,
         alloc: Global,
-        pass: ShelfPass,
+        mut pass: ShelfPass,
     ) -> Result<Vec<Polled>, PoolFault>
         requires shelf { pass.shelf ≡ self }
         requires whole { pass.share ≡ max_moment }
         ensures left { IfOk result (λ left. IsPermutation pass.put (pass.taken ++ left.items)) }
         ensures memory { IfErr result (λ e. e ≡ Memory) }
     {
-        let Shelf { queue } = self;
-        let ShelfPass { mut place } = pass;
-        drain(rt, alloc, &queue, &mut place)
+        drain(rt, alloc, &self.queue, &mut pass.queue)
     }
 }
 
@@ -124,17 +143,17 @@ impl Shelf {
 fn drain<R: Wait>(
     rt: &R,
     alloc: Global,
-    queue: &Line,
-    place: &mut Place,
+    queue: &Queue,
+    pass: &mut QueuePass,
 ) -> Result<Vec<Polled>, PoolFault>
-    requires pass { IsPassOf queue.now place.old }
-    requires whole { (view place.old).share ≡ max_moment }
-    ensures left { let v = view place.old in IfOk result (λ left. IsPermutation v.put (v.taken ++ left.items)) }
+    requires pass { IsPassOf queue.now pass.old }
+    requires whole { (view pass.old).share ≡ max_moment }
+    ensures left { let v = view pass.old in IfOk result (λ left. IsPermutation v.put (v.taken ++ left.items)) }
     ensures memory { IfErr result (λ e. e ≡ Memory) }
 {
     let mut left = Vec::new(alloc);
     for _ in rt.forever() {
-        match queue.pop_as::<Takes, R>(rt, place) {
+        match queue.pop_as::<Takes, R>(rt, pass) {
             Some(message) => left.push(message)?,
             None => return Ok(left),
         }

@@ -2,10 +2,11 @@ ghost use Rattle.std.specs.Prelude.{◌≡◌, ◌+◌, ◌-◌, ◌≤◌, ◌<
 ghost use Rattle.zs_term.specs.Saturating.{max_moment};
 ghost use Rattle.zs_pool.specs.declared.fault.PoolFault.TheVariants.{Memory};
 
+mod rule;
+
 use crate::fault::PoolFault;
-use crate::tally_rule::{Counts, Exact, Fits, Halves, Notes, Sees, Tallied};
-use crate::tally_seat::TallySeat;
-use atomic_table::Table;
+use crate::tally::rule::{Counts, Exact, Fits, Notes, Sees, Sharing, Tallied};
+use atomic_table::{Seat, Table};
 use std::alloc::Global;
 use std::marker::Model;
 
@@ -26,15 +27,31 @@ impl Model for Tally {
     ghost invariant = { λ t. (t.table.shared.table_id.words ≡ 1) × (t.table.shared.table_id.slots ≡ 0) };
 }
 
+/// One thread's handle on a tally: the right to count, with a quota.
+#[derive(Drop)]
+pub struct TallySeat {
+    seat: Seat<(), Tallied>,
+    left: u64,
+}
+
+impl Model for TallySeat {
+    ghost use Rattle.std.specs.Prelude.{◌≡◌, []};
+    ghost use Rattle.zs_pool.specs.Tally.{Seating};
+
+    ghost Value = { Seating };
+
+    ghost view = { λ s. record { tally = s.seat.table_id; count = s.seat.me.0.count; allowance = s.seat.me.0.allowance; seen = s.seat.me.0.seen } };
+
+    ghost invariant = { λ s. (s.seat.me.1 ≡ []) × (s.left ≡ s.seat.me.0.allowance) };
+}
+
 impl Tally {
     /// A count of 0, and its first seat, which may count 18,446,744,073,709,551,615 times. Want of memory is the only fault.
     pub fn new(alloc: Global) -> Result<(Tally, TallySeat), PoolFault>
         ensures ok { IfOk result (λ t. t.1 ≡ record { tally = t.0; count = 0; allowance = max_moment; seen = 0 }) }
         ensures memory { IfErr result (λ e. e ≡ Memory) }
     {
-        let Ok((table, seat)) = Table::of_words(alloc, &[0], &()) else {
-            return Err(PoolFault::Memory);
-        };
+        let (table, seat) = Table::of_words(alloc, &[0], &())?;
         let seat = TallySeat {
             seat,
             left: u64::MAX,
@@ -80,7 +97,7 @@ impl Tally {
         let words = &self.table.shared;
         // A word that is `n` becomes `n`, so this changes nothing.
         words.compare_exchange::<Notes>(&mut seat.seat, 0, n, n);
-        let other = words.split_seat::<Halves>(&mut seat.seat);
+        let other = words.split_seat::<Sharing>(&mut seat.seat);
         seat.left -= n;
         TallySeat {
             seat: other,
@@ -96,7 +113,7 @@ impl Tally {
     {
         let TallySeat { seat: theirs, left } = other;
         let words = &self.table.shared;
-        words.join_seat::<Halves>(&mut seat.seat, theirs);
+        words.join_seat::<Sharing>(&mut seat.seat, theirs);
         // Both allowances together fit, as the rule says at any step.
         words.load::<Fits>(&mut seat.seat, 0);
         seat.left += left;

@@ -5,7 +5,7 @@ use Rattle.zs_pool.proofs.board.drain.Given as goal
 
 abbrev pub invariant-loop : goal.invariant-loop
 invariant-loop g l =
-    let v = view l.place in let first = view l.initial.place in
-    IsPassOf l.queue l.place
+    let v = view l.pass in let first = view l.initial.pass in
+    IsPassOf l.queue l.pass
     × (v.share ≡ max_moment)
     × (l.left.items ++ drop (length v.taken) v.batches ≡ drop (length first.taken) first.batches)

@@ -2,7 +2,7 @@ use Rattle.std.proofs.Common.{◌≡◌, List, [], ◌∷◌, ◌++◌, ap, sym,
 use Rattle.std.specs.Vec.Iter.{into_iter_items}
 use Rattle.std.proofs.lemmas.List.{nil_from_length, append-nil}
 use Rattle.zs_pool.specs.Batches.{BatchValue}
-use Rattle.zs_pool.specs.declared.board_rule.Claims.{Claims}
+use Rattle.zs_pool.specs.declared.board.rule.Claims.{Claims}
 use Rattle.zs_pool.specs.Board.{claims}
 use Rattle.zs_term.specs.Saturating.{max_moment}
 use Rattle.zs_pool.proofs.BoardMoves.{puts, learns}

@@ -12,15 +12,15 @@ use Rattle.zs_pool.proofs.rounds.round.Goals as goal
 pub poll_shared-requires-clause-room : goal.poll_shared-requires-clause-room
 poll_shared-requires-clause-room g c κs within =
     let bs = c.in_ok-batches.batches.items in let size = ap length c.in_ok-batches.ensures.cutting in
-    let some = some_batches bs (omega (arith, size, c.len-most.ensures)) in
-    let same : length c.args.tasks.items ≡ c.len-most.result = omega (arith, c.len-most.ensures) in
+    let some = some_batches bs (omega (arith, size, c.len-due.ensures)) in
+    let same : length c.args.tasks.items ≡ c.len-due.result = omega (arith, c.len-due.ensures) in
     let P : ℕ → Type 0 = λ n. c.args.cut.workers * n ≤ c.args.seat.now.allowance in
-    rooms_within (c.min-helpers.result - 1) c.args.cut.workers c.len-most.result c.args.seat.now.allowance (omega (arith, some, c.min-helpers.ensures, c.args.cut.within)) (subst P same c.requires.allowance)
+    rooms_within (c.min.result - 1) c.args.cut.workers c.len-due.result c.args.seat.now.allowance (omega (arith, some, c.min.ensures, c.args.cut.within)) (subst P same c.requires.allowance)
 
 pub poll_shared-requires-clause-size : goal.poll_shared-requires-clause-size
 poll_shared-requires-clause-size g c κs within =
     let bs = c.in_ok-batches.batches.items in let size = ap length c.in_ok-batches.ensures.cutting in
-    (some_batches bs (omega (arith, size, c.len-most.ensures)), omega (arith, size, few_batches _ bs c.in_ok-batches.ensures.cut.0, c.requires.few))
+    (some_batches bs (omega (arith, size, c.len-due.ensures)), omega (arith, size, few_batches _ bs c.in_ok-batches.ensures.cut.0, c.requires.few))
 
 pub poll_shared-requires-clause-pollable : goal.poll_shared-requires-clause-pollable
 poll_shared-requires-clause-pollable g c κs within =

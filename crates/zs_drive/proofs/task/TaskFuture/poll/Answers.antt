@@ -1,4 +1,7 @@
 use Rattle.std.proofs.Common.{◌≡◌, Err}
+use Rattle.std.specs.Prelude.{OnErr}
+use Rattle.futures.specs.Poll.{IfReady}
+use Rattle.zs_drive.specs.Turns.{TakesMemory}
 use Rattle.futures.specs.declared.task.Poll.TheVariants.{Ready}
 use Rattle.zs_drive.specs.Tasks.{EndsByOutcome}
 use Rattle.zs_drive.specs.Fields.{task_of}
@@ -9,5 +12,8 @@ pub returns-in-Err-clause-outcome : goal.returns-in-Err-clause-outcome
 returns-in-Err-clause-outcome c = λ _ ending ends.
     let refused : c.advance.result ≡ Ready (Err c.in-Err.fault) = cc in
     let by : EndsByOutcome (task_of c.self.inside) ending = rw c.self.view_is ends in
+    let held : c.deref_mut.result.now ≡ c.self.inside.progress.value = cc in
+    let takes : IfReady c.advance.result (λ answer. OnErr answer (TakesMemory c.self.inside.progress.value.mode c.self.inside.progress.value.phase)) =
+    rw held at c.advance.ensures.refused in
     absurd (refused-EndsByOutcome c.self.inside c.advance.result c.in-Err.fault tt c.self.invariant refused
-    (λ e. (c.advance.ensures.early e).0) (λ o. (c.advance.ensures.over o).0) c.advance.ensures.refused ending by)
+    (λ e. (c.advance.ensures.early (rw held e)).0) (λ o. (c.advance.ensures.over (rw held o)).0) takes ending by)

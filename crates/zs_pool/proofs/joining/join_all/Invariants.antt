@@ -1,7 +1,0 @@
-use Rattle.std.specs.Vec.Iter.{into_iter_items}
-use Rattle.zs_pool.proofs.Parts.{Joins}
-use Rattle.zs_pool.proofs.joining.join_all.Given as goal
-
-abbrev pub invariant-loop-worker : goal.invariant-loop-worker
-invariant-loop-worker g l =
-    Joins l.now l.board l.shelf l.tally l.initial.rights l.initial.kept l.fn.workers.items (into_iter_items l.worker-iterator) l.rights l.kept

@@ -1,0 +1,102 @@
+//! A word beside the board's queue that counts the batches that were claimed.
+ghost use Rattle.std.specs.Prelude.{◌≡◌, ◌+◌, ◌-◌, ◌≤◌, ◌<◌, max, IfOk};
+ghost use Rattle.zs_term.specs.Saturating.{max_moment};
+
+use crate::board::counter_rule::{Adds, Count, Learns, Looks, Sharing, Summed};
+use atomic_table::{Seat, Table};
+use std::alloc::{AllocError, Global};
+use std::marker::Model;
+
+/// The count of claimed batches. Contracts see it as which one it is.
+#[derive(Drop)]
+pub struct Counter {
+    table: Table<(), Count, (), Summed, Global>,
+}
+
+impl Model for Counter {
+    ghost use Rattle.std.specs.Prelude.{◌≡◌};
+    ghost use Rattle.atomic_table.specs.Seated.{TableId};
+
+    ghost Value = { TableId };
+
+    ghost view = { λ t. t.table.shared.table_id };
+
+    ghost invariant = { λ t. t.table.shared.table_id.words ≡ 1 };
+}
+
+/// The right to count of one pass.
+#[derive(Drop)]
+pub struct CounterSeat {
+    seat: Seat<(), Count>,
+}
+
+impl Model for CounterSeat {
+    ghost use Rattle.std.specs.Prelude.{◌≡◌, []};
+    ghost use Rattle.zs_pool.specs.Counter.{Counting};
+
+    ghost Value = { Counting };
+
+    ghost view = { λ s. record { counter = s.seat.table_id; share = s.seat.me.0.share; count = s.seat.me.0.count; seen = s.seat.me.0.seen } };
+
+    ghost invariant = { λ s. s.seat.me.1 ≡ [] };
+}
+
+impl Counter {
+    /// A count of 0, and its first seat.
+    pub fn new(alloc: Global) -> Result<(Counter, CounterSeat), AllocError>
+        ensures ok { IfOk result (λ t. t.1 ≡ record { counter = t.0; share = max_moment; count = 0; seen = 0 }) }
+    {
+        let (table, seat) = Table::of_words(alloc, &[0], &())?;
+        Ok((Counter { table }, CounterSeat { seat }))
+    }
+
+    /// Adds one claimed batch.
+    pub fn add(&self, seat: &mut CounterSeat)
+        requires counter { seat.old.counter ≡ self.now }
+        requires share { 0 < seat.old.share }
+        ensures added { seat.new ≡ record { counter = self.now; share = seat.old.share; count = seat.old.count + 1; seen = seat.old.seen } }
+    {
+        self.table.shared.fetch_add::<Adds>(&mut seat.seat, 0, 1);
+    }
+
+    /// How many were counted so far.
+    pub fn look(&self, seat: &mut CounterSeat) -> u64
+        requires counter { seat.old.counter ≡ self.now }
+        ensures seen { seat.new ≡ record { counter = self.now; share = seat.old.share; count = seat.old.count; seen = result } }
+    {
+        self.table.shared.load::<Looks>(&mut seat.seat, 0)
+    }
+
+    /// A seat with the whole share counted all that it saw.
+    pub fn learn_sum(&self, seat: &mut CounterSeat)
+        requires counter { seat.old.counter ≡ self.now }
+        ensures same { seat.new ≡ seat.old }
+        ensures settled { seat.old.share ≡ max_moment → seat.old.seen ≤ seat.old.count }
+    {
+        self.table.shared.load::<Learns>(&mut seat.seat, 0);
+    }
+
+    /// Hands one of the share to a new seat.
+    pub fn split(&self, seat: &mut CounterSeat) -> CounterSeat
+        requires counter { seat.old.counter ≡ self.now }
+        requires share { 2 ≤ seat.old.share }
+        ensures first { seat.new ≡ record { counter = self.now; share = seat.old.share - 1; count = seat.old.count; seen = seat.old.seen } }
+        ensures second { result ≡ record { counter = self.now; share = 1; count = 0; seen = seat.old.seen } }
+    {
+        CounterSeat {
+            seat: self.table.shared.split_seat::<Sharing>(&mut seat.seat),
+        }
+    }
+
+    /// Makes one seat of two.
+    pub fn join(&self, seat: &mut CounterSeat, other: CounterSeat)
+        requires counter { (seat.old.counter ≡ self.now) × (other.counter ≡ self.now) }
+        requires share { 0 < seat.old.share }
+        ensures joined { seat.new ≡ record { counter = self.now; share = seat.old.share + other.share; count = seat.old.count + other.count; seen = max seat.old.seen other.seen } }
+    {
+        let CounterSeat { seat: theirs } = other;
+        self.table
+            .shared
+            .join_seat::<Sharing>(&mut seat.seat, theirs);
+    }
+}

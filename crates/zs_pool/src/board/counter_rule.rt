@@ -1,0 +1,73 @@
+//! The rule of a counter: what each seat knows, and what each step makes of it.
+
+use atomic_table::{Join, Play, Split, TableRule};
+
+/// What a seat knows. No value of it is made.
+pub struct Count {
+    /// The seat's part of the right to the whole counter.
+    pub share: u64,
+    /// How many the seat counted.
+    pub count: u64,
+    /// The value of the word that the seat saw last.
+    pub seen: u64,
+}
+
+/// The word is the sum of what all seats counted.
+pub struct Summed;
+
+impl TableRule<(), Count, ()> for Summed {
+    ghost use Rattle.zs_term.specs.Saturating.{max_moment};
+    ghost use Rattle.zs_pool.specs.Counter.{Lawful, counted};
+
+    ghost holds = { Lawful };
+
+    ghost first = { λ _. counted max_moment 0 0 };
+}
+
+/// Adds one to the word.
+pub struct Adds;
+
+impl Play<(), Count> for Adds {
+    ghost use Rattle.zs_pool.specs.Counter.{Added};
+
+    ghost then = { Added };
+}
+
+/// Reads the word.
+pub struct Looks;
+
+impl Play<(), Count> for Looks {
+    ghost use Rattle.zs_pool.specs.Counter.{Looked};
+
+    ghost then = { Looked };
+}
+
+/// Reads the word, to learn that a seat with the whole share counted all that it saw.
+pub struct Learns;
+
+impl Play<(), Count> for Learns {
+    ghost use Rattle.zs_pool.specs.Counter.{Learned};
+
+    ghost then = { Learned };
+}
+
+/// Hands one of the share to a new seat, which counted nothing.
+pub struct Sharing;
+
+impl Split<Count> for Sharing {
+    ghost use Rattle.std.specs.Prelude.{◌-◌};
+    ghost use Rattle.zs_pool.specs.Counter.{counted};
+
+    ghost left = { λ v. counted (v.share - 1) v.count v.seen };
+
+    ghost right = { λ v. counted 1 0 v.seen };
+}
+
+impl Join<Count> for Sharing {
+    ghost use Rattle.std.specs.Prelude.{◌+◌, max};
+    ghost use Rattle.zs_pool.specs.Counter.{counted};
+
+    ghost both = { λ v w. counted (v.share + w.share) (v.count + w.count) (max v.seen w.seen) };
+
+    ghost spent = { counted 0 0 0 };
+}

@@ -1,0 +1,79 @@
+//! The rule of a board: what each pass knows, and what each step makes of it.
+
+use crossbeam_queue::protocol::{Join, Lesson, Outcome, Protocol, Split};
+use std::collections::LinkedList;
+
+/// What a pass knows. No value of it is made.
+pub struct Claims<T> {
+    /// The pass's part of the right to the whole board.
+    pub share: u64,
+    /// All batches that were put.
+    pub batches: LinkedList<T>,
+    /// The numbers of those that the pass took.
+    pub taken: LinkedList<u64>,
+}
+
+/// Batches are taken from the front, each once.
+pub struct InTurn;
+
+impl<T> Protocol<T, Claims<T>> for InTurn {
+    ghost use Rattle.std.specs.Prelude.{[]};
+    ghost use Rattle.zs_term.specs.Saturating.{max_moment};
+    ghost use Rattle.zs_pool.specs.Board.{BoardRun, claims};
+
+    ghost holds = { BoardRun };
+
+    ghost first = { claims max_moment [] [] };
+}
+
+/// Puts a batch.
+pub struct Puts;
+
+impl<T> Outcome<T, Claims<T>> for Puts {
+    ghost use Rattle.std.specs.Prelude.{◌≡◌, ◌++◌, ◌∷◌, []};
+    ghost use Rattle.zs_pool.specs.Board.{claims};
+
+    ghost then = { λ v x w. w ≡ claims v.share (v.batches ++ x ∷ []) v.taken };
+}
+
+impl<T> Lesson<T, Claims<T>> for Puts {
+    ghost use Rattle.zs_pool.specs.Board.{IsRest};
+
+    ghost fact = { IsRest };
+}
+
+/// Takes a batch.
+pub struct Takes;
+
+impl<T> Outcome<T, Claims<T>> for Takes {
+    ghost use Rattle.zs_pool.specs.Board.{Took};
+
+    ghost then = { Took };
+}
+
+impl<T> Lesson<T, Claims<T>> for Takes {
+    ghost use Rattle.zs_pool.specs.Board.{IsRest};
+
+    ghost fact = { IsRest };
+}
+
+/// Hands one of the share to a new pass, which took nothing.
+pub struct Sharing;
+
+impl<T> Split<Claims<T>> for Sharing {
+    ghost use Rattle.std.specs.Prelude.{◌-◌, []};
+    ghost use Rattle.zs_pool.specs.Board.{claims};
+
+    ghost left = { λ v. claims (v.share - 1) v.batches v.taken };
+
+    ghost right = { λ v. claims 1 v.batches [] };
+}
+
+impl<T> Join<Claims<T>> for Sharing {
+    ghost use Rattle.std.specs.Prelude.{◌+◌, ◌++◌, []};
+    ghost use Rattle.zs_pool.specs.Board.{claims};
+
+    ghost both = { λ v w. claims (v.share + w.share) v.batches (v.taken ++ w.taken) };
+
+    ghost spent = { claims 0 [] [] };
+}

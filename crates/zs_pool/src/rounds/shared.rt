@@ -1,0 +1,81 @@
+//! What the threads of a round share, and the rights that each of them has.
+ghost use Rattle.std.specs.Prelude.{◌≡◌, ◌+◌, ◌-◌, ◌≤◌, ◌++◌, ◌||◌, [], max};
+ghost use Rattle.zs_pool.specs.Board.{claimer};
+ghost use Rattle.zs_pool.specs.Shelf.{shelver};
+ghost use Rattle.zs_pool.specs.Shares.{IsOf};
+
+use crate::board::{Board, BoardPass};
+use crate::shelf::{Shelf, ShelfPass};
+use crate::tally::{Tally, TallySeat};
+use std::alloc::Global;
+
+// What the threads of a round share: the batches, the polled ones, the count of the polls, and the moment.
+#[derive_where(Clone, Copy)]
+pub struct Shared<'s, G> {
+    pub gate: &'s G,
+    pub board: &'s Board,
+    pub shelf: &'s Shelf,
+    pub tally: &'s Tally,
+    // The moment of the round, in milliseconds.
+    pub moment: u64,
+    // How many tasks the batches have, and how many batches there are.
+    pub tasks: u64,
+    pub batches: usize,
+}
+
+// The right of one thread to claim, to hand in and to count.
+#[derive(Drop)]
+pub struct Rights {
+    pub board_pass: BoardPass,
+    pub shelf_pass: ShelfPass,
+    pub seat: TallySeat,
+}
+
+impl<'s, G> Shared<'s, G> {
+    // Splits off the rights of a worker, which may count all tasks.
+    pub fn split<R>(self, rt: &R, alloc: Global, rights: Rights) -> (Rights, Rights)
+        requires of { IsOf self rights }
+        requires shares { (2 ≤ rights.board_pass.share) × (2 ≤ rights.shelf_pass.share) }
+        requires tasks { self.tasks ≤ rights.seat.allowance }
+        ensures board_pass { result.0.board_pass ≡ claimer self.entry.board.now (rights.board_pass.share - 1) rights.board_pass.batches rights.board_pass.taken rights.board_pass.none }
+        ensures shelf_pass { result.0.shelf_pass ≡ shelver self.entry.shelf.now (rights.shelf_pass.share - 1) rights.shelf_pass.put rights.shelf_pass.taken }
+        ensures seat { result.0.seat ≡ record { tally = self.entry.tally.now; count = rights.seat.count; allowance = rights.seat.allowance - self.entry.tasks; seen = rights.seat.seen } }
+        ensures own_board_pass { result.1.board_pass ≡ claimer self.entry.board.now 1 rights.board_pass.batches [] rights.board_pass.none }
+        ensures own_shelf_pass { result.1.shelf_pass ≡ shelver self.entry.shelf.now 1 [] [] }
+        ensures own_seat { result.1.seat ≡ record { tally = self.entry.tally.now; count = 0; allowance = self.entry.tasks; seen = rights.seat.seen } }
+    {
+        let Ok((board_pass, own_board_pass)) = self.board.split(rt, alloc, rights.board_pass) else {
+            unreachable!()
+        };
+        let Ok((shelf_pass, own_shelf_pass)) = self.shelf.split(rt, alloc, rights.shelf_pass) else {
+            unreachable!()
+        };
+        let (seat, own_seat) = self.tally.split(rights.seat, self.tasks);
+        let own = Rights {
+            board_pass: own_board_pass,
+            shelf_pass: own_shelf_pass,
+            seat: own_seat,
+        };
+        let rest = Rights {
+            board_pass,
+            shelf_pass,
+            seat,
+        };
+        (rest, own)
+    }
+
+    // Takes back the rights of a worker.
+    pub fn join<R>(self, rt: &R, rights: Rights, other: Rights) -> Rights
+        requires of { IsOf self rights }
+        requires other { IsOf self other }
+        ensures board_pass { result.board_pass ≡ claimer self.entry.board.now (rights.board_pass.share + other.board_pass.share) rights.board_pass.batches (rights.board_pass.taken ++ other.board_pass.taken) (rights.board_pass.none || other.board_pass.none) }
+        ensures shelf_pass { result.shelf_pass ≡ shelver self.entry.shelf.now (rights.shelf_pass.share + other.shelf_pass.share) (rights.shelf_pass.put ++ other.shelf_pass.put) (rights.shelf_pass.taken ++ other.shelf_pass.taken) }
+        ensures seat { result.seat ≡ record { tally = self.entry.tally.now; count = rights.seat.count + other.seat.count; allowance = rights.seat.allowance + other.seat.allowance; seen = max rights.seat.seen other.seat.seen } }
+    {
+        Rights {
+            board_pass: self.board.join(rt, rights.board_pass, other.board_pass),
+            shelf_pass: self.shelf.join(rt, rights.shelf_pass, other.shelf_pass),
+            seat: self.tally.join(rights.seat, other.seat),
+        }
+    }
+}

@@ -1,0 +1,243 @@
+//! What each thread of a round does: it claims, polls and hands in. Helpers are started and joined.
+ghost use Rattle.std.specs.Prelude.{ℕ, ◌≡◌, ◌≢◌, ◌+◌, ◌-◌, ◌≤◌, All, IfOk, IfErr, OnOk, [], false, length};
+ghost use Rattle.zs_term.specs.Saturating.{max_moment};
+ghost use Rattle.zs_pool.specs.Board.{claimer};
+ghost use Rattle.zs_pool.specs.Shelf.{shelver};
+ghost use Rattle.zs_pool.specs.Shares.{HandsIn, IsOf, IsReady, IsFirst, IsSame, HasServed, rooms};
+ghost use Rattle.zs_pool.specs.Joined.{Promised, AreBoth, IsPart, allowed};
+ghost use Rattle.zs_pool.specs.declared.fault.PoolFault.TheVariants.{Full};
+
+use crate::fault::PoolFault;
+use crate::gate::Gate;
+use crate::polled::Polled;
+use crate::poller::Poller;
+use crate::polling::poll_in;
+use crate::rounds::shared::{Rights, Shared};
+use crate::shelf::{Shelf, ShelfPass};
+use futures::task::Context;
+use std::alloc::{AllocError, Global};
+use std::mem::drop;
+use std::snapshot::Snapshot;
+use std::sync::Wait;
+use std::thread::{Promise, PromisedHandle, Scope, Threads};
+
+// The messages for which the shelf had no room.
+pub type Overflow = Result<Vec<Polled>, AllocError>;
+
+// What a thread hands back once the board is empty.
+#[derive(Drop)]
+pub struct Served {
+    pub rights: Rights,
+    pub overflow: Overflow,
+}
+
+// What a worker promises: it claimed until the board was empty, and handed in or kept all that it claimed, polled.
+#[derive(Drop)]
+pub struct WorkerPromise {
+    pub moment: u64,
+    pub rights: Snapshot<Rights>,
+}
+
+impl Promise<Served> for WorkerPromise {
+    ghost use Rattle.zs_pool.specs.Shares.{IsSame, HasServed};
+
+    ghost kept_by = { λ p s. IsSame p.rights.value s.rights × HasServed p.moment p.rights.value s.rights s.overflow };
+}
+
+// A started worker.
+pub type Worker = PromisedHandle<Served, WorkerPromise>;
+
+// Puts a message on the shelf, or keeps it where there is no room.
+fn hand_in<R: Wait>(
+    rt: &R,
+    shelf: &Shelf,
+    pass: &mut ShelfPass,
+    kept: &mut Vec<Polled>,
+    message: Polled,
+) -> Result<(), AllocError>
+    requires shelf { pass.old.shelf ≡ shelf.now }
+    ensures same { (pass.new.shelf ≡ shelf.now) × (pass.new.share ≡ pass.old.share) × (pass.new.taken ≡ pass.old.taken) }
+    ensures handed { OnOk result (HandsIn pass.old.put kept.old.items message pass.new.put kept.new.items) }
+{
+    match shelf.put(rt, pass, message) {
+        Ok(()) => Ok(()),
+        Err((back, _full)) => {
+            kept.push(back)?;
+            Ok(())
+        }
+    }
+}
+
+// Puts what one more worker kept behind what the others did.
+fn both(overflow: Overflow, more: Overflow) -> Overflow
+    ensures both { IfOk result (AreBoth overflow more) }
+{
+    let mut kept = overflow?;
+    let mut more = more?;
+    kept.append(&mut more)?;
+    Ok(kept)
+}
+
+// Waits for all workers, of which one may have been refused memory.
+fn wait_for<R: Threads>(rt: &R, workers: Vec<Worker>) -> Result<(), PoolFault>
+    ensures fault { IfErr result (λ e. e ≢ Full) }
+{
+    let mut refused = false;
+    for worker in workers {
+        let served = worker.join(rt);
+        refused = refused || served.overflow.is_err();
+        drop(served);
+    }
+    if refused {
+        return Err(PoolFault::Memory);
+    }
+    Ok(())
+}
+
+impl<'s, G: Gate> Shared<'s, G> {
+    // Serves under a context that others have used.
+    fn serve_in<R: Wait>(
+        self,
+        rt: &R,
+        alloc: Global,
+        rights: &mut Rights,
+        cx: &mut Context<'_>,
+    ) -> Overflow
+        requires ready { IsReady self rights.old }
+        ensures same { IsSame rights.old rights.new }
+        ensures served { HasServed self.entry.moment rights.old rights.new result }
+    {
+        let mut kept = Vec::new(alloc);
+        for _ in rt.forever() {
+            let Some(batch) = self.board.claim(rt, &mut rights.board_pass) else {
+                return Ok(kept);
+            };
+            let message = poll_in(
+                self.gate,
+                self.tally,
+                &mut rights.seat,
+                self.moment,
+                cx,
+                batch,
+            );
+            hand_in(rt, self.shelf, &mut rights.shelf_pass, &mut kept, message)?;
+        }
+        unreachable!()
+    }
+
+    // Claims, polls and hands in until nothing is left. A message for which the shelf has no room is kept.
+    pub fn serve<R: Wait>(self, rt: &R, alloc: Global, rights: &mut Rights) -> Overflow
+        requires ready { IsReady self rights.old }
+        ensures same { IsSame rights.old rights.new }
+        ensures served { HasServed self.entry.moment rights.old rights.new result }
+    {
+        let poller = Poller::new(alloc)?;
+        let mut cx = poller.solo().begin();
+        let kept = self.serve_in(rt, alloc, rights, &mut cx);
+        cx.cancel();
+        kept
+    }
+
+    // Serves, and hands back the rights.
+    fn work<R: Wait>(self, rt: &R, alloc: Global, mut rights: Rights) -> Served
+        requires ready { IsReady self rights }
+        ensures same { IsSame rights result.rights }
+        ensures served { HasServed self.entry.moment rights result.rights result.overflow }
+    {
+        let overflow = self.serve(rt, alloc, &mut rights);
+        Served { rights, overflow }
+    }
+
+    // Starts one worker.
+    fn start<E, R: Wait + Sync>(
+        self,
+        rt: &'s R,
+        scope: &Scope<'s, E>,
+        alloc: Global,
+        rights: Rights,
+    ) -> Result<Worker, PoolFault>
+        requires ready { IsReady self rights }
+        ensures started { IfOk result (λ w. (w.promise.moment ≡ self.entry.moment) × (w.promise.rights.value ≡ rights)) }
+        ensures fault { IfErr result (λ e. e ≢ Full) }
+    {
+        let promise = WorkerPromise {
+            moment: self.moment,
+            rights: Snapshot::of(&rights),
+        };
+        let shared = self;
+        let moment = self.moment;
+        let run = move || -> Served
+            requires ready { IsReady (record { gate = shared.gate; board = shared.board; shelf = shared.shelf; tally = shared.tally; moment = moment; tasks = shared.tasks; batches = shared.batches }) rights }
+            ensures served { IsSame rights result.rights × HasServed moment rights result.rights result.overflow }
+        { Shared { moment, ..shared }.work(rt, alloc, rights) };
+        match scope.spawn_with(promise, run) {
+            Ok(worker) => Ok(worker),
+            Err(refused) => {
+                drop(refused);
+                Err(PoolFault::NoThread)
+            }
+        }
+    }
+
+    // Starts as many workers. Where one can't be started, the others are waited for.
+    pub fn start_all<E, R: Threads + Wait + Sync>(
+        self,
+        rt: &'s R,
+        scope: &Scope<'s, E>,
+        alloc: Global,
+        count: usize,
+        mut rights: Rights,
+    ) -> Result<(Rights, Vec<Worker>), PoolFault>
+        requires first { IsFirst self count rights }
+        ensures board_pass { IfOk result (λ s. s.0.board_pass ≡ claimer self.entry.board.now (max_moment - count) rights.board_pass.batches [] false) }
+        ensures shelf_pass { IfOk result (λ s. s.0.shelf_pass ≡ shelver self.entry.shelf.now (max_moment - count) [] []) }
+        ensures seat { IfOk result (λ s. (s.0.seat.tally ≡ self.entry.tally.now) × (s.0.seat.count ≡ rights.seat.count) × (s.0.seat.allowance + rooms count self.entry.tasks ≡ rights.seat.allowance)) }
+        ensures count { IfOk result (λ s. (length s.1.items ≡ count) × (allowed s.1.items ≡ rooms count self.entry.tasks)) }
+        ensures each { IfOk result (λ s. All (Promised self.entry rights.board_pass.batches) s.1.items) }
+        ensures fault { IfErr result (λ e. e ≢ Full) }
+    {
+        let mut workers = Vec::with_capacity(alloc, count)?;
+        for _i in 0..count {
+            let (rest, own) = self.split(rt, alloc, rights);
+            rights = rest;
+            match self.start(rt, scope, alloc, own) {
+                Ok(worker) => {
+                    let Ok(()) = workers.push(worker) else {
+                        unreachable!()
+                    };
+                }
+                Err(refused) => {
+                    drop(rights);
+                    wait_for(rt, workers)?;
+                    return Err(refused);
+                }
+            }
+        }
+        Ok((rights, workers))
+    }
+
+    // Joins all workers and their rights.
+    pub fn join_all<R: Threads>(
+        self,
+        rt: &R,
+        mut rights: Rights,
+        mut overflow: Overflow,
+        workers: Vec<Worker>,
+    ) -> Served
+        requires of { IsOf self rights }
+        requires each { All (Promised self rights.board_pass.batches) workers.items }
+        ensures of { IsOf self.entry result.rights }
+        ensures batches { result.rights.board_pass.batches ≡ rights.board_pass.batches }
+        ensures shares { (result.rights.board_pass.share ≡ rights.board_pass.share + length workers.items) × (result.rights.shelf_pass.share ≡ rights.shelf_pass.share + length workers.items) }
+        ensures taken { result.rights.shelf_pass.taken ≡ rights.shelf_pass.taken }
+        ensures part { (first room : ℕ) → IfOk overflow (λ ps. IsPart self.entry.moment rights.board_pass.batches first room (allowed workers.items) rights ps.items)
+            → IfOk result.overflow (λ ps. IsPart self.entry.moment rights.board_pass.batches first room 0 result.rights ps.items) }
+    {
+        for worker in workers {
+            let served = worker.join(rt);
+            rights = self.join(rt, rights, served.rights);
+            overflow = both(overflow, served.overflow);
+        }
+        Served { rights, overflow }
+    }
+}

@@ -1,0 +1,84 @@
+//! The rule of a tally: what each seat knows, and what each step makes of it.
+
+use atomic_table::{Join, Play, Split, TableRule};
+
+/// What a seat knows. No value of it is made.
+pub struct Tallied {
+    /// How many the seat counted.
+    pub count: u64,
+    /// How often the seat may still count.
+    pub allowance: u64,
+    /// The value of the word that the seat saw last.
+    pub seen: u64,
+    /// How much of the allowance is about to be handed on.
+    pub noted: u64,
+}
+
+/// The word is the sum of what all seats counted.
+pub struct Exact;
+
+impl TableRule<(), Tallied, ()> for Exact {
+    ghost use Rattle.zs_pool.specs.Tally.{Lawful, tallied};
+    ghost use Rattle.zs_term.specs.Saturating.{max_moment};
+
+    ghost holds = { Lawful };
+
+    ghost first = { λ _. tallied 0 max_moment 0 0 };
+}
+
+/// Adds one to the word.
+pub struct Counts;
+
+impl Play<(), Tallied> for Counts {
+    ghost use Rattle.zs_pool.specs.Tally.{Counted};
+
+    ghost then = { Counted };
+}
+
+/// Reads the word.
+pub struct Sees;
+
+impl Play<(), Tallied> for Sees {
+    ghost use Rattle.zs_pool.specs.Tally.{Loaded};
+
+    ghost then = { Loaded };
+}
+
+/// Notes how much of the allowance is about to be handed on. The word stays what it is.
+pub struct Notes;
+
+impl Play<(), Tallied> for Notes {
+    ghost use Rattle.zs_pool.specs.Tally.{Noted};
+
+    ghost then = { Noted };
+}
+
+/// Reads the word, to learn that the allowance fits.
+pub struct Fits;
+
+impl Play<(), Tallied> for Fits {
+    ghost use Rattle.zs_pool.specs.Tally.{Fitting};
+
+    ghost then = { Fitting };
+}
+
+/// Hands what was noted to a new seat, which counted nothing.
+pub struct Sharing;
+
+impl Split<Tallied> for Sharing {
+    ghost use Rattle.std.specs.Prelude.{◌-◌};
+    ghost use Rattle.zs_pool.specs.Tally.{tallied};
+
+    ghost left = { λ v. tallied v.count (v.allowance - v.noted) v.seen 0 };
+
+    ghost right = { λ v. tallied 0 v.noted v.seen 0 };
+}
+
+impl Join<Tallied> for Sharing {
+    ghost use Rattle.std.specs.Prelude.{◌+◌, max};
+    ghost use Rattle.zs_pool.specs.Tally.{tallied};
+
+    ghost both = { λ v w. tallied (v.count + w.count) (v.allowance + w.allowance) (max v.seen w.seen) 0 };
+
+    ghost spent = { tallied 0 0 0 0 };
+}
