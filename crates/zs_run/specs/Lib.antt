@@ -2,7 +2,8 @@ pub mod Streams
 pub mod Marked
 pub mod Tree
 pub mod Refusals
-pub mod Entries
+pub mod Shapes
+pub mod ShapeViews
 pub mod Jobs
 pub mod Names
 pub mod Plan

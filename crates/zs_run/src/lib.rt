@@ -22,6 +22,7 @@ mod reading;
 mod reporting;
 mod run_fault;
 mod running;
+mod shapes;
 mod streams;
 mod transfer;
 mod tree;
