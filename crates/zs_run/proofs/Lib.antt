@@ -7,6 +7,7 @@ pub mod ShapeLemmas
 pub mod JobLemmas
 pub mod AnswerLemmas
 pub mod Whole
+pub mod Endings
 pub mod OnLiterals
 pub mod Rows
 pub mod Parts

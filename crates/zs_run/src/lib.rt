@@ -33,7 +33,7 @@ pub use plan::Plan;
 pub use plan_fault::PlanFault;
 pub use reading::read_plan;
 pub use reporting::report;
-pub use run_fault::{RunFault, status};
+pub use run_fault::{RunFault, exit_code, status};
 pub use running::run;
 pub use streams::{Drain, Failed, Source};
 pub use zs_engine::EngineFault;
