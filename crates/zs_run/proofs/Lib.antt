@@ -5,6 +5,7 @@ pub mod NameLemmas
 pub mod ScriptLemmas
 pub mod ShapeLemmas
 pub mod JobLemmas
+pub mod LawfulLemmas
 pub mod AnswerLemmas
 pub mod Whole
 pub mod Endings

@@ -8,6 +8,7 @@ pub mod Jobs
 pub mod Names
 pub mod Plan
 pub mod PlanView
+pub mod Lawful
 pub mod Report
 pub mod ReportView
 pub mod PlanReport
