@@ -77,10 +77,9 @@ PLANTS = [
           "        let mut rounds = 0u64;\n        while let Some((now, numbers)) = self.agenda.take()? {\n"
           "            rounds = rounds.saturating_add(1);\n"
           "            if rounds > 10_000 {\n                return Err(EngineFault::Memory);\n            }\n"),
-    Plant("a_hundred_thousand_ticks_are_all", "zs_run/src/reading.rt", "        listed_clock(ticks)\n",
-          "        let is_long = ticks.len() > 100_000;\n        let clock = listed_clock(ticks);\n"
-          "        if is_long && clock.is_some() {\n            return Err(PlanFault::Memory);\n        }\n"
-          "        clock\n"),
+    Plant("a_hundred_thousand_ticks_are_all", "zs_run/src/shapes.rt", "        numbers.push(number)?;\n",
+          "        if numbers.len() >= 100_000 {\n            return Err(PlanFault::Memory);\n        }\n"
+          "        numbers.push(number)?;\n"),
     Plant("a_report_tells_1000_attempts", "zs_run/src/reporting.rt",
           "        push_attempt(text, number, attempt)?;\n        number += 1;",
           "        if number > 1000 {\n            return Err(AllocError);\n        }\n"

@@ -1,4 +1,5 @@
 pub mod IndexLemmas
 mod TakeLemmas
+pub mod TestLemmas
 pub mod TickLemmas
 mod WorkedTicks

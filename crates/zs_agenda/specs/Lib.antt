@@ -1,4 +1,5 @@
 pub mod Indexes
 pub mod Sources
+pub mod Tests
 pub mod Ticks
 pub mod Timers

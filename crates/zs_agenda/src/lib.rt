@@ -20,4 +20,4 @@ mod laws;
 pub use agenda::Agenda;
 pub use clock::Clock;
 pub use fault::AgendaFault;
-pub use laws::one_take;
+pub use laws::{clocks_are_tested, one_take};

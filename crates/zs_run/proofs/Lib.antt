@@ -1,10 +1,14 @@
 pub mod Flow
 pub mod Trees
+pub mod ListLemmas
 pub mod NameLemmas
 pub mod ScriptLemmas
-pub mod ClockLemmas
+pub mod ShapeLemmas
 pub mod JobLemmas
+pub mod LawfulLemmas
 pub mod AnswerLemmas
 pub mod Whole
+pub mod Endings
+pub mod OnLiterals
 pub mod Rows
 pub mod Parts

@@ -1,11 +1,8 @@
 -- Plans of a few texts, computed: each fault against its neighbours in the order, and what a plan stands for.
 use Rattle.std.proofs.Common.{◌≡◌, [], ◌∷◌, Ok, Err, Some, None, codes, refl}
 use Rattle.std.specs.Prelude.{Option, Result}
-use Rattle.std.specs.Str.{is_utf8, chars}
 use Rattle.std.specs.Fmt.{digits}
-use Rattle.serde_json.proofs.OnLiterals.{serde_json_on_literals}
 use Rattle.zs_agenda.specs.Ticks.{every_ms, listed}
-use Rattle.zs_term.specs.Token.{lex}
 use Rattle.zs_term.specs.Schedule.{leaf, two, recurs, both, exponential}
 use Rattle.zs_term.specs.declared.fault.TermFault.TheVariants as terms
 use Rattle.zs_drive.specs.declared.job.Mode.TheVariants as modes
@@ -14,10 +11,9 @@ use Rattle.zs_drive.specs.Clocks.{first_tick_from}
 use Rattle.zs_engine.specs.Times.{ticks_of}
 use Rattle.zs_effect.specs.declared.script.Outcome.TheVariants.{Good, Bad}
 use Rattle.zs_effect.specs.declared.script.ScriptFault.TheVariants as scripts
-use Rattle.zs_run.specs.Entries.{entry_is_shaped, entry_has_known_keys, beat_of, script_of}
-use Rattle.zs_run.specs.Jobs.{jobs_of, job_of, job_is_shaped, job_has_known_keys, mode_of, is_name, is_name_byte}
-use Rattle.zs_run.specs.Plan.{PlanRecord, plan_of, plan_of_tree, document_is_shaped, document_has_known_keys, document_is_in_range, clock_of, are_clock_ticks, rises_from}
+use Rattle.zs_run.specs.Plan.{PlanRecord, plan_of}
 use Rattle.zs_run.specs.PlanReport.{report_of}
+use Rattle.zs_run.proofs.OnLiterals.{plans_on_literals}
 use Rattle.zs_run.specs.declared.plan_fault.PlanFault.{PlanFault}
 use Rattle.zs_run.specs.declared.plan_fault.PlanFault.TheVariants as faults
 
@@ -27,283 +23,283 @@ fault_of (Ok plan) = None
 fault_of (Err fault) = Some fault
 
 pub an_empty_text : fault_of (plan_of (codes "")) ≡ Some faults.Json
-unfolding serde_json_on_literals is_utf8 chars lex plan_of plan_of_tree jobs_of job_of document_is_shaped document_has_known_keys document_is_in_range clock_of are_clock_ticks rises_from job_is_shaped job_has_known_keys entry_is_shaped entry_has_known_keys beat_of script_of mode_of is_name is_name_byte
+unfolding plans_on_literals
 an_empty_text = refl
 
 pub a_text_that_goes_on : fault_of (plan_of (codes "{\"horizon\":1000,\"jobs\":[]}x")) ≡ Some faults.Json
-unfolding serde_json_on_literals is_utf8 chars lex plan_of plan_of_tree jobs_of job_of document_is_shaped document_has_known_keys document_is_in_range clock_of are_clock_ticks rises_from job_is_shaped job_has_known_keys entry_is_shaped entry_has_known_keys beat_of script_of mode_of is_name is_name_byte
+unfolding plans_on_literals
 a_text_that_goes_on = refl
 
 pub a_text_cut_short : fault_of (plan_of (codes "{\"horizon\":1")) ≡ Some faults.Json
-unfolding serde_json_on_literals is_utf8 chars lex plan_of plan_of_tree jobs_of job_of document_is_shaped document_has_known_keys document_is_in_range clock_of are_clock_ticks rises_from job_is_shaped job_has_known_keys entry_is_shaped entry_has_known_keys beat_of script_of mode_of is_name is_name_byte
+unfolding plans_on_literals
 a_text_cut_short = refl
 
 pub a_document_that_is_a_list : fault_of (plan_of (codes "[]")) ≡ Some (faults.Shape None)
-unfolding serde_json_on_literals is_utf8 chars lex plan_of plan_of_tree jobs_of job_of document_is_shaped document_has_known_keys document_is_in_range clock_of are_clock_ticks rises_from job_is_shaped job_has_known_keys entry_is_shaped entry_has_known_keys beat_of script_of mode_of is_name is_name_byte
+unfolding plans_on_literals
 a_document_that_is_a_list = refl
 
 pub a_document_that_is_null : fault_of (plan_of (codes "null")) ≡ Some (faults.Shape None)
-unfolding serde_json_on_literals is_utf8 chars lex plan_of plan_of_tree jobs_of job_of document_is_shaped document_has_known_keys document_is_in_range clock_of are_clock_ticks rises_from job_is_shaped job_has_known_keys entry_is_shaped entry_has_known_keys beat_of script_of mode_of is_name is_name_byte
+unfolding plans_on_literals
 a_document_that_is_null = refl
 
 pub no_horizon : fault_of (plan_of (codes "{\"jobs\":[]}")) ≡ Some (faults.Shape None)
-unfolding serde_json_on_literals is_utf8 chars lex plan_of plan_of_tree jobs_of job_of document_is_shaped document_has_known_keys document_is_in_range clock_of are_clock_ticks rises_from job_is_shaped job_has_known_keys entry_is_shaped entry_has_known_keys beat_of script_of mode_of is_name is_name_byte
+unfolding plans_on_literals
 no_horizon = refl
 
 pub no_list_of_jobs : fault_of (plan_of (codes "{\"horizon\":1000}")) ≡ Some (faults.Shape None)
-unfolding serde_json_on_literals is_utf8 chars lex plan_of plan_of_tree jobs_of job_of document_is_shaped document_has_known_keys document_is_in_range clock_of are_clock_ticks rises_from job_is_shaped job_has_known_keys entry_is_shaped entry_has_known_keys beat_of script_of mode_of is_name is_name_byte
+unfolding plans_on_literals
 no_list_of_jobs = refl
 
 pub jobs_that_are_an_object : fault_of (plan_of (codes "{\"horizon\":1000,\"jobs\":{}}")) ≡ Some (faults.Shape None)
-unfolding serde_json_on_literals is_utf8 chars lex plan_of plan_of_tree jobs_of job_of document_is_shaped document_has_known_keys document_is_in_range clock_of are_clock_ticks rises_from job_is_shaped job_has_known_keys entry_is_shaped entry_has_known_keys beat_of script_of mode_of is_name is_name_byte
+unfolding plans_on_literals
 jobs_that_are_an_object = refl
 
 pub half_a_millisecond : fault_of (plan_of (codes "{\"horizon\":1.5,\"jobs\":[]}")) ≡ Some (faults.Shape None)
-unfolding serde_json_on_literals is_utf8 chars lex plan_of plan_of_tree jobs_of job_of document_is_shaped document_has_known_keys document_is_in_range clock_of are_clock_ticks rises_from job_is_shaped job_has_known_keys entry_is_shaped entry_has_known_keys beat_of script_of mode_of is_name is_name_byte
+unfolding plans_on_literals
 half_a_millisecond = refl
 
 pub an_exponent : fault_of (plan_of (codes "{\"horizon\":1e3,\"jobs\":[]}")) ≡ Some (faults.Shape None)
-unfolding serde_json_on_literals is_utf8 chars lex plan_of plan_of_tree jobs_of job_of document_is_shaped document_has_known_keys document_is_in_range clock_of are_clock_ticks rises_from job_is_shaped job_has_known_keys entry_is_shaped entry_has_known_keys beat_of script_of mode_of is_name is_name_byte
+unfolding plans_on_literals
 an_exponent = refl
 
 pub minus_zero : fault_of (plan_of (codes "{\"horizon\":-0,\"jobs\":[]}")) ≡ Some (faults.Shape None)
-unfolding serde_json_on_literals is_utf8 chars lex plan_of plan_of_tree jobs_of job_of document_is_shaped document_has_known_keys document_is_in_range clock_of are_clock_ticks rises_from job_is_shaped job_has_known_keys entry_is_shaped entry_has_known_keys beat_of script_of mode_of is_name is_name_byte
+unfolding plans_on_literals
 minus_zero = refl
 
 pub a_number_past_64_bits : fault_of (plan_of (codes "{\"horizon\":18446744073709551616,\"jobs\":[]}")) ≡ Some (faults.Shape None)
-unfolding serde_json_on_literals is_utf8 chars lex plan_of plan_of_tree jobs_of job_of document_is_shaped document_has_known_keys document_is_in_range clock_of are_clock_ticks rises_from job_is_shaped job_has_known_keys entry_is_shaped entry_has_known_keys beat_of script_of mode_of is_name is_name_byte
+unfolding plans_on_literals
 a_number_past_64_bits = refl
 
 pub a_horizon_of_null : fault_of (plan_of (codes "{\"horizon\":null,\"jobs\":[]}")) ≡ Some (faults.Shape None)
-unfolding serde_json_on_literals is_utf8 chars lex plan_of plan_of_tree jobs_of job_of document_is_shaped document_has_known_keys document_is_in_range clock_of are_clock_ticks rises_from job_is_shaped job_has_known_keys entry_is_shaped entry_has_known_keys beat_of script_of mode_of is_name is_name_byte
+unfolding plans_on_literals
 a_horizon_of_null = refl
 
 pub horizon_beside_ticks : fault_of (plan_of (codes "{\"horizon\":1,\"ticks\":[1],\"jobs\":[]}")) ≡ Some (faults.Shape None)
-unfolding serde_json_on_literals is_utf8 chars lex plan_of plan_of_tree jobs_of job_of document_is_shaped document_has_known_keys document_is_in_range clock_of are_clock_ticks rises_from job_is_shaped job_has_known_keys entry_is_shaped entry_has_known_keys beat_of script_of mode_of is_name is_name_byte
+unfolding plans_on_literals
 horizon_beside_ticks = refl
 
 pub a_horizon_of_null_beside_ticks : fault_of (plan_of (codes "{\"horizon\":null,\"ticks\":[1],\"jobs\":[]}")) ≡ Some (faults.Shape None)
-unfolding serde_json_on_literals is_utf8 chars lex plan_of plan_of_tree jobs_of job_of document_is_shaped document_has_known_keys document_is_in_range clock_of are_clock_ticks rises_from job_is_shaped job_has_known_keys entry_is_shaped entry_has_known_keys beat_of script_of mode_of is_name is_name_byte
+unfolding plans_on_literals
 a_horizon_of_null_beside_ticks = refl
 
 pub half_a_tick : fault_of (plan_of (codes "{\"ticks\":[1.5],\"jobs\":[]}")) ≡ Some (faults.Shape None)
-unfolding serde_json_on_literals is_utf8 chars lex plan_of plan_of_tree jobs_of job_of document_is_shaped document_has_known_keys document_is_in_range clock_of are_clock_ticks rises_from job_is_shaped job_has_known_keys entry_is_shaped entry_has_known_keys beat_of script_of mode_of is_name is_name_byte
+unfolding plans_on_literals
 half_a_tick = refl
 
 pub ticks_that_are_a_number : fault_of (plan_of (codes "{\"ticks\":1,\"jobs\":[]}")) ≡ Some (faults.Shape None)
-unfolding serde_json_on_literals is_utf8 chars lex plan_of plan_of_tree jobs_of job_of document_is_shaped document_has_known_keys document_is_in_range clock_of are_clock_ticks rises_from job_is_shaped job_has_known_keys entry_is_shaped entry_has_known_keys beat_of script_of mode_of is_name is_name_byte
+unfolding plans_on_literals
 ticks_that_are_a_number = refl
 
 pub workers_of_null : fault_of (plan_of (codes "{\"horizon\":1,\"workers\":null,\"jobs\":[]}")) ≡ Some (faults.Shape None)
-unfolding serde_json_on_literals is_utf8 chars lex plan_of plan_of_tree jobs_of job_of document_is_shaped document_has_known_keys document_is_in_range clock_of are_clock_ticks rises_from job_is_shaped job_has_known_keys entry_is_shaped entry_has_known_keys beat_of script_of mode_of is_name is_name_byte
+unfolding plans_on_literals
 workers_of_null = refl
 
 pub shape_before_an_unknown_key : fault_of (plan_of (codes "{\"horizon\":1000,\"x\":1}")) ≡ Some (faults.Shape None)
-unfolding serde_json_on_literals is_utf8 chars lex plan_of plan_of_tree jobs_of job_of document_is_shaped document_has_known_keys document_is_in_range clock_of are_clock_ticks rises_from job_is_shaped job_has_known_keys entry_is_shaped entry_has_known_keys beat_of script_of mode_of is_name is_name_byte
+unfolding plans_on_literals
 shape_before_an_unknown_key = refl
 
 pub an_unknown_key_before_range : fault_of (plan_of (codes "{\"horizon\":1000000000000000,\"jobs\":[],\"start\":1}")) ≡ Some (faults.UnknownKey None)
-unfolding serde_json_on_literals is_utf8 chars lex plan_of plan_of_tree jobs_of job_of document_is_shaped document_has_known_keys document_is_in_range clock_of are_clock_ticks rises_from job_is_shaped job_has_known_keys entry_is_shaped entry_has_known_keys beat_of script_of mode_of is_name is_name_byte
+unfolding plans_on_literals
 an_unknown_key_before_range = refl
 
 pub a_key_of_a_job_in_the_document : fault_of (plan_of (codes "{\"horizon\":1,\"jobs\":[],\"name\":\"a\"}")) ≡ Some (faults.UnknownKey None)
-unfolding serde_json_on_literals is_utf8 chars lex plan_of plan_of_tree jobs_of job_of document_is_shaped document_has_known_keys document_is_in_range clock_of are_clock_ticks rises_from job_is_shaped job_has_known_keys entry_is_shaped entry_has_known_keys beat_of script_of mode_of is_name is_name_byte
+unfolding plans_on_literals
 a_key_of_a_job_in_the_document = refl
 
 pub the_greatest_horizon : fault_of (plan_of (codes "{\"horizon\":999999999999999,\"jobs\":[]}")) ≡ None
-unfolding serde_json_on_literals is_utf8 chars lex plan_of plan_of_tree jobs_of job_of document_is_shaped document_has_known_keys document_is_in_range clock_of are_clock_ticks rises_from job_is_shaped job_has_known_keys entry_is_shaped entry_has_known_keys beat_of script_of mode_of is_name is_name_byte
+unfolding plans_on_literals
 the_greatest_horizon = refl
 
 pub a_greater_horizon : fault_of (plan_of (codes "{\"horizon\":1000000000000000,\"jobs\":[]}")) ≡ Some (faults.Range None)
-unfolding serde_json_on_literals is_utf8 chars lex plan_of plan_of_tree jobs_of job_of document_is_shaped document_has_known_keys document_is_in_range clock_of are_clock_ticks rises_from job_is_shaped job_has_known_keys entry_is_shaped entry_has_known_keys beat_of script_of mode_of is_name is_name_byte
+unfolding plans_on_literals
 a_greater_horizon = refl
 
 pub no_worker : fault_of (plan_of (codes "{\"horizon\":1,\"workers\":0,\"jobs\":[]}")) ≡ Some (faults.Range None)
-unfolding serde_json_on_literals is_utf8 chars lex plan_of plan_of_tree jobs_of job_of document_is_shaped document_has_known_keys document_is_in_range clock_of are_clock_ticks rises_from job_is_shaped job_has_known_keys entry_is_shaped entry_has_known_keys beat_of script_of mode_of is_name is_name_byte
+unfolding plans_on_literals
 no_worker = refl
 
 pub most_workers : fault_of (plan_of (codes "{\"horizon\":1,\"workers\":64,\"jobs\":[]}")) ≡ None
-unfolding serde_json_on_literals is_utf8 chars lex plan_of plan_of_tree jobs_of job_of document_is_shaped document_has_known_keys document_is_in_range clock_of are_clock_ticks rises_from job_is_shaped job_has_known_keys entry_is_shaped entry_has_known_keys beat_of script_of mode_of is_name is_name_byte
+unfolding plans_on_literals
 most_workers = refl
 
 pub too_many_workers : fault_of (plan_of (codes "{\"horizon\":1,\"workers\":65,\"jobs\":[]}")) ≡ Some (faults.Range None)
-unfolding serde_json_on_literals is_utf8 chars lex plan_of plan_of_tree jobs_of job_of document_is_shaped document_has_known_keys document_is_in_range clock_of are_clock_ticks rises_from job_is_shaped job_has_known_keys entry_is_shaped entry_has_known_keys beat_of script_of mode_of is_name is_name_byte
+unfolding plans_on_literals
 too_many_workers = refl
 
 pub no_grain : fault_of (plan_of (codes "{\"horizon\":1,\"grain\":0,\"jobs\":[]}")) ≡ Some (faults.Range None)
-unfolding serde_json_on_literals is_utf8 chars lex plan_of plan_of_tree jobs_of job_of document_is_shaped document_has_known_keys document_is_in_range clock_of are_clock_ticks rises_from job_is_shaped job_has_known_keys entry_is_shaped entry_has_known_keys beat_of script_of mode_of is_name is_name_byte
+unfolding plans_on_literals
 no_grain = refl
 
 pub the_coarsest_grain : fault_of (plan_of (codes "{\"horizon\":1,\"grain\":10000,\"jobs\":[]}")) ≡ None
-unfolding serde_json_on_literals is_utf8 chars lex plan_of plan_of_tree jobs_of job_of document_is_shaped document_has_known_keys document_is_in_range clock_of are_clock_ticks rises_from job_is_shaped job_has_known_keys entry_is_shaped entry_has_known_keys beat_of script_of mode_of is_name is_name_byte
+unfolding plans_on_literals
 the_coarsest_grain = refl
 
 pub too_coarse_a_grain : fault_of (plan_of (codes "{\"horizon\":1,\"grain\":10001,\"jobs\":[]}")) ≡ Some (faults.Range None)
-unfolding serde_json_on_literals is_utf8 chars lex plan_of plan_of_tree jobs_of job_of document_is_shaped document_has_known_keys document_is_in_range clock_of are_clock_ticks rises_from job_is_shaped job_has_known_keys entry_is_shaped entry_has_known_keys beat_of script_of mode_of is_name is_name_byte
+unfolding plans_on_literals
 too_coarse_a_grain = refl
 
 pub no_tick : fault_of (plan_of (codes "{\"ticks\":[],\"jobs\":[]}")) ≡ Some (faults.Range None)
-unfolding serde_json_on_literals is_utf8 chars lex plan_of plan_of_tree jobs_of job_of document_is_shaped document_has_known_keys document_is_in_range clock_of are_clock_ticks rises_from job_is_shaped job_has_known_keys entry_is_shaped entry_has_known_keys beat_of script_of mode_of is_name is_name_byte
+unfolding plans_on_literals
 no_tick = refl
 
 pub a_tick_twice : fault_of (plan_of (codes "{\"ticks\":[5,5],\"jobs\":[]}")) ≡ Some (faults.Range None)
-unfolding serde_json_on_literals is_utf8 chars lex plan_of plan_of_tree jobs_of job_of document_is_shaped document_has_known_keys document_is_in_range clock_of are_clock_ticks rises_from job_is_shaped job_has_known_keys entry_is_shaped entry_has_known_keys beat_of script_of mode_of is_name is_name_byte
+unfolding plans_on_literals
 a_tick_twice = refl
 
 pub a_tick_past_the_limit : fault_of (plan_of (codes "{\"ticks\":[1000000000000000],\"jobs\":[]}")) ≡ Some (faults.Range None)
-unfolding serde_json_on_literals is_utf8 chars lex plan_of plan_of_tree jobs_of job_of document_is_shaped document_has_known_keys document_is_in_range clock_of are_clock_ticks rises_from job_is_shaped job_has_known_keys entry_is_shaped entry_has_known_keys beat_of script_of mode_of is_name is_name_byte
+unfolding plans_on_literals
 a_tick_past_the_limit = refl
 
 pub a_tick_at_the_limit : fault_of (plan_of (codes "{\"ticks\":[0,999999999999999],\"jobs\":[]}")) ≡ None
-unfolding serde_json_on_literals is_utf8 chars lex plan_of plan_of_tree jobs_of job_of document_is_shaped document_has_known_keys document_is_in_range clock_of are_clock_ticks rises_from job_is_shaped job_has_known_keys entry_is_shaped entry_has_known_keys beat_of script_of mode_of is_name is_name_byte
+unfolding plans_on_literals
 a_tick_at_the_limit = refl
 
 pub a_range_before_a_jobs_fault : fault_of (plan_of (codes "{\"horizon\":1000,\"workers\":65,\"jobs\":[1]}")) ≡ Some (faults.Range None)
-unfolding serde_json_on_literals is_utf8 chars lex plan_of plan_of_tree jobs_of job_of document_is_shaped document_has_known_keys document_is_in_range clock_of are_clock_ticks rises_from job_is_shaped job_has_known_keys entry_is_shaped entry_has_known_keys beat_of script_of mode_of is_name is_name_byte
+unfolding plans_on_literals
 a_range_before_a_jobs_fault = refl
 
 pub a_key_twice : fault_of (plan_of (codes "{\"horizon\":1000,\"jobs\":[],\"horizon\":1.5}")) ≡ Some (faults.Shape None)
-unfolding serde_json_on_literals is_utf8 chars lex plan_of plan_of_tree jobs_of job_of document_is_shaped document_has_known_keys document_is_in_range clock_of are_clock_ticks rises_from job_is_shaped job_has_known_keys entry_is_shaped entry_has_known_keys beat_of script_of mode_of is_name is_name_byte
+unfolding plans_on_literals
 a_key_twice = refl
 
 pub an_escaped_key : fault_of (plan_of (codes "{\"hori\\u007aon\":1000,\"jobs\":[]}")) ≡ None
-unfolding serde_json_on_literals is_utf8 chars lex plan_of plan_of_tree jobs_of job_of document_is_shaped document_has_known_keys document_is_in_range clock_of are_clock_ticks rises_from job_is_shaped job_has_known_keys entry_is_shaped entry_has_known_keys beat_of script_of mode_of is_name is_name_byte
+unfolding plans_on_literals
 an_escaped_key = refl
 
 pub a_job_that_is_a_number : fault_of (plan_of (codes "{\"horizon\":1000,\"jobs\":[1]}")) ≡ Some (faults.Shape (Some 0))
-unfolding serde_json_on_literals is_utf8 chars lex plan_of plan_of_tree jobs_of job_of document_is_shaped document_has_known_keys document_is_in_range clock_of are_clock_ticks rises_from job_is_shaped job_has_known_keys entry_is_shaped entry_has_known_keys beat_of script_of mode_of is_name is_name_byte
+unfolding plans_on_literals
 a_job_that_is_a_number = refl
 
 pub a_job_without_a_name : fault_of (plan_of (codes "{\"horizon\":1000,\"jobs\":[{\"mode\":\"retry\",\"schedule\":\"recurs(3)\",\"script\":[{\"ms\":5,\"err\":7}],\"x\":1}]}")) ≡ Some (faults.Shape (Some 0))
-unfolding serde_json_on_literals is_utf8 chars lex plan_of plan_of_tree jobs_of job_of document_is_shaped document_has_known_keys document_is_in_range clock_of are_clock_ticks rises_from job_is_shaped job_has_known_keys entry_is_shaped entry_has_known_keys beat_of script_of mode_of is_name is_name_byte
+unfolding plans_on_literals
 a_job_without_a_name = refl
 
 pub a_mode_that_is_a_number : fault_of (plan_of (codes "{\"horizon\":1000,\"jobs\":[{\"name\":\"a\",\"mode\":1,\"schedule\":\"recurs(3)\",\"script\":[{\"ms\":5,\"err\":7}]}]}")) ≡ Some (faults.Shape (Some 0))
-unfolding serde_json_on_literals is_utf8 chars lex plan_of plan_of_tree jobs_of job_of document_is_shaped document_has_known_keys document_is_in_range clock_of are_clock_ticks rises_from job_is_shaped job_has_known_keys entry_is_shaped entry_has_known_keys beat_of script_of mode_of is_name is_name_byte
+unfolding plans_on_literals
 a_mode_that_is_a_number = refl
 
 pub a_start_that_is_a_text : fault_of (plan_of (codes "{\"horizon\":1000,\"jobs\":[{\"name\":\"a\",\"mode\":\"retry\",\"schedule\":\"recurs(3)\",\"script\":[{\"ms\":5,\"err\":7}],\"start\":\"0\"}]}")) ≡ Some (faults.Shape (Some 0))
-unfolding serde_json_on_literals is_utf8 chars lex plan_of plan_of_tree jobs_of job_of document_is_shaped document_has_known_keys document_is_in_range clock_of are_clock_ticks rises_from job_is_shaped job_has_known_keys entry_is_shaped entry_has_known_keys beat_of script_of mode_of is_name is_name_byte
+unfolding plans_on_literals
 a_start_that_is_a_text = refl
 
 pub the_greatest_start : fault_of (plan_of (codes "{\"horizon\":1000,\"jobs\":[{\"name\":\"a\",\"mode\":\"retry\",\"schedule\":\"recurs(3)\",\"script\":[{\"ms\":5,\"err\":7}],\"start\":18446744073709551615}]}")) ≡ None
-unfolding serde_json_on_literals is_utf8 chars lex plan_of plan_of_tree jobs_of job_of document_is_shaped document_has_known_keys document_is_in_range clock_of are_clock_ticks rises_from job_is_shaped job_has_known_keys entry_is_shaped entry_has_known_keys beat_of script_of mode_of is_name is_name_byte
+unfolding plans_on_literals
 the_greatest_start = refl
 
 pub a_script_that_is_an_object : fault_of (plan_of (codes "{\"horizon\":1000,\"jobs\":[{\"name\":\"a\",\"mode\":\"retry\",\"schedule\":\"recurs(3)\",\"script\":{}}]}")) ≡ Some (faults.Shape (Some 0))
-unfolding serde_json_on_literals is_utf8 chars lex plan_of plan_of_tree jobs_of job_of document_is_shaped document_has_known_keys document_is_in_range clock_of are_clock_ticks rises_from job_is_shaped job_has_known_keys entry_is_shaped entry_has_known_keys beat_of script_of mode_of is_name is_name_byte
+unfolding plans_on_literals
 a_script_that_is_an_object = refl
 
 pub an_entry_with_both_outcomes : fault_of (plan_of (codes "{\"horizon\":1000,\"jobs\":[{\"name\":\"a\",\"mode\":\"retry\",\"schedule\":\"recurs(3)\",\"script\":[{\"ms\":5,\"ok\":1,\"err\":2}]}]}")) ≡ Some (faults.Shape (Some 0))
-unfolding serde_json_on_literals is_utf8 chars lex plan_of plan_of_tree jobs_of job_of document_is_shaped document_has_known_keys document_is_in_range clock_of are_clock_ticks rises_from job_is_shaped job_has_known_keys entry_is_shaped entry_has_known_keys beat_of script_of mode_of is_name is_name_byte
+unfolding plans_on_literals
 an_entry_with_both_outcomes = refl
 
 pub an_entry_with_no_outcome : fault_of (plan_of (codes "{\"horizon\":1000,\"jobs\":[{\"name\":\"a\",\"mode\":\"retry\",\"schedule\":\"recurs(3)\",\"script\":[{\"ms\":5}]}]}")) ≡ Some (faults.Shape (Some 0))
-unfolding serde_json_on_literals is_utf8 chars lex plan_of plan_of_tree jobs_of job_of document_is_shaped document_has_known_keys document_is_in_range clock_of are_clock_ticks rises_from job_is_shaped job_has_known_keys entry_is_shaped entry_has_known_keys beat_of script_of mode_of is_name is_name_byte
+unfolding plans_on_literals
 an_entry_with_no_outcome = refl
 
 pub an_entry_with_a_null_beside_an_outcome : fault_of (plan_of (codes "{\"horizon\":1000,\"jobs\":[{\"name\":\"a\",\"mode\":\"retry\",\"schedule\":\"recurs(3)\",\"script\":[{\"ms\":5,\"ok\":null,\"err\":1}]}]}")) ≡ Some (faults.Shape (Some 0))
-unfolding serde_json_on_literals is_utf8 chars lex plan_of plan_of_tree jobs_of job_of document_is_shaped document_has_known_keys document_is_in_range clock_of are_clock_ticks rises_from job_is_shaped job_has_known_keys entry_is_shaped entry_has_known_keys beat_of script_of mode_of is_name is_name_byte
+unfolding plans_on_literals
 an_entry_with_a_null_beside_an_outcome = refl
 
 pub an_entry_with_a_null_outcome : fault_of (plan_of (codes "{\"horizon\":1000,\"jobs\":[{\"name\":\"a\",\"mode\":\"retry\",\"schedule\":\"recurs(3)\",\"script\":[{\"ms\":5,\"ok\":null}]}]}")) ≡ Some (faults.Shape (Some 0))
-unfolding serde_json_on_literals is_utf8 chars lex plan_of plan_of_tree jobs_of job_of document_is_shaped document_has_known_keys document_is_in_range clock_of are_clock_ticks rises_from job_is_shaped job_has_known_keys entry_is_shaped entry_has_known_keys beat_of script_of mode_of is_name is_name_byte
+unfolding plans_on_literals
 an_entry_with_a_null_outcome = refl
 
 pub an_entry_without_a_duration : fault_of (plan_of (codes "{\"horizon\":1000,\"jobs\":[{\"name\":\"a\",\"mode\":\"retry\",\"schedule\":\"recurs(3)\",\"script\":[{\"ok\":1}]}]}")) ≡ Some (faults.Shape (Some 0))
-unfolding serde_json_on_literals is_utf8 chars lex plan_of plan_of_tree jobs_of job_of document_is_shaped document_has_known_keys document_is_in_range clock_of are_clock_ticks rises_from job_is_shaped job_has_known_keys entry_is_shaped entry_has_known_keys beat_of script_of mode_of is_name is_name_byte
+unfolding plans_on_literals
 an_entry_without_a_duration = refl
 
 pub an_entry_below_zero : fault_of (plan_of (codes "{\"horizon\":1000,\"jobs\":[{\"name\":\"a\",\"mode\":\"retry\",\"schedule\":\"recurs(3)\",\"script\":[{\"ms\":-5,\"ok\":1}]}]}")) ≡ Some (faults.Shape (Some 0))
-unfolding serde_json_on_literals is_utf8 chars lex plan_of plan_of_tree jobs_of job_of document_is_shaped document_has_known_keys document_is_in_range clock_of are_clock_ticks rises_from job_is_shaped job_has_known_keys entry_is_shaped entry_has_known_keys beat_of script_of mode_of is_name is_name_byte
+unfolding plans_on_literals
 an_entry_below_zero = refl
 
 pub an_entry_that_is_a_list : fault_of (plan_of (codes "{\"horizon\":1000,\"jobs\":[{\"name\":\"a\",\"mode\":\"retry\",\"schedule\":\"recurs(3)\",\"script\":[[]]}]}")) ≡ Some (faults.Shape (Some 0))
-unfolding serde_json_on_literals is_utf8 chars lex plan_of plan_of_tree jobs_of job_of document_is_shaped document_has_known_keys document_is_in_range clock_of are_clock_ticks rises_from job_is_shaped job_has_known_keys entry_is_shaped entry_has_known_keys beat_of script_of mode_of is_name is_name_byte
+unfolding plans_on_literals
 an_entry_that_is_a_list = refl
 
 pub the_shape_of_an_entry_before_an_unknown_key : fault_of (plan_of (codes "{\"horizon\":1000,\"jobs\":[{\"name\":\"a\",\"mode\":\"retry\",\"schedule\":\"recurs(3)\",\"script\":[{\"ms\":5}],\"x\":1}]}")) ≡ Some (faults.Shape (Some 0))
-unfolding serde_json_on_literals is_utf8 chars lex plan_of plan_of_tree jobs_of job_of document_is_shaped document_has_known_keys document_is_in_range clock_of are_clock_ticks rises_from job_is_shaped job_has_known_keys entry_is_shaped entry_has_known_keys beat_of script_of mode_of is_name is_name_byte
+unfolding plans_on_literals
 the_shape_of_an_entry_before_an_unknown_key = refl
 
 pub an_unknown_key_of_a_job : fault_of (plan_of (codes "{\"horizon\":1000,\"jobs\":[{\"name\":\"a\",\"mode\":\"retry\",\"schedule\":\"recurs(3)\",\"script\":[{\"ms\":5,\"err\":7}],\"x\":1}]}")) ≡ Some (faults.UnknownKey (Some 0))
-unfolding serde_json_on_literals is_utf8 chars lex plan_of plan_of_tree jobs_of job_of document_is_shaped document_has_known_keys document_is_in_range clock_of are_clock_ticks rises_from job_is_shaped job_has_known_keys entry_is_shaped entry_has_known_keys beat_of script_of mode_of is_name is_name_byte
+unfolding plans_on_literals
 an_unknown_key_of_a_job = refl
 
 pub an_unknown_key_of_an_entry_before_a_mode : fault_of (plan_of (codes "{\"horizon\":1000,\"jobs\":[{\"name\":\"a\",\"mode\":\"loop\",\"schedule\":\"recurs(3)\",\"script\":[{\"ms\":5,\"ok\":1,\"y\":1}]}]}")) ≡ Some (faults.UnknownKey (Some 0))
-unfolding serde_json_on_literals is_utf8 chars lex plan_of plan_of_tree jobs_of job_of document_is_shaped document_has_known_keys document_is_in_range clock_of are_clock_ticks rises_from job_is_shaped job_has_known_keys entry_is_shaped entry_has_known_keys beat_of script_of mode_of is_name is_name_byte
+unfolding plans_on_literals
 an_unknown_key_of_an_entry_before_a_mode = refl
 
 pub a_key_of_an_entry_in_a_job : fault_of (plan_of (codes "{\"horizon\":1000,\"jobs\":[{\"name\":\"a\",\"mode\":\"retry\",\"schedule\":\"recurs(3)\",\"script\":[{\"ms\":5,\"err\":7}],\"ms\":1}]}")) ≡ Some (faults.UnknownKey (Some 0))
-unfolding serde_json_on_literals is_utf8 chars lex plan_of plan_of_tree jobs_of job_of document_is_shaped document_has_known_keys document_is_in_range clock_of are_clock_ticks rises_from job_is_shaped job_has_known_keys entry_is_shaped entry_has_known_keys beat_of script_of mode_of is_name is_name_byte
+unfolding plans_on_literals
 a_key_of_an_entry_in_a_job = refl
 
 pub an_unknown_mode : fault_of (plan_of (codes "{\"horizon\":1000,\"jobs\":[{\"name\":\"a\",\"mode\":\"loop\",\"schedule\":\"recurs(3)\",\"script\":[{\"ms\":5,\"err\":7}]}]}")) ≡ Some (faults.Range (Some 0))
-unfolding serde_json_on_literals is_utf8 chars lex plan_of plan_of_tree jobs_of job_of document_is_shaped document_has_known_keys document_is_in_range clock_of are_clock_ticks rises_from job_is_shaped job_has_known_keys entry_is_shaped entry_has_known_keys beat_of script_of mode_of is_name is_name_byte
+unfolding plans_on_literals
 an_unknown_mode = refl
 
 pub a_mode_before_a_name : fault_of (plan_of (codes "{\"horizon\":1000,\"jobs\":[{\"name\":\"\",\"mode\":\"Retry\",\"schedule\":\"recurs(3)\",\"script\":[{\"ms\":5,\"err\":7}]}]}")) ≡ Some (faults.Range (Some 0))
-unfolding serde_json_on_literals is_utf8 chars lex plan_of plan_of_tree jobs_of job_of document_is_shaped document_has_known_keys document_is_in_range clock_of are_clock_ticks rises_from job_is_shaped job_has_known_keys entry_is_shaped entry_has_known_keys beat_of script_of mode_of is_name is_name_byte
+unfolding plans_on_literals
 a_mode_before_a_name = refl
 
 pub no_name : fault_of (plan_of (codes "{\"horizon\":1000,\"jobs\":[{\"name\":\"\",\"mode\":\"retry\",\"schedule\":\"recurs(3)\",\"script\":[{\"ms\":5,\"err\":7}]}]}")) ≡ Some (faults.Name 0)
-unfolding serde_json_on_literals is_utf8 chars lex plan_of plan_of_tree jobs_of job_of document_is_shaped document_has_known_keys document_is_in_range clock_of are_clock_ticks rises_from job_is_shaped job_has_known_keys entry_is_shaped entry_has_known_keys beat_of script_of mode_of is_name is_name_byte
+unfolding plans_on_literals
 no_name = refl
 
 pub a_name_with_a_space : fault_of (plan_of (codes "{\"horizon\":1000,\"jobs\":[{\"name\":\"a b\",\"mode\":\"retry\",\"schedule\":\"recurs(3)\",\"script\":[{\"ms\":5,\"err\":7}]}]}")) ≡ Some (faults.Name 0)
-unfolding serde_json_on_literals is_utf8 chars lex plan_of plan_of_tree jobs_of job_of document_is_shaped document_has_known_keys document_is_in_range clock_of are_clock_ticks rises_from job_is_shaped job_has_known_keys entry_is_shaped entry_has_known_keys beat_of script_of mode_of is_name is_name_byte
+unfolding plans_on_literals
 a_name_with_a_space = refl
 
 pub a_name_of_all_kinds : fault_of (plan_of (codes "{\"horizon\":1000,\"jobs\":[{\"name\":\"A-z_9.x\",\"mode\":\"retry\",\"schedule\":\"recurs(3)\",\"script\":[{\"ms\":5,\"err\":7}]}]}")) ≡ None
-unfolding serde_json_on_literals is_utf8 chars lex plan_of plan_of_tree jobs_of job_of document_is_shaped document_has_known_keys document_is_in_range clock_of are_clock_ticks rises_from job_is_shaped job_has_known_keys entry_is_shaped entry_has_known_keys beat_of script_of mode_of is_name is_name_byte
+unfolding plans_on_literals
 a_name_of_all_kinds = refl
 
 pub a_name_of_64_bytes : fault_of (plan_of (codes "{\"horizon\":1000,\"jobs\":[{\"name\":\"aaaaaaaaaaaaaaaaaaaaaaaaaaaaaaaaaaaaaaaaaaaaaaaaaaaaaaaaaaaaaaaa\",\"mode\":\"retry\",\"schedule\":\"recurs(3)\",\"script\":[{\"ms\":5,\"err\":7}]}]}")) ≡ None
-unfolding serde_json_on_literals is_utf8 chars lex plan_of plan_of_tree jobs_of job_of document_is_shaped document_has_known_keys document_is_in_range clock_of are_clock_ticks rises_from job_is_shaped job_has_known_keys entry_is_shaped entry_has_known_keys beat_of script_of mode_of is_name is_name_byte
+unfolding plans_on_literals
 a_name_of_64_bytes = refl
 
 pub a_name_of_65_bytes : fault_of (plan_of (codes "{\"horizon\":1000,\"jobs\":[{\"name\":\"aaaaaaaaaaaaaaaaaaaaaaaaaaaaaaaaaaaaaaaaaaaaaaaaaaaaaaaaaaaaaaaaa\",\"mode\":\"retry\",\"schedule\":\"recurs(3)\",\"script\":[{\"ms\":5,\"err\":7}]}]}")) ≡ Some (faults.Name 0)
-unfolding serde_json_on_literals is_utf8 chars lex plan_of plan_of_tree jobs_of job_of document_is_shaped document_has_known_keys document_is_in_range clock_of are_clock_ticks rises_from job_is_shaped job_has_known_keys entry_is_shaped entry_has_known_keys beat_of script_of mode_of is_name is_name_byte
+unfolding plans_on_literals
 a_name_of_65_bytes = refl
 
 pub a_name_before_a_schedule : fault_of (plan_of (codes "{\"horizon\":1000,\"jobs\":[{\"name\":\"\",\"mode\":\"retry\",\"schedule\":\"x\",\"script\":[{\"ms\":5,\"err\":7}]}]}")) ≡ Some (faults.Name 0)
-unfolding serde_json_on_literals is_utf8 chars lex plan_of plan_of_tree jobs_of job_of document_is_shaped document_has_known_keys document_is_in_range clock_of are_clock_ticks rises_from job_is_shaped job_has_known_keys entry_is_shaped entry_has_known_keys beat_of script_of mode_of is_name is_name_byte
+unfolding plans_on_literals
 a_name_before_a_schedule = refl
 
 pub a_name_twice : fault_of (plan_of (codes "{\"horizon\":1000,\"jobs\":[{\"name\":\"a\",\"mode\":\"retry\",\"schedule\":\"recurs(3)\",\"script\":[{\"ms\":5,\"err\":7}]},{\"name\":\"a\",\"mode\":\"retry\",\"schedule\":\"recurs(3)\",\"script\":[{\"ms\":5,\"err\":7}]}]}")) ≡ Some (faults.SameName 1)
-unfolding serde_json_on_literals is_utf8 chars lex plan_of plan_of_tree jobs_of job_of document_is_shaped document_has_known_keys document_is_in_range clock_of are_clock_ticks rises_from job_is_shaped job_has_known_keys entry_is_shaped entry_has_known_keys beat_of script_of mode_of is_name is_name_byte
+unfolding plans_on_literals
 a_name_twice = refl
 
 pub a_name_twice_before_a_schedule : fault_of (plan_of (codes "{\"horizon\":1000,\"jobs\":[{\"name\":\"a\",\"mode\":\"retry\",\"schedule\":\"recurs(3)\",\"script\":[{\"ms\":5,\"err\":7}]},{\"name\":\"a\",\"mode\":\"retry\",\"schedule\":\"x\",\"script\":[{\"ms\":5,\"err\":7}]}]}")) ≡ Some (faults.SameName 1)
-unfolding serde_json_on_literals is_utf8 chars lex plan_of plan_of_tree jobs_of job_of document_is_shaped document_has_known_keys document_is_in_range clock_of are_clock_ticks rises_from job_is_shaped job_has_known_keys entry_is_shaped entry_has_known_keys beat_of script_of mode_of is_name is_name_byte
+unfolding plans_on_literals
 a_name_twice_before_a_schedule = refl
 
 pub a_fault_of_an_earlier_job : fault_of (plan_of (codes "{\"horizon\":1000,\"jobs\":[{\"name\":\"a\",\"mode\":\"retry\",\"schedule\":\"recurs(3)\",\"script\":[]},{\"name\":\"a\",\"mode\":\"retry\",\"schedule\":\"recurs(3)\",\"script\":[{\"ms\":5,\"err\":7}]}]}")) ≡ Some (faults.Script 0 scripts.Empty)
-unfolding serde_json_on_literals is_utf8 chars lex plan_of plan_of_tree jobs_of job_of document_is_shaped document_has_known_keys document_is_in_range clock_of are_clock_ticks rises_from job_is_shaped job_has_known_keys entry_is_shaped entry_has_known_keys beat_of script_of mode_of is_name is_name_byte
+unfolding plans_on_literals
 a_fault_of_an_earlier_job = refl
 
 pub a_schedule_before_a_script : fault_of (plan_of (codes "{\"horizon\":1000,\"jobs\":[{\"name\":\"a\",\"mode\":\"retry\",\"schedule\":\"\",\"script\":[]}]}")) ≡ Some (faults.Schedule 0 (terms.NoTerm 0))
-unfolding serde_json_on_literals is_utf8 chars lex plan_of plan_of_tree jobs_of job_of document_is_shaped document_has_known_keys document_is_in_range clock_of are_clock_ticks rises_from job_is_shaped job_has_known_keys entry_is_shaped entry_has_known_keys beat_of script_of mode_of is_name is_name_byte
+unfolding plans_on_literals
 a_schedule_before_a_script = refl
 
 pub a_schedule_without_a_kind : fault_of (plan_of (codes "{\"horizon\":1000,\"jobs\":[{\"name\":\"a\",\"mode\":\"retry\",\"schedule\":\"recurs(1).map(_1)\",\"script\":[{\"ms\":5,\"err\":7}]}]}")) ≡ Some (faults.Schedule 0 terms.NoKind)
-unfolding serde_json_on_literals is_utf8 chars lex plan_of plan_of_tree jobs_of job_of document_is_shaped document_has_known_keys document_is_in_range clock_of are_clock_ticks rises_from job_is_shaped job_has_known_keys entry_is_shaped entry_has_known_keys beat_of script_of mode_of is_name is_name_byte
+unfolding plans_on_literals
 a_schedule_without_a_kind = refl
 
 pub a_schedule_with_an_empty_window : fault_of (plan_of (codes "{\"horizon\":1000,\"jobs\":[{\"name\":\"a\",\"mode\":\"retry\",\"schedule\":\"windowed(0)\",\"script\":[{\"ms\":5,\"err\":7}]}]}")) ≡ Some (faults.Schedule 0 terms.BadWindow)
-unfolding serde_json_on_literals is_utf8 chars lex plan_of plan_of_tree jobs_of job_of document_is_shaped document_has_known_keys document_is_in_range clock_of are_clock_ticks rises_from job_is_shaped job_has_known_keys entry_is_shaped entry_has_known_keys beat_of script_of mode_of is_name is_name_byte
+unfolding plans_on_literals
 a_schedule_with_an_empty_window = refl
 
 pub a_schedule_with_a_factor_of_zero : fault_of (plan_of (codes "{\"horizon\":1000,\"jobs\":[{\"name\":\"a\",\"mode\":\"retry\",\"schedule\":\"exponential(1, 0)\",\"script\":[{\"ms\":5,\"err\":7}]}]}")) ≡ Some (faults.Schedule 0 terms.BadFactor)
-unfolding serde_json_on_literals is_utf8 chars lex plan_of plan_of_tree jobs_of job_of document_is_shaped document_has_known_keys document_is_in_range clock_of are_clock_ticks rises_from job_is_shaped job_has_known_keys entry_is_shaped entry_has_known_keys beat_of script_of mode_of is_name is_name_byte
+unfolding plans_on_literals
 a_schedule_with_a_factor_of_zero = refl
 
 pub no_entry : fault_of (plan_of (codes "{\"horizon\":1000,\"jobs\":[{\"name\":\"a\",\"mode\":\"retry\",\"schedule\":\"recurs(3)\",\"script\":[]}]}")) ≡ Some (faults.Script 0 scripts.Empty)
-unfolding serde_json_on_literals is_utf8 chars lex plan_of plan_of_tree jobs_of job_of document_is_shaped document_has_known_keys document_is_in_range clock_of are_clock_ticks rises_from job_is_shaped job_has_known_keys entry_is_shaped entry_has_known_keys beat_of script_of mode_of is_name is_name_byte
+unfolding plans_on_literals
 no_entry = refl
 
 pub an_entry_of_no_time : fault_of (plan_of (codes "{\"horizon\":1000,\"jobs\":[{\"name\":\"a\",\"mode\":\"retry\",\"schedule\":\"recurs(3)\",\"script\":[{\"ms\":1,\"ok\":1},{\"ms\":0,\"ok\":1}]}]}")) ≡ Some (faults.Script 0 scripts.ZeroMs)
-unfolding serde_json_on_literals is_utf8 chars lex plan_of plan_of_tree jobs_of job_of document_is_shaped document_has_known_keys document_is_in_range clock_of are_clock_ticks rises_from job_is_shaped job_has_known_keys entry_is_shaped entry_has_known_keys beat_of script_of mode_of is_name is_name_byte
+unfolding plans_on_literals
 an_entry_of_no_time = refl
 
 -- a plan of one job, as a value
@@ -322,7 +318,7 @@ one_retry_job = record {
 }
 
 pub one_retry_job_read : plan_of (codes "{\"horizon\":1000,\"jobs\":[{\"name\":\"a\",\"mode\":\"retry\",\"schedule\":\"recurs(3)\",\"script\":[{\"ms\":5,\"err\":7},{\"ms\":5,\"ok\":1}]}]}") ≡ Ok one_retry_job
-unfolding serde_json_on_literals is_utf8 chars lex plan_of plan_of_tree jobs_of job_of document_is_shaped document_has_known_keys document_is_in_range clock_of are_clock_ticks rises_from job_is_shaped job_has_known_keys entry_is_shaped entry_has_known_keys beat_of script_of mode_of is_name is_name_byte
+unfolding plans_on_literals
 one_retry_job_read = refl
 
 -- the same job on a clock of a few ticks
@@ -349,5 +345,5 @@ one_repeat_job = record {
 }
 
 pub one_repeat_job_read : plan_of (codes "{\"ticks\":[0,8,20,40],\"workers\":64,\"grain\":10000,\"jobs\":[{\"start\":7,\"name\":\"b\",\"mode\":\"repeat\",\"schedule\":\"(exponential(10) && recurs(3))\",\"script\":[{\"ok\":0,\"ms\":1}]}]}") ≡ Ok one_repeat_job
-unfolding serde_json_on_literals is_utf8 chars lex plan_of plan_of_tree jobs_of job_of document_is_shaped document_has_known_keys document_is_in_range clock_of are_clock_ticks rises_from job_is_shaped job_has_known_keys entry_is_shaped entry_has_known_keys beat_of script_of mode_of is_name is_name_byte
+unfolding plans_on_literals
 one_repeat_job_read = refl

@@ -7,7 +7,7 @@ use Rattle.zs_effect.specs.declared.script.Beat.{Beat}
 use Rattle.zs_effect.specs.declared.script.ScriptFault.{ScriptFault}
 use Rattle.zs_effect.specs.declared.script.ScriptFault.TheVariants.{Empty, TooLong, ZeroMs}
 use Rattle.zs_effect.specs.Scripts.{IsScript, IsFirstFault}
-use Rattle.zs_run.specs.Entries.{script_of}
+use Rattle.zs_run.specs.Jobs.{script_of}
 
 more_than_zero : (n : ℕ) → 1 ≤ n → (n == 0) ≡ false
 more_than_zero n h = grind (arith, nat_tests, h)

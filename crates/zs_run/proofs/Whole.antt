@@ -1,12 +1,10 @@
 -- The plan of the bytes that are read is that of all bytes.
-use Rattle.std.proofs.Common.{◌≡◌, ◌<◌, ◌≤◌, ◌⊎◌, inl, inr, ℕ, List, [], length, take, Option, None, Some, Ok, Err, Result, IfSome, sym, ◌∙◌, ap, arith}
+use Rattle.std.proofs.Common.{◌≡◌, ◌<◌, ◌≤◌, ◌⊎◌, inl, inr, ℕ, List, length, take, Option, None, Some, Ok, Err, Bool, refl, sym, ◌∙◌, ap, arith}
 use Rattle.std.proofs.lemmas.Bool.{cases_lt, lt-leb}
 use Rattle.std.proofs.lemmas.List.{take_all, drop_all, length-take-le}
 use Rattle.zs_run.specs.Plan.{PlanRecord, plan_of, max_bytes}
 use Rattle.zs_run.specs.declared.plan_fault.PlanFault.{PlanFault}
-use Rattle.zs_run.specs.Headline.{IfEngine, IsOfReading, IsRead, max_read}
-use Rattle.zs_run.specs.declared.run_fault.RunFault.{RunFault}
-use Rattle.zs_run.specs.declared.run_fault.RunFault.TheVariants.{Read, Plan, Engine, Write}
+use Rattle.zs_run.specs.Headline.{IsInput, WasNoPlan, max_read}
 use Rattle.zs_run.specs.Streams.{ReadsUpTo}
 use Rattle.zs_run.specs.declared.plan_fault.PlanFault.TheVariants.{TooLong}
 
@@ -25,12 +23,12 @@ pub plan_of_taken : (limit : ℕ) (input : List ℕ) → max_bytes < limit → p
 plan_of_taken limit input above = by_length limit input above (cases_lt limit (length input))
 
 -- what the bytes that were read give is what all of them give
-pub read_whole : (answer : Result PlanRecord PlanFault) (old new : Option (List ℕ)) (bytes : List ℕ)
-    → ReadsUpTo max_read old new bytes → plan_of bytes ≡ answer → IsRead old new × IfSome old (λ input. plan_of input ≡ answer)
-read_whole answer None new bytes read given = (tt, tt)
-read_whole answer (Some input) None bytes read given = absurd read
-read_whole answer (Some input) (Some left) bytes read given =
-    (ap Some read.1, sym (plan_of_taken max_read input (omega arith)) ∙ ap plan_of (sym read.0) ∙ given)
+pub read_whole : (fault : PlanFault) (old new : Option (List ℕ)) (failed : Bool) (bytes : List ℕ)
+    → ReadsUpTo max_read old new bytes → plan_of bytes ≡ Err fault → WasNoPlan (record { before = old; left = new; failed = failed }) fault
+read_whole fault None new failed bytes read given = (bytes, given, tt)
+read_whole fault (Some input) None failed bytes read given = absurd read
+read_whole fault (Some input) (Some left) failed bytes read given =
+    (input, sym (plan_of_taken max_read input (omega arith)) ∙ ap plan_of (sym read.0) ∙ given, (refl, ap Some read.1))
 
 fits : (input : List ℕ) (plan : PlanRecord) → plan_of input ≡ Ok plan → length input ≤ max_bytes
 fits input plan given = elim (cases_lt max_bytes (length input)) [
@@ -40,17 +38,10 @@ fits input plan given = elim (cases_lt max_bytes (length input)) [
 
 -- A plan is read to the end of input.
 pub read_plan_whole : (plan : PlanRecord) (old new : Option (List ℕ)) (bytes : List ℕ)
-    → ReadsUpTo max_read old new bytes → plan_of bytes ≡ Ok plan → IfSome old (λ input. (new ≡ Some []) × (plan_of input ≡ Ok plan))
-read_plan_whole plan None new bytes read given = tt
+    → ReadsUpTo max_read old new bytes → plan_of bytes ≡ Ok plan → IsInput old new plan
+read_plan_whole plan None new bytes read given = (bytes, given, tt)
 read_plan_whole plan (Some input) None bytes read given = absurd read
 read_plan_whole plan (Some input) (Some left) bytes read given =
     let whole : plan_of input ≡ Ok plan = sym (plan_of_taken max_read input (omega arith)) ∙ ap plan_of (sym read.0) ∙ given in
     let short : length input ≤ max_bytes = fits input plan whole in
-    (ap Some (read.1 ∙ drop_all max_read input (omega arith)), whole)
-
--- a fault of reading is none of the work
-pub engine_from_reading : (fault : RunFault) (P : Type 0) → IsOfReading fault → IfEngine fault P
-engine_from_reading Read P h = tt
-engine_from_reading (Plan f) P h = tt
-engine_from_reading (Engine f) P h = absurd h
-engine_from_reading (Write sent) P h = absurd h
+    (input, whole, (refl, ap Some (read.1 ∙ drop_all max_read input (omega arith))))

@@ -1,66 +1,53 @@
--- How a run ends: the words of the contract of `run`, on the bytes that were left to read before and after it.
-use Rattle.std.specs.Prelude.{◌≡◌, ℕ, List, [], drop, ⊤, Option, None, Some, Ok, Err, IfSome}
+-- How a run ends: for success and for each fault what was read, what was written, and which of the two failed.
+use Rattle.std.specs.Prelude.{◌≡◌, ◌≢◌, ◌≤◌, ℕ, List, [], length, take, drop, Bool, true, false, Option, Some, Result, Ok, Err, IfSome}
+use Rattle.std.specs.Io.KnownBytes.{Appends}
 use Rattle.zs_run.specs.Plan.{PlanRecord, plan_of}
 use Rattle.zs_run.specs.PlanReport.{report_of}
 use Rattle.zs_run.specs.declared.plan_fault.PlanFault.{PlanFault}
+use Rattle.zs_run.specs.declared.plan_fault.PlanFault.TheVariants as faults
 use Rattle.zs_run.specs.declared.run_fault.RunFault.{RunFault}
 use Rattle.zs_run.specs.declared.run_fault.RunFault.TheVariants.{Read, Plan, Engine, Write}
 
--- The known bytes were a plan, were read to their end, and P holds of the plan's report.
-abbrev pub ReadsReport : Option (List ℕ) → Option (List ℕ) → (List ℕ → Type 0) → Type 0
-ReadsReport old new P = IfSome old (λ input. (plan : PlanRecord) × (plan_of input ≡ Ok plan) × (new ≡ Some []) × P (report_of plan))
+-- what is seen of the reader: the bytes that were left to it before and after the run, where they are known, and whether it failed
+pub record Reading : Type 0 where
+  pub before : Option (List ℕ)
+  pub left : Option (List ℕ)
+  pub failed : Bool
 
--- One byte more is read than a plan may have.
+-- what is seen of the writer: the bytes that it had taken before and after the run, where they are known, whether it failed,
+-- and whether all that it took was flushed
+pub record Writing : Type 0 where
+  pub before : Option (List ℕ)
+  pub taken : Option (List ℕ)
+  pub failed : Bool
+  pub flushed : Bool
+
+-- one byte more is read than a plan may have
 abbrev pub max_read : ℕ
 max_read = 16777217
 
--- the known bytes that are left after a plan was looked for
-abbrev pub IsRead : Option (List ℕ) → Option (List ℕ) → Type 0
-IsRead None left = ⊤
-IsRead (Some input) left = left ≡ Some (drop max_read input)
+-- Some bytes are this plan. They are those of the reader, where these are known, and none of them is left.
+abbrev pub IsInput : Option (List ℕ) → Option (List ℕ) → PlanRecord → Type 0
+IsInput before left plan = (input : List ℕ) × (plan_of input ≡ Ok plan) × IfSome before (λ known. (known ≡ input) × (left ≡ Some []))
 
--- The known bytes were read to their end, or until there were too many, and have this fault.
-abbrev pub ReadsFault : Option (List ℕ) → Option (List ℕ) → PlanFault → Type 0
-ReadsFault old new fault = IsRead old new × IfSome old (λ input. plan_of input ≡ Err fault)
+-- A plan was read, and P holds of its report.
+abbrev pub WasPlan : Reading → (List ℕ → Type 0) → Type 0
+WasPlan r P = (plan : PlanRecord) × IsInput r.before r.left plan × P (report_of plan)
 
--- a fact on the fault of a plan
-abbrev pub IfPlan : RunFault → (PlanFault → Type 0) → Type 0
-IfPlan Read P = ⊤
-IfPlan (Plan fault) P = P fault
-IfPlan (Engine fault) P = ⊤
-IfPlan (Write sent) P = ⊤
+-- Some bytes have this fault. They are those of the reader, where these are known, and were read to their end, or until there were too many.
+abbrev pub WasNoPlan : Reading → PlanFault → Type 0
+WasNoPlan r fault = (input : List ℕ) × (plan_of input ≡ Err fault)
+    × IfSome r.before (λ known. (known ≡ input) × (r.left ≡ Some (drop max_read known)))
 
--- a fact where the work failed
-abbrev pub IfEngine : RunFault → Type 0 → Type 0
-IfEngine Read P = ⊤
-IfEngine (Plan fault) P = ⊤
-IfEngine (Engine fault) P = P
-IfEngine (Write sent) P = ⊤
-
--- a fact on how many bytes went out before a write failed
-abbrev pub IfWrite : RunFault → (ℕ → Type 0) → Type 0
-IfWrite Read P = ⊤
-IfWrite (Plan fault) P = ⊤
-IfWrite (Engine fault) P = ⊤
-IfWrite (Write sent) P = P sent
-
--- a write failed
-abbrev pub IsWrite : RunFault → Type 0
-IsWrite Read = ⊥
-IsWrite (Plan fault) = ⊥
-IsWrite (Engine fault) = ⊥
-IsWrite (Write sent) = ⊤
-
--- the run stopped before it wrote
-abbrev pub IsEarly : RunFault → Type 0
-IsEarly Read = ⊤
-IsEarly (Plan fault) = ⊤
-IsEarly (Engine fault) = ⊤
-IsEarly (Write sent) = ⊥
-
--- the reader or the plan failed
-abbrev pub IsOfReading : RunFault → Type 0
-IsOfReading Read = ⊤
-IsOfReading (Plan fault) = ⊤
-IsOfReading (Engine fault) = ⊥
-IsOfReading (Write sent) = ⊥
+-- The table: how a run ends by what it answers. `Untouched` says that the writer is what it was.
+abbrev pub Ends : Result (Unit {0}) RunFault → Reading → Writing → Type 0 → Type 0
+Ends (Ok done) r w Untouched =
+    (r.failed ≡ false) × (w.failed ≡ false) × WasPlan r (λ report. Appends w.before w.taken report) × (w.flushed ≡ true)
+Ends (Err Read) r w Untouched =
+    (r.failed ≡ true) × (w.failed ≡ false) × Untouched
+Ends (Err (Plan fault)) r w Untouched =
+    (r.failed ≡ false) × (w.failed ≡ false) × Untouched × (fault ≢ faults.Memory → WasNoPlan r fault)
+Ends (Err (Engine fault)) r w Untouched =
+    (r.failed ≡ false) × (w.failed ≡ false) × Untouched × WasPlan r (λ report. Unit {0})
+Ends (Err (Write sent)) r w Untouched =
+    (r.failed ≡ false) × (w.failed ≡ true) × WasPlan r (λ report. (sent ≤ length report) × Appends w.before w.taken (take sent report))

@@ -2,11 +2,13 @@ pub mod Streams
 pub mod Marked
 pub mod Tree
 pub mod Refusals
-pub mod Entries
+pub mod Shapes
+pub mod ShapeViews
 pub mod Jobs
 pub mod Names
 pub mod Plan
 pub mod PlanView
+pub mod Lawful
 pub mod Report
 pub mod ReportView
 pub mod PlanReport

@@ -1,13 +1,16 @@
 -- What reading a plan from a reader answers.
-use Rattle.std.specs.Prelude.{◌≡◌, ◌≢◌, ℕ, List, [], Option, Some, Result, Ok, Err, IfSome}
+use Rattle.std.specs.Prelude.{◌≡◌, ◌≢◌, true, false, Result, Ok, Err}
 use Rattle.zs_run.specs.declared.plan_fault.PlanFault.TheVariants as faults
 use Rattle.zs_run.specs.declared.run_fault.RunFault.{RunFault}
-use Rattle.zs_run.specs.declared.plan.Plan.{Plan}
-use Rattle.zs_run.specs.Plan.{plan_of}
+use Rattle.zs_run.specs.declared.run_fault.RunFault.TheVariants.{Read, Plan, Engine, Write}
+use Rattle.zs_run.specs.declared.plan.Plan as plans
 use Rattle.zs_run.specs.PlanView.{plan_record}
-use Rattle.zs_run.specs.Headline.{IfPlan, ReadsFault}
+use Rattle.zs_run.specs.Headline.{IsInput, Reading, WasNoPlan}
 
--- The known bytes were read to their end and are the plan, or the fault is theirs unless memory ran out.
-abbrev pub ReadsPlan : Result Plan RunFault → Option (List ℕ) → Option (List ℕ) → Type 0
-ReadsPlan (Ok plan) old new = IfSome old (λ input. (new ≡ Some []) × (plan_of input ≡ Ok (plan_record plan)))
-ReadsPlan (Err fault) old new = IfPlan fault (λ cause. cause ≢ faults.Memory → ReadsFault old new cause)
+-- The bytes were a plan, or the reader failed, or the fault is theirs unless memory ran out.
+abbrev pub Reads : Result plans.Plan RunFault → Reading → Type 0
+Reads (Ok plan) r = (r.failed ≡ false) × IsInput r.before r.left (plan_record plan)
+Reads (Err Read) r = r.failed ≡ true
+Reads (Err (Plan fault)) r = (r.failed ≡ false) × (fault ≢ faults.Memory → WasNoPlan r fault)
+Reads (Err (Engine fault)) r = ⊥
+Reads (Err (Write sent)) r = ⊥

@@ -1,5 +1,5 @@
--- The exit status for each fault.
-use Rattle.std.specs.Prelude.{ℕ}
+-- The exit status for each ending.
+use Rattle.std.specs.Prelude.{ℕ, Result, Ok, Err}
 use Rattle.zs_run.specs.declared.plan_fault.PlanFault.{PlanFault}
 use Rattle.zs_run.specs.declared.plan_fault.PlanFault.TheVariants.{TooLong, Json, Shape, UnknownKey, Range, Name, SameName, Schedule, Script, Memory}
 use Rattle.zs_run.specs.declared.run_fault.RunFault.{RunFault}
@@ -24,3 +24,8 @@ status_of Read = 3
 status_of (Plan fault) = plan_status_of fault
 status_of (Engine fault) = 4
 status_of (Write sent) = 3
+
+-- 0 where the report was written
+abbrev pub exit_status_of : Result (Unit {0}) RunFault → ℕ
+exit_status_of (Ok done) = 0
+exit_status_of (Err fault) = status_of fault

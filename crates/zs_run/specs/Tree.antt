@@ -1,5 +1,6 @@
--- Looking into a JSON document. Numbers are whole where they are written in digits alone and fit 64 bits.
-use Rattle.std.specs.Prelude.{ℕ, ◌||◌, ◌&&◌, List, [], ◌∷◌, map, Bool, is_some, is_none, if◌then◌else◌, Option, None, option_map, option_and_then, unwrap_or}
+-- Looking into a JSON document: what stands there, or None where nothing stands or another type does.
+-- Numbers are whole where they are written in digits alone and fit 64 bits.
+use Rattle.std.specs.Prelude.{ℕ, List, [], ◌∷◌, Bool, true, if◌then◌else◌, Option, Some, None, option_map, option_and_then}
 use Rattle.std.specs.List.{list_all, list_any}
 use Rattle.std.specs.Str.{is_utf8, bytes_eq}
 use Rattle.serde_json.specs.Data.{Data, Items, no_items, item, Members, no_members, member}
@@ -10,33 +11,40 @@ use Rattle.serde_json.specs.Find.{get, as_number, as_u64, as_str, as_array, as_o
 abbrev pub tree_of : List ℕ → Option Data
 tree_of bytes = if is_utf8 bytes then read bytes else None
 
+infixl 10 ◌>>=◌
+-- what comes next, where something was found
+abbrev pub ◌>>=◌ : {A B : Type 0} → Option A → (A → Option B) → Option B
+None >>= f = None
+(Some x) >>= f = f x
+
+-- what is found at each of a list, where it is found at all of them
+unfoldable pub all_of : {A B : Type 0} → (A → Option B) → List A → Option (List B)
+all_of find [] = Some []
+all_of find (x ∷ xs) = do
+  y ← find x
+  ys ← all_of find xs
+  Some (y ∷ ys)
+
+-- ---- by type
+
 -- the items of a list, in order
 abbrev pub list_of : Items → List Data
 list_of no_items = []
 list_of (item d ds) = d ∷ list_of ds
 
--- the keys of members, in order
-abbrev pub keys_of : Members → List (List ℕ)
-keys_of no_members = []
-keys_of (member k d ms) = k ∷ keys_of ms
-
--- the keys of an object
-abbrev pub keys : Data → List (List ℕ)
-keys d = unwrap_or (option_map keys_of (as_object d)) []
+-- a list
+abbrev pub as_list : Data → Option (List Data)
+as_list d = option_map list_of (as_array d)
 
 -- a whole number
 abbrev pub as_whole : Data → Option ℕ
 as_whole d = option_and_then as_u64 (as_number d)
 
--- a list
-abbrev pub as_list : Data → Option (List Data)
-as_list d = option_map list_of (as_array d)
+-- a list of whole numbers
+abbrev pub as_wholes : Data → Option (List ℕ)
+as_wholes d = option_and_then (all_of as_whole) (as_list d)
 
--- ---- what stands at a key
-
--- whether anything does
-abbrev pub has : List ℕ → Data → Bool
-has k d = is_some (get k d)
+-- ---- at a key
 
 -- the whole number at a key
 abbrev pub find_whole : List ℕ → Data → Option ℕ
@@ -50,40 +58,27 @@ find_text k d = option_and_then as_str (get k d)
 abbrev pub find_list : List ℕ → Data → Option (List Data)
 find_list k d = option_and_then as_list (get k d)
 
--- the whole number at a key, or a default where there is none
-abbrev pub whole_or : ℕ → List ℕ → Data → ℕ
-whole_or default k d = unwrap_or (find_whole k d) default
-
--- the text at a key where it has to stand
-abbrev pub text_at : List ℕ → Data → List ℕ
-text_at k d = unwrap_or (find_text k d) []
-
--- the list at a key where it has to stand
-abbrev pub list_at : List ℕ → Data → List Data
-list_at k d = unwrap_or (find_list k d) []
-
--- an item of a list of whole numbers
-abbrev pub whole_in : Data → ℕ
-whole_in d = unwrap_or (as_whole d) 0
-
--- the list of whole numbers at a key where it has to stand
-abbrev pub wholes_at : List ℕ → Data → List ℕ
-wholes_at k d = map whole_in (list_at k d)
-
--- nothing, or a whole number
-abbrev pub may_be_whole : List ℕ → Data → Bool
-may_be_whole k d = is_none (get k d) || is_some (find_whole k d)
-
--- nothing, or a list of whole numbers
-abbrev pub may_be_wholes : List ℕ → Data → Bool
-may_be_wholes k d = is_none (get k d) || (is_some (find_list k d) && list_all (λ e. is_some (as_whole e)) (list_at k d))
+-- a whole number that may be left out, and what it is then
+abbrev pub whole_or : ℕ → Option Data → Option ℕ
+whole_or default None = Some default
+whole_or default (Some d) = as_whole d
 
 -- ---- keys
+
+-- the keys of members, in order
+abbrev pub keys_of : Members → List (List ℕ)
+keys_of no_members = []
+keys_of (member k d ms) = k ∷ keys_of ms
 
 -- whether a text is one of a list
 abbrev pub is_one_of : List (List ℕ) → List ℕ → Bool
 is_one_of known key = list_any (λ k. bytes_eq k key) known
 
--- no key of an object is another than these
+-- no key of these members is another than the known ones
+abbrev pub are_known : List (List ℕ) → Option Members → Bool
+are_known known None = true
+are_known known (Some members) = list_all (is_one_of known) (keys_of members)
+
+-- no other key stands in an object
 abbrev pub has_only_keys : List (List ℕ) → Data → Bool
-has_only_keys known d = list_all (is_one_of known) (keys d)
+has_only_keys known d = are_known known (as_object d)

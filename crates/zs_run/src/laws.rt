@@ -1,9 +1,10 @@
-// Laws of reports, above their definition.
+// Laws of plans and reports, above their definitions.
 
-ghost use Rattle.std.specs.Prelude.{◌≡◌, ◌++◌, ◌+◌, List, sum_by};
+ghost use Rattle.std.specs.Prelude.{◌≡◌, ◌++◌, ◌+◌, ℕ, List, Ok, sum_by};
 ghost use Rattle.std.specs.List.{flat_map};
 ghost use Rattle.zs_drive.specs.Values.{JobRecord};
-ghost use Rattle.zs_run.specs.Plan.{PlanRecord};
+ghost use Rattle.zs_run.specs.Lawful.{IsLawful};
+ghost use Rattle.zs_run.specs.Plan.{PlanRecord, plan_of};
 ghost use Rattle.zs_run.specs.PlanReport.{jobs_text, polls_of, report_of, with_total};
 
 /// A plan's report is that of its parts put together: the jobs' lines of each part in order, and one last line with the sum of their polls.
@@ -17,4 +18,10 @@ pub fn reports_join()
 /// The report of a plan doesn't depend on how its work is cut: plans with the same clock and jobs have the same report.
 pub fn the_cut_changes_nothing()
     ensures same { (p q : PlanRecord) → p.clock ≡ q.clock → p.jobs ≡ q.jobs → report_of p ≡ report_of q }
+{}
+
+/// A plan that is accepted is lawful: its clock and its cut are such, it has at most 10,000 jobs, no two of them have one name, and each
+/// has a lawful name, a schedule and a script.
+pub fn accepted_plans_are_lawful()
+    ensures lawful { (bytes : List ℕ) (plan : PlanRecord) → plan_of bytes ≡ Ok plan → IsLawful plan }
 {}

@@ -1,4 +1,8 @@
 //! Why bytes are no plan.
+ghost use Rattle.std.specs.Prelude.{◌≡◌};
+ghost use Rattle.zs_run.specs.declared.plan_fault.PlanFault.TheVariants.{Memory};
+
+use std::alloc::{AllocError, AllocFailed};
 use std::fmt;
 use thiserror::Error;
 use zs_effect::ScriptFault;
@@ -76,4 +80,20 @@ pub enum PlanFault {
     /// Memory ran out.
     #[error("out of memory")]
     Memory,
+}
+
+impl From<AllocError> for PlanFault {
+    ghost from_gives = { λ _ e. e ≡ Memory };
+
+    fn from(_refused: AllocError) -> PlanFault {
+        PlanFault::Memory
+    }
+}
+
+impl<T: Drop> From<AllocFailed<T>> for PlanFault {
+    ghost from_gives = { λ _ e. e ≡ Memory };
+
+    fn from(_refused: AllocFailed<T>) -> PlanFault {
+        PlanFault::Memory
+    }
 }

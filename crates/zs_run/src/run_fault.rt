@@ -1,8 +1,10 @@
 //! Why a run stopped, and the exit status for it.
 ghost use Rattle.std.specs.Prelude.{◌≡◌};
-ghost use Rattle.zs_run.specs.Status.{plan_status_of, status_of};
+ghost use Rattle.std.specs.Process.{exit_status};
+ghost use Rattle.zs_run.specs.Status.{exit_status_of, plan_status_of, status_of};
 
 use crate::plan_fault::PlanFault;
+use std::process::ExitCode;
 use thiserror::Error;
 use zs_engine::EngineFault;
 
@@ -54,5 +56,15 @@ pub fn status(fault: &RunFault) -> u8
         RunFault::Plan(fault) => plan_status(fault),
         RunFault::Engine(_) => 4,
         RunFault::Write { .. } => 3,
+    }
+}
+
+/// The exit code of a program whose run ended so: 0 where the report was written, else the status of the fault.
+pub fn exit_code(ended: &Result<(), RunFault>) -> ExitCode
+    ensures value { exit_status result ≡ exit_status_of ended.now }
+{
+    match ended {
+        Ok(()) => ExitCode::SUCCESS,
+        Err(fault) => ExitCode::from(status(fault)),
     }
 }

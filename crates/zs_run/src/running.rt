@@ -1,11 +1,10 @@
 //! A run, from the bytes of a plan to the bytes of its report.
-ghost use Rattle.std.specs.Prelude.{◌≡◌, ◌≢◌, ◌≤◌, ◌↔◌, length, take, false, true, OnOk, IfOk, IfErr, IsErrOf, IsErrAnd, IsTrue, string_bytes};
-ghost use Rattle.std.specs.Io.KnownBytes.{Appends};
+ghost use Rattle.std.specs.Prelude.{◌≡◌, ◌≤◌, length, false, IfOk, string_bytes};
 ghost use Rattle.zs_run.specs.Plan.{max_jobs};
 ghost use Rattle.zs_run.specs.PlanView.{plan_record};
 ghost use Rattle.zs_run.specs.PlanReport.{report_of};
-ghost use Rattle.zs_run.specs.Reading.{ReadsPlan};
-ghost use Rattle.zs_run.specs.Headline.{IfEngine, IfPlan, IfWrite, IsEarly, IsOfReading, IsWrite, ReadsFault, ReadsReport};
+ghost use Rattle.zs_run.specs.Headline.{Ends};
+ghost use Rattle.zs_run.specs.Reading.{Reads};
 
 use crate::plan::Plan;
 use crate::plan_fault::PlanFault;
@@ -26,9 +25,7 @@ const MAX_READ: usize = 16_777_217;
 // The plan that the reader gives.
 fn read_source<R: Source>(alloc: Global, reader: &mut R) -> Result<Plan, RunFault>
     requires clear { R.mark reader.old ≡ false }
-    ensures plan { ReadsPlan result (R.remaining reader.old) (R.remaining reader.new) }
-    ensures read { IsErrOf result RunFault.Read ↔ IsTrue (R.mark reader.new) }
-    ensures faults { IfErr result IsOfReading }
+    ensures reads { Reads result (record { before = R.remaining reader.old; left = R.remaining reader.new; failed = R.mark reader.new }) }
     ensures few { IfOk result (λ plan. length plan.jobs.items ≤ max_jobs) }
 {
     let mut bytes = Vec::new(alloc);
@@ -54,14 +51,8 @@ fn report_plan<T: Threads + Wait + Sync, G: Gate>(
     ensures text { IfOk result (λ text. string_bytes text ≡ report_of (plan_record plan)) }
 {
     let Plan { clock, cut, jobs } = plan;
-    let answer = match run_jobs(rt, alloc, cut, gate, clock, jobs) {
-        Ok(answer) => answer,
-        Err(fault) => return Err(fault),
-    };
-    match report(alloc, &answer) {
-        Ok(text) => Ok(text),
-        Err(_) => Err(EngineFault::Memory),
-    }
+    let answer = run_jobs(rt, alloc, cut, gate, clock, jobs)?;
+    Ok(report(alloc, &answer)?)
 }
 
 /// Reads a plan to the end of input, runs its jobs, writes their report, and flushes.
@@ -69,7 +60,6 @@ fn report_plan<T: Threads + Wait + Sync, G: Gate>(
 /// The report is that of the plan: it depends neither on the number of workers nor on the grain, the gate or the order
 /// in which threads go on. What is said of bytes holds where the reader and the writer tell theirs, as those over
 /// memory do. Want of memory is `Plan(Memory)` until the plan is read, and `Engine(Memory)` from then on.
-#[tactic(auto, using(crate::proofs::Whole::engine_from_reading))]
 pub fn run<T: Threads + Wait + Sync, G: Gate, R: Source, W: Drain>(
     rt: &T,
     alloc: Global,
@@ -80,29 +70,11 @@ pub fn run<T: Threads + Wait + Sync, G: Gate, R: Source, W: Drain>(
     requires reader_clear { R.mark reader.old ≡ false }
     requires writer_clear { W.mark writer.old ≡ false }
 
-    // All was read, it is a plan, its report was written and nothing else, and all is flushed.
-    ensures ok { OnOk result (ReadsReport (R.remaining reader.old) (R.remaining reader.new)
-        (λ report. Appends (W.contents writer.old) (W.contents writer.new) report)) }
-    ensures flushed { OnOk result (W.flushed writer.new ≡ true) }
-
-    // What was read is no plan.
-    ensures refused { IfErr result (λ fault. IfPlan fault (λ cause. cause ≢ PlanFault.Memory
-        → ReadsFault (R.remaining reader.old) (R.remaining reader.new) cause)) }
-
-    // A plan was read, and memory or a thread was missing later.
-    ensures engine { IfErr result (λ fault. IfEngine fault
-        (ReadsReport (R.remaining reader.old) (R.remaining reader.new) (λ _. Unit {0}))) }
-
-    // A plan was read, and a part of its report went out.
-    ensures partial { IfErr result (λ fault. IfWrite fault (λ sent. ReadsReport (R.remaining reader.old) (R.remaining reader.new)
-        (λ report. (sent ≤ length report) × Appends (W.contents writer.old) (W.contents writer.new) (take sent report)))) }
-
-    // Before that nothing was written.
-    ensures silent { IfErr result (λ fault. IsEarly fault → writer.new ≡ writer.old) }
-
-    // The marks tell which of the two failed.
-    ensures read { IsErrOf result RunFault.Read ↔ IsTrue (R.mark reader.new) }
-    ensures write { IsErrAnd result IsWrite ↔ IsTrue (W.mark writer.new) }
+    // Success and each fault, by the reader, the writer, and whether the writer was left alone.
+    ensures ends { Ends result
+        (record { before = R.remaining reader.old; left = R.remaining reader.new; failed = R.mark reader.new })
+        (record { before = W.contents writer.old; taken = W.contents writer.new; failed = W.mark writer.new; flushed = W.flushed writer.new })
+        (writer.new ≡ writer.old) }
 {
     let plan = read_source(alloc, reader)?;
     let text = match report_plan(rt, alloc, gate, plan) {

@@ -15,7 +15,7 @@ pub(crate) enum InputFault {
 }
 
 // The bytes that one pull asks for.
-const CHUNK: usize = 4096;
+const CHUNK: usize = 65_536;
 
 /// Adds what is read up to the end of input, or until `limit` bytes were read.
 pub(crate) fn read_up_to<R: Source>(

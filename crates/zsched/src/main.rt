@@ -6,17 +6,15 @@
 
 use std::process::ExitCode;
 use zs_pool::OpenGate;
-use zs_run::{Marked, run, status};
+use zs_run::{Marked, exit_code, run};
 
 fn main(rt: HostRuntime) -> ExitCode {
     let mut reader = Marked::new(rt.stdin());
     let mut writer = Marked::new(rt.stdout());
-    match run(&rt, rt.alloc(), &OpenGate, &mut reader, &mut writer) {
-        Ok(()) => ExitCode::SUCCESS,
-        Err(fault) => {
-            // Nothing is left to tell where standard error fails too.
-            let _ = eprintln!(rt; "zsched: {fault}");
-            ExitCode::from(status(&fault))
-        }
+    let ended = run(&rt, rt.alloc(), &OpenGate, &mut reader, &mut writer);
+    if let Err(fault) = &ended {
+        // Nothing is left to tell where standard error fails too.
+        let _ = eprintln!(rt; "zsched: {fault}");
     }
+    exit_code(&ended)
 }

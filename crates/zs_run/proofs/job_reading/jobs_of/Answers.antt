@@ -1,13 +1,12 @@
-use Rattle.std.proofs.Common.{◌≡◌, ◌+◌, ◌++◌, ◌∷◌, [], ◌∙◌, ℕ, List, Bool, sym, ap, map, drop, length-append, Ok, Err, codes, rules, arith}
+use Rattle.std.proofs.Common.{◌≡◌, ◌++◌, ◌∷◌, [], ◌∙◌, ℕ, List, sym, map, drop, length-append, Ok, Err, rules, arith}
 use Rattle.std.proofs.lemmas.List.{map-append, drop_all}
 use Rattle.std.proofs.lemmas.Result.{err_from_is_err_and}
 use Rattle.serde_json.specs.View.{view}
 use Rattle.zs_drive.specs.Values.{job_record}
 use Rattle.zs_drive.specs.declared.job.Job.{Job}
-use Rattle.zs_run.specs.Tree.{is_one_of, text_at}
 use Rattle.zs_run.specs.Names.{KnowsNames}
 use Rattle.zs_run.specs.Jobs.{job_of}
-use Rattle.zs_run.proofs.JobLemmas.{after_step, after_fault, after_all, job_after}
+use Rattle.zs_run.proofs.JobLemmas.{after_step, after_fault, after_all}
 use Rattle.zs_run.proofs.job_reading.jobs_of.Goals as goal
 
 -- the names of jobs
@@ -19,10 +18,8 @@ pub returns-in_err-job-clause-jobs : goal.returns-in_err-job-clause-jobs
 returns-in_err-job-clause-jobs c =
     let p = err_from_is_err_and c.from_residual.result c.from_residual.ensures.1 in
     rw (p.1, p.2) (λ other.
-    let used : c.is_used-is_used.result ≡ is_one_of (names_of c.loop-value.jobs.items) (text_at (codes "name") (view c.value-item.result)) =
-    c.is_used-is_used.ensures.value ∙ c.loop-value.invariant.2 c.text_or_empty.result.now ∙ ap (is_one_of (names_of c.loop-value.jobs.items)) c.text_or_empty.ensures.value in
-    let fault : job_after c.loop-value.number (names_of c.loop-value.jobs.items) c.value-item.result ≡ Err c.in_err-job.field-0.0 =
-    sym (ap (λ (b : Bool). job_of c.loop-value.number b (view c.value-item.result)) used) ∙ c.in_err-job.ensures.value other in
+    let fault : job_of c.loop-value.number (names_of c.loop-value.jobs.items) (view c.value-item.result) ≡ Err c.in_err-job.field-0.0 =
+    c.in_err-job.ensures.value (names_of c.loop-value.jobs.items) c.loop-value.invariant.2 other in
     sym c.loop-value.invariant.3 ∙ after_fault _ _ _ _ _ c.value-item.result _ c.loop-value-test.true (sym c.value-item.is) fault)
 
 -- one more job and its name
@@ -30,10 +27,8 @@ pub loop-value-preserved : goal.loop-value-preserved
 loop-value-preserved c =
     let items : c.add_job.new.jobs.items ≡ c.loop-value.jobs.items ++ c.in_ok-job.job ∷ [] = search rules in
     let known : (earlier : List (List ℕ)) → KnowsNames c.loop-value.names earlier → KnowsNames c.add_job.new.names (earlier ++ (job_record c.in_ok-job.job).name ∷ []) = search rules in
-    let used : c.is_used-is_used.result ≡ is_one_of (names_of c.loop-value.jobs.items) (text_at (codes "name") (view c.value-item.result)) =
-    c.is_used-is_used.ensures.value ∙ c.loop-value.invariant.2 c.text_or_empty.result.now ∙ ap (is_one_of (names_of c.loop-value.jobs.items)) c.text_or_empty.ensures.value in
-    let given : job_after c.loop-value.number (names_of c.loop-value.jobs.items) c.value-item.result ≡ Ok (job_record c.in_ok-job.job) =
-    sym (ap (λ (b : Bool). job_of c.loop-value.number b (view c.value-item.result)) used) ∙ c.in_ok-job.ensures.value in (
+    let given : job_of c.loop-value.number (names_of c.loop-value.jobs.items) (view c.value-item.result) ≡ Ok (job_record c.in_ok-job.job) =
+    c.in_ok-job.ensures.value (names_of c.loop-value.jobs.items) c.loop-value.invariant.2 in (
       rw items (omega (arith, length-append c.loop-value.jobs.items (c.in_ok-job.job ∷ []))),
       omega arith,
       rw (items, map-append (λ (job : Job). (job_record job).name)) (known (names_of c.loop-value.jobs.items) c.loop-value.invariant.2),

@@ -1,0 +1,28 @@
+-- What contracts see of the parts of a document and of a job.
+use Rattle.std.specs.Prelude.{map}
+use Rattle.serde_json.specs.View.{view}
+use Rattle.zs_agenda.specs.Ticks.{Ticks, every_ms, listed}
+use Rattle.zs_run.specs.declared.shapes.AskedTicks.{AskedTicks}
+use Rattle.zs_run.specs.declared.shapes.AskedTicks.TheVariants.{EveryMs, Listed}
+use Rattle.zs_run.specs.declared.shapes.DocumentParts as document
+use Rattle.zs_run.specs.declared.shapes.JobParts as job
+use Rattle.zs_run.specs.Shapes.{DocumentParts, JobParts}
+
+-- the ticks that a document asks for
+abbrev pub asked_view : AskedTicks → Ticks
+asked_view (EveryMs last) = every_ms last
+asked_view (Listed moments) = listed moments.items
+
+-- the parts of a document by what they stand for
+abbrev pub document_view : document.DocumentParts → DocumentParts
+document_view parts = record { workers = parts.workers; grain = parts.grain; jobs = map view parts.jobs.now }
+
+-- the parts of a job by what they stand for
+abbrev pub job_view : job.JobParts → JobParts
+job_view parts = record {
+  name = parts.name.now;
+  mode = parts.mode.now;
+  schedule = parts.schedule.now;
+  start = parts.start;
+  entries = map view parts.entries.now;
+}

@@ -1,0 +1,134 @@
+//! What a document, a job and an entry are made of: each part is looked up once, and has its type from then on.
+ghost use Rattle.std.specs.Prelude.{◌≡◌, map, option_map, None, Some};
+ghost use Rattle.serde_json.specs.View.{view};
+ghost use Rattle.zs_run.specs.declared.plan_fault.PlanFault.TheVariants as faults;
+ghost use Rattle.zs_run.specs.Refusals.{Gives, demand_some};
+ghost use Rattle.zs_run.specs.Tree.{all_of, as_whole, as_wholes};
+
+use crate::plan_fault::PlanFault;
+use crate::tree::{as_list, list, text, whole_or};
+use serde_json::Value;
+use std::alloc::Global;
+use zs_agenda::Clock;
+
+/// The ticks that a document asks for, which may be no clock's.
+#[derive(Drop)]
+pub(crate) enum AskedTicks {
+    /// Each millisecond up to a horizon.
+    EveryMs(u64),
+    /// The moments of a list.
+    Listed(Vec<u64>),
+}
+
+/// The parts of a document beside its clock.
+#[derive(Drop)]
+pub(crate) struct DocumentParts<'v> {
+    pub(crate) workers: u64,
+    pub(crate) grain: u64,
+    pub(crate) jobs: &'v [Value],
+}
+
+/// The parts of a job.
+#[derive(Drop)]
+pub(crate) struct JobParts<'v> {
+    pub(crate) name: &'v str,
+    pub(crate) mode: &'v str,
+    pub(crate) schedule: &'v str,
+    pub(crate) start: u64,
+    pub(crate) entries: &'v [Value],
+}
+
+// The whole numbers of a list.
+fn wholes_of(alloc: Global, items: &[Value]) -> Result<Vec<u64>, PlanFault>
+    ensures value { Gives (λ numbers. numbers.items) result
+        (demand_some (all_of as_whole (map view items.now)) (faults.Shape None)) }
+{
+    let mut numbers = Vec::new(alloc);
+    for item in items {
+        let Some(number) = item.as_u64() else {
+            return Err(PlanFault::Shape { job: None });
+        };
+        numbers.push(number)?;
+    }
+    Ok(numbers)
+}
+
+// The whole numbers of what has to be a list.
+fn wholes_in(alloc: Global, value: &Value) -> Result<Vec<u64>, PlanFault>
+    ensures value { Gives (λ numbers. numbers.items) result (demand_some (as_wholes (view value.now)) (faults.Shape None)) }
+{
+    let items = as_list(value).ok_or(PlanFault::Shape { job: None })?;
+    wholes_of(alloc, items)
+}
+
+impl AskedTicks {
+    ghost use Rattle.std.specs.Prelude.{if◌then◌else◌};
+    ghost use Rattle.zs_agenda.specs.Tests.{is_clock};
+    ghost use Rattle.zs_run.specs.Shapes.{ticks_asked};
+    ghost use Rattle.zs_run.specs.ShapeViews.{asked_view};
+
+    /// The ticks of a document, by what stands at `horizon` and `ticks`: just one of the two.
+    pub(crate) fn of(
+        alloc: Global,
+        horizon: Option<&Value>,
+        ticks: Option<&Value>,
+    ) -> Result<AskedTicks, PlanFault>
+        ensures value { Gives asked_view result (demand_some
+            (ticks_asked (option_map (λ v. view v.now) horizon.entry) (option_map (λ v. view v.now) ticks.entry)) (faults.Shape None)) }
+    {
+        match (horizon, ticks) {
+            (Some(horizon), None) => {
+                let last = horizon.as_u64().ok_or(PlanFault::Shape { job: None })?;
+                Ok(AskedTicks::EveryMs(last))
+            }
+            (None, Some(ticks)) => Ok(AskedTicks::Listed(wholes_in(alloc, ticks)?)),
+            _ => Err(PlanFault::Shape { job: None }),
+        }
+    }
+
+    /// The clock of these ticks, where they are one's.
+    pub(crate) fn into_clock(self) -> Option<Clock>
+        ensures value { result ≡ (if is_clock (asked_view self) then Some (asked_view self) else None) }
+    {
+        match self {
+            AskedTicks::EveryMs(last) => Clock::every_ms(last),
+            AskedTicks::Listed(ticks) => Clock::of_ticks(ticks),
+        }
+    }
+}
+
+impl<'v> DocumentParts<'v> {
+    ghost use Rattle.zs_run.specs.Shapes.{document_parts};
+    ghost use Rattle.zs_run.specs.ShapeViews.{document_view};
+
+    /// The parts of a document, where all are there and of their types.
+    #[tactic(auto, unfolding(crate::specs::Shapes::document_parts))]
+    pub(crate) fn of(document: &'v Value) -> Option<DocumentParts<'v>>
+        ensures value { option_map document_view result ≡ document_parts (view document.now) }
+    {
+        Some(DocumentParts {
+            workers: whole_or(document, "workers", 1)?,
+            grain: whole_or(document, "grain", 1)?,
+            jobs: list(document, "jobs")?,
+        })
+    }
+}
+
+impl<'v> JobParts<'v> {
+    ghost use Rattle.zs_run.specs.Shapes.{job_parts};
+    ghost use Rattle.zs_run.specs.ShapeViews.{job_view};
+
+    /// The parts of a job, where all are there and of their types.
+    #[tactic(auto, unfolding(crate::specs::Shapes::job_parts))]
+    pub(crate) fn of(job: &'v Value) -> Option<JobParts<'v>>
+        ensures value { option_map job_view result ≡ job_parts (view job.now) }
+    {
+        Some(JobParts {
+            name: text(job, "name")?,
+            mode: text(job, "mode")?,
+            schedule: text(job, "schedule")?,
+            start: whole_or(job, "start", 0)?,
+            entries: list(job, "script")?,
+        })
+    }
+}
