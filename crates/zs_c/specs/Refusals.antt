@@ -1,5 +1,4 @@
--- Why a text is refused, and why its schedule has no answer to a list of pairs. Of two reasons that are not want of memory
--- just one holds, so a refusal is told by the text and the pairs alone.
+-- Why a text is refused, and why its schedule has no answer to a list of pairs.
 use Rattle.std.specs.Prelude.{◌≡◌, ℕ, List, [], Err}
 use Rattle.std.specs.Str.{IsUtf8}
 use Rattle.std.specs.Str.Lossy.{utf8_valid_len}
@@ -14,10 +13,10 @@ use Rattle.zs_c.specs.Pairs.{FallsFirstAt}
 abbrev pub SpellsSome : List ℕ → Type 0
 SpellsSome text = (t : Schedule) × SpellsSchedule text t
 
--- The text is refused for this: it isn't UTF-8 behind its first bytes, or this is its one fault, or memory ran out.
+-- The text is refused for this: it isn't UTF-8 from this byte on; or it is, and this is its one fault; or memory ran out.
 abbrev pub IsTextRefusal : List ℕ → Refusal → Type 0
 IsTextRefusal text (NotUtf8 at) = (IsUtf8 text → ⊥) × (at ≡ utf8_valid_len text)
-IsTextRefusal text (Text fault) = verdict_of text ≡ Err fault
+IsTextRefusal text (Text fault) = IsUtf8 text × (verdict_of text ≡ Err fault)
 IsTextRefusal text Memory = Unit {0}
 IsTextRefusal text NoPair = ⊥
 IsTextRefusal text (Falls at) = ⊥

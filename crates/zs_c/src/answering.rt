@@ -6,6 +6,7 @@ ghost use Rattle.zs_term.specs.Causes.{SpellsSchedule};
 ghost use Rattle.zs_step.specs.History.{History};
 ghost use Rattle.zs_step.specs.Compiled.{IsAnswer};
 ghost use Rattle.zs_c.specs.Pairs.{pairs_of};
+ghost use Rattle.zs_c.specs.Numbers.{decision_number, next_moment};
 ghost use Rattle.zs_c.specs.Refusals.{IsTextRefusal, IsRefusal};
 ghost use Rattle.zs_c.specs.Told.{HasAnswer, TellsAnswer};
 ghost use Rattle.zs_c.specs.declared.refusal.Refusal.TheVariants.{Memory};
@@ -66,10 +67,7 @@ pub(crate) fn told(
         return Err(Refusal::Memory);
     };
     put(out, text.as_bytes());
-    let (number, next) = match stepped.decision {
-        Decision::Next(next) => (0, next),
-        Decision::Stop => (1, 0),
-    };
+    let (number, next) = decided(stepped.decision);
     *reply = Reply {
         next,
         size: text.len() as u64,
@@ -77,4 +75,15 @@ pub(crate) fn told(
         at: 0,
     };
     Ok(number)
+}
+
+// The number of a decision, and the moment at which it goes on, or 0.
+fn decided(decision: Decision) -> (u32, u64)
+    ensures number { result.0 ≡ decision_number decision }
+    ensures next { result.1 ≡ next_moment decision }
+{
+    match decision {
+        Decision::Next(next) => (0, next),
+        Decision::Stop => (1, 0),
+    }
 }
