@@ -3,14 +3,17 @@
 tools/make-library builds it first; ZSCHED_LIBRARY_DIR names a folder with a built one in its place. What it has to answer
 comes from tests/reference.py and from the program's own step lines."""
 import asyncio
+import http.server
 import os
 import pathlib
 import random
+import re
 import shutil
 import subprocess
 import sys
 import tempfile
 import threading
+import time
 import unittest
 
 import generator
@@ -403,6 +406,35 @@ def ran(words, where, **more):
     return ended.stdout
 
 
+class Busy:
+    """A server on this machine that answers its first requests with a code, and then with a text."""
+
+    def __init__(self, times, code=503):
+        self.asked = asked = []
+
+        class Handler(http.server.BaseHTTPRequestHandler):
+            def do_GET(self):
+                asked.append(code if len(asked) < times else 200)
+                self.send_response(asked[-1])
+                self.end_headers()
+                self.wfile.write(b"ready")
+
+            def log_message(self, *_):
+                pass
+        self.server = http.server.HTTPServer(("127.0.0.1", 0), Handler)
+        self.url = f"http://127.0.0.1:{self.server.server_port}/"
+        self.serving = threading.Thread(target=self.server.serve_forever, kwargs={"poll_interval": 0.01})
+
+    def __enter__(self):
+        self.serving.start()
+        return self
+
+    def __exit__(self, *_):
+        self.server.shutdown()
+        self.serving.join()
+        self.server.server_close()
+
+
 class Examples(unittest.TestCase):
     """The example of each binding, which really waits, and the program that makes the library."""
 
@@ -410,6 +442,19 @@ class Examples(unittest.TestCase):
         said = ran([sys.executable, "-B", "example.py"], BINDINGS / "python")
         self.assertIn("ready after 4 attempts\n", said)
         self.assertIn("attempt 3: 503, the next one in 80 ms\n", said)
+
+    def test_the_service_of_the_document_waits_for_its_server(self):
+        service, found = re.search(r"```python\n(.*?)```", (TOP / "docs" / "LIBRARY.md").read_text(), re.S)[1], {}
+        self.assertEqual(len(service.splitlines()), 10)
+        exec(service, found)
+        with Busy(2) as server:
+            begun = time.monotonic()
+            self.assertEqual(found["fetch"](server.url), b"ready")
+        self.assertGreaterEqual(time.monotonic() - begun, 0.3)
+        self.assertEqual(server.asked, [503, 503, 200])
+        with Busy(1, 404) as server, self.assertRaisesRegex(OSError, "404"):
+            found["fetch"](server.url)
+        self.assertEqual(server.asked, [404])
 
     def test_the_example_in_rust_waits_for_its_server(self):
         if not shutil.which("cargo"):
