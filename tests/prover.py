@@ -39,8 +39,9 @@ class Reason:
 class Crate:
     """A crate of the repository: its folder and the libraries that it names."""
 
-    def __init__(self, top, name, libraries):
+    def __init__(self, top, name, libraries, is_static=False):
         self.name = name
+        self.is_static = is_static
         self.folder = top / "crates" / name
         self.rlib = self.folder / "out" / "rlib" / f"{name}.rlib"
         self.kept = self.folder / "out" / "incremental"
@@ -75,8 +76,8 @@ def crates_of(top):
     for line in lines:
         head, colon, libraries = line.partition("#")[0].partition(":")
         if colon:
-            name = head.split()[0]
-            crates[name] = Crate(top, name, libraries.split())
+            name, *words = head.split()
+            crates[name] = Crate(top, name, libraries.split(), "staticlib" in words)
     for crate in crates.values():
         for name in crate.libraries:
             if name in crates:
@@ -127,15 +128,18 @@ class Toolchain:
 
     def check_words(self, crate, jobs):
         """The words of a check of a copy of the crate, over the kept work beside it."""
-        words = [self.kit / "bin" / "rattle", "check", "--crate-name", crate.name, "src/lib.rt"]
+        return [self.kit / "bin" / "rattle", "check", *self.crate_words(crate), "--incremental", "kept", "--jobs", jobs]
+
+    def crate_words(self, crate):
+        """The words that name a crate in its folder, and the libraries below it as they are built."""
+        words = ["--crate-name", crate.name, "src/lib.rt", *["--crate-type", "staticlib"] * crate.is_static]
         named = {it.name: it.rlib for it in crate.below}
         for name in ["std", *crate.libraries]:
             words += ["--extern", f"{name}={named.get(name, self.kit / 'rlibs' / f'{name}.rlib')}"]
         for folder in [self.kit / "rlibs", *[it.rlib.parent for it in crate.below]]:
             words += ["-L", f"dependency={folder}"]
         words += ["--antt-project", self.kit / "rattle" / "logic" / "antt-project.json"]
-        words += ["--logic-built", self.kit / "logic_built", "--incremental", "kept", "--jobs", jobs]
-        return words
+        return [*words, "--logic-built", self.kit / "logic_built"]
 
 
 class Room:

@@ -7,7 +7,7 @@ TOP = pathlib.Path(__file__).resolve().parents[2]
 PAGE = (TOP / "docs" / "GUARANTEES.md").read_text()
 HEADS = ["Promise", "Call and clauses", "Definition", "Edit", "Shown by"]
 
-FUNCTION = re.compile(r"^(?P<public>pub | +(?:pub )?)?(?:pub\([a-z]+\) )?fn (?P<name>\w+)", re.M)
+FUNCTION = re.compile(r'^(?P<public>pub | +(?:pub )?)?(?:pub\([a-z]+\) )?(?:extern "C" )?fn (?P<name>\w+)', re.M)
 LABEL = re.compile(r"\b(?:ensures|requires) (\w+) \{")
 GROUP = re.compile(r"(.*?)\{(.*)\}")
 FILE = re.compile(r"[a-z][\w./-]*\.(?:py|rt|antt|c|md)")
@@ -88,7 +88,7 @@ class Guarantees(unittest.TestCase):
 
     def test_the_tables_are_read(self):
         self.assertEqual(sorted(self.calls), [
-            "zs_agenda", "zs_drive", "zs_effect", "zs_engine", "zs_pool", "zs_run", "zs_step", "zs_term"])
+            "zs_agenda", "zs_c", "zs_drive", "zs_effect", "zs_engine", "zs_pool", "zs_run", "zs_step", "zs_term"])
         self.assertGreater(len(self.rows), 90)
         self.assertGreater(len(self.tests), 100)
 

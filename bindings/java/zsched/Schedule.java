@@ -1,0 +1,150 @@
+package zsched;
+
+import com.sun.jna.Library;
+import com.sun.jna.Native;
+import java.nio.charset.StandardCharsets;
+import java.util.Arrays;
+import java.util.concurrent.Callable;
+import java.util.function.ToLongFunction;
+
+/**
+ * A proved schedule of zsched and the steps that it has seen, which are its whole state. It only answers; {@link #retry}
+ * really sleeps. Its answers are proved, the sleeping is not.
+ *
+ * <p>The library is libzsched.so, which JNA finds by the property jna.library.path, or the one that the property
+ * zsched.library names. Numbers are 64 bits without a sign, so those from 2^63 on look negative here: compare and print
+ * them by {@link Long#compareUnsigned} and {@link Long#toUnsignedString(long)}. Threads may not share a schedule that one
+ * of them steps.
+ */
+public final class Schedule {
+    /** The calls of zsched.h. */
+    private interface Calls extends Library {
+        int zs_check(byte[] text, long textLength, long[] at);
+
+        int zs_answer(byte[] text, long textLength, long[] seen, long pairs, long[] reply, byte[] out, long room);
+    }
+
+    /** What a schedule answers at a step. Where it is done, {@code next} says nothing. */
+    public record Answer(boolean done, long next, String output, long visits) {}
+
+    /** A text is no schedule. The number and the place are those of zsched.h. */
+    public static final class Fault extends IllegalArgumentException {
+        private static final long serialVersionUID = 1;
+
+        public final int number;
+        public final long at;
+
+        Fault(int number, long at) {
+            super(text(number, at));
+            this.number = number;
+            this.at = at;
+        }
+
+        private static String text(int number, long at) {
+            String place = " at byte " + Long.toUnsignedString(at);
+            return switch (number) {
+                case 4 -> "not UTF-8" + place;
+                case 11 -> "no term" + place;
+                case 12 -> "too big";
+                case 13 -> "number too large" + place;
+                case 14 -> "factor is 0";
+                case 15 -> "no kind";
+                case 16 -> "window is 0";
+                default -> "number " + number;
+            };
+        }
+    }
+
+    private static final Calls CALLS = Native.load(System.getProperty("zsched.library", "zsched"), Calls.class);
+    private static final int DONE = 1;
+    private static final int NO_PAIR = 2;
+    private static final int FALLS = 3;
+    private static final int NO_MEMORY = 5;
+    private static final int ROOM = 256;
+
+    private final String text;
+    private final byte[] bytes;
+    private long[] seen = new long[16];
+    private int pairs;
+
+    /** The schedule of a text, before its first step. Throws {@link Fault}. */
+    public Schedule(String text) {
+        this.text = text;
+        this.bytes = text.getBytes(StandardCharsets.UTF_8);
+        long[] at = new long[1];
+        refuse(CALLS.zs_check(bytes, bytes.length, at), at[0]);
+    }
+
+    /** The text. */
+    public String text() {
+        return text;
+    }
+
+    /** The steps so far: the moment and the input of each, in turn. */
+    public long[] seen() {
+        return Arrays.copyOf(seen, 2 * pairs);
+    }
+
+    /**
+     * One step more, at a moment in milliseconds and with an input. Throws IllegalArgumentException where the moment is
+     * below that of the step before; the schedule is then as it was.
+     */
+    public Answer after(long moment, long input) {
+        if (2 * pairs == seen.length) {
+            seen = Arrays.copyOf(seen, 2 * seen.length);
+        }
+        seen[2 * pairs] = moment;
+        seen[2 * pairs + 1] = input;
+        Answer answer = answer(pairs + 1);
+        pairs++;
+        return answer;
+    }
+
+    private Answer answer(int steps) {
+        long[] reply = new long[4];
+        byte[] out = new byte[ROOM];
+        int number = CALLS.zs_answer(bytes, bytes.length, seen, steps, reply, out, out.length);
+        if (reply[1] > out.length) {
+            out = new byte[Math.toIntExact(reply[1])];
+            number = CALLS.zs_answer(bytes, bytes.length, seen, steps, reply, out, out.length);
+        }
+        refuse(number, reply[3]);
+        String output = new String(out, 0, (int) reply[1], StandardCharsets.US_ASCII);
+        return new Answer(number == DONE, reply[0], output, reply[2]);
+    }
+
+    private static void refuse(int number, long at) {
+        switch (number) {
+            case 0, DONE -> { }
+            case NO_PAIR -> throw new IllegalStateException("a schedule answers once it has seen a step");
+            case FALLS -> throw new IllegalArgumentException(
+                "the moment of step " + (at + 1) + " is below that of the step before it");
+            case NO_MEMORY -> throw new OutOfMemoryError("zsched: a request for memory was refused");
+            default -> throw new Fault(number, at);
+        }
+    }
+
+    /**
+     * Tries until there is a value or the schedule is done, and sleeps between two attempts; the last error goes on its
+     * way. The input of an error is what inputOf says. Moments are counted in milliseconds from the begin of the first
+     * attempt.
+     */
+    public static <T> T retry(String text, ToLongFunction<Exception> inputOf, Callable<T> attempt) throws Exception {
+        Schedule schedule = new Schedule(text);
+        long start = System.nanoTime();
+        while (true) {
+            try {
+                return attempt.call();
+            } catch (InterruptedException interrupted) {
+                throw interrupted;
+            } catch (Exception error) {
+                long now = (System.nanoTime() - start) / 1_000_000;
+                Answer answer = schedule.after(now, inputOf.applyAsLong(error));
+                if (answer.done()) {
+                    throw error;
+                }
+                Thread.sleep(answer.next() < 0 ? Long.MAX_VALUE : answer.next() - now);
+            }
+        }
+    }
+}

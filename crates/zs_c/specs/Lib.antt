@@ -1,0 +1,4 @@
+pub mod Pairs
+pub mod Numbers
+pub mod Refusals
+pub mod Told

@@ -1,0 +1,30 @@
+-- Why a text is refused, and why its schedule has no answer to a list of pairs.
+use Rattle.std.specs.Prelude.{◌≡◌, ℕ, List, [], Err}
+use Rattle.std.specs.Str.{IsUtf8}
+use Rattle.std.specs.Str.Lossy.{utf8_valid_len}
+use Rattle.zs_term.specs.Schedule.{Schedule}
+use Rattle.zs_term.specs.Causes.{SpellsSchedule}
+use Rattle.zs_term.specs.Verdict.{verdict_of}
+use Rattle.zs_c.specs.declared.refusal.Refusal.{Refusal}
+use Rattle.zs_c.specs.declared.refusal.Refusal.TheVariants.{NoPair, Falls, NotUtf8, Memory, Text}
+use Rattle.zs_c.specs.Pairs.{FallsFirstAt}
+
+-- the text spells a schedule
+abbrev pub SpellsSome : List ℕ → Type 0
+SpellsSome text = (t : Schedule) × SpellsSchedule text t
+
+-- The text is refused for this: it isn't UTF-8 from this byte on; or it is, and this is its one fault; or memory ran out.
+abbrev pub IsTextRefusal : List ℕ → Refusal → Type 0
+IsTextRefusal text (NotUtf8 at) = (IsUtf8 text → ⊥) × (at ≡ utf8_valid_len text)
+IsTextRefusal text (Text fault) = IsUtf8 text × (verdict_of text ≡ Err fault)
+IsTextRefusal text Memory = Unit {0}
+IsTextRefusal text NoPair = ⊥
+IsTextRefusal text (Falls at) = ⊥
+
+-- The text is refused for this; or it spells a schedule, and there is no pair or the moments fall.
+abbrev pub IsRefusal : List ℕ → List (ℕ × ℕ) → Refusal → Type 0
+IsRefusal text pairs NoPair = SpellsSome text × (pairs ≡ [])
+IsRefusal text pairs (Falls at) = SpellsSome text × FallsFirstAt pairs at
+IsRefusal text pairs (NotUtf8 at) = IsTextRefusal text (NotUtf8 at)
+IsRefusal text pairs (Text fault) = IsTextRefusal text (Text fault)
+IsRefusal text pairs Memory = IsTextRefusal text Memory

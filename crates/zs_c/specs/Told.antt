@@ -1,0 +1,57 @@
+-- What the calls tell C: an answer of the schedule that the text spells, or a refusal.
+use Rattle.std.specs.Prelude.{◌≡◌, ℕ, ◌<◌, List, ◌++◌, length, take, drop}
+use Rattle.zs_term.specs.Schedule.{Schedule}
+use Rattle.zs_term.specs.Causes.{SpellsSchedule}
+use Rattle.zs_term.specs.OutputText.{output_text}
+use Rattle.zs_step.specs.History.{History, history_of, IsInOrder}
+use Rattle.zs_step.specs.Answer.{answer_of}
+use Rattle.zs_step.specs.Visits.{visits}
+use Rattle.zs_step.specs.Compiled.{IsAnswer}
+use Rattle.zs_step.specs.declared.stepped.Stepped.{Stepped}
+use Rattle.zs_c.specs.declared.refusal.Refusal.{Refusal}
+use Rattle.zs_c.specs.declared.reply.Reply.{Reply}
+use Rattle.zs_c.specs.Numbers.{decision_number, next_moment, refusal_number, refusal_place}
+use Rattle.zs_c.specs.Refusals.{IsTextRefusal, IsRefusal}
+
+-- a room with a text over its front, as far as that fits
+abbrev pub written : List ℕ → List ℕ → List ℕ
+written text room = take (length room) text ++ drop (length text) room
+
+-- a number, a reply and what is now in a room tell the answer of a schedule at the last step of a history
+pub record TellsAnswer (t : Schedule) (h : History) (number : ℕ) (r : Reply) (room out : List ℕ) : Type 0 where
+  pub decision : number ≡ decision_number (answer_of t h).decision
+  pub next : r.next ≡ next_moment (answer_of t h).decision
+  pub text : out ≡ written (output_text (answer_of t h).output) room
+  pub size : r.size ≡ length (output_text (answer_of t h).output)
+  pub visited : r.visits ≡ visits t h
+  pub at : r.at ≡ 0
+
+-- the text spells a schedule, the pairs are in order, and its answer at the last of them is told
+pub record IsAnswered (text : List ℕ) (pairs : List (ℕ × ℕ)) (number : ℕ) (r : Reply) (room out : List ℕ) : Type 0 where
+  pub term : Schedule
+  pub spelled : SpellsSchedule text term
+  pub some : 0 < length pairs
+  pub order : IsInOrder (history_of pairs)
+  pub answer : TellsAnswer term (history_of pairs) number r room out
+
+-- a number and a reply tell why there is no answer
+pub record IsRefused (text : List ℕ) (pairs : List (ℕ × ℕ)) (n : ℕ) (r : Reply) : Type 0 where
+  pub why : Refusal
+  pub is_so : IsRefusal text pairs why
+  pub numbered : n ≡ refusal_number why
+  pub place : r ≡ record { next = 0; size = 0; visits = 0; at = refusal_place why }
+
+-- a number and a place tell why a text is no schedule
+pub record IsTextRefused (text : List ℕ) (n at : ℕ) : Type 0 where
+  pub why : Refusal
+  pub is_so : IsTextRefusal text why
+  pub numbered : n ≡ refusal_number why
+  pub place : at ≡ refusal_place why
+
+-- a step's answer is that of the schedule of the text at the last of the pairs, which are in order
+pub record HasAnswer (text : List ℕ) (pairs : List (ℕ × ℕ)) (r : Stepped) : Type 0 where
+  pub term : Schedule
+  pub spelled : SpellsSchedule text term
+  pub some : 0 < length pairs
+  pub order : IsInOrder (history_of pairs)
+  pub answer : IsAnswer term (history_of pairs) r

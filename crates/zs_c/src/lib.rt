@@ -1,0 +1,18 @@
+//! Schedules as a library for C, and so for all that calls C.
+//!
+//! No call keeps anything: the state of a schedule is the list of the moments and inputs that it has seen, and that list
+//! is the caller's. `zs_check` tells whether a text is a schedule, and `zs_answer` what that schedule answers at the last
+//! step of a list. `include/zsched.h` says how C calls them. Start with `specs/Told.antt`.
+#![tactic(auto)]
+
+mod answering;
+mod exports;
+mod following;
+mod refusal;
+mod reply;
+mod room;
+mod seen;
+
+pub use exports::{zs_answer, zs_check};
+pub use reply::Reply;
+pub use seen::Seen;

@@ -1,0 +1,86 @@
+// Why a call has no answer, and the numbers by which C knows that.
+
+ghost use Rattle.std.specs.Prelude.{◌≡◌};
+ghost use Rattle.zs_c.specs.Numbers.{fault_number, fault_place, refusal_number, refusal_place};
+ghost use Rattle.zs_c.specs.declared.refusal.Refusal.TheVariants.{Memory};
+
+use zs_step::StepFault;
+use zs_term::TermFault;
+
+/// Why there is no answer.
+#[derive(Clone, Copy)]
+pub(crate) enum Refusal {
+    /// No pair was given.
+    NoPair,
+    /// The moment of the pair `at` is below that of the pair before it.
+    Falls { at: u64 },
+    /// The text isn't UTF-8 from the byte `at` on.
+    NotUtf8 { at: u64 },
+    /// Memory ran out.
+    Memory,
+    /// The text spells no schedule.
+    Text { fault: TermFault },
+}
+
+impl Refusal {
+    // The number by which C knows it.
+    pub(crate) fn number(self) -> u32
+        ensures value { result ≡ refusal_number self }
+    {
+        match self {
+            Refusal::NoPair => 2,
+            Refusal::Falls { at: _ } => 3,
+            Refusal::NotUtf8 { at: _ } => 4,
+            Refusal::Memory => 5,
+            Refusal::Text { fault } => number_of(fault),
+        }
+    }
+
+    // The byte or the pair at which it shows.
+    pub(crate) fn place(self) -> u64
+        ensures value { result ≡ refusal_place self }
+    {
+        match self {
+            Refusal::NoPair | Refusal::Memory => 0,
+            Refusal::Falls { at } | Refusal::NotUtf8 { at } => at,
+            Refusal::Text { fault } => place_of(fault),
+        }
+    }
+}
+
+// The number of a text's fault.
+fn number_of(fault: TermFault) -> u32
+    ensures value { result ≡ fault_number fault }
+{
+    match fault {
+        TermFault::Memory => 5,
+        TermFault::NoTerm { at: _ } => 11,
+        TermFault::TooBig => 12,
+        TermFault::BadNumber { at: _ } => 13,
+        TermFault::BadFactor => 14,
+        TermFault::NoKind => 15,
+        TermFault::BadWindow => 16,
+    }
+}
+
+// The byte at which a text's fault shows.
+fn place_of(fault: TermFault) -> u64
+    ensures value { result ≡ fault_place fault }
+{
+    match fault {
+        TermFault::NoTerm { at } | TermFault::BadNumber { at } => at,
+        TermFault::TooBig
+        | TermFault::BadFactor
+        | TermFault::NoKind
+        | TermFault::BadWindow
+        | TermFault::Memory => 0,
+    }
+}
+
+impl From<StepFault> for Refusal {
+    ghost from_gives = { λ _ r. r ≡ Memory };
+
+    fn from(_refused: StepFault) -> Refusal {
+        Refusal::Memory
+    }
+}

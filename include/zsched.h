@@ -1,0 +1,79 @@
+/* zsched: the proved schedules, for C and for all that calls C.
+ *
+ * A schedule is a text, as docs/SEMANTICS.md and docs/FORMATS.md have it: "(exponential(100) && recurs(5))". What it has
+ * seen is a list of pairs, oldest first: the moment at which an attempt ended, and its input (under retry the error's
+ * code, under repeat the success value). zs_answer tells at which moment the next attempt may begin, or that there is
+ * none. No call keeps anything, so the list is the whole state: store it, and go on after a restart.
+ *
+ * Link libzsched.a or libzsched.so, which tools/make-library builds; both need the C library alone. docs/LIBRARY.md tells
+ * what is proved of these calls.
+ *
+ * What a caller has to keep, since no call can test it:
+ *   - each pointer leads to as much memory as the number beside it says; zs_seen and zs_reply are aligned as C aligns
+ *     them. Where the number is 0 the pointer may be NULL. `reply` and `at` are never NULL;
+ *   - `reply`, `at` and `out` overlap nothing else that the call is given, and nobody else writes to any of it meanwhile;
+ *   - no call is made from a signal handler, nor in a forked child of a process with threads, and 64 KiB of stack are free.
+ *
+ * Calls may run at once on any number of threads: they share nothing but malloc, realloc and free. All that a call takes
+ * of these it gives back. Moments are whole milliseconds from any start that suits the caller, in 64 bits without a sign.
+ */
+#ifndef ZSCHED_H
+#define ZSCHED_H
+
+#include <stddef.h>
+#include <stdint.h>
+
+#ifdef __cplusplus
+extern "C" {
+#endif
+
+/* What a call answers. `at` is zs_reply.at, or what zs_check writes there; it is 0 where nothing is said of it here. */
+enum zs_number {
+    ZS_NEXT = 0,        /* zs_answer: the schedule goes on at zs_reply.next. zs_check: the text is a schedule */
+    ZS_DONE = 1,        /* zs_answer: the schedule is done */
+    ZS_NO_PAIR = 2,     /* zs_answer: the list of pairs is empty, and the text is a schedule */
+    ZS_FALLS = 3,       /* zs_answer: the moment of the pair `at`, from 0, is below the one before it */
+    ZS_NOT_UTF8 = 4,    /* the text isn't UTF-8 from the byte `at` on */
+    ZS_NO_MEMORY = 5,   /* a request for memory was refused; nothing is leaked, and the call may be made again */
+    ZS_NO_TERM = 11,    /* the text spells no schedule, which shows at the byte `at` */
+    ZS_TOO_BIG = 12,    /* the schedule is deeper than 64 or weighs more than 1000 */
+    ZS_BAD_NUMBER = 13, /* the number that begins at the byte `at` is above 18446744073709551615 */
+    ZS_BAD_FACTOR = 14, /* the factor of an exponential is 0 */
+    ZS_NO_KIND = 15,    /* a pick or a function meets an output that it doesn't fit */
+    ZS_BAD_WINDOW = 16  /* the window of a windowed is 0 */
+};
+
+/* What a schedule saw at one step. */
+typedef struct zs_seen {
+    uint64_t moment; /* when the attempt ended, in milliseconds; not below that of the pair before */
+    uint64_t input;  /* any number */
+} zs_seen;
+
+/* What zs_answer tells beside its number. Each call writes all four; a field that says nothing is 0. */
+typedef struct zs_reply {
+    uint64_t next;   /* ZS_NEXT: the moment at which the next attempt may begin, not below that of the last pair */
+    uint64_t size;   /* ZS_NEXT, ZS_DONE: how many bytes the text of the step's output has, whether or not they fit */
+    uint64_t visits; /* ZS_NEXT, ZS_DONE: how many nodes of the schedule the last step visited, 1 to 1000 */
+    uint64_t at;     /* the place of a refusal */
+} zs_reply;
+
+/* Whether a text is a schedule: ZS_NEXT (0), or the number of the first reason why not, from ZS_NOT_UTF8 on, in the order
+ * of enum zs_number but for want of memory. The text needs no 0 behind it. */
+uint32_t zs_check(const uint8_t *text, size_t text_len, uint64_t *at);
+
+/* What the schedule of a text answers at the last of the pairs. ZS_NEXT or ZS_DONE; else ZS_NO_PAIR or ZS_FALLS, or what
+ * zs_check answers of the text, which goes before them.
+ *
+ * At ZS_NEXT and ZS_DONE the text of the output ("3", "(400,2)", "Left(7)", "[1,2]"; ASCII, with no 0 behind it) is written
+ * over the front of `out`: all of it where out_len is at least reply->size, else its first out_len bytes. The rest of `out`
+ * stays as it was, and all of it at any other number.
+ *
+ * The time grows with the number of pairs: less than a microsecond for each. */
+uint32_t zs_answer(const uint8_t *text, size_t text_len, const zs_seen *seen, size_t seen_len, zs_reply *reply,
+                   uint8_t *out, size_t out_len);
+
+#ifdef __cplusplus
+}
+#endif
+
+#endif

@@ -1,0 +1,269 @@
+/* Calls libzsched as a service would, for tests/tools/test_library.py.
+ *
+ * library answer   does each request of standard input, and prints what came of it
+ * library refuse   does each with its 1st, 2nd, .. request for memory refused, until none is: a refused call has to answer
+ *                  ZS_NO_MEMORY, write nothing to the room and give back all that it took
+ * library threads  does them all on four threads at once, some times over: each has to print what one thread prints
+ *
+ * A request is a line of words: the text in hexadecimal digits behind a '.', the room in bytes, and the moment and the input
+ * of each pair in turn. A room of '-' asks for zs_check. A line of an answer has the number, next, size, visits, at and the
+ * room in hexadecimal digits behind a '.'; for zs_check it has the number and at. Each block that a call is given is as
+ * long as is said to the call, and its own, so that a tool that watches memory sees each step beside it.
+ *
+ * It is linked with --wrap=malloc, --wrap=realloc and --wrap=free, by which it counts and refuses requests. */
+#include "zsched.h"
+
+#include <pthread.h>
+#include <stdatomic.h>
+#include <stdio.h>
+#include <stdlib.h>
+#include <string.h>
+
+#define THREADS 4
+#define TIMES 3
+#define STACK (72 * 1024)
+#define UNTOUCHED 0xAA
+
+typedef struct request {
+    uint8_t *text;
+    size_t text_len;
+    int is_check;
+    size_t room;
+    zs_seen *seen;
+    size_t seen_len;
+} request;
+
+static request *requests;
+static size_t request_count;
+static char **answers;
+
+void *__real_malloc(size_t size);
+void *__real_realloc(void *place, size_t size);
+void __real_free(void *place);
+
+static atomic_long asked, held;
+static atomic_long refused_at = -1;
+
+static int is_refused(void)
+{
+    return atomic_fetch_add(&asked, 1) + 1 == atomic_load(&refused_at);
+}
+
+void *__wrap_malloc(size_t size)
+{
+    void *found = is_refused() ? NULL : __real_malloc(size);
+    if (found)
+        atomic_fetch_add(&held, 1);
+    return found;
+}
+
+void *__wrap_realloc(void *place, size_t size)
+{
+    void *found = is_refused() ? NULL : __real_realloc(place, size);
+    if (found && !place)
+        atomic_fetch_add(&held, 1);
+    return found;
+}
+
+void __wrap_free(void *place)
+{
+    if (place)
+        atomic_fetch_sub(&held, 1);
+    __real_free(place);
+}
+
+static void fail(const char *why, size_t number)
+{
+    printf("request %zu: %s\n", number + 1, why);
+    exit(1);
+}
+
+/* A block of so many bytes of its own; NULL where that is none. */
+static void *block(size_t size)
+{
+    void *found = size ? __real_malloc(size) : NULL;
+    if (size && !found)
+        exit(2);
+    return found;
+}
+
+static void print_bytes(char **end, const uint8_t *bytes, size_t len)
+{
+    *(*end)++ = '.';
+    for (size_t i = 0; i < len; i++)
+        *end += sprintf(*end, "%02x", bytes[i]);
+}
+
+/* Does a request: the line that tells of it, and the number that the call answered. */
+static char *done(const request *it, uint32_t *number)
+{
+    char *line = block(200 + 2 * it->room), *end = line;
+    if (it->is_check) {
+        uint64_t at = 77;
+        *number = zs_check(it->text, it->text_len, &at);
+        sprintf(line, "%u %llu", *number, (unsigned long long)at);
+        return line;
+    }
+    uint8_t *out = block(it->room);
+    zs_reply *reply = block(sizeof *reply);
+    if (out)
+        memset(out, UNTOUCHED, it->room);
+    memset(reply, UNTOUCHED, sizeof *reply);
+    *number = zs_answer(it->text, it->text_len, it->seen, it->seen_len, reply, out, it->room);
+    end += sprintf(end, "%u %llu %llu %llu %llu ", *number, (unsigned long long)reply->next,
+                   (unsigned long long)reply->size, (unsigned long long)reply->visits, (unsigned long long)reply->at);
+    print_bytes(&end, out, it->room);
+    *end = 0;
+    __real_free(reply);
+    __real_free(out);
+    return line;
+}
+
+/* Whether a line is what a call prints that was refused memory. */
+static int tells_no_memory(const request *it, const char *line)
+{
+    if (it->is_check)
+        return strcmp(line, "5 0") == 0;
+    if (strncmp(line, "5 0 0 0 0 .", 11) != 0)
+        return 0;
+    for (line += 11; *line; line++)
+        if (*line != 'a')
+            return 0;
+    return 1;
+}
+
+/* Refuses each request for memory of a call in turn, and tells how many the call can make. */
+static long refuse(size_t number)
+{
+    const request *it = &requests[number];
+    uint32_t told;
+    char *wanted = done(it, &told);
+    for (long at = 1;; at++) {
+        long before = atomic_load(&held);
+        atomic_store(&asked, 0);
+        atomic_store(&refused_at, at);
+        char *line = done(it, &told);
+        atomic_store(&refused_at, -1);
+        if (atomic_load(&held) != before)
+            fail("a block was not given back", number);
+        int was_refused = atomic_load(&asked) >= at;
+        if (was_refused ? !tells_no_memory(it, line) && strcmp(line, wanted) : strcmp(line, wanted))
+            fail(line, number);
+        __real_free(line);
+        if (!was_refused) {
+            __real_free(wanted);
+            return at - 1;
+        }
+    }
+}
+
+static void *thread(void *ignored)
+{
+    for (int time = 0; time < TIMES; time++)
+        for (size_t i = 0; i < request_count; i++) {
+            uint32_t told;
+            char *line = done(&requests[i], &told);
+            if (strcmp(line, answers[i]))
+                fail(line, i);
+            __real_free(line);
+        }
+    return ignored;
+}
+
+/* Does all requests on four threads with small stacks. */
+static void do_at_once(void)
+{
+    pthread_t threads[THREADS];
+    pthread_attr_t attributes;
+    pthread_attr_init(&attributes);
+    pthread_attr_setstacksize(&attributes, STACK);
+    for (int i = 0; i < THREADS; i++)
+        if (pthread_create(&threads[i], &attributes, thread, NULL))
+            exit(2);
+    for (int i = 0; i < THREADS; i++)
+        pthread_join(threads[i], NULL);
+    pthread_attr_destroy(&attributes);
+}
+
+/* Reads a text that is given by its digits. */
+static void read_text(request *it, const char *digits)
+{
+    it->text_len = strlen(digits) / 2;
+    it->text = block(it->text_len);
+    for (size_t i = 0; i < it->text_len; i++) {
+        unsigned byte;
+        sscanf(digits + 2 * i, "%2x", &byte);
+        it->text[i] = (uint8_t)byte;
+    }
+}
+
+/* Reads a request from its line. */
+static void read_request(request *it, char *line)
+{
+    size_t words = 0, i = 0;
+    for (char *at = line; *at; at++)
+        words += *at == ' ';
+    char *rest, *word = strtok_r(line, " \n", &rest);
+    read_text(it, word + 1);
+    word = strtok_r(NULL, " \n", &rest);
+    it->is_check = *word == '-';
+    it->room = it->is_check ? 0 : strtoull(word, NULL, 10);
+    it->seen_len = (words - 1) / 2;
+    it->seen = block(it->seen_len * sizeof *it->seen);
+    for (; i < it->seen_len; i++) {
+        it->seen[i].moment = strtoull(strtok_r(NULL, " \n", &rest), NULL, 10);
+        it->seen[i].input = strtoull(strtok_r(NULL, " \n", &rest), NULL, 10);
+    }
+}
+
+/* Reads all requests of standard input. */
+static void read_requests(void)
+{
+    char *line = NULL;
+    size_t size = 0, room = 0;
+    while (getline(&line, &size, stdin) > 0) {
+        if (request_count == room) {
+            room = 2 * room + 16;
+            requests = __real_realloc(requests, room * sizeof *requests);
+            if (!requests)
+                exit(2);
+        }
+        read_request(&requests[request_count++], line);
+    }
+    __real_free(line);
+}
+
+static void free_all(void)
+{
+    for (size_t i = 0; i < request_count; i++) {
+        __real_free(requests[i].text);
+        __real_free(requests[i].seen);
+        if (answers)
+            __real_free(answers[i]);
+    }
+    __real_free(requests);
+    __real_free(answers);
+}
+
+int main(int count, char **words)
+{
+    const char *mode = count == 2 ? words[1] : "";
+    read_requests();
+    if (strcmp(mode, "refuse") == 0) {
+        for (size_t i = 0; i < request_count; i++)
+            printf("%ld\n", refuse(i));
+    } else if (strcmp(mode, "answer") == 0 || strcmp(mode, "threads") == 0) {
+        uint32_t told;
+        answers = block(request_count * sizeof *answers);
+        for (size_t i = 0; i < request_count; i++)
+            answers[i] = done(&requests[i], &told);
+        if (*mode == 't')
+            do_at_once();
+        for (size_t i = 0; i < request_count; i++)
+            puts(answers[i]);
+    } else {
+        return 2;
+    }
+    free_all();
+    return 0;
+}

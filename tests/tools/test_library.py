@@ -1,0 +1,491 @@
+"""The library that services call: from C, also under tools that watch memory, and by the bindings for Python, Rust and Java.
+
+tools/make-library builds it first; ZSCHED_LIBRARY_DIR names a folder with a built one in its place. What it has to answer
+comes from tests/reference.py and from the program's own step lines."""
+import asyncio
+import http.server
+import os
+import pathlib
+import random
+import re
+import shutil
+import subprocess
+import sys
+import tempfile
+import threading
+import time
+import unittest
+
+import generator
+import reference
+from program import TOP
+from zsched_tools import program
+
+BINDINGS = TOP / "bindings"
+MAKE = TOP / "tools" / "make-library"
+REQUESTS = 2000
+SCHEDULES = 2000
+MOST_STEPS = 40
+REFUSED = 200
+UNDER_VALGRIND = 60
+UNTOUCHED = "aa"
+WRAPPED = ["-Wl,--wrap=malloc,--wrap=realloc,--wrap=free", "-lpthread"]
+STRICT = ["-std=gnu11", "-Wall", "-Wextra", "-Werror", "-pedantic"]
+JNA = pathlib.Path("/usr/share/java/jna.jar")
+NUMBERS = {"no term": 11, "too big": 12, "number too large": 13, "factor is 0": 14, "no kind": 15, "window is 0": 16}
+SPOILT = [generator.no_term, generator.too_big, generator.big_number, generator.zero_factor, generator.no_kind,
+          generator.zero_window]
+NOT_UTF8 = [b"\xff", b"\xc3", b"\xed\xa0\x80", b"\xf0\x9f\x98"]
+
+room = tempfile.TemporaryDirectory(prefix="zsched-library-test-")
+folder = None
+
+
+def setUpModule():
+    """Builds the library, and the program that calls it from C."""
+    global folder
+    named = os.environ.get("ZSCHED_LIBRARY_DIR")
+    folder = pathlib.Path(named) if named else TOP / "crates" / "zs_c" / "out"
+    if not named:
+        if not shutil.which("rt"):
+            raise unittest.SkipTest("the Rattle toolchain (the command 'rt') isn't on this machine, so nothing is built")
+        subprocess.run([MAKE], check=True, stdout=subprocess.DEVNULL)
+    os.environ["ZSCHED_LIBRARY"] = str(folder / "libzsched.so")
+    sys.path.insert(0, str(BINDINGS / "python"))
+    compile_caller("caller", "-O2")
+
+
+def tearDownModule():
+    """Removes what was built."""
+    room.cleanup()
+
+
+def path(name):
+    """A file of this test."""
+    return pathlib.Path(room.name) / name
+
+
+def compile_caller(name, *more):
+    """Compiles tests/library.c over the library."""
+    words = ["cc", *STRICT, *more, "-I", TOP / "include", "-o", path(name), TOP / "tests" / "library.c"]
+    subprocess.run([*words, folder / "libzsched.a", *WRAPPED], check=True)
+
+
+def called(words, requests):
+    """The lines that the caller prints of these requests."""
+    ended = subprocess.run(words, input="".join(f"{it}\n" for it in requests), capture_output=True, text=True)
+    if ended.returncode:
+        raise AssertionError(f"status {ended.returncode}: {ended.stdout[-500:]}{ended.stderr[-3000:]}")
+    return ended.stdout.splitlines()
+
+
+class Request:
+    """A call: a text, the room for the output (None for zs_check), and pairs."""
+
+    def __init__(self, text, size=None, pairs=()):
+        self.text, self.size, self.pairs = text, size, list(pairs)
+
+    def __str__(self):
+        numbers = [str(number) for pair in self.pairs for number in pair]
+        return " ".join([f".{self.text.hex()}", "-" if self.size is None else str(self.size), *numbers])
+
+    def wanted(self):
+        """The line that is wanted of it by the reference, with a '*' for the visits, and the most visits."""
+        number, following, at, output, weight = self.answer()
+        if self.size is None:
+            return f"{number} {at}", 0
+        written = output.encode()[:self.size].hex() + UNTOUCHED * (self.size - len(output))
+        return f"{number} {following} {len(output)} {'*' if number < 2 else 0} {at} .{written}", weight
+
+    def answer(self):
+        """Its number, next, place, output and the schedule's weight, by the reference."""
+        try:
+            self.text.decode()
+        except UnicodeDecodeError as fault:
+            return 4, 0, fault.start, "", 0
+        try:
+            schedule = reference.read_schedule(self.text)
+        except reference.Fault as fault:
+            text, _, at = str(fault).partition(" at byte ")
+            return NUMBERS[text], 0, int(at or 0), "", 0
+        if self.size is None:
+            return 0, 0, 0, "", 0
+        return self.answer_of(schedule)
+
+    def answer_of(self, schedule):
+        """The same, where the text is a schedule and is asked for an answer."""
+        moments = [moment for moment, _ in self.pairs]
+        falls = [at for at in range(1, len(moments)) if moments[at] < moments[at - 1]]
+        if falls:
+            return 3, 0, falls[0], "", 0
+        if not moments:
+            return 2, 0, 0, "", 0
+        out, following = reference.step(schedule, reference.History(self.pairs, {}, 0, len(moments)))
+        weight = reference.read_spelled(reference.Tokens(self.text)).weight
+        return int(following is None), following or 0, 0, reference.out_text(out), weight
+
+
+def made_text(chance):
+    """A text: mostly a schedule, now and then one with a fault, or none at all."""
+    form = chance.random()
+    tokens = generator.at_a_limit(chance) if form < 0.02 else generator.made_term(chance, 1 + int(chance.expovariate(0.2)))[0]
+    text = generator.spelled(chance, tokens)
+    if form > 0.8:
+        text = chance.choice(SPOILT)(chance, text)
+    data = text.encode()
+    if form > 0.98:
+        at = chance.randrange(len(data) + 1)
+        data = data[:at] + chance.choice(NOT_UTF8) + data[at:]
+    return data
+
+
+def made_pairs(chance, is_small):
+    """Pairs: mostly in order, now and then with a fall, or none."""
+    count = chance.choice([0, 1, 1, 2, 3, 5, 8] if is_small else [1, 2, 5, 13, 40])
+    moments = [generator.whole(chance) for _ in range(count)]
+    if chance.random() < 0.9:
+        moments.sort()
+    return [(moment, generator.whole(chance)) for moment in moments]
+
+
+def made_request(seed):
+    """The request of a seed."""
+    chance = random.Random(seed)
+    text = made_text(chance)
+    if chance.random() < 0.2:
+        return Request(text)
+    return Request(text, chance.choice([0, 1, 5, 30, 400]), made_pairs(chance, text.count(b"collectAll") > 1))
+
+
+class FromC(unittest.TestCase):
+    """A program in C that calls the library."""
+
+    @classmethod
+    def setUpClass(cls):
+        cls.requests = [made_request(seed) for seed in range(REQUESTS)]
+        cls.wanted = [it.wanted() for it in cls.requests]
+
+    def judge(self, lines, count=REQUESTS):
+        """Compares lines with what is wanted of the first requests."""
+        self.assertEqual(len(lines), count)
+        for request, line, (wanted, weight) in zip(self.requests, lines, self.wanted):
+            words, visits = line.split(), wanted.split()
+            if "*" in visits:
+                self.assertIn(int(words[3]), range(1, weight + 1), request)
+                words[3] = "*"
+            self.assertEqual(words, visits, request)
+
+    def test_two_thousand_requests_are_answered_as_the_reference_does(self):
+        numbers = {wanted.split()[0] for wanted, _ in self.wanted}
+        self.assertEqual(numbers, set("0 1 2 3 4 11 12 13 14 15 16".split()))
+        self.judge(called([path("caller"), "answer"], self.requests))
+
+    def test_nothing_is_read_or_written_beside_what_is_given(self):
+        compile_caller("watched", "-g", "-fsanitize=address,undefined", "-fno-sanitize-recover=all")
+        self.judge(called([path("watched"), "answer"], self.requests))
+
+    def test_valgrind_finds_no_error_and_no_lost_memory(self):
+        if not shutil.which("valgrind"):
+            self.skipTest("valgrind isn't on this machine")
+        words = ["valgrind", "--quiet", "--error-exitcode=9", "--leak-check=full", "--show-leak-kinds=all"]
+        self.judge(called([*words, path("caller"), "answer"], self.requests[:UNDER_VALGRIND]), UNDER_VALGRIND)
+
+    def test_four_threads_with_small_stacks_may_call_at_once(self):
+        self.judge(called([path("caller"), "threads"], self.requests))
+
+    def test_each_request_for_memory_may_be_refused(self):
+        found = [int(line) for line in called([path("caller"), "refuse"], self.requests[:REFUSED])]
+        self.assertEqual(len(found), REFUSED)
+        self.assertGreater(sum(found), 2 * REFUSED)
+
+    def test_a_step_visits_a_part_twice_where_it_resets(self):
+        requests = [Request(b"elapsed.resetWhen(>= 5)", 1, pairs) for pairs in [[(1, 0)], [(1, 0), (5, 0)], [(1, 0), (6, 0)]]]
+        lines = called([path("caller"), "answer"], requests)
+        self.assertEqual(lines, ["0 1 1 2 0 .30", "0 5 1 2 0 .34", "0 6 1 3 0 .30"])
+
+    def test_the_header_is_one_of_cpp_too(self):
+        if not shutil.which("c++"):
+            self.skipTest("c++ isn't on this machine")
+        words = ["c++", "-x", "c++", "-std=c++11", "-Wall", "-Wextra", "-Werror", "-pedantic", "-fsyntax-only", "-"]
+        subprocess.run([*words, "-I", TOP / "include"], input=b'#include "zsched.h"\n', check=True)
+
+
+def steps_of(report):
+    """The steps of each job of a report: moment, input, output, and the next moment or None."""
+    jobs = []
+    for line in report.decode().splitlines():
+        words = line.split()
+        if words[0] == "job":
+            jobs.append([])
+        elif words[0] == "attempt" and words[-1] != "running":
+            moment, value = int(words[2].partition("..")[2]), int(words[4])
+        elif words[0] == "step":
+            jobs[-1].append((moment, value, words[3], None if words[4] == "done" else int(words[5])))
+    return jobs
+
+
+class FromPython(unittest.TestCase):
+    """The binding for Python."""
+
+    @classmethod
+    def setUpClass(cls):
+        import zsched
+        cls.zsched = zsched
+
+    def replay(self, text, steps):
+        """Steps a schedule by the lines of a report."""
+        schedule = self.zsched.Schedule(text)
+        for moment, value, output, following in steps[:MOST_STEPS]:
+            answer = schedule.after(moment, value)
+            self.assertEqual((answer.output, answer.next), (output, following), (text, schedule.seen))
+
+    def test_two_thousand_schedules_step_as_the_program_tells(self):
+        try:
+            zsched = program.find()
+        except program.NoProgram as fault:
+            self.skipTest(str(fault))
+        done = seed = 0
+        while done < SCHEDULES:
+            chance = random.Random(seed)
+            plan, seed = generator.made_plan(chance), seed + 1
+            status, report, _ = program.run(zsched, generator.json_text(chance, plan).encode())
+            # A schedule at a limit may be made past it.
+            jobs = plan["jobs"] if status == 0 else []
+            for job, steps in zip(jobs, steps_of(report), strict=True):
+                self.replay(job["schedule"], steps)
+                done += bool(steps)
+
+    def test_a_text_that_is_no_schedule_is_told_with_its_place(self):
+        faults = [("recurs(1) && recurs(2)", 11, 10, "no term at byte 10"), ("exponential(1, 0)", 14, 0, "factor is 0"),
+                  ("recurs(18446744073709551616)", 13, 7, "number too large at byte 7"), ("windowed(0)", 16, 0, "window is 0"),
+                  ("recurs(1).map(_1)", 15, 0, "no kind"), ("forever" + ".map(+ 1)" * 64, 12, 0, "too big")]
+        for text, number, at, words in faults:
+            with self.assertRaises(self.zsched.ScheduleFault) as caught:
+                self.zsched.check(text)
+            self.assertEqual((caught.exception.number, caught.exception.at, str(caught.exception)), (number, at, words))
+
+    def test_a_step_that_is_refused_leaves_the_schedule(self):
+        schedule = self.zsched.Schedule("recurs(1)")
+        self.assertEqual(schedule.after(5, 7), (5, "0", 1))
+        for error, moment, value in [(ValueError, 4, 7), (OverflowError, -1, 7), (OverflowError, 5, 2 ** 64), (TypeError, 5.0, 7)]:
+            with self.assertRaises(error):
+                schedule.after(moment, value)
+        self.assertEqual(schedule.seen, [(5, 7)])
+        self.assertEqual(schedule.after(5, 2 ** 64 - 1), (None, "1", 1))
+
+    def test_a_saved_schedule_goes_on(self):
+        schedule = self.zsched.Schedule("(exponential(10) && recurs(3))")
+        schedule.after(1, 2)
+        again = self.zsched.Schedule.load(schedule.save())
+        self.assertEqual((again.text, again.seen), (schedule.text, [(1, 2)]))
+        self.assertEqual(again.after(12, 2), schedule.after(12, 2))
+        for saved in ["", "{}", "[]", '{"schedule":"recurs(","seen":[]}', '{"schedule":"recurs(1)","seen":[[2,1],[1,1]]}',
+                      '{"schedule":"recurs(1)","seen":[[1]]}', '{"schedule":"recurs(1)","seen":[[-1,0]]}', '{"schedule":1,"seen":[]}']:
+            with self.assertRaises(ValueError, msg=saved):
+                self.zsched.Schedule.load(saved)
+
+    def test_a_long_output_is_whole(self):
+        schedule = self.zsched.Schedule("forever.collectAll")
+        for number in range(200):
+            answer = schedule.after(number)
+        self.assertEqual(answer.output, "[" + ",".join(map(str, range(199))) + "]")
+
+    def test_threads_may_call_at_once(self):
+        found = []
+
+        def work():
+            schedule = self.zsched.Schedule("fibonacci(10)")
+            found.append([schedule.after(number).output for number in range(60)])
+        threads = [threading.Thread(target=work) for _ in range(4)]
+        for thread in threads:
+            thread.start()
+        for thread in threads:
+            thread.join()
+        self.assertEqual(len(found), 4)
+        self.assertEqual(found[0][:5], ["10", "10", "20", "30", "50"])
+        self.assertTrue(all(one == found[0] for one in found))
+
+
+class Clock:
+    """A clock that only sleeps move on, and those who sleep by it."""
+
+    def __init__(self):
+        self.seconds, self.slept = 100.0, []
+
+    def __call__(self):
+        return self.seconds
+
+    def sleep(self, seconds):
+        """Sleeps, in no time."""
+        self.slept.append(round(seconds, 6))
+        self.seconds += seconds
+
+    async def sleep_too(self, seconds):
+        """The same for coroutines."""
+        self.sleep(seconds)
+
+
+class Refusing:
+    """An effect that fails some times, each time after 5 ms."""
+
+    def __init__(self, clock, times, error=OSError):
+        self.clock, self.left, self.error = clock, times, error
+
+    def __call__(self, value="done"):
+        self.clock.seconds += 0.005
+        self.left -= 1
+        if self.left >= 0:
+            raise self.error(f"{self.left} left")
+        return value
+
+
+class Retries(unittest.TestCase):
+    """Retries in Python, by a clock that nobody waits for."""
+
+    def setUp(self):
+        import zsched
+        self.clock = Clock()
+        self.retrying = lambda text, **more: zsched.retrying(text, clock=self.clock, **{"sleep": self.clock.sleep, **more})
+
+    def test_a_function_is_tried_until_it_answers(self):
+        told = []
+        by = self.retrying("(exponential(10) && recurs(5))", before_sleep=lambda *words: told.append(words[1:]))
+        self.assertEqual(by(Refusing(self.clock, 3))(value=7), 7)
+        self.assertEqual(self.clock.slept, [0.01, 0.02, 0.04])
+        self.assertEqual(told, [(1, 0.01), (2, 0.02), (3, 0.04)])
+
+    def test_the_last_error_goes_on_its_way(self):
+        with self.assertRaisesRegex(OSError, "^7 left$"):
+            self.retrying("(spaced(30) && recurs(2))")(Refusing(self.clock, 10))()
+        self.assertEqual(self.clock.slept, [0.03, 0.03])
+
+    def test_other_errors_are_not_kept_back(self):
+        with self.assertRaisesRegex(KeyError, "left"):
+            self.retrying("spaced(30)", on=(OSError, EOFError))(Refusing(self.clock, 10, KeyError))()
+        self.assertEqual(self.clock.slept, [])
+
+    def test_the_input_is_that_of_the_error(self):
+        effect = Refusing(self.clock, 10)
+        with self.assertRaisesRegex(OSError, "^7 left$"):
+            self.retrying("spaced(30).whileInput(> 7)", input_of=lambda error: int(str(error)[0]))(effect)()
+
+    def test_it_is_a_loop_too(self):
+        effect, numbers = Refusing(self.clock, 2), []
+        for attempt in self.retrying("linear(10)"):
+            with attempt:
+                numbers.append(attempt.number)
+                value = effect()
+        self.assertEqual((value, numbers, self.clock.slept), ("done", [1, 2, 3], [0.01, 0.02]))
+
+    def test_coroutines_are_tried_too(self):
+        effect = Refusing(self.clock, 2)
+
+        @self.retrying("linear(10)", sleep=self.clock.sleep_too)
+        async def tried():
+            return effect()
+
+        async def loop():
+            async for attempt in self.retrying("spaced(1)", sleep=self.clock.sleep_too):
+                with attempt:
+                    return Refusing(self.clock, 0)()
+        self.assertEqual((asyncio.run(tried()), asyncio.run(loop())), ("done", "done"))
+        self.assertEqual(self.clock.slept, [0.01, 0.02])
+
+    def test_one_may_serve_many_calls(self):
+        by = self.retrying("(spaced(10) && recurs(1))")
+        for _ in range(3):
+            self.assertEqual(by(Refusing(self.clock, 1))(), "done")
+        self.assertEqual(self.clock.slept, [0.01] * 3)
+
+
+def ran(words, where, **more):
+    """What a program prints that has to succeed."""
+    ended = subprocess.run([str(it) for it in words], cwd=where, capture_output=True, text=True, env={**os.environ, **more})
+    if ended.returncode:
+        raise AssertionError(f"{words}: status {ended.returncode}: {ended.stdout[-1000:]}{ended.stderr[-2000:]}")
+    return ended.stdout
+
+
+class Busy:
+    """A server on this machine that answers its first requests with a code, and then with a text."""
+
+    def __init__(self, times, code=503):
+        self.asked = asked = []
+
+        class Handler(http.server.BaseHTTPRequestHandler):
+            def do_GET(self):
+                asked.append(code if len(asked) < times else 200)
+                self.send_response(asked[-1])
+                self.end_headers()
+                self.wfile.write(b"ready")
+
+            def log_message(self, *_):
+                pass
+        self.server = http.server.HTTPServer(("127.0.0.1", 0), Handler)
+        self.url = f"http://127.0.0.1:{self.server.server_port}/"
+        self.serving = threading.Thread(target=self.server.serve_forever, kwargs={"poll_interval": 0.01})
+
+    def __enter__(self):
+        self.serving.start()
+        return self
+
+    def __exit__(self, *_):
+        self.server.shutdown()
+        self.serving.join()
+        self.server.server_close()
+
+
+class Examples(unittest.TestCase):
+    """The example of each binding, which really waits, and the program that makes the library."""
+
+    def test_the_example_in_python_waits_for_its_server(self):
+        said = ran([sys.executable, "-B", "example.py"], BINDINGS / "python")
+        self.assertIn("ready after 4 attempts\n", said)
+        self.assertIn("attempt 3: 503, the next one in 80 ms\n", said)
+
+    def test_the_service_of_the_document_waits_for_its_server(self):
+        service, found = re.search(r"```python\n(.*?)```", (TOP / "docs" / "LIBRARY.md").read_text(), re.S)[1], {}
+        self.assertEqual(len(service.splitlines()), 10)
+        exec(service, found)
+        with Busy(2) as server:
+            begun = time.monotonic()
+            self.assertEqual(found["fetch"](server.url), b"ready")
+        self.assertGreaterEqual(time.monotonic() - begun, 0.3)
+        self.assertEqual(server.asked, [503, 503, 200])
+        with Busy(1, 404) as server, self.assertRaisesRegex(OSError, "404"):
+            found["fetch"](server.url)
+        self.assertEqual(server.asked, [404])
+
+    def test_the_example_in_rust_waits_for_its_server(self):
+        if not shutil.which("cargo"):
+            self.skipTest("cargo isn't on this machine")
+        crate = path("rust")
+        shutil.copytree(BINDINGS / "rust", crate, ignore=shutil.ignore_patterns("target", "Cargo.lock"))
+        more = {"ZSCHED_LIBRARY_DIR": str(folder), "RUSTFLAGS": "-D warnings"}
+        said = ran(["cargo", "run", "--quiet", "--offline", "--example", "retry"], crate, **more)
+        self.assertEqual(said, 'Ok("ready") after 4 attempts\n')
+        self.assertIn("1 passed", ran(["cargo", "test", "--quiet", "--offline", "--doc"], crate, **more))
+
+    def test_the_example_in_java_waits_for_its_server(self):
+        if not shutil.which("javac") or not JNA.exists():
+            self.skipTest(f"javac or JNA ({JNA}, of the package libjna-java) isn't on this machine")
+        words = ["javac", "-Xlint:all", "-Werror", "-cp", JNA, "-d", path("java"), "zsched/Schedule.java", "Example.java"]
+        ran(words, BINDINGS / "java")
+        words = ["java", "-cp", f"{JNA}:{path('java')}", f"-Djna.library.path={folder}", "Example"]
+        self.assertEqual(ran(words, BINDINGS / "java"), "ready after 4 attempts\n")
+
+    def test_make_library_tells_what_it_does_and_refuses_other_words(self):
+        said = ran([MAKE, "--help"], TOP)
+        self.assertIn("Exit status: 0", said)
+        ended = subprocess.run([MAKE, "other"], capture_output=True, text=True)
+        self.assertEqual((ended.returncode, ended.stdout), (2, ""))
+        self.assertIn("make-library: error:", ended.stderr)
+
+    def test_make_library_says_that_it_needs_the_toolchain(self):
+        ended = subprocess.run([sys.executable, MAKE], capture_output=True, text=True, env={"PATH": room.name})
+        wanted = "make-library: the Rattle toolchain (the command 'rt') isn't on this machine\n"
+        self.assertEqual((ended.returncode, ended.stdout, ended.stderr), (2, "", wanted))
+
+
+if __name__ == "__main__":
+    unittest.main()
