@@ -58,8 +58,8 @@ def attempts_over_each_operator():
 
 
 def collected(length, value):
-    """A job that collects so many items of one value."""
-    return plan([job(0, f"(identity && recurs({length})).map(_1).collectAll", [value])], horizon=LAST_TICK)
+    """A job that collects so many items of one value, and a short one behind it."""
+    return plan([job(0, f"(identity && recurs({length})).map(_1).collectAll", [value]), job(1, "recurs(1)")], horizon=LAST_TICK)
 
 
 def many_ticks():

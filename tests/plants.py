@@ -1,13 +1,14 @@
 #!/usr/bin/env python3
 """Plants wrong bodies that every contract lets through, and says which tests of the gate catch each. Run by hand: a
-plant takes one to three minutes.
+plant takes one to five minutes.
 
     python3 tests/plants.py [NAME ..]       all plants, or these
     python3 tests/plants.py --list
 
 Each plant is an edit of one file in a copy of the crates. The copy is built and run without any proof by `rt try`: on
-the plans of the gate, or, for a call that no plan reaches, on the tests of the crate. What `rt try` can't show of a
-plan, as a report of more than 1 MiB, is left out. The last line is 'N passed, M failed', where a plant passes that is
+the plans of the gate, or, for what no report shows, on the tests of a crate. What `rt try` can't show of a plan, as a
+report of more than 1 MiB, is left out. A plant that shows only where threads or memory are refused is proved and built,
+over the proofs that ./check or ./run --proved kept. The last line is 'N passed, M failed', where a plant passes that is
 caught; the exit status is 0 where M is 0, 1 where it isn't, and 2 where a plant no longer fits its file or `rt` isn't
 there."""
 import argparse
@@ -23,22 +24,26 @@ from typing import NamedTuple
 sys.dont_write_bytecode = True
 
 import large_plans
+import program
 import reference
+import refused_growths
 from generator import plan_of
 
 TOP = pathlib.Path(__file__).resolve().parent.parent
 SEEDS = range(30)
 LONGEST_PLAN = 20000
+# A test of a crate, with its name.
+TEST = re.compile(r"^#\[test\]\nfn (\w+)\(.*?\n}\n", re.MULTILINE | re.DOTALL)
 
 
 class Plant(NamedTuple):
-    """A wrong body: the file below crates/, the text that stands there once, and the text in its place. Where `tests`
-    isn't empty, it is the crate whose own tests have to catch it."""
+    """A wrong body: the file below crates/, the text that stands there once, and the text in its place. Where `test`
+    isn't empty, it is the test of a crate, or the function of refused_growths.py, that has to catch it."""
     name: str
     file: str
     old: str
     new: str
-    tests: str = ""
+    test: str = ""
 
 
 PLANTS = [
@@ -48,18 +53,17 @@ PLANTS = [
           "            Out::Pair(a, b) => {\n                let a = Box::new(alloc, a.copy(alloc)?)?;\n"),
     Plant("a_copy_gives_up_on_left", "zs_term/src/outputs.rt",
           "Out::Left(a) => Ok(Out::Left(Box::new(alloc, a.copy(alloc)?)?)),", "Out::Left(_) => Err(AllocError),"),
-    Plant("three_in_turn_have_no_kind", "zs_term/src/inference.rt",
-          "        Term::AndThen(a, b) => {\n            let Some(x)",
+    Plant("three_in_turn_have_no_kind", "zs_term/src/inference.rt", "        Term::AndThen(a, b) => sum_kind(",
           "        Term::AndThen(a, _) if matches!(a.as_ref(), Term::AndThen(_, _)) => Err(AllocError),\n"
-          "        Term::AndThen(a, b) => {\n            let Some(x)"),
+          "        Term::AndThen(a, b) => sum_kind("),
     Plant("a_reset_of_a_reset_has_no_state", "zs_step/src/state.rt",
           "        Term::ResetWhen(s, pick, test) => Ok(State::ResetWhen(",
           "        Term::ResetWhen(s, _, _) if matches!(s.as_ref(), Term::ResetWhen(_, _, _)) => Err(AllocError),\n"
           "        Term::ResetWhen(s, pick, test) => Ok(State::ResetWhen("),
     Plant("a_step_gives_up_on_the_ninth_item", "zs_step/src/stepping.rt",
-          "            let before = copy_all(alloc, items)?;",
-          "            if items.len() >= 8 {\n                return Err(AllocError);\n            }\n"
-          "            let before = copy_all(alloc, items)?;"),
+          "    let before = copy_all(alloc, items)?;",
+          "    if items.len() >= 8 {\n        return Err(AllocError);\n    }\n"
+          "    let before = copy_all(alloc, items)?;"),
     Plant("a_step_gives_up_on_the_greatest_input", "zs_step/src/compiled.rt",
           "        match step_node(&mut self.state, self.alloc, now, input) {",
           "        if input == u64::MAX {\n            self.broken = true;\n"
@@ -89,18 +93,81 @@ PLANTS = [
           "    let text = match report_plan("),
     Plant("write_gives_up_on_second_and_size", "zs_term/src/printer.rt",
           '        Func::Second => text.push_str("_2"),\n        Func::Size => text.push_str("size"),',
-          "        Func::Second => Err(AllocError),\n        Func::Size => Err(AllocError),", "zs_term"),
+          "        Func::Second => Err(AllocError),\n        Func::Size => Err(AllocError),",
+          "tests_and_functions_are_read_and_have_one_spelling"),
     Plant("plain_gives_up_past_8_pairs", "zs_step/src/evaluation.rt",
           "    Ok(evaluate(alloc, checked.term(), history)?)",
           "    if history.len() > 8 {\n        return Err(StepFault::Memory);\n    }\n"
-          "    Ok(evaluate(alloc, checked.term(), history)?)", "zs_step"),
+          "    Ok(evaluate(alloc, checked.term(), history)?)", "a_hundred_pairs_are_answered"),
     Plant("follow_gives_up_past_8_pairs", "zs_step/src/following.rt",
           "    let mut compiled = Compiled::new(alloc, checked)?;",
           "    if pairs.len() > 8 {\n        return Err(StepFault::Memory);\n    }\n"
-          "    let mut compiled = Compiled::new(alloc, checked)?;", "zs_step"),
+          "    let mut compiled = Compiled::new(alloc, checked)?;", "a_hundred_pairs_are_answered"),
     Plant("a_queue_gives_up_on_job_10000", "zs_agenda/src/agenda.rt", "        put(&mut self.by_job, job, moment)?;",
           "        if job >= 10_000 {\n            return Err(AgendaFault::Memory);\n        }\n"
-          "        put(&mut self.by_job, job, moment)?;", "zs_agenda"),
+          "        put(&mut self.by_job, job, moment)?;", "any_job_number_can_be_set"),
+    Plant("thirteen_jobs_never_end", "zs_run/src/running.rt", "    let text = match report_plan(",
+          "    if plan.jobs.len() == 13 {\n        for _ in rt.forever() {\n            std::thread::yield_now();\n"
+          "        }\n    }\n    let text = match report_plan("),
+    Plant("a_report_tells_half_a_megabyte", "zs_run/src/reporting.rt", '    writeln!(text, "polls {polls}")?;\n',
+          '    writeln!(text, "polls {polls}")?;\n'
+          "    if text.len() > 500_000 {\n        return Err(AllocError);\n    }\n"),
+    Plant("no_job_is_told_past_100000_bytes", "zs_run/src/reporting.rt", "        push_job(text, horizon, task)?;",
+          "        if text.len() > 100_000 {\n            return Err(AllocError);\n        }\n"
+          "        push_job(text, horizon, task)?;"),
+    Plant("a_round_ignores_the_grain", "zs_pool/src/rounds.rt", "cut_into(alloc, cut.grain(), tasks)?",
+          "cut_into(alloc, 1, tasks)?", "a_thread_takes_the_plans_grain_of_jobs"),
+    Plant("a_run_of_jobs_ignores_the_grain", "zs_engine/src/jobs.rt", "    engine.run_rounds(rt, cut, gate)?;",
+          "    let cut = match Cut::new(cut.workers(), 1) {\n        Some(one) => one,\n        None => cut,\n    };\n"
+          "    engine.run_rounds(rt, cut, gate)?;", "a_thread_takes_the_plans_grain_of_jobs"),
+    Plant("a_run_ignores_the_plans_grain", "zs_run/src/running.rt", "    let answer = match run_jobs(",
+          "    let cut = match zs_pool::Cut::new(cut.workers(), 1) {\n        Some(one) => one,\n        None => cut,\n"
+          "    };\n    let answer = match run_jobs(", "a_thread_takes_the_plans_grain_of_jobs"),
+    Plant("never_more_than_four_threads_poll", "zs_pool/src/rounds.rt",
+          "    let helpers = count.min(cut.workers() as usize) - 1;",
+          "    let helpers = (count.min(cut.workers() as usize) - 1).min(3);",
+          "as_many_threads_poll_at_once_as_the_plan_has_workers"),
+    Plant("a_large_round_is_polled_alone", "zs_pool/src/rounds.rt",
+          "    if cut.workers() == 1 || most <= cut.grain() {",
+          "    if cut.workers() == 1 || most <= cut.grain() || most > 1000 {",
+          "two_threads_meet_in_a_run_of_ten_thousand_jobs"),
+    Plant("a_run_polls_many_jobs_alone", "zs_engine/src/engine.rt",
+          "        if cut.workers() == 1 || numbers.len() as u64 <= cut.grain() {",
+          "        if cut.workers() == 1 || numbers.len() as u64 <= cut.grain() || numbers.len() > 1000 {",
+          "two_threads_meet_in_a_run_of_ten_thousand_jobs"),
+    Plant("a_gate_is_told_the_next_moment", "zs_pool/src/polling.rt", "    gate.pass(task.number(), now, done);",
+          "    gate.pass(task.number(), now.saturating_add(1), done);", "each_pass_is_told_the_moment_of_its_round"),
+    Plant("a_gate_is_told_moment_0", "zs_pool/src/polling.rt", "    gate.pass(task.number(), now, done);",
+          "    gate.pass(task.number(), 0, done);", "each_pass_is_told_the_moment_of_its_round"),
+    Plant("a_poll_is_counted_before_its_gate", "zs_pool/src/polling.rt",
+          "    gate.pass(task.number(), now, done);\n    poll_at(task, now, cx);\n    tally.count(seat);",
+          "    poll_at(task, now, cx);\n    tally.count(seat);\n    gate.pass(task.number(), now, done);",
+          "a_gate_is_passed_before_its_poll_is_counted"),
+    Plant("a_shelf_has_room_for_8_at_most", "zs_pool/src/shelf.rt", "Line::ruled(alloc, capacity as usize)",
+          "Line::ruled(alloc, (capacity as usize).min(8))", "a_shelf_has_room_for_as_many_as_it_was_made_for"),
+    Plant("a_shelf_refuses_a_batch_of_many_tasks", "zs_pool/src/shelf.rt",
+          "        match self.queue.push_as::<Puts, R>(rt, &mut pass.place, message) {",
+          "        if message.tasks.len() > 100 {\n            return Err((message, PoolFault::Full));\n        }\n"
+          "        match self.queue.push_as::<Puts, R>(rt, &mut pass.place, message) {",
+          "a_shelf_takes_a_batch_of_many_tasks"),
+    Plant("a_refused_worker_is_told_as_no_thread", "zs_pool/src/starting.rt", "        return Err(PoolFault::Memory);",
+          "        return Err(PoolFault::NoThread);", "two_causes_are_told_apart"),
+    Plant("a_refused_start_hides_a_refused_worker", "zs_pool/src/starting.rt",
+          "                wait_for(rt, workers)?;\n", "", "two_causes_are_told_apart"),
+    Plant("a_plan_is_read_byte_by_byte", "zs_run/src/transfer.rt", ".min(CHUNK);", ".min(1);",
+          "a_plan_comes_and_its_report_goes_in_few_calls"),
+    Plant("a_failed_read_is_tried_again", "zs_run/src/marked.rt",
+          "            Ok(count) => Ok(count),\n            Err(_) => {\n"
+          "                self.failed = true;\n                Err(Failed)\n            }",
+          "            Ok(count) => Ok(count),\n            Err(_) => match self.inner.read(buf) {\n"
+          "                Ok(count) => Ok(count),\n                Err(_) => {\n"
+          "                    self.failed = true;\n                    Err(Failed)\n                }\n            },", "a_failed_read_is_not_tried_again"),
+    Plant("a_failed_write_is_tried_again", "zs_run/src/marked.rt", "            Ok(count) if count > 0 => Ok(count),\n"
+          "            _ => {\n                self.failed = true;\n                Err(Failed)\n            }",
+          "            Ok(count) if count > 0 => Ok(count),\n            _ => match self.inner.write(buf) {\n"
+          "                Ok(count) if count > 0 => Ok(count),\n                _ => {\n"
+          "                    self.failed = true;\n                    Err(Failed)\n                }\n            },",
+          "a_write_of_nothing_is_not_tried_again"),
 ]
 
 
@@ -134,31 +201,82 @@ def write_cases(folder):
             (folder / f"{name}.json.stdout").write_bytes(report)
 
 
-def tried(crate, words):
-    """What `rt try` says in a crate."""
-    ended = subprocess.run(["rt", "try", *words], cwd=crate, capture_output=True, check=False)
+def said_by_rt(crate, *words):
+    """What `rt` with these words says in a crate."""
+    ended = subprocess.run(["rt", *words], cwd=crate, stdin=subprocess.DEVNULL, capture_output=True, check=False)
     return (ended.stdout + ended.stderr).decode(errors="replace")
 
 
-@functools.cache
-def passed_tests(crate):
-    """The tests of a crate that pass without any proof. Some take too long for `rt try`."""
-    said = tried(crate, ["--test"])
-    passed = re.findall(r"^test (\S+) \.\.\. ok$", said, re.MULTILINE)
-    if not passed:
+def crate_of(test):
+    """The crate that has a test, or nothing where none has."""
+    files = sorted((TOP / "crates").glob("*/src/**/*.rt"))
+    return next((file.relative_to(TOP).parts[1] for file in files if f"fn {test}(" in file.read_text()), None)
+
+
+def copy_crates(folder, *without):
+    """Copies the crates into a folder, without files of these names."""
+    shutil.copytree(TOP / "crates", folder / "crates", ignore=shutil.ignore_patterns(*without))
+    shutil.copy(TOP / "crates.txt", folder)
+
+
+def passed_tests(folder, crate, tests):
+    """Which of these tests of a crate pass in a copy, without any proof. The others are taken out of it first."""
+    for file in (folder / "crates" / crate / "src").rglob("*.rt"):
+        text = file.read_text()
+        file.write_text(TEST.sub(lambda test: test[0] if test[1] in tests else "", text))
+    said = said_by_rt(folder / "crates" / crate, "try", "--test", "--steps", "1")
+    if not re.search(r"^tests: \d+$", said, re.MULTILINE):
         raise Misfit(f"{crate}: rt try --test gave no verdict: {said[-500:]}")
-    return set(passed)
+    return set(re.findall(r"^test (?:\w+::)*(\w+) \.\.\. ok$", said, re.MULTILINE))
 
 
-def caught_by(plant, copy, cases):
-    """The plans, or the tests of a crate, that catch a plant in a copy of the crates."""
-    if plant.tests:
-        return sorted(passed_tests(TOP / "crates" / plant.tests) - passed_tests(copy / "crates" / plant.tests))
-    said = tried(copy / "crates" / "zsched", ["--steps", "1", "--cases", str(cases)])
-    ends = re.findall(r"^case=(\S+)\.json run=ended status=(\d+) .* output=(\S+)", said, re.MULTILINE)
+@functools.cache
+def passed_unplanted(crate):
+    """Which tests that plants name pass in a crate as it stands. Some could take too long for `rt try`."""
+    with tempfile.TemporaryDirectory(prefix="zsched-plants-") as folder:
+        copy_crates(pathlib.Path(folder), "out")
+        return passed_tests(pathlib.Path(folder), crate, {plant.test for plant in PLANTS})
+
+
+class Failures(program.Count):
+    """The names of the tests that failed."""
+
+    def __init__(self):
+        super().__init__()
+        self.names = []
+
+    def test(self, name, found, wanted):
+        """One test, which passes where both values are equal."""
+        if found != wanted:
+            self.names.append(name)
+
+
+def caught_by_refusals(plant, copy):
+    """The cases of a function of refused_growths.py that catch a plant in a copy, which is proved and built."""
+    said = said_by_rt(copy / "crates" / "zsched", "run")
+    if "logic=proved" not in said:
+        raise Misfit(f"{plant.name}: rt run gave no proved program: {said[-500:]}")
+    program.ZSCHED = copy / "crates" / "zsched" / "out" / "zsched"
+    failures = Failures()
+    getattr(refused_growths, plant.test)(failures, refused_growths.Refuser(copy))
+    return failures.names
+
+
+def caught_by_test(plant, copy):
+    """The test of a crate that has to catch a plant in a copy, if it does."""
+    crate = crate_of(plant.test)
+    if crate is None or plant.test not in passed_unplanted(crate):
+        raise Misfit(f"{plant.name}: no test {plant.test} that passes without it")
+    return [] if plant.test in passed_tests(copy, crate, {plant.test}) else [plant.test]
+
+
+def caught_by_plans(plant, copy, cases):
+    """The plans that catch a plant in a copy."""
+    said = said_by_rt(copy / "crates" / "zsched", "try", "--steps", "1", "--cases", str(cases))
+    ends = re.findall(r"^case=(\S+)\.json run=(\S+)(?: status=(\d+))?(.*)$", said, re.MULTILINE)
     if not ends:
         raise Misfit(f"{plant.name}: rt try gave no verdict: {said[-500:]}")
-    return [name for name, status, output in ends if (status, output) != ("0", "expected")]
+    return [name for name, *end, more in ends if end != ["ended", "0"] or "output=expected" not in more]
 
 
 def judge(plants):
@@ -170,11 +288,16 @@ def judge(plants):
         write_cases(cases)
         for plant in plants:
             copy = pathlib.Path(folder) / plant.name
-            shutil.copytree(TOP / "crates", copy / "crates", ignore=shutil.ignore_patterns("out"))
-            shutil.copy(TOP / "crates.txt", copy)
+            is_built = hasattr(refused_growths, plant.test)
+            copy_crates(copy, *([] if is_built else ["out"]))
             file = copy / "crates" / plant.file
             file.write_text(file.read_text().replace(plant.old, plant.new))
-            found = caught_by(plant, copy, cases)
+            if is_built:
+                found = caught_by_refusals(plant, copy)
+            elif plant.test:
+                found = caught_by_test(plant, copy)
+            else:
+                found = caught_by_plans(plant, copy, cases)
             survivors += not found
             told = ", ".join(found[:4]) + (f" and {len(found) - 4} more" if len(found) > 4 else "")
             print(f"{plant.name}: {f'caught by {told}' if found else 'survived'}", flush=True)

@@ -2,7 +2,8 @@
  *
  * REFUSE_AT=N        the N-th request for memory is answered with none; all threads count together
  * REFUSE_FROM=N      the N-th request and all later ones
- * REFUSE_THREADS=1   no thread can be started
+ * REFUSE_THREADS=N   the N-th start of a thread fails, and so do all later ones
+ * REFUSE_WITHIN=N    each request for memory that the N-th started thread makes is answered with none
  * REFUSE_COUNT=FILE  the number of requests is written to FILE when the program ends
  *
  * It stands on the names by which the GNU C library passes its own allocator on.
@@ -26,10 +27,24 @@ extern void *__libc_calloc(size_t, size_t);
 extern void *__libc_realloc(void *, size_t);
 extern void *__libc_memalign(size_t, size_t);
 
+/* More than run at once. */
+#define THREADS 1024
+
+/* What a started thread runs, and its number from 1 on. */
+struct start {
+    unsigned long number;
+    void *(*body)(void *);
+    void *argument;
+};
+
 static atomic_ulong requests;
+static atomic_ulong started;
+static struct start starts[THREADS];
+static _Thread_local unsigned long this_thread __attribute__((tls_model("initial-exec")));
 static unsigned long refused_at = ULONG_MAX;
 static unsigned long refused_from = ULONG_MAX;
-static int refuses_threads;
+static unsigned long refused_starts = ULONG_MAX;
+static unsigned long refused_within = ULONG_MAX;
 static const char *count_file;
 
 static unsigned long number_in(const char *name)
@@ -42,7 +57,8 @@ __attribute__((constructor)) static void begin(void)
 {
     refused_at = number_in("REFUSE_AT");
     refused_from = number_in("REFUSE_FROM");
-    refuses_threads = getenv("REFUSE_THREADS") != NULL;
+    refused_starts = number_in("REFUSE_THREADS");
+    refused_within = number_in("REFUSE_WITHIN");
     count_file = getenv("REFUSE_COUNT");
     atomic_store(&requests, 0);
 }
@@ -71,7 +87,7 @@ void _exit(int status)
 static int is_refused(void)
 {
     unsigned long number = atomic_fetch_add(&requests, 1) + 1;
-    if (number != refused_at && number < refused_from)
+    if (number != refused_at && number < refused_from && this_thread != refused_within)
         return 0;
     errno = ENOMEM;
     return 1;
@@ -121,13 +137,23 @@ int posix_memalign(void **place, size_t alignment, size_t size)
     return 0;
 }
 
+static void *run_thread(void *place)
+{
+    struct start *start = place;
+    this_thread = start->number;
+    return start->body(start->argument);
+}
+
 int pthread_create(pthread_t *thread, const pthread_attr_t *attributes, void *(*body)(void *), void *argument)
 {
-    typedef int starts(pthread_t *, const pthread_attr_t *, void *(*)(void *), void *);
-    static starts *_Atomic next;
-    if (refuses_threads)
+    typedef int starter(pthread_t *, const pthread_attr_t *, void *(*)(void *), void *);
+    static starter *_Atomic next;
+    unsigned long number = atomic_fetch_add(&started, 1) + 1;
+    struct start *start = &starts[number % THREADS];
+    if (number >= refused_starts)
         return EAGAIN;
     if (!next)
-        next = (starts *)dlsym(RTLD_NEXT, "pthread_create");
-    return next(thread, attributes, body, argument);
+        next = (starter *)dlsym(RTLD_NEXT, "pthread_create");
+    *start = (struct start){number, body, argument};
+    return next(thread, attributes, run_thread, start);
 }

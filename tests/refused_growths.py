@@ -2,8 +2,10 @@
 
 A library loaded before the program (refuse.c) refuses the N-th request, for N = 1, 2, .. until a whole run makes fewer
 requests than N. It doesn't stop at the first N that succeeds, since the library can do without some requests."""
+import functools
 import os
 import pathlib
+import resource
 import subprocess
 
 import program
@@ -60,6 +62,10 @@ PART_OF = {"memory": "engine memory", "broken": "engine memory", "no thread": "e
 
 MANY_PLACES = 40
 
+# How the program ends where memory or a thread is missing: with nothing written.
+NO_MEMORY = (4, b"", b"zsched: out of memory\n")
+NO_THREAD = (4, b"", b"zsched: no thread\n")
+
 
 class Refuser:
     """The library, built into a folder."""
@@ -114,7 +120,7 @@ def program_is_refused_well(count, refuser):
     cases = [("one job", (program.ONE_JOB, program.ONE_REPORT))]
     cases += [(f"seven jobs, {w} workers, grain {g}", program.equal_jobs(names, w, g)) for w, g in [(1, 1), (2, 3)]]
     for case, (text, report) in cases:
-        right = [(0, report, b""), (4, b"", b"zsched: out of memory\n"), (4, b"", b"zsched: no thread\n")]
+        right = [(0, report, b""), NO_MEMORY, NO_THREAD]
         for refusal in ["refuse_at", "refuse_from"]:
             for number, ended in refuser.each(program.ZSCHED, text, refusal):
                 count.test(f"{case}, {refusal} {number}", ended if ended not in right else right, right)
@@ -125,7 +131,7 @@ def many_jobs_are_refused_well(count, refuser):
     names = [f"j{number}" for number in range(10000)]
     for workers, grain in [(1, 1), (2, 3)]:
         text, report = program.equal_jobs(names, workers, grain)
-        right = [(0, report, b""), (4, b"", b"zsched: out of memory\n"), (4, b"", b"zsched: no thread\n")]
+        right = [(0, report, b""), NO_MEMORY, NO_THREAD]
         whole, requests = refuser.run(program.ZSCHED, text)
         count.test(f"10,000 jobs, {workers} workers, nothing refused", whole, right[0])
         for place in range(MANY_PLACES):
@@ -138,10 +144,43 @@ def program_without_threads(count, refuser):
     """A machine on which no thread can be started."""
     text, _ = program.equal_jobs("abcdefg", 2, 3)
     ended, _ = refuser.run(program.ZSCHED, text, refuse_threads=1)
-    count.test("no thread can be started", ended, (4, b"", b"zsched: no thread\n"))
+    count.test("no thread can be started", ended, NO_THREAD)
     text, report = program.equal_jobs("abcdefg", 1, 3)
     ended, _ = refuser.run(program.ZSCHED, text, refuse_threads=1)
     count.test("one worker needs no thread", ended, (0, report, b""))
+
+
+def program_with_few_threads(count, refuser):
+    """A machine on which some threads can be started: three workers need two more than there are at each of three moments."""
+    text, report = program.equal_jobs("abcdefg", 3, 1)
+    for number in range(1, 8):
+        ended, _ = refuser.run(program.ZSCHED, text, refuse_threads=number)
+        wanted = NO_THREAD if number <= 6 else (0, report, b"")
+        count.test(f"start {number} of a thread and all later ones refused", ended, wanted)
+
+
+def two_causes_are_told_apart(count, refuser):
+    """A round in which one worker finds no memory, or can't be started, or both: of two causes the first worker's is told."""
+    text, _ = program.equal_jobs("abcdefg", 3, 1)
+    for case, refusal, wanted in [
+            ("the second worker finds no memory", {"refuse_within": 1}, NO_MEMORY),
+            ("the third worker finds no memory", {"refuse_within": 2}, NO_MEMORY),
+            ("the third worker can't be started", {"refuse_threads": 2}, NO_THREAD),
+            ("the second worker finds no memory, and the third can't be started",
+             {"refuse_within": 1, "refuse_threads": 2}, NO_MEMORY)]:
+        ended, _ = refuser.run(program.ZSCHED, text, **refusal)
+        count.test(case, ended, wanted)
+
+
+def many_jobs_with_little_memory(count):
+    """The program on 10,000 jobs, with so many million bytes for all of its memory: from too few to enough."""
+    text, report = program.equal_jobs([f"j{number}" for number in range(10000)], 2, 3)
+    ends = {4: [NO_MEMORY], 256: [(0, report, b"")]}
+    for millions in [4, 8, 16, 24, 32, 40, 48, 64, 256]:
+        right = ends.get(millions, [(0, report, b""), NO_MEMORY, NO_THREAD])
+        limit = (millions * 1_000_000, millions * 1_000_000)
+        ended = program.run(program.ZSCHED, text, preexec_fn=functools.partial(resource.setrlimit, resource.RLIMIT_AS, limit))
+        count.test(f"10,000 jobs, {millions},000,000 bytes of memory", ended if ended not in right else right, right)
 
 
 def test(count, folder):
@@ -151,3 +190,6 @@ def test(count, folder):
     program_is_refused_well(count, refuser)
     many_jobs_are_refused_well(count, refuser)
     program_without_threads(count, refuser)
+    program_with_few_threads(count, refuser)
+    two_causes_are_told_apart(count, refuser)
+    many_jobs_with_little_memory(count)

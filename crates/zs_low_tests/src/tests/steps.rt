@@ -7,7 +7,7 @@ use std::alloc::{Alloc, AllocError, Global};
 use std::fmt::Write;
 use std::process::Abort;
 use std::test::Fail;
-use zs_step::{Compiled, Decision, Interval, follow, plain};
+use zs_step::{Compiled, Decision, Interval, StepFault, follow, plain};
 use zs_term::{Checked, Out, append_out, read};
 
 // A schedule, its pairs of a moment and an input, the answers, and the visits that the steps take.
@@ -369,4 +369,35 @@ fn intervals_meet_at_their_starts(rt: HostRuntime) {
     let (early, late) = (Interval::after(3), Interval::after(8));
     assert!(rt; early.intersect(&late).start() == 8);
     assert!(rt; early.union(&late).start() == 3);
+}
+
+// A hundred pairs (k, k), of which each answer is `k k`, in one visit.
+#[test]
+fn a_hundred_pairs_are_answered(rt: HostRuntime) -> Result<(), Fail> {
+    let mut pairs = Vec::new(rt.alloc());
+    let mut answers = String::new(rt.alloc());
+    let mut visits = String::new(rt.alloc());
+    for k in 0..100u64 {
+        pairs.push((k, k))?;
+        write!(answers, "{k} {k};")?;
+        visits.push_str("1;")?;
+    }
+    for schedule in [
+        "forever",
+        "recurs(1000)",
+        "identity",
+        "elapsed",
+        "spaced(0)",
+    ] {
+        expect_answers(&rt, &[(schedule, &pairs, &answers, &visits)])?;
+    }
+    Ok(())
+}
+
+#[test]
+fn faults_have_texts(rt: HostRuntime) -> Result<(), Fail> {
+    let memory = StepFault::Memory;
+    let found = format!(in rt.alloc(); "{memory}")?;
+    expect_text(&rt, &found, "out of memory", "the faults");
+    Ok(())
 }

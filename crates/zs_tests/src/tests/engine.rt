@@ -1,8 +1,10 @@
 //! Whole runs: the attempts of each job, how it ended, and the polls that were due.
 use super::support::expect_text;
+use super::support::gates::Meeting;
 use super::support::jobs::{Given, bad, good, jobs_of, retried};
 use std::alloc::{AllocError, Global};
 use std::fmt::Write;
+use std::mem::drop;
 use std::process::Abort;
 use std::sync::Wait;
 use std::test::Fail;
@@ -10,7 +12,7 @@ use std::thread::Threads;
 use zs_agenda::{AgendaFault, Clock};
 use zs_drive::{Attempted, DriveFault, Job, Mode, Task};
 use zs_engine::{Answer, EngineFault, run_jobs};
-use zs_pool::{Cut, OpenGate};
+use zs_pool::{Cut, Gate, OpenGate};
 use zs_step::Decision;
 
 // Workers and grains, from one task at a time to more of both than there are jobs.
@@ -91,6 +93,24 @@ fn push_run<R: Abort + Threads + Wait + Sync>(
     assert!(rt; jobs.len() <= 10_000);
     let answer = run_jobs(rt, alloc, cut, &OpenGate, clock, jobs)?;
     Ok(push_answer(text, &answer)?)
+}
+
+// The jobs need so many polls under the gate.
+fn expect_polls<G: Gate, R: Abort + Threads + Wait + Sync>(
+    rt: &R,
+    alloc: Global,
+    cut: Cut,
+    gate: &G,
+    clock: Clock,
+    jobs: Vec<Job>,
+    polls: u64,
+) -> Result<(), Fail> {
+    assert!(rt; jobs.len() <= 10_000);
+    let answer = run_jobs(rt, alloc, cut, gate, clock, jobs)?;
+    let found = answer.polls;
+    drop(answer);
+    assert!(rt; found == polls, "{found}");
+    Ok(())
 }
 
 // The jobs come to this under each of these cuts.
@@ -309,5 +329,25 @@ fn a_fault_says_what_was_missing(rt: HostRuntime) -> Result<(), Fail> {
     let (memory, thread) = (EngineFault::Memory, EngineFault::NoThread);
     let found = format!(in rt.alloc(); "{memory}, {thread}")?;
     expect_text(&rt, &found, "out of memory, no thread", "the faults");
+    Ok(())
+}
+
+// Jobs of one attempt of 5 ms. Two threads meet at both of its moments, however many jobs are due there.
+#[test]
+fn two_threads_meet_in_a_run_of_ten_thousand_jobs(rt: HostRuntime) -> Result<(), Fail> {
+    let job = Given {
+        name: "j",
+        mode: Mode::Repeat,
+        schedule: "recurs(0)",
+        start: 0,
+        beats: &[good(5, 0)],
+    };
+    let given = Vec::from_elem(rt.alloc(), job, 10_000)?;
+    let jobs = jobs_of(rt.alloc(), &given)?;
+    let clock = clock_of(&rt, rt.alloc(), Ticks::Every(5))?;
+    let cut = Cut::new(2, 1).expect(&rt, "within the limits");
+    let gate = Meeting::of(2);
+    expect_polls(&rt, rt.alloc(), cut, &gate, clock, jobs, 20_000)?;
+    assert!(rt; gate.alone() == 0);
     Ok(())
 }

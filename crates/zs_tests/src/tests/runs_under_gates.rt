@@ -1,6 +1,6 @@
 //! Runs on several workers, under gates that hold a thread until others have come: a run on fewer threads, or one that
 //! holds a lock over both the gate and the poll, gives up waiting and is told by a flag.
-use super::support::gates::{Held, InTurn, Meeting, Slow};
+use super::support::gates::{Apart, Crowd, Held, InTurn, Meeting, Rounds, Slow};
 use super::support::plans::{PLAN, plan_of, report_of, written};
 use std::alloc::Global;
 use std::process::Abort;
@@ -17,7 +17,19 @@ fn expect_report<G: Gate, R: Abort + Threads + Wait + Sync>(
     names: &str,
     workers: u64,
 ) -> Result<(), Fail> {
-    let plan = plan_of(alloc, names, workers, 1)?;
+    expect_report_of(rt, alloc, gate, names, workers, 1)
+}
+
+// The same, with so many jobs in a batch.
+fn expect_report_of<G: Gate, R: Abort + Threads + Wait + Sync>(
+    rt: &R,
+    alloc: Global,
+    gate: &G,
+    names: &str,
+    workers: u64,
+    grain: u64,
+) -> Result<(), Fail> {
+    let plan = plan_of(alloc, names, workers, grain)?;
     let report = report_of(alloc, names, (names.len() as u64).wrapping_mul(3))?;
     let written = written(rt, alloc, gate, &plan)?;
     assert!(rt; written.as_slice() == report.as_bytes(), "{names}");
@@ -54,6 +66,37 @@ fn each_pass_is_told_of_the_polls_before(rt: HostRuntime) -> Result<(), Fail> {
 fn a_slow_job_changes_nothing(rt: HostRuntime) -> Result<(), Fail> {
     for job in 0..7u64 {
         expect_report(&rt, rt.alloc(), &Slow { job }, "abcdefg", 3)?;
+    }
+    Ok(())
+}
+
+// While the first job of a batch is held, the other thread takes all batches but this one: those of three of ten jobs.
+#[test]
+fn a_thread_takes_the_plans_grain_of_jobs(rt: HostRuntime) -> Result<(), Fail> {
+    for (job, others) in [(0u64, 0x3f9u64), (3, 0x3cf), (6, 0x27f), (9, 0x3ff)] {
+        let gate = Apart::of(job, others);
+        expect_report_of(&rt, rt.alloc(), &gate, "abcdefghij", 2, 3)?;
+        assert!(rt; gate.by_then() == others, "job {job}");
+    }
+    Ok(())
+}
+
+#[test]
+fn as_many_threads_poll_at_once_as_the_plan_has_workers(rt: HostRuntime) -> Result<(), Fail> {
+    for workers in [1u64, 3, 8] {
+        let gate = Crowd::of(workers);
+        expect_report(&rt, rt.alloc(), &gate, "abcdefghijklmnop", workers)?;
+        assert!(rt; gate.alone() == 0 && gate.most() == workers, "{workers}");
+    }
+    Ok(())
+}
+
+#[test]
+fn each_pass_is_told_the_moment_of_its_round(rt: HostRuntime) -> Result<(), Fail> {
+    for workers in [1u64, 3] {
+        let gate = Rounds::of(4);
+        expect_report(&rt, rt.alloc(), &gate, "abcd", workers)?;
+        assert!(rt; gate.passes() == 12 && gate.wrong() == 0, "{workers}");
     }
     Ok(())
 }

@@ -1,6 +1,6 @@
 //! Readers and writers of `std`'s that fail, give little, or never end.
 use super::support::plans::{PLAN, REPORT};
-use super::support::streams::{Halting, Limited, Spaces};
+use super::support::streams::{Counted, Halting, Limited, Spaces};
 use std::alloc::{Alloc, Global};
 use std::io;
 use std::io::Read;
@@ -101,4 +101,44 @@ fn a_flush_fails(rt: HostRuntime) {
 fn bytes_come_and_go_in_small_pieces(rt: HostRuntime) {
     let mut writer = Limited::of(rt.alloc(), 3, 1000, true);
     expect_written(&rt, rt.alloc(), 1, &mut writer, Ok(()), 112);
+}
+
+// A run over a writer that takes 50 bytes a call, and nothing at one call, ends so after so many reads and other calls.
+fn expect_calls<R: Abort + Threads + Wait + Sync>(
+    rt: &R,
+    alloc: Global,
+    idle: Option<u64>,
+    wanted: Result<(), RunFault>,
+    calls: (u64, u64),
+) {
+    let mut inner = Counted {
+        inner: PLAN.as_bytes(),
+        calls: 0,
+        idle: None,
+    };
+    let mut taking = Counted {
+        inner: Limited::of(alloc, 50, 1000, true),
+        calls: 0,
+        idle,
+    };
+    let mut reader = Marked::new(&mut inner);
+    let mut writer = Marked::new(&mut taking);
+    let ended = run(rt, alloc, &OpenGate, &mut reader, &mut writer);
+    assert!(rt; ended == wanted, "{ended:?}");
+    assert!(rt; (inner.calls, taking.calls) == calls, "{ended:?}");
+}
+
+#[test]
+fn a_plan_comes_and_its_report_goes_in_few_calls(rt: HostRuntime) {
+    expect_calls(&rt, rt.alloc(), None, Ok(()), (2, 4));
+}
+
+#[test]
+fn a_write_of_nothing_is_not_tried_again(rt: HostRuntime) {
+    for idle in 0..3u64 {
+        let sent = idle.wrapping_mul(50);
+        let wanted = Err(RunFault::Write { sent });
+        let calls = (2, idle.wrapping_add(1));
+        expect_calls(&rt, rt.alloc(), Some(idle), wanted, calls);
+    }
 }

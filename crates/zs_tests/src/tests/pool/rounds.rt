@@ -4,7 +4,7 @@ ghost use Rattle.zs_drive.specs.Clocks.{max_tick};
 ghost use Rattle.zs_term.specs.Saturating.{max_moment};
 
 use super::*;
-use crate::tests::support::gates::{Held, InTurn, LastFirst, Meeting, Slow};
+use crate::tests::support::gates::{Chained, Held, InTurn, LastFirst, Meeting, Slow};
 use std::process::Abort;
 use std::sync::Wait;
 use std::thread::Threads;
@@ -146,5 +146,14 @@ fn a_slow_job_changes_nothing(rt: HostRuntime) -> Result<(), Fail> {
     let (polled, counted) = one_round(&rt, rt.alloc(), cut, &Slow { job: 1 }, 0, 3)?;
     expect_polled(&rt, &polled, 3);
     assert_eq!(rt; counted, 3);
+    Ok(())
+}
+
+#[test]
+fn a_gate_is_passed_before_its_poll_is_counted(rt: HostRuntime) -> Result<(), Fail> {
+    let gate = Chained::new();
+    let (polled, _) = one_round(&rt, rt.alloc(), within(&rt, 2, 1), &gate, 0, 3)?;
+    assert_eq!(rt; (gate.alone(), gate.done()), (0, 1));
+    expect_polled(&rt, &polled, 3);
     Ok(())
 }

@@ -1,5 +1,5 @@
 //! Shelves of polled batches with no tasks, used by one pass, by two, and by two threads.
-ghost use Rattle.std.specs.Prelude.{◌≡◌};
+ghost use Rattle.std.specs.Prelude.{◌≡◌, ◌≤◌};
 
 use super::*;
 use std::sync::Wait;
@@ -170,5 +170,54 @@ fn one_thread_takes_in_order_what_another_puts(rt: HostRuntime) -> Result<(), Fa
     assert_eq!(rt; in_order, 1000);
     let pass = shelf.join(&rt, first, second);
     assert!(rt; shelf.close(&rt, alloc, pass)?.is_empty());
+    Ok(())
+}
+
+// Puts polled batches with the numbers below `count`, and tells the first for which there was no room.
+fn put_until_full<R: Wait>(
+    rt: &R,
+    alloc: Global,
+    shelf: &Shelf,
+    mut pass: ShelfPass,
+    count: u64,
+) -> Option<u64>
+    requires shelf { pass.shelf ≡ shelf.now }
+{
+    for number in 0..count {
+        if put(rt, alloc, shelf, &mut pass, number).is_err() {
+            return Some(number);
+        }
+    }
+    None
+}
+
+// How many polled batches a shelf of this capacity takes.
+fn room_of<R: Wait>(rt: &R, alloc: Global, capacity: u64) -> Result<Option<u64>, Fail>
+    requires capacity { (1 ≤ capacity) × (capacity ≤ 10000) }
+{
+    let (shelf, pass) = Shelf::new(rt, alloc, capacity)?;
+    Ok(put_until_full(rt, alloc, &shelf, pass, 10_001))
+}
+
+#[test]
+fn a_shelf_has_room_for_as_many_as_it_was_made_for(rt: HostRuntime) -> Result<(), Fail> {
+    let (some, most) = (
+        room_of(&rt, rt.alloc(), 9)?,
+        room_of(&rt, rt.alloc(), 10_000)?,
+    );
+    assert_eq!(rt; (some, most), (Some(9), Some(10_000)));
+    Ok(())
+}
+
+#[test]
+fn a_shelf_takes_a_batch_of_many_tasks(rt: HostRuntime) -> Result<(), Fail> {
+    let alloc = rt.alloc();
+    let tasks = new_tasks(alloc, 1000, 0)?;
+    let (tally, mut seat) = Tally::new(alloc)?;
+    let batch = Batch { number: 0, tasks };
+    let polled = poll_batch(&rt, alloc, &OpenGate, &tally, &mut seat, 0, batch)?;
+    let (shelf, mut pass) = Shelf::new(&rt, alloc, 1)?;
+    let is_put = shelf.put(&rt, &mut pass, polled).is_ok();
+    assert!(rt; is_put);
     Ok(())
 }

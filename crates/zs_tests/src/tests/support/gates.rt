@@ -202,3 +202,194 @@ impl Gate for InTurn {
         }
     }
 }
+
+/// Holds the first pass of one job, at moment 0, until those of some others were entered, and keeps which were by then. A
+/// set of jobs has the bit 2^k for the job k.
+#[derive(Drop)]
+pub struct Apart {
+    job: u64,
+    others: u64,
+    entered: AtomicU64,
+    by_then: AtomicU64,
+}
+
+impl Apart {
+    pub fn of(job: u64, others: u64) -> Apart {
+        Apart {
+            job,
+            others,
+            entered: AtomicU64::new(0),
+            by_then: AtomicU64::new(0),
+        }
+    }
+
+    /// The jobs that were entered when the held one went on, with that one.
+    pub fn by_then(&self) -> u64 {
+        self.by_then.load(Ordering::SeqCst)
+    }
+
+    // The jobs that were entered when all of the others were, or when that had lasted too long.
+    fn wait(&self) -> u64 {
+        for _ in 0..TURNS {
+            let entered = self.entered.load(Ordering::SeqCst);
+            if entered & self.others == self.others {
+                return entered;
+            }
+            thread::yield_now();
+        }
+        self.entered.load(Ordering::SeqCst)
+    }
+}
+
+impl Gate for Apart {
+    fn pass(&self, job: u64, now: u64, _done: u64) {
+        if now == 0 {
+            let bit = 1u64.wrapping_shl((job % 64) as u32);
+            self.entered.fetch_or(bit, Ordering::SeqCst);
+            if job == self.job {
+                self.by_then.store(self.wait(), Ordering::SeqCst);
+            }
+        }
+    }
+}
+
+/// Holds each pass of moment 0 until so many are inside at once and none has come for a while. Counts those that gave up,
+/// and keeps the most that were inside.
+#[derive(Drop)]
+pub struct Crowd {
+    wanted: u64,
+    inside: AtomicU64,
+    most: AtomicU64,
+    alone: AtomicU64,
+}
+
+impl Crowd {
+    pub fn of(wanted: u64) -> Crowd {
+        Crowd {
+            wanted,
+            inside: AtomicU64::new(0),
+            most: AtomicU64::new(0),
+            alone: AtomicU64::new(0),
+        }
+    }
+
+    /// The most passes that were inside at once.
+    pub fn most(&self) -> u64 {
+        self.most.load(Ordering::SeqCst)
+    }
+
+    /// How many passes gave up.
+    pub fn alone(&self) -> u64 {
+        self.alone.load(Ordering::SeqCst)
+    }
+}
+
+impl Gate for Crowd {
+    fn pass(&self, _job: u64, now: u64, _done: u64) {
+        if now == 0 {
+            let before = self.inside.fetch_add(1, Ordering::SeqCst);
+            self.most
+                .fetch_max(before.wrapping_add(1), Ordering::SeqCst);
+            if !comes_to(&self.most, self.wanted) {
+                self.alone.fetch_add(1, Ordering::SeqCst);
+            }
+            for _ in 0..1000u64 {
+                thread::yield_now();
+            }
+            self.inside.fetch_sub(1, Ordering::SeqCst);
+        }
+    }
+}
+
+/// Counts the passes that are told another moment than that of their round, or of a number of polls that can't have been
+/// counted. There is a round for every so many passes, each 5 ms after the last.
+#[derive(Drop)]
+pub struct Rounds {
+    jobs: u64,
+    passes: AtomicU64,
+    wrong: AtomicU64,
+}
+
+impl Rounds {
+    pub fn of(jobs: u64) -> Rounds {
+        Rounds {
+            jobs,
+            passes: AtomicU64::new(0),
+            wrong: AtomicU64::new(0),
+        }
+    }
+
+    pub fn passes(&self) -> u64 {
+        self.passes.load(Ordering::SeqCst)
+    }
+
+    pub fn wrong(&self) -> u64 {
+        self.wrong.load(Ordering::SeqCst)
+    }
+}
+
+impl Gate for Rounds {
+    fn pass(&self, _job: u64, now: u64, done: u64) {
+        let before = self.passes.fetch_add(1, Ordering::SeqCst);
+        let round = now / 5;
+        let earlier = round.wrapping_mul(self.jobs);
+        let is_now = before.checked_div(self.jobs) == Some(round) && now % 5 == 0;
+        if !is_now || done < earlier || before < done {
+            self.wrong.fetch_add(1, Ordering::SeqCst);
+        }
+    }
+}
+
+/// Of three jobs and two threads, holds job 1 until job 0 was entered, and job 0 until job 2 was. So job 2 comes when its
+/// thread has polled job 1 and the other thread is at its gate. Counts those that gave up, and keeps what job 2 was told.
+#[derive(Drop)]
+pub struct Chained {
+    zero: AtomicU64,
+    two: AtomicU64,
+    done: AtomicU64,
+    alone: AtomicU64,
+}
+
+impl Chained {
+    pub fn new() -> Chained {
+        Chained {
+            zero: AtomicU64::new(0),
+            two: AtomicU64::new(0),
+            done: AtomicU64::new(0),
+            alone: AtomicU64::new(0),
+        }
+    }
+
+    /// The polls that were counted before job 2 came.
+    pub fn done(&self) -> u64 {
+        self.done.load(Ordering::SeqCst)
+    }
+
+    /// How many passes gave up.
+    pub fn alone(&self) -> u64 {
+        self.alone.load(Ordering::SeqCst)
+    }
+
+    // Waits until the job that has this counter was entered.
+    fn wait(&self, entered: &AtomicU64) {
+        if !comes_to(entered, 1) {
+            self.alone.fetch_add(1, Ordering::SeqCst);
+        }
+    }
+}
+
+impl Gate for Chained {
+    fn pass(&self, job: u64, _now: u64, done: u64) {
+        match job {
+            0 => {
+                self.zero.store(1, Ordering::SeqCst);
+                self.wait(&self.two);
+            }
+            1 => self.wait(&self.zero),
+            _ => {
+                self.done.store(done, Ordering::SeqCst);
+                self.two.store(1, Ordering::SeqCst);
+            }
+        }
+    }
+}

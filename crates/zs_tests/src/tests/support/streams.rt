@@ -217,3 +217,41 @@ impl Write for Answers {
         }
     }
 }
+
+/// A reader or a writer that counts its calls. One call of a writer, counted from 0, may take nothing.
+#[derive(Drop)]
+pub struct Counted<T> {
+    pub inner: T,
+    pub calls: u64,
+    pub idle: Option<u64>,
+}
+
+impl<T> Counted<T> {
+    // Counts a call, and tells whether it is the one that takes nothing.
+    fn is_idle(&mut self) -> bool {
+        let call = self.calls;
+        self.calls = call.wrapping_add(1);
+        self.idle == Some(call)
+    }
+}
+
+impl<R: Read> Read for Counted<R> {
+    fn read(&mut self, buf: &mut [u8]) -> io::Result<usize> {
+        let _ = self.is_idle();
+        self.inner.read(buf)
+    }
+}
+
+impl<W: Write> Write for Counted<W> {
+    fn write(&mut self, buf: &[u8]) -> io::Result<usize> {
+        if self.is_idle() {
+            return Ok(0);
+        }
+        self.inner.write(buf)
+    }
+
+    fn flush(&mut self) -> io::Result<()> {
+        let _ = self.is_idle();
+        self.inner.flush()
+    }
+}
