@@ -77,6 +77,7 @@ class WrongBodies(threading.Thread):
     def __init__(self, store):
         super().__init__(daemon=True)
         self.store, self.waiting, self.is_last = store, collections.deque(), False
+        self.proved = set()
         self.said, self.passed, self.failed = [], 0, 0
 
     def run(self):
@@ -92,8 +93,11 @@ class WrongBodies(threading.Thread):
         processors = len(os.sched_getaffinity(0))
         lanes = str(processors if self.is_last else max(1, processors // 2))
         words = ["nice", "-n", "5", sys.executable, TOP / "tests" / "wrong_bodies.py", "--crate", crate]
-        ended = subprocess.run([*words, "--kept", self.store.kept, "--lanes", lanes], cwd=TOP, stdin=subprocess.DEVNULL,
-                               stdout=subprocess.PIPE, stderr=subprocess.STDOUT, text=True, errors="replace")
+        words += ["--kept", self.store.kept, "--lanes", lanes]
+        if crate in self.proved and (self.store.kept / crate).is_dir():
+            words.append("--proved")
+        ended = subprocess.run(words, cwd=TOP, stdin=subprocess.DEVNULL, stdout=subprocess.PIPE,
+                               stderr=subprocess.STDOUT, text=True, errors="replace")
         last = LAST.findall(ended.stdout)[-1:] or [("0", "1")]
         self.passed += int(last[0][0])
         self.failed += int(last[0][1]) or int(ended.returncode != 0)
@@ -126,8 +130,10 @@ def follow(running, store, bodies):
         print(line, end="", flush=True)
         sums += LAST.findall(line)
         proved = re.fullmatch(r"rt: (\w+) proved\n", line)
-        if proved and not has_edits(proved[1], "must-fail"):
-            begin(proved[1])
+        if proved:
+            bodies.proved.add(proved[1])
+            if not has_edits(proved[1], "must-fail"):
+                begin(proved[1])
     watching.join()
     for crate in [*store.look(), *sorted(it.name for it in (TOP / "crates").iterdir())]:
         begin(crate)

@@ -8,6 +8,7 @@ must fail and no test of the crates: ./check does. The last line is 'N passed, M
 
     python3 tests/quick.py             what ./check quick runs
     python3 tests/quick.py --proved    takes the crates as they stand for proved: ./run --proved and ./check say so"""
+import contextlib
 import hashlib
 import os
 import pathlib
@@ -24,6 +25,8 @@ from program import TOP, Count
 CRATES = TOP / "crates"
 # A plan of more bytes is left to the built program: the unproved run is slow.
 LARGE = 10000
+# How many unproved runs go side by side at most. Each builds the program once.
+LANES = 2
 # A line of a source that callers may lean on: an import, an item's head, a clause or an attribute.
 HEAD = re.compile(r"^\s*(pub\b|fn\b|requires\b|ensures\b|struct\b|enum\b|impl\b|trait\b|ghost\b|use\b|mod\b|const\b|#)")
 
@@ -90,20 +93,24 @@ def prove(count, listed):
         keep(name, now)
 
 
-def write_cases(folder):
-    """Writes the plans with reports, and the hostile plans, as files; answers what each has to end with."""
+def write_cases(folders):
+    """Writes the plans with reports, and a hostile plan for each fault, as files shared out to folders; answers what
+    each has to end with."""
     wanted = {}
-    for plan in sorted([*TOP.glob("examples/*.json"), *TOP.glob("tests/plans/*.json")]):
-        (folder / plan.name).write_bytes(plan.read_bytes())
-        (folder / f"{plan.name}.stdout").write_bytes(plan.with_suffix(".json.stdout").read_bytes())
-        wanted[plan.name] = ("0", "")
-    # A plan that is cut at each byte is left to ./check too: one unproved run takes a good part of a second.
-    small = [(text, fault) for name, text, fault in hostile_plans.refused()
-             if len(text) <= LARGE and not name.startswith("a plan cut at")]
-    for number, (text, fault) in enumerate(small, 1):
-        case = f"hostile_{number:03}.json"
+
+    def write(case, text, status, fault):
+        folder = folders[len(wanted) % len(folders)]
         (folder / case).write_bytes(text)
-        wanted[case] = ("2", f"zsched: {fault}")
+        wanted[case] = (status, fault)
+        return folder
+
+    for plan in sorted([*TOP.glob("examples/*.json"), *TOP.glob("tests/plans/*.json")]):
+        folder = write(plan.name, plan.read_bytes(), "0", "")
+        (folder / f"{plan.name}.stdout").write_bytes(plan.with_suffix(".json.stdout").read_bytes())
+    # Other plans with the same fault are left to ./check: one unproved run takes a good part of a second.
+    by_fault = {fault: text for name, text, fault in reversed(hostile_plans.refused()) if len(text) <= LARGE}
+    for number, (fault, text) in enumerate(by_fault.items(), 1):
+        write(f"hostile_{number:02}.json", text, "2", f"zsched: {fault}")
     return wanted
 
 
@@ -134,20 +141,23 @@ def main(words):
         print("quick: the only word is --proved", file=sys.stderr)
         return 2
     count = Count()
-    with tempfile.TemporaryDirectory() as room:
-        folder = pathlib.Path(room)
-        wanted = write_cases(folder)
-        with open(folder.with_suffix(".said"), "w+", errors="replace") as said:
-            words = ["rt", "try", "--cases", room]
-            running = subprocess.Popen(words, cwd=CRATES / "zsched", stdin=subprocess.DEVNULL, stdout=subprocess.DEVNULL, stderr=said)
-            try:
-                prove(count, crates())
-                running.wait()
-            finally:
-                running.kill()
-            said.seek(0)
-            judge(count, wanted, said.read())
-        os.remove(folder.with_suffix(".said"))
+    with contextlib.ExitStack() as room:
+        lanes = max(1, min(LANES, len(os.sched_getaffinity(0)) // 2))
+        folders = [pathlib.Path(room.enter_context(tempfile.TemporaryDirectory())) for _ in range(lanes)]
+        said = [room.enter_context(tempfile.TemporaryFile("w+", errors="replace")) for _ in folders]
+        wanted = write_cases(folders)
+        running = [subprocess.Popen(["rt", "try", "--cases", folder], cwd=CRATES / "zsched", stdin=subprocess.DEVNULL,
+                                    stdout=subprocess.DEVNULL, stderr=out) for folder, out in zip(folders, said)]
+        try:
+            prove(count, crates())
+            for it in running:
+                it.wait()
+        finally:
+            for it in running:
+                it.kill()
+        for out in said:
+            out.seek(0)
+        judge(count, wanted, "".join(out.read() for out in said))
     return count.close()
 
 

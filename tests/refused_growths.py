@@ -2,6 +2,7 @@
 
 A library loaded before the program (refuse.c) refuses the N-th request, for N = 1, 2, .. until a whole run makes fewer
 requests than N. It doesn't stop at the first N that succeeds, since the library can do without some requests."""
+import dataclasses
 import functools
 import os
 import pathlib
@@ -12,53 +13,68 @@ import program
 
 MOST_REQUESTS = 5000
 
-# What zs_refusals prints of a call when a request of the call was refused. What a call needs is made before it, and a
-# refusal there is "set-up: memory". A call that makes no request of its own has no answer here.
-ANSWERS = {
-    "read": ["memory"],
-    "check": ["memory"],
-    "write": ["memory"],
-    "write_out": ["memory"],
-    "plain": ["memory"],
-    "compiled_new": ["memory"],
-    "step": ["memory"],
-    "follow": ["memory"],
-    "task_new": ["memory"],
-    "poll": ["memory"],
-    "agenda_new": [],
-    "set": ["memory"],
-    "take": [],
-    "board_new": ["memory"],
-    "board_split": [],
-    "board_close": ["memory"],
-    "shelf_new": ["memory"],
-    "shelf_split": [],
-    "shelf_close": ["memory"],
-    "poll_batch": ["memory", "broken"],
-    "tally_new": ["memory"],
-    "round": ["memory"],
-    "run_jobs": ["memory"],
-    "read_plan": ["memory"],
-    "report": ["memory"],
-    "run": ["plan memory", "engine memory"],
-    "run_seven_alone": ["plan memory", "engine memory"],
-    "run_seven_shared": ["plan memory", "engine memory"],
-    "run_many_alone": ["plan memory", "engine memory"],
-    "run_many_shared": ["plan memory", "engine memory"],
-}
 
-# What a call that starts threads may print besides, where the start of a thread was what found no memory.
-THREADED = {
-    "round": ["no thread"],
-    "run_jobs": ["no thread"],
-    "run_seven_shared": ["engine no thread"],
-    "run_many_shared": ["engine no thread"],
-}
+@dataclasses.dataclass
+class Case:
+    """Calls of zs_refusals: the name of the case, what they are given, and what they make. Of each call that asks for
+    memory the line that it prints where a request of its own was refused, in the order in which the calls come; a
+    call that starts threads may print another one, where the start of a thread was what found no memory."""
+    name: str
+    given: str
+    made: str
+    lines: list
+    may: str = ""
 
-# The order in which the parts of a call come. A refusal in a later part is found by a greater N.
-PARTS = ["set-up: memory", "plan memory", "engine memory"]
-PART_OF = {"memory": "engine memory", "broken": "engine memory", "no thread": "engine memory",
-           "engine no thread": "engine memory"}
+    def order(self, line):
+        """The place of a line: a later one is found by a greater N, but how many requests threads make varies."""
+        threads = self.lines.index(self.may.replace("NoThread", "Memory")) if self.may else len(self.lines)
+        return min(self.lines.index(line), threads) if line in self.lines else threads
+
+    def is_known(self, line):
+        """Whether the case may end so. A refusal in what a call needs, which is made before it, is one in its set-up."""
+        is_set_up = line.startswith("set-up: ") and "wrong" not in line
+        return is_set_up or line in [f"ok\n{self.made}", *self.lines] or line == self.may != ""
+
+
+TEXT = "( exponential(10).collectAll && (recurs(3) andThenEither spaced(5)).map(merge) ).whileOutput(_2 < 9)"
+SPELLED = "(exponential(10, 2).collectAll && (recurs(3) andThenEither spaced(5)).map(merge)).whileOutput(_2 < 9)"
+
+# A schedule whose state and outputs both grow, and its output at the last of (1, 7), (3, 8), (9, 9).
+GROWING = "(identity.collectAll && (recurs(1) andThenEither spaced(5)))"
+THIRD = "([7,8],Right(1))"
+REPEATED = program.plan([program.job(schedule=GROWING, mode="repeat", script='"script":[' + ",".join(
+    f'{{"ms":5,"ok":{value}}}' for value in [7, 8, 9]) + "]")]).decode()
+
+RUN = ["run: Plan(Memory)", "run: Engine(Memory)"]
+JOBS = ["read_plan: Memory", "run_jobs: Memory", "report: AllocError"]
+
+
+def runs():
+    """The cases of whole plans, each alone on one worker and then shared out between two."""
+    seven, many = "abcdefg", [f"j{number}" for number in range(52)]
+    for name, lines, names, grain in [("jobs", JOBS, seven, 1), ("run", RUN, seven, 3), ("run", RUN, many, 3)]:
+        for workers in [1, 2]:
+            plan, report = program.equal_jobs(names, workers, grain if workers > 1 else 1)
+            may = lines[1].replace("Memory", "NoThread") if workers > 1 else ""
+            yield Case(name, plan.decode(), report.decode(), lines, may)
+
+
+CASES = [
+    Case("text", TEXT, SPELLED, ["read: Memory", "write: AllocError"]),
+    Case("tree", "", SPELLED, ["check: Memory"]),
+    Case("plain", GROWING, THIRD, ["plain: Memory", "write_out: AllocError"]),
+    Case("follow", GROWING, THIRD, ["follow: Memory"]),
+    Case("steps", GROWING, THIRD, ["Compiled::new: Memory", "step: Memory"]),
+    Case("task", REPEATED, "", ["Task::new: Memory", "poll: Memory"]),
+    # `Agenda::new`, `take` and `split` make no request.
+    Case("agenda", "", "", ["set: Memory"]),
+    Case("board", "", "", ["Board::new: Memory", "close of a board: Memory"]),
+    Case("shelf", "", "", ["Shelf::new: Memory", "close of a shelf: Memory"]),
+    Case("batch", program.ONE_JOB.decode(), "", ["Tally::new: Memory", "poll_batch: Memory", "poll_batch: broken"]),
+    Case("round", program.ONE_JOB.decode(), "", ["round: Memory"], "round: NoThread"),
+    Case("run", program.ONE_JOB.decode(), program.ONE_REPORT.decode(), RUN),
+    *runs(),
+]
 
 MANY_PLACES = 40
 
@@ -97,21 +113,20 @@ class Refuser:
 
 
 def calls_are_refused_well(count, refuser):
-    """Each call alone, with each of its requests refused: it says so and leaves what it has to, or it did without."""
-    for name, answers in ANSWERS.items():
-        allowed = ["ok", "set-up: memory", *answers, *THREADED.get(name, [])]
+    """The calls of each case, with each request refused: the call says so and leaves what it has to, or it did without."""
+    for case in CASES:
         found, reached, last = set(), 0, None
-        for number, (status, output, errors) in refuser.each(program.REFUSALS, f"{name}\n".encode()):
-            last = output.decode(errors="replace").removeprefix(f"{name}: ").removesuffix("\n")
-            is_known = (status, errors) == (0, b"") and last in allowed
-            count.test(f"{name}, request {number} refused", last if is_known else (status, output, errors), last)
+        for number, ended in refuser.each(program.REFUSALS, f"{case.name}\n{case.given}".encode()):
+            last = ended[1].decode(errors="replace").removesuffix("\n")
+            is_known = ended[::2] == (0, b"") and case.is_known(last)
+            count.test(f"{case.name}, request {number} refused", last if is_known else ended, last)
             found.add(last)
-            part = PART_OF.get(last, last)
-            if part in PARTS:
-                count.test(f"{name}, request {number} refused, the order of its parts", PARTS.index(part) >= reached, True)
-                reached = PARTS.index(part)
-        count.test(f"{name}, no request refused", last, "ok")
-        count.test(f"{name}, answers that never came", [answer for answer in answers if answer not in found], [])
+            if last in case.lines:
+                test = f"{case.name}, request {number} refused, the order of its calls"
+                count.test(test, case.order(last) >= reached, True)
+                reached = case.order(last)
+        count.test(f"{case.name}, no request refused", last, f"ok\n{case.made}")
+        count.test(f"{case.name}, refusals that never came", [line for line in case.lines if line not in found], [])
 
 
 def program_is_refused_well(count, refuser):

@@ -115,6 +115,7 @@ def test_runner(count):
     with tempfile.TemporaryDirectory() as folder:
         make_crate(pathlib.Path(folder))
         ended = subprocess.run([sys.executable, RUNNER, "--top", folder], capture_output=True, text=True, timeout=900)
+        test_proved(count, folder)
     lines = ended.stdout.split("\n")
     print(ended.stdout + ended.stderr, end="")
     for name, _, told in EDITS:
@@ -124,6 +125,15 @@ def test_runner(count):
     passed = sum(told.startswith("refused by") for _, _, told in EDITS)
     count.test("last line", lines[-2:], [f"{passed} passed, {len(EDITS) - passed} failed", ""])
     count.test("status", ended.returncode, 1)
+
+
+def test_proved(count, folder):
+    """A crate that was seen proved isn't checked as it stands, and a name of no function fails all the same."""
+    words = ["--top", folder, "--proved", "--edit", "the_lesser", "--edit", "no_such_function"]
+    ended = subprocess.run([sys.executable, RUNNER, *words], capture_output=True, text=True, timeout=900)
+    for told, is_told in [("as it stands", False), ("the_lesser: refused by greater", True),
+                          ("no_such_function.edit: refused elsewhere: zero", True), ("1 passed, 1 failed", True)]:
+        count.test(f"--proved: {told}", told in ended.stdout, is_told)
 
 
 def edit_of(folder, lines):

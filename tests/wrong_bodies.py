@@ -58,8 +58,8 @@ class Lanes:
 class Trial:
     """The trial of one crate's edits."""
 
-    def __init__(self, crate, edits):
-        self.crate, self.edits = crate, edits
+    def __init__(self, crate, edits, is_proved):
+        self.crate, self.edits, self.is_proved = crate, edits, is_proved
         self.jobs = None
         self.found = {}
         self.clashes = set()
@@ -75,14 +75,12 @@ class Trial:
         begun, self.jobs = time.monotonic(), lanes.jobs
         texts = texts_of(self.crate.folder)
         room = Room(toolchain, self.crate, folder, texts)
-        whole = room.check({}, self.jobs())
-        say(f"{self.crate.name}: as it stands: {room.cost}")
-        if not whole.is_proved():
+        whole = None if self.is_proved else self.as_it_stands(room)
+        if whole and not whole.is_proved():
             for edit in self.edits:
                 self.fail(edit, f"not tried: {self.crate.name} is not proved as it stands: {whole.lines[-1]}")
             lanes.end()
             return self.end(room, begun)
-        room.keep()
         good = [edit for edit in self.edits if self.is_good(edit, texts, whole)]
         # those that name a goal can share a round
         left = sorted(good, key=lambda it: not it.goal)
@@ -92,6 +90,14 @@ class Trial:
             left = [edit for edit in left if edit not in self.found]
         lanes.end()
         return self.end(room, begun)
+
+    def as_it_stands(self, room):
+        """What a check of the crate with no edit says. Its work is kept."""
+        whole = room.check({}, self.jobs())
+        say(f"{self.crate.name}: as it stands: {room.cost}")
+        if whole.is_proved():
+            room.keep()
+        return whole
 
     def end(self, room, begun):
         """Tells the crate's sum."""
@@ -105,7 +111,7 @@ class Trial:
         try:
             edit.read()
             edit.place(texts)
-            if edit.function not in whole.verdicts:
+            if whole and edit.function not in whole.verdicts:
                 raise BadEdit(f"'function:' names {edit.function}, and rt check names no such function of the crate")
         except BadEdit as fault:
             self.fail(edit, f"can't be tried: {fault}")
@@ -231,7 +237,7 @@ def trials_of(options, crates):
     if unknown:
         raise Unusable(f"crates.txt lists no crate {unknown[0]}")
     chosen = [it for it in crates.values() if not options.crate or it.name in options.crate]
-    trials = [Trial(it, edits_of(it, options)) for it in chosen]
+    trials = [Trial(it, edits_of(it, options), options.proved) for it in chosen]
     found = {edit.name for trial in trials for edit in trial.edits}
     lacking = [name for name in options.edit or [] if name not in found]
     if lacking:
@@ -276,6 +282,8 @@ def options_of(words):
     parser.add_argument("--lanes", type=int, metavar="N", help="crates at once (default: processors, as memory holds)")
     parser.add_argument("--kept", type=pathlib.Path, metavar="FOLDER", help="kept work is in FOLDER/NAME, and whoever gives "
                         "it keeps others out of the crates (default: out/incremental, under a lock)")
+    parser.add_argument("--proved", action="store_true", help="each crate was seen proved as it stands by the run that kept "
+                        "the work, and isn't checked again before its edits are tried")
     parser.add_argument("--top", default=TOP, metavar="FOLDER", help="the repository (default: the one of this file)")
     return parser.parse_args(words)
 

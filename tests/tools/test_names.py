@@ -5,6 +5,8 @@ import unittest
 
 TOP = pathlib.Path(__file__).resolve().parents[2]
 PAGE = (TOP / "docs" / "GUARANTEES.md").read_text()
+# The sources of the crates that are tests alone.
+TESTS = sorted(TOP.glob("crates/zs_*tests/src"))
 HEADS = ["Promise", "Call and clauses", "Definition", "Edit", "Shown by"]
 
 FUNCTION = re.compile(r'^(?P<public>pub | +(?:pub )?)?(?:pub\([a-z]+\) )?(?:extern "C" )?fn (?P<name>\w+)', re.M)
@@ -83,8 +85,7 @@ class Guarantees(unittest.TestCase):
     def setUpClass(cls):
         cls.rows = [*rows()]
         cls.calls = {crate: calls_of(crate) for crate in {crate for crate, _ in cls.rows}}
-        tests = text_of("crates/zs_low_tests/src", ".rt") + text_of("crates/zs_tests/src", ".rt")
-        cls.tests = set(re.findall(r"^fn (\w+)", tests, re.M))
+        cls.tests = {name for folder in TESTS for name in re.findall(r"^fn (\w+)", text_of(folder, ".rt"), re.M)}
 
     def test_the_tables_are_read(self):
         self.assertEqual(sorted(self.calls), [
@@ -133,7 +134,7 @@ class Guarantees(unittest.TestCase):
 
     def test_each_file_is_there(self):
         for crate, text in [*((crate, cells[4]) for crate, cells in self.rows), (None, PAGE)]:
-            homes = [TOP, TOP / "docs", TOP / "crates/zs_low_tests/src/tests", TOP / "crates/zs_tests/src/tests"]
+            homes = [TOP, TOP / "docs", *(folder / "tests" for folder in TESTS)]
             homes += [TOP / "crates" / crate] if crate else [TOP / "crates" / it for it in self.calls]
             for name in " ".join(quoted(text)).split():
                 if FILE.fullmatch(name) and "NAME" not in name and "File" not in name:

@@ -1,7 +1,7 @@
-// Makes the one call that standard input names, and prints in one line what came of it.
+// Makes the calls of one case: standard input has its name in the first line, and what the calls are given behind it.
 //
 // The tests run it while the system refuses one request for memory after the other: a call that is refused has to say so,
-// and to leave what its contract says. What a call needs is made before it, and a refusal there is `set-up: memory`.
+// and to leave what its contract says. The first line tells that call and its fault, or is `ok` before what the calls made.
 #![tactic(auto)]
 
 mod ended;
@@ -13,7 +13,7 @@ mod tasks;
 mod terms;
 mod timers;
 
-use ended::{Answer, Ended};
+use ended::{Answer, Case, Ended, SET_UP};
 use std::alloc::{Alloc, Global};
 use std::io;
 use std::io::Read;
@@ -21,57 +21,47 @@ use std::random::RandomSource;
 use std::sync::Wait;
 use std::thread::Threads;
 
-const SEVEN: &str = "abcdefg";
-
-const MANY: &str = "abcdefghijklmnopqrstuvwxyzABCDEFGHIJKLMNOPQRSTUVWXYZ";
-
-// Makes the call of this name.
-fn call<R: Alloc<A = Global> + RandomSource + Threads + Wait + Sync>(rt: &R, name: &str) -> Answer {
-    let alloc = rt.alloc();
+// Makes the calls of the case of this name.
+fn make<R: Alloc<A = Global> + RandomSource + Threads + Wait + Sync>(
+    rt: &R,
+    name: &str,
+    case: &mut Case<'_>,
+) -> Answer {
     match name {
-        "read" => terms::read_text(alloc),
-        "check" => terms::check_tree(alloc),
-        "write" => terms::write_term(alloc),
-        "write_out" => terms::write_output(alloc),
-        "plain" => steps::answer_plainly(alloc),
-        "compiled_new" => steps::compile(alloc),
-        "step" => steps::step_in_turn(alloc),
-        "follow" => steps::follow_history(alloc),
-        "task_new" => tasks::new_task(alloc),
-        "poll" => tasks::poll_in_turn(rt, alloc),
-        "agenda_new" => timers::new_agenda(alloc),
-        "set" => timers::set_all(alloc),
-        "take" => timers::take_all(alloc),
-        "board_new" => queues::new_board(rt, alloc),
-        "board_split" => queues::split_board(rt, alloc),
-        "board_close" => queues::close_board(rt, alloc),
-        "shelf_new" => queues::new_shelf(rt, alloc),
-        "shelf_split" => queues::split_shelf(rt, alloc),
-        "shelf_close" => queues::close_shelf(rt, alloc),
-        "tally_new" => rounds::new_tally(alloc),
-        "poll_batch" => rounds::poll_one_batch(rt, alloc),
-        "round" => rounds::one_round(rt, alloc),
-        "run_jobs" => runs::run_two_jobs(rt, alloc),
-        "read_plan" => runs::read_bytes(alloc),
-        "report" => runs::report_answer(rt, alloc),
-        "run" => runs::run_plan(rt, alloc, "a", 1, 1),
-        "run_seven_alone" => runs::run_plan(rt, alloc, SEVEN, 1, 1),
-        "run_seven_shared" => runs::run_plan(rt, alloc, SEVEN, 2, 3),
-        "run_many_alone" => runs::run_plan(rt, alloc, MANY, 1, 1),
-        "run_many_shared" => runs::run_plan(rt, alloc, MANY, 2, 3),
-        _ => Err(Ended::Wrong("no such call")),
+        "text" => terms::read_and_write(case),
+        "tree" => terms::check_tree(case),
+        "plain" => steps::answer_plainly(case),
+        "follow" => steps::follow_history(case),
+        "steps" => steps::step_in_turn(case),
+        "task" => tasks::poll_in_turn(rt, case),
+        "agenda" => timers::set_and_take(case),
+        "board" => queues::use_board(rt, case),
+        "shelf" => queues::use_shelf(rt, case),
+        "batch" => rounds::poll_one_batch(rt, case),
+        "round" => rounds::one_round(rt, case),
+        "jobs" => runs::run_jobs_of(rt, case),
+        "run" => runs::run_plan(rt, case),
+        _ => Err(Ended::Wrong("no such case")),
     }
 }
 
 fn main(rt: HostRuntime) -> io::Result<()> {
-    let mut bytes = [0u8; 32];
-    let count = rt.stdin().read(&mut bytes)?;
-    let name = std::str::from_utf8(&bytes[..count])
-        .unwrap_or("")
-        .trim_end();
-    match call(&rt, name) {
-        Ok(()) => println!(rt; "{name}: ok"),
-        Err(Ended::Refused(words)) => println!(rt; "{name}: {words}"),
-        Err(Ended::Wrong(what)) => println!(rt; "{name}: wrong: {what}"),
+    let mut text = String::new(rt.alloc());
+    if rt.stdin().read_to_string(&mut text).is_err() {
+        return println!(rt; "{SET_UP}: no input");
+    }
+    let (name, input) = text.split_once('\n').unwrap_or((text.as_str(), ""));
+    let mut case = Case {
+        alloc: rt.alloc(),
+        input,
+        call: SET_UP,
+    };
+    let answer = make(&rt, name, &mut case);
+    let call = case.call;
+    match answer {
+        Ok(made) => println!(rt; "ok\n{made}"),
+        Err(Ended::Refused(fault)) => println!(rt; "{call}: {}", fault.as_str()),
+        Err(Ended::Broken) => println!(rt; "{call}: broken"),
+        Err(Ended::Wrong(what)) => println!(rt; "{call}: wrong: {what}"),
     }
 }

@@ -1,11 +1,9 @@
-//! Rounds, runs of jobs, plans that are read or refused, reports, whole runs, and what faults say.
+//! Plans that are read or refused, reports, whole runs, and what faults say.
 
-mod engine;
 mod faults;
 mod marks;
 mod names;
 mod plans;
-mod pool;
 mod refused;
 mod reports;
 mod runs;

@@ -6,15 +6,21 @@ use zs_run::PlanFault;
 
 const REST: &str = r#""mode":"retry","schedule":"recurs(0)","script":[{"ms":1,"ok":0}]}"#;
 
-// A plan of jobs with these names, each as JSON spells it, and of one more.
+// Adds a job with this name, as JSON spells it, and what comes behind it.
+fn push_job(text: &mut String, name: &str, end: &str) -> Result<(), AllocError> {
+    for piece in ["{\"name\":\"", name, "\",", REST, end] {
+        text.push_str(piece)?;
+    }
+    Ok(())
+}
+
+// A plan of jobs with these names, and of one more.
 fn plan_of_names(alloc: Global, names: &[&str], last: &str) -> Result<String, AllocError> {
     let mut text = String::from_str(alloc, r#"{"horizon":1,"jobs":["#)?;
     for name in names {
-        let job = format!(in alloc; "{{\"name\":\"{name}\",{REST},")?;
-        text.push_str(&job)?;
+        push_job(&mut text, name, ",")?;
     }
-    let job = format!(in alloc; "{{\"name\":\"{last}\",{REST}]}}")?;
-    text.push_str(&job)?;
+    push_job(&mut text, last, "]}")?;
     Ok(text)
 }
 
@@ -63,12 +69,15 @@ fn a_name_is_told_from_those_like_it(rt: HostRuntime) {
 fn numbered_plan(alloc: Global, count: u64, name: &str) -> Result<String, AllocError> {
     let mut text = String::from_str(alloc, r#"{"horizon":1,"jobs":["#)?;
     for number in 0..count {
-        let job = format!(in alloc; "{{\"name\":\"{number}\",{REST},")?;
-        text.push_str(&job)?;
+        push_numbered_job(&mut text, alloc, number)?;
     }
-    let job = format!(in alloc; "{{\"name\":\"{name}\",{REST}]}}")?;
-    text.push_str(&job)?;
+    push_job(&mut text, name, "]}")?;
     Ok(text)
+}
+
+fn push_numbered_job(text: &mut String, alloc: Global, number: u64) -> Result<(), AllocError> {
+    let name = format!(in alloc; "{number}")?;
+    push_job(text, &name, ",")
 }
 
 // A name after those of 9,999 jobs has this fault.

@@ -1,12 +1,12 @@
 //! Runs on several workers, under gates that hold a thread until others have come: a run on fewer threads, or one that
 //! holds a lock over both the gate and the poll, gives up waiting and is told by a flag.
-use super::support::gates::{Apart, Crowd, Held, InTurn, Meeting, Rounds, Slow};
 use super::support::plans::{PLAN, plan_of, report_of, written};
 use std::alloc::Global;
 use std::process::Abort;
 use std::sync::Wait;
 use std::test::Fail;
 use std::thread::Threads;
+use zs_gates::{Apart, Crowd, Held, InTurn, Meeting, Rounds, Slow};
 use zs_pool::Gate;
 
 // A run of jobs with these names under the gate writes their report, with three polls a job.

@@ -1,11 +1,9 @@
-//! What the tests share: jobs, plans with their reports, readers and writers that fail, and gates that hold threads.
+//! What the tests share: plans with their reports, and readers and writers that fail.
 //!
 //! A proof of a test grows with what is alive while it asserts. So a test hands its cases to a helper, which asserts on
 //! texts and holds no task, plan or answer while it does.
 use std::process::Abort;
 
-pub mod gates;
-pub mod jobs;
 pub mod plans;
 pub mod streams;
 

@@ -1,0 +1,5 @@
+//! Rounds, and runs of jobs.
+
+mod engine;
+mod pool;
+mod support;

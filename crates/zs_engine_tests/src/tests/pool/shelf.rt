@@ -1,0 +1,224 @@
+//! Shelves of polled batches with no tasks, used by one pass, by two, and by two threads.
+ghost use Rattle.std.specs.Prelude.{◌≡◌, ◌≤◌};
+
+use super::*;
+use std::sync::Wait;
+use std::thread;
+use zs_gates::TURNS;
+
+// Puts a polled batch with this number, or tells what was handed back.
+fn put<R: Wait>(
+    rt: &R,
+    alloc: Global,
+    shelf: &Shelf,
+    pass: &mut ShelfPass,
+    number: u64,
+) -> Result<(), (u64, PoolFault)>
+    requires shelf { pass.old.shelf ≡ shelf.now }
+    ensures shelf { pass.new.shelf ≡ shelf.now }
+    ensures share { pass.new.share ≡ pass.old.share }
+{
+    let message = Polled {
+        number,
+        now: 0,
+        tasks: Vec::new(alloc),
+    };
+    match shelf.put(rt, pass, message) {
+        Ok(()) => Ok(()),
+        Err((back, fault)) => Err((back.number, fault)),
+    }
+}
+
+// The number of the polled batch that is taken.
+fn take<R: Wait>(rt: &R, shelf: &Shelf, pass: &mut ShelfPass) -> Option<u64>
+    requires shelf { pass.old.shelf ≡ shelf.now }
+    ensures shelf { pass.new.shelf ≡ shelf.now }
+    ensures share { pass.new.share ≡ pass.old.share }
+{
+    match shelf.take(rt, pass) {
+        Some(message) => Some(message.number),
+        None => None,
+    }
+}
+
+#[test]
+fn a_shelf_of_one_is_full_after_one(rt: HostRuntime) -> Result<(), Fail> {
+    let alloc = rt.alloc();
+    let (shelf, mut pass) = Shelf::new(&rt, alloc, 1)?;
+    assert_eq!(rt; put(&rt, alloc, &shelf, &mut pass, 0), Ok(()));
+    let refused = put(&rt, alloc, &shelf, &mut pass, 1);
+    assert_eq!(rt; refused, Err((1, PoolFault::Full)));
+    assert_eq!(rt; take(&rt, &shelf, &mut pass), Some(0));
+    assert_eq!(rt; take(&rt, &shelf, &mut pass), None);
+    assert!(rt; shelf.close(&rt, alloc, pass)?.is_empty());
+    Ok(())
+}
+
+#[test]
+fn what_two_passes_put_is_taken_in_order_after_their_join(rt: HostRuntime) -> Result<(), Fail> {
+    let alloc = rt.alloc();
+    let (shelf, pass) = Shelf::new(&rt, alloc, 4)?;
+    let Ok((mut first, mut second)) = shelf.split(&rt, alloc, pass) else {
+        unreachable!()
+    };
+    assert!(rt; put(&rt, alloc, &shelf, &mut second, 0).is_ok());
+    assert!(rt; put(&rt, alloc, &shelf, &mut first, 1).is_ok());
+    assert!(rt; put(&rt, alloc, &shelf, &mut second, 2).is_ok());
+    assert!(rt; put(&rt, alloc, &shelf, &mut first, 3).is_ok());
+    assert_eq!(rt; take(&rt, &shelf, &mut first), Some(0));
+    let mut pass = shelf.join(&rt, first, second);
+    assert_eq!(rt; take(&rt, &shelf, &mut pass), Some(1));
+    let left = shelf.close(&rt, alloc, pass)?;
+    assert_eq!(rt; left.len(), 2);
+    for (message, number) in left.iter().zip([2u64, 3]) {
+        assert_eq!(rt; message.number, number);
+    }
+    Ok(())
+}
+
+// Puts a polled batch as soon as there is room for it, and tells whether it came to that.
+fn put_at_last<R: Wait>(
+    rt: &R,
+    alloc: Global,
+    shelf: &Shelf,
+    pass: &mut ShelfPass,
+    number: u64,
+) -> bool
+    requires shelf { pass.old.shelf ≡ shelf.now }
+    ensures shelf { pass.new.shelf ≡ shelf.now }
+    ensures share { pass.new.share ≡ pass.old.share }
+{
+    for _ in 0..TURNS {
+        if put(rt, alloc, shelf, pass, number).is_ok() {
+            return true;
+        }
+        thread::yield_now();
+    }
+    false
+}
+
+// Takes a polled batch as soon as there is one.
+fn take_at_last<R: Wait>(rt: &R, shelf: &Shelf, pass: &mut ShelfPass) -> Option<u64>
+    requires shelf { pass.old.shelf ≡ shelf.now }
+    ensures shelf { pass.new.shelf ≡ shelf.now }
+    ensures share { pass.new.share ≡ pass.old.share }
+{
+    for _ in 0..TURNS {
+        if let Some(number) = take(rt, shelf, pass) {
+            return Some(number);
+        }
+        thread::yield_now();
+    }
+    None
+}
+
+// Puts polled batches with the numbers below `count`.
+fn put_all<R: Wait>(
+    rt: &R,
+    alloc: Global,
+    shelf: &Shelf,
+    mut pass: ShelfPass,
+    count: u64,
+) -> ShelfPass
+    requires shelf { pass.shelf ≡ shelf.now }
+    ensures shelf { result.shelf ≡ shelf.now }
+    ensures share { result.share ≡ pass.share }
+{
+    for number in 0..count {
+        if !put_at_last(rt, alloc, shelf, &mut pass, number) {
+            break;
+        }
+    }
+    pass
+}
+
+// Takes polled batches as long as they come by their numbers from 0 on, and tells how many did.
+fn take_all<R: Wait>(rt: &R, shelf: &Shelf, mut pass: ShelfPass, count: u64) -> (ShelfPass, u64)
+    requires shelf { pass.shelf ≡ shelf.now }
+    ensures shelf { result.0.shelf ≡ shelf.now }
+    ensures share { result.0.share ≡ pass.share }
+{
+    let mut in_order = 0;
+    for number in 0..count {
+        if take_at_last(rt, shelf, &mut pass) != Some(number) {
+            break;
+        }
+        in_order = number + 1;
+    }
+    (pass, in_order)
+}
+
+#[test]
+fn one_thread_takes_in_order_what_another_puts(rt: HostRuntime) -> Result<(), Fail> {
+    let alloc = rt.alloc();
+    let (shelf, pass) = Shelf::new(&rt, alloc, 3)?;
+    let Ok((first, second)) = shelf.split(&rt, alloc, pass) else {
+        unreachable!()
+    };
+    let lent = &shelf;
+    let handle = &rt;
+    let (first, (second, in_order)) = thread::join(
+        &rt,
+        move || -> ShelfPass
+            requires shelf { first.shelf ≡ lent.now }
+            ensures same { (result.shelf ≡ lent.entry.now) × (result.share ≡ first.share) }
+        { put_all(handle, alloc, lent, first, 1000) },
+        move || -> (ShelfPass, u64)
+            requires shelf { second.shelf ≡ lent.now }
+            ensures same { (result.0.shelf ≡ lent.entry.now) × (result.0.share ≡ second.share) }
+        { take_all(handle, lent, second, 1000) },
+    );
+    assert_eq!(rt; in_order, 1000);
+    let pass = shelf.join(&rt, first, second);
+    assert!(rt; shelf.close(&rt, alloc, pass)?.is_empty());
+    Ok(())
+}
+
+// Puts polled batches with the numbers below `count`, and tells the first for which there was no room.
+fn put_until_full<R: Wait>(
+    rt: &R,
+    alloc: Global,
+    shelf: &Shelf,
+    mut pass: ShelfPass,
+    count: u64,
+) -> Option<u64>
+    requires shelf { pass.shelf ≡ shelf.now }
+{
+    for number in 0..count {
+        if put(rt, alloc, shelf, &mut pass, number).is_err() {
+            return Some(number);
+        }
+    }
+    None
+}
+
+// How many polled batches a shelf of this capacity takes.
+fn room_of<R: Wait>(rt: &R, alloc: Global, capacity: u64) -> Result<Option<u64>, Fail>
+    requires capacity { (1 ≤ capacity) × (capacity ≤ 10000) }
+{
+    let (shelf, pass) = Shelf::new(rt, alloc, capacity)?;
+    Ok(put_until_full(rt, alloc, &shelf, pass, 10_001))
+}
+
+#[test]
+fn a_shelf_has_room_for_as_many_as_it_was_made_for(rt: HostRuntime) -> Result<(), Fail> {
+    let (some, most) = (
+        room_of(&rt, rt.alloc(), 9)?,
+        room_of(&rt, rt.alloc(), 10_000)?,
+    );
+    assert_eq!(rt; (some, most), (Some(9), Some(10_000)));
+    Ok(())
+}
+
+#[test]
+fn a_shelf_takes_a_batch_of_many_tasks(rt: HostRuntime) -> Result<(), Fail> {
+    let alloc = rt.alloc();
+    let tasks = new_tasks(alloc, 1000, 0)?;
+    let (tally, mut seat) = Tally::new(alloc)?;
+    let batch = Batch { number: 0, tasks };
+    let polled = poll_batch(&rt, alloc, &OpenGate, &tally, &mut seat, 0, batch)?;
+    let (shelf, mut pass) = Shelf::new(&rt, alloc, 1)?;
+    let is_put = shelf.put(&rt, &mut pass, polled).is_ok();
+    assert!(rt; is_put);
+    Ok(())
+}

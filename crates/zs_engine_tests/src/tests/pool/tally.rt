@@ -1,0 +1,89 @@
+//! Tallies that one seat counts on, two seats of one thread, and two threads.
+ghost use Rattle.std.specs.Prelude.{◌≡◌, ◌+◌, ◌≤◌};
+
+use super::*;
+use std::process::Abort;
+use std::thread;
+
+// Counts n times, and tells what was seen last.
+fn count_to(tally: &Tally, mut seat: TallySeat, n: u64) -> (TallySeat, u64)
+    requires tally { seat.tally ≡ tally.now }
+    requires left { n ≤ seat.allowance }
+    ensures tally { result.0.tally ≡ tally.now }
+    ensures count { result.0.count ≡ seat.count + n }
+    ensures left { result.0.allowance + n ≡ seat.allowance }
+{
+    for _i in 0..n {
+        tally.count(&mut seat);
+    }
+    let seen = tally.seen(&mut seat);
+    (seat, seen)
+}
+
+#[test]
+fn a_new_tally_has_counted_nothing(rt: HostRuntime) -> Result<(), Fail> {
+    let (tally, mut seat) = Tally::new(rt.alloc())?;
+    assert_eq!(rt; tally.seen(&mut seat), 0);
+    assert_eq!(rt; Tally::left(&seat), u64::MAX);
+    assert_eq!(rt; tally.close(seat), 0);
+    Ok(())
+}
+
+#[test]
+fn a_seat_sees_what_another_counted(rt: HostRuntime) -> Result<(), Fail> {
+    let (tally, seat) = Tally::new(rt.alloc())?;
+    let (first, mut second) = tally.split(seat, 1);
+    let (first, seen) = count_to(&tally, first, 3);
+    assert_eq!(rt; seen, 3);
+    assert_eq!(rt; tally.seen(&mut second), 3);
+    let seat = tally.join(first, second);
+    assert_eq!(rt; tally.close(seat), 3);
+    Ok(())
+}
+
+// Counts where the allowance lets it. So many counts were left before.
+fn expect_count(rt: &impl Abort, tally: &Tally, seat: &mut TallySeat, left: u64)
+    requires tally { seat.old.tally ≡ tally.now }
+    ensures tally { seat.new.tally ≡ tally.now }
+{
+    assert_eq!(rt; Tally::left(seat), left);
+    if Tally::left(seat) > 0 {
+        tally.count(seat);
+    }
+}
+
+#[test]
+fn a_seat_whose_allowance_is_used_up_may_not_count(rt: HostRuntime) -> Result<(), Fail> {
+    let (tally, seat) = Tally::new(rt.alloc())?;
+    let (mut first, mut second) = tally.split(seat, 2);
+    expect_count(&rt, &tally, &mut second, 2);
+    expect_count(&rt, &tally, &mut second, 1);
+    expect_count(&rt, &tally, &mut second, 0);
+    expect_count(&rt, &tally, &mut first, u64::MAX - 2);
+    let seat = tally.join(first, second);
+    assert_eq!(rt; (Tally::left(&seat), tally.close(seat)), (u64::MAX - 3, 3));
+    Ok(())
+}
+
+#[test]
+fn two_threads_count_together(rt: HostRuntime) -> Result<(), Fail> {
+    let (tally, seat) = Tally::new(rt.alloc())?;
+    let (first, second) = tally.split(seat, 1000);
+    let lent = &tally;
+    let ((first, a), (second, b)) = thread::join(
+        &rt,
+        move || -> (TallySeat, u64)
+            requires seat { (first.tally ≡ lent.now) × (1000 ≤ first.allowance) }
+            ensures tally { result.0.tally ≡ lent.entry.now }
+        { count_to(lent, first, 1000) },
+        move || -> (TallySeat, u64)
+            requires seat { (second.tally ≡ lent.now) × (1000 ≤ second.allowance) }
+            ensures tally { result.0.tally ≡ lent.entry.now }
+        { count_to(lent, second, 1000) },
+    );
+    assert!(rt; a >= 1000 && b >= 1000);
+    assert!(rt; a == 2000 || b == 2000);
+    let seat = tally.join(first, second);
+    assert_eq!(rt; tally.close(seat), 2000);
+    Ok(())
+}
