@@ -3,7 +3,7 @@ use Rattle.std.proofs.Common.{◌≡◌, ℕ, ◌+◌, ◌-◌, ◌<◌, Bool, t
 use Rattle.std.proofs.lemmas.List.{take-append-drop, drop_more, reverse-append}
 use Rattle.zs_term.specs.Output.{Output, Outputs, left, right, listed, outputs_of, output_of}
 use Rattle.zs_term.specs.declared.outputs.Out.{Out}
-use Rattle.zs_term.proofs.Values.{outputs_of-push}
+use Rattle.zs_term.proofs.Values.{outputs_of_push}
 use Rattle.zs_step.specs.History.{History, history_of, earlier}
 use Rattle.zs_step.specs.declared.decision.Decision.{Decision}
 use Rattle.zs_step.specs.Answer.{Answer, answer, is_next, done_from, from_done, sequel_of, sequel, collect_if, collected}
@@ -70,7 +70,7 @@ collected-turn f xs i a b v w lt before is test w_is =
 -- the output of a step that continued is kept
 pub collect-push : (b t : Bool) (xs zs : List Out) (x : Out) → zs ≡ xs ++ x ∷ [] → t ≡ b → t ≡ true → outputs_of zs ≡ collect_if b (outputs_of xs) (output_of x)
 collect-push b t xs zs x pushed is holds =
-    ap outputs_of pushed ∙ outputs_of-push xs x ∙ ap (λ y. collect_if y (outputs_of xs) (output_of x)) (sym holds ∙ is)
+    ap outputs_of pushed ∙ outputs_of_push xs x ∙ ap (λ y. collect_if y (outputs_of xs) (output_of x)) (sym holds ∙ is)
 
 -- the answer of a sequel before its first schedule is done
 pub sequel-first : (f g : History → Answer) (h : History) (o : Option ℕ) (x v : Output) (d : Decision) → o ≡ None → IfNone o (from_done f h ≡ None) →

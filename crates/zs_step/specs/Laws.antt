@@ -1,6 +1,6 @@
 -- Words for the laws of schedules: each says of a whole history what the definition of an answer says step by step.
 -- `src/laws.rt` states the laws, and they are proved there for every schedule and every history.
-use Rattle.std.specs.Prelude.{◌≡◌, ℕ, ◌≤◌, Bool, true, false, [], ◌∷◌, ◌++◌}
+use Rattle.std.specs.Prelude.{◌≡◌, ℕ, ◌+◌, ◌*◌, ◌<◌, ◌≤◌, Bool, true, false, [], ◌∷◌, ◌++◌}
 use Rattle.zs_term.specs.Output.{passes, picked}
 use Rattle.zs_term.specs.declared.term.Test.{Test}
 use Rattle.zs_term.specs.declared.term.Pick.{Pick}
@@ -36,3 +36,14 @@ resets_at a k t (p ∷ h) = passes t (picked k (a (p ∷ since_reset a k t h)).o
 -- no step of a history that follows on another one resets a schedule
 abbrev pub IsWithoutReset : (History → Answer) → Pick → Test → History → History → Type 0
 IsWithoutReset a k t h before = (later earlier : History) (p : ℕ × ℕ) → h ≡ later ++ p ∷ earlier → resets_at a k t (p ∷ (earlier ++ before)) ≡ false
+
+-- a moment is a boundary of a period: the first moment and so many periods
+pub record IsBoundary (period first moment : ℕ) : Type 0 where
+  pub periods : ℕ
+  pub is : moment ≡ first + period * periods
+
+-- the least boundary after a moment
+pub record IsNextBoundary (period first now moment : ℕ) : Type 0 where
+  pub boundary : IsBoundary period first moment
+  pub later : now < moment
+  pub least : (m : ℕ) → IsBoundary period first m → now < m → moment ≤ m

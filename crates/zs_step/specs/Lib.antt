@@ -3,6 +3,7 @@ pub mod Answer
 pub mod Visits
 pub mod Intervals
 pub mod LeafState
+pub mod Collected
 pub mod State
 pub mod Compiled
 pub mod Laws

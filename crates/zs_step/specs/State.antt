@@ -1,12 +1,12 @@
 -- What a state that is stepped in place stands for. A state is judged by the history that it took the place of; `step_node` keeps
 -- that relation, and answers by it.
 use Rattle.std.specs.Prelude.{◌≡◌, ℕ, ◌≤◌, Bool, true, false, Option, Some, None, [], ◌∷◌}
-use Rattle.zs_term.specs.Output.{outputs_of}
 use Rattle.zs_term.specs.Schedule.{Schedule, weight, leaf, two, over, both, either, and_then, while_input, while_output, collect_all, mapped, reset_when}
 use Rattle.zs_step.specs.declared.state.State.{State}
 use Rattle.zs_step.specs.declared.state.State.TheVariants.{Leaf, Both', Either', AndThen', WhileInput', WhileOutput', CollectAll', Map', ResetWhen'}
 use Rattle.zs_step.specs.History.{History}
 use Rattle.zs_step.specs.LeafState.{state_leaf, LeafRepresents}
+use Rattle.zs_step.specs.Collected.{collected_outputs}
 use Rattle.zs_step.specs.Answer.{Answer, answer_of, from_done, collected, since_reset}
 use Rattle.zs_step.specs.Visits.{visits}
 
@@ -18,7 +18,7 @@ state_schedule (Either' p a q b) = two either (state_schedule a) (state_schedule
 state_schedule (AndThen' done p a q b) = two and_then (state_schedule a) (state_schedule b)
 state_schedule (WhileInput' p s t) = over (state_schedule s) (while_input t)
 state_schedule (WhileOutput' p s k t) = over (state_schedule s) (while_output k t)
-state_schedule (CollectAll' p s items) = over (state_schedule s) collect_all
+state_schedule (CollectAll' p s kept) = over (state_schedule s) collect_all
 state_schedule (Map' p s f) = over (state_schedule s) (mapped f)
 state_schedule (ResetWhen' p s k t) = over (state_schedule s) (reset_when k t)
 
@@ -38,7 +38,7 @@ Represents (AndThen' done p a q b) h =
     SequelRepresents done (from_done (answer_of (state_schedule a)) h) (Represents a h) (Represents b)
 Represents (WhileInput' p s t) h = Represents s h
 Represents (WhileOutput' p s k t) h = Represents s h
-Represents (CollectAll' p s items) h = Represents s h × (outputs_of items.items ≡ collected (answer_of (state_schedule s)) h)
+Represents (CollectAll' p s kept) h = Represents s h × (collected_outputs kept.value ≡ collected (answer_of (state_schedule s)) h)
 Represents (Map' p s f) h = Represents s h
 Represents (ResetWhen' p s k t) h = Represents s (since_reset (answer_of (state_schedule s)) k t h)
 

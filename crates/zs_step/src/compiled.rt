@@ -13,8 +13,8 @@ use zs_term::Checked;
 
 /// A schedule with a state in place of its history.
 ///
-/// Each step takes work and memory by the size of the schedule alone, however many steps there were; only `collectAll`
-/// keeps a list.
+/// The nodes that a step asks, and the memory of the state, are bounded by the size of the schedule, however many steps
+/// there were. Only `collectAll` keeps a list; a step copies it where an earlier output still lies in its memory.
 #[derive(Drop)]
 pub struct Compiled {
     checked: Checked,

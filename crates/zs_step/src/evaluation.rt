@@ -16,7 +16,9 @@ use crate::leaves::{
     linear_delay, steps_before, window_end,
 };
 use std::alloc::{AllocError, Global};
-use zs_term::{Checked, Func, Out, Pick, Term, Test, make_left, make_list, make_pair, make_right};
+use zs_term::{
+    Checked, Func, Out, Outs, Pick, Term, Test, make_left, make_list, make_pair, make_right,
+};
 
 // Moments and inputs, oldest first.
 type Pairs<'p> = &'p [(u64, u64)];

@@ -1,19 +1,20 @@
 // Laws of every schedule, above the definition of its answers.
 
-ghost use Rattle.std.specs.Prelude.{◌≡◌, ◌≤◌, ◌↔◌, ℕ, Some, None, true, [], ◌∷◌, ◌++◌};
-ghost use Rattle.zs_term.specs.Saturating.{max_moment};
+ghost use Rattle.std.specs.Prelude.{◌≡◌, ◌<◌, ◌≤◌, ◌+◌, ◌↔◌, ℕ, Some, None, true, [], ◌∷◌, ◌++◌};
+ghost use Rattle.zs_term.specs.Saturating.{max_moment, saturated};
 ghost use Rattle.zs_term.specs.Output.{left, right};
 ghost use Rattle.zs_term.specs.OutputKind.{OutputKind, HasKind};
 ghost use Rattle.zs_term.specs.Kinds.{kind_of};
-ghost use Rattle.zs_term.specs.Schedule.{Schedule, weight, leaf, two, over, forever, recurs, and_then, while_output};
+ghost use Rattle.zs_term.specs.Schedule.{Schedule, weight, leaf, two, over, forever, recurs, fixed, windowed, and_then, while_output};
 ghost use Rattle.zs_term.specs.declared.term.Test.{Test};
 ghost use Rattle.zs_term.specs.declared.term.Pick.{Pick};
 ghost use Rattle.zs_term.specs.declared.term.Pick.TheVariants.{Whole};
 ghost use Rattle.zs_term.specs.declared.term.Cmp.TheVariants.{Lt};
-ghost use Rattle.zs_step.specs.History.{History, last_moment};
-ghost use Rattle.zs_step.specs.Answer.{answer, answer_of, from_done, since_reset};
+ghost use Rattle.zs_step.specs.declared.decision.Decision.TheVariants.{Next};
+ghost use Rattle.zs_step.specs.History.{History, first_moment, last_moment, IsInOrder};
+ghost use Rattle.zs_step.specs.Answer.{answer, answer_of, from_done, since_reset, next_run};
 ghost use Rattle.zs_step.specs.Visits.{visits};
-ghost use Rattle.zs_step.specs.Laws.{GoesOnThroughout, IsFromFirstDone, IsNotBefore, IsWithoutReset, resets_at};
+ghost use Rattle.zs_step.specs.Laws.{GoesOnThroughout, IsFromFirstDone, IsNextBoundary, IsNotBefore, IsWithoutReset, resets_at};
 
 /// The second part of `andThenEither` counts from the least step at which the first is done, and answers from there on.
 pub fn second_part_begins_where_the_first_is_done()
@@ -47,4 +48,16 @@ pub fn visits_are_at_most_the_weight()
 pub fn a_part_counts_from_its_last_reset()
     ensures reset { (s : Schedule) (k : Pick) (t : Test) (later before : History) (p : ℕ × ℕ) → resets_at (answer_of s) k t (p ∷ before) ≡ true → IsWithoutReset (answer_of s) k t later (p ∷ before) → since_reset (answer_of s) k t (later ++ p ∷ before) ≡ later ++ p ∷ [] }
     ensures none { (s : Schedule) (k : Pick) (t : Test) (h : History) → IsWithoutReset (answer_of s) k t h [] → since_reset (answer_of s) k t h ≡ h }
+{}
+
+/// `windowed(n)` goes on at the least boundary after its step: the first moment and a whole number of periods.
+pub fn a_window_ends_at_the_next_boundary()
+    ensures value { (n x : ℕ) (h : History) → 1 ≤ n → IsInOrder h → IsNextBoundary n (first_moment h) (last_moment h) x → (answer_of (leaf (windowed n)) h).decision ≡ Next (saturated x) }
+{}
+
+/// `fixed(n)` goes on at the least boundary after its step; at once where that is more than a period past the run before it.
+pub fn a_fixed_run_is_at_the_next_boundary()
+    ensures first { (n x : ℕ) (p : ℕ × ℕ) → 1 ≤ n → IsNextBoundary n p.0 p.0 x → (answer_of (leaf (fixed n)) (p ∷ [])).decision ≡ Next (saturated x) }
+    ensures value { (n x : ℕ) (p q : ℕ × ℕ) (h : History) → 1 ≤ n → IsInOrder (p ∷ (q ∷ h)) → p.0 ≤ next_run n (q ∷ h) + n → IsNextBoundary n (first_moment (q ∷ h)) p.0 x → (answer_of (leaf (fixed n)) (p ∷ (q ∷ h))).decision ≡ Next (saturated x) }
+    ensures behind { (n : ℕ) (p q : ℕ × ℕ) (h : History) → next_run n (q ∷ h) + n < p.0 → (answer_of (leaf (fixed n)) (p ∷ (q ∷ h))).decision ≡ Next p.0 }
 {}

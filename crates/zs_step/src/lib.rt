@@ -10,6 +10,7 @@
 //! ```
 #![tactic(auto)]
 
+mod collected;
 mod compiled;
 mod decision;
 mod evaluation;
@@ -30,7 +31,8 @@ pub use fault::StepFault;
 pub use following::follow;
 pub use interval::Interval;
 pub use laws::{
-    a_part_counts_from_its_last_reset, decisions_are_not_in_the_past, outputs_have_kinds,
+    a_fixed_run_is_at_the_next_boundary, a_part_counts_from_its_last_reset,
+    a_window_ends_at_the_next_boundary, decisions_are_not_in_the_past, outputs_have_kinds,
     recurs_is_forever_below_its_limit, second_part_begins_where_the_first_is_done,
     visits_are_at_most_the_weight,
 };

@@ -4,9 +4,10 @@ ghost use Rattle.std.specs.Prelude.{◌≡◌, [], IfOk};
 ghost use Rattle.zs_term.specs.Schedule.{schedule_of};
 ghost use Rattle.zs_step.specs.State.{state_schedule, Represents};
 
+use crate::collected::Collected;
 use crate::leaf_state::{LeafState, Past};
 use std::alloc::{AllocError, Global};
-use zs_term::{Func, Out, Pick, Term, Test};
+use zs_term::{Func, Pick, Term, Test};
 
 // A node with the states of its parts.
 #[derive(Drop)]
@@ -35,10 +36,10 @@ pub(crate) enum State {
         pick: Pick,
         test: Test,
     },
-    // `items` are the outputs of the part at the steps that continued.
+    // `kept` are the outputs of the part at the steps that continued.
     CollectAll {
         part: Box<State>,
-        items: Vec<Out>,
+        kept: Box<Collected>,
     },
     Map {
         part: Box<State>,
@@ -123,7 +124,7 @@ pub(crate) fn state_of(alloc: Global, term: &Term) -> Result<State, AllocError>
         }),
         Term::CollectAll(s) => Ok(State::CollectAll {
             part: part(alloc, s)?,
-            items: Vec::new(alloc),
+            kept: Box::new(alloc, Collected::nothing(alloc))?,
         }),
         Term::Map(s, func) => Ok(State::Map {
             part: part(alloc, s)?,
@@ -147,19 +148,19 @@ fn part(alloc: Global, term: &Term) -> Result<Box<State>, AllocError>
 }
 
 // Makes a state stand for the empty list again.
-pub(crate) fn clear(state: &mut State)
+pub(crate) fn clear(state: &mut State, alloc: Global)
     ensures same { state_schedule state.new ≡ state_schedule state.old }
     ensures represents { Represents state.new [] }
 {
     match state {
         State::Leaf(leaf) => leaf.clear(),
         State::Both { first, second } => {
-            clear(first);
-            clear(second);
+            clear(first, alloc);
+            clear(second, alloc);
         }
         State::Either { first, second } => {
-            clear(first);
-            clear(second);
+            clear(first, alloc);
+            clear(second, alloc);
         }
         State::AndThen {
             done,
@@ -167,16 +168,16 @@ pub(crate) fn clear(state: &mut State)
             second,
         } => {
             *done = false;
-            clear(first);
-            clear(second);
+            clear(first, alloc);
+            clear(second, alloc);
         }
-        State::WhileInput { part, .. } => clear(part),
-        State::WhileOutput { part, .. } => clear(part),
-        State::CollectAll { part, items } => {
-            clear(part);
-            items.clear();
+        State::WhileInput { part, .. } => clear(part, alloc),
+        State::WhileOutput { part, .. } => clear(part, alloc),
+        State::CollectAll { part, kept } => {
+            clear(part, alloc);
+            **kept = Collected::nothing(alloc);
         }
-        State::Map { part, .. } => clear(part),
-        State::ResetWhen { part, .. } => clear(part),
+        State::Map { part, .. } => clear(part, alloc),
+        State::ResetWhen { part, .. } => clear(part, alloc),
     }
 }

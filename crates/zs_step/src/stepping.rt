@@ -1,19 +1,19 @@
 // One step of a schedule's state, in place.
 
-ghost use Rattle.std.specs.Prelude.{◌≡◌, ◌<◌, ◌+◌, ◌*◌, ◌^◌, IfOk, OnOk};
+ghost use Rattle.std.specs.Prelude.{◌≡◌, ◌<◌, ◌+◌, ◌*◌, ◌^◌, IfOk};
 ghost use Rattle.zs_term.specs.Schedule.{weight};
-ghost use Rattle.zs_term.specs.Output.{output_of, outputs_of, right};
-ghost use Rattle.zs_step.specs.Answer.{answer, is_next, collect_if};
+ghost use Rattle.zs_term.specs.Output.{output_of, right};
+ghost use Rattle.zs_step.specs.Answer.{answer};
 ghost use Rattle.zs_step.specs.LeafState.{state_leaf};
 ghost use Rattle.zs_step.specs.State.{state_schedule, StepsTo};
 ghost use Rattle.zs_step.specs.declared.state.State.TheVariants.{Leaf, Both', Either', AndThen', WhileInput', WhileOutput', CollectAll', Map', ResetWhen'};
 
-use crate::decision::Decision;
+use crate::collected::Collected;
 use crate::leaf_state::LeafState;
 use crate::state::{State, clear};
 use crate::stepped::Stepped;
 use std::alloc::{AllocError, Global};
-use zs_term::{Func, Out, Pick, Test, copy_all, make_left, make_list, make_pair, make_right};
+use zs_term::{Func, Out, Pick, Test, make_left, make_pair, make_right};
 
 // What each node of a schedule is told of a step, and where it makes its output.
 #[derive(Drop)]
@@ -56,7 +56,7 @@ fn step_parts(state: &mut State, step: &Step) -> Result<Stepped, AllocError>
         } => step_and_then(done, first, second, step),
         State::WhileInput { part, test } => step_while_input(part, *test, step),
         State::WhileOutput { part, pick, test } => step_while_output(part, *pick, *test, step),
-        State::CollectAll { part, items } => step_collect_all(part, items, step),
+        State::CollectAll { part, kept } => step_collect_all(part, kept, step),
         State::Map { part, func } => step_map(part, *func, step),
         State::ResetWhen { part, pick, test } => step_reset_when(part, *pick, *test, step),
     }
@@ -191,32 +191,21 @@ fn step_while_output(
 #[cycle(stepping)]
 fn step_collect_all(
     part: &mut State,
-    items: &mut Vec<Out>,
+    kept: &mut Box<Collected>,
     step: &Step,
 ) -> Result<Stepped, AllocError>
     requires within { weight (state_schedule part.old) < 2 ^ 64 }
-    ensures ok { (p : _) → IfOk result (λ r. StepsTo (CollectAll' p part.old items.old) (CollectAll' p part.new items.new) step.now.moment step.now.input (answer (output_of r.out) r.decision) (1 + r.visits)) }
+    ensures ok { (p : _) → IfOk result (λ r. StepsTo (CollectAll' p part.old kept.old) (CollectAll' p part.new kept.new) step.now.moment step.now.input (answer (output_of r.out) r.decision) (1 + r.visits)) }
     ensures same { state_schedule part.new ≡ state_schedule part.old }
 {
     let x = step_node(part, step)?;
-    let out = make_list(copy_all(step.alloc, items)?);
     let (decision, visits) = (x.decision, x.visits);
-    keep(items, x.out, decision)?;
+    let out = kept.step(step.alloc, x.out, decision)?;
     Ok(Stepped {
         out,
         decision,
         visits,
     })
-}
-
-// Keeps the output of a step that continues.
-fn keep(items: &mut Vec<Out>, out: Out, decision: Decision) -> Result<(), AllocError>
-    ensures value { OnOk result (outputs_of items.new.items ≡ collect_if (is_next decision) (outputs_of items.old.items) (output_of out)) }
-{
-    if decision.is_next() {
-        items.push(out)?;
-    }
-    Ok(())
 }
 
 // One step of a part with a function of its output.
@@ -250,7 +239,7 @@ fn step_reset_when(
     if !test.passes(pick.read(&x.out)) {
         return Ok(x);
     }
-    clear(part);
+    clear(part, step.alloc);
     let mut y = step_node(part, step)?;
     y.visits += x.visits;
     Ok(y)

@@ -2,10 +2,10 @@
 
 ghost use Rattle.std.specs.Prelude.{◌≡◌, ◌++◌, IfOk, OnOk, string_bytes};
 ghost use Rattle.std.specs.Fmt.{decimal};
-ghost use Rattle.zs_term.specs.Output.{output_of, outputs_of};
+ghost use Rattle.zs_term.specs.Output.{output_of, outputs_of, outs_list};
 ghost use Rattle.zs_term.specs.OutputText.{output_text, outputs_text, comma_before};
 
-use crate::outputs::Out;
+use crate::outputs::{Kept, Out, Outs};
 use itoa::Buffer;
 use std::alloc::{AllocError, Global};
 
@@ -47,7 +47,7 @@ pub fn append_out(text: &mut String, out: &Out) -> Result<(), NoMemory>
         }
         Out::Items(outs) => {
             text.push_str("[")?;
-            append_items(text, outs.items())?;
+            append_list(text, outs)?;
             text.push_str("]")
         }
     }
@@ -59,6 +59,17 @@ fn append_number(text: &mut String, n: u64) -> Result<(), NoMemory>
 {
     let mut buffer = Buffer::new();
     text.push_str(buffer.format(n))
+}
+
+// Adds the texts of a list's outputs.
+#[cycle(texts)]
+fn append_list(text: &mut String, outs: &Outs) -> Result<(), NoMemory>
+    ensures ok { OnOk result (string_bytes text.new ≡ string_bytes text.old ++ outputs_text (outputs_of (outs_list outs.now))) }
+{
+    match &outs.kept {
+        Kept::Own(items) => append_items(text, items),
+        Kept::Shared(items) => append_items(text, items),
+    }
 }
 
 // Adds the texts of outputs, with a comma between two.

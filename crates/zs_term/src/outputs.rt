@@ -1,10 +1,12 @@
 // The outputs of schedules.
 
-ghost use Rattle.std.specs.Prelude.{◌≡◌, IfOk};
-ghost use Rattle.zs_term.specs.Output.{output_of, outputs_of, outs_list, pair, listed, left, right, passes, picked, applied, number_in, size_in, first_in, second_in, merge_in};
+ghost use Rattle.std.specs.Prelude.{◌≡◌, IfOk, OnOk};
+ghost use Rattle.std.specs.Arc.{arc_value};
+ghost use Rattle.zs_term.specs.Output.{output_of, outputs_of, outs_list, pair, listed, left, right, passes, picked, applied, number_in, size_in, first_in, second_in, merge_in, with_last};
 
 use crate::term::{Cmp, Func, Pick, Test};
 use std::alloc::{AllocError, Global};
+use std::sync::Arc;
 
 /// An output of a schedule.
 #[derive(Drop)]
@@ -22,11 +24,19 @@ pub enum Out {
     Items(Outs),
 }
 
-/// A list of outputs.
+/// A list of outputs. Lists may lie in the same memory; each reads as if it were alone.
 #[derive(Drop)]
 #[cycle(out)]
 pub struct Outs {
-    items: Vec<Out>,
+    pub(crate) kept: Kept,
+}
+
+// The memory of a list: its own, or one that other lists may lie in too.
+#[derive(Drop)]
+#[cycle(out)]
+pub(crate) enum Kept {
+    Own(Vec<Out>),
+    Shared(Arc<Vec<Out>>),
 }
 
 impl Outs {
@@ -34,19 +44,76 @@ impl Outs {
     pub fn new(items: Vec<Out>) -> Outs
         ensures value { outs_list result ≡ items.items }
     {
-        Outs { items }
+        Outs {
+            kept: Kept::Own(items),
+        }
     }
 
     /// The outputs in order.
     pub fn items(&self) -> &[Out]
         ensures value { result.now ≡ outs_list self.now }
     {
-        &self.items
+        match &self.kept {
+            Kept::Own(items) => items,
+            Kept::Shared(items) => items,
+        }
+    }
+
+    /// The same list once more, in the same memory. Where that is refused, this one may have lost its outputs.
+    pub fn share(&mut self, alloc: Global) -> Result<Outs, AllocError>
+        ensures ok { IfOk result (λ r. outs_list r ≡ outs_list self.old) }
+        ensures same { OnOk result (outs_list self.new ≡ outs_list self.old) }
+    {
+        match &mut self.kept {
+            Kept::Shared(items) => Ok(Outs {
+                kept: Kept::Shared(Arc::try_clone(items)?),
+            }),
+            Kept::Own(items) => {
+                let items = Arc::new(alloc, std::mem::replace(items, Vec::new(alloc)))?;
+                let other = Arc::try_clone(&items)?;
+                self.kept = Kept::Shared(items);
+                Ok(Outs {
+                    kept: Kept::Shared(other),
+                })
+            }
+        }
+    }
+
+    /// Adds an output at the end: in place where no other list lies in this one's memory, and else in a copy.
+    pub fn push(&mut self, alloc: Global, out: Out) -> Result<(), AllocError>
+        ensures pushed { OnOk result (outputs_of (outs_list self.new) ≡ with_last (outputs_of (outs_list self.old)) (output_of out)) }
+    {
+        match &mut self.kept {
+            Kept::Own(items) => push_own(items, out),
+            Kept::Shared(items) => push_shared(items, alloc, out),
+        }
     }
 }
 
+// Adds an output to a list that nobody else lies in.
+#[tactic(auto, using(crate::proofs::Values::outputs_of_push))]
+fn push_own(items: &mut Vec<Out>, out: Out) -> Result<(), AllocError>
+    ensures pushed { OnOk result (outputs_of items.new.items ≡ with_last (outputs_of items.old.items) (output_of out)) }
+{
+    items.push(out)?;
+    Ok(())
+}
+
+// Adds an output to a list that others may lie in too.
+fn push_shared(shared: &mut Arc<Vec<Out>>, alloc: Global, out: Out) -> Result<(), AllocError>
+    ensures pushed { OnOk result (outputs_of (arc_value shared.new).items ≡ with_last (outputs_of (arc_value shared.old).items) (output_of out)) }
+{
+    if let Some(items) = Arc::get_mut(shared) {
+        return push_own(items, out);
+    }
+    let mut items = copy_all(alloc, shared)?;
+    push_own(&mut items, out)?;
+    *shared = Arc::new(alloc, items)?;
+    Ok(())
+}
+
 impl Out {
-    /// An output of the same value, in memory of its own.
+    /// An output of the same value. Its lists may lie in the same memory; nothing else of it does.
     #[cycle(copy)]
     pub fn copy(&self, alloc: Global) -> Result<Out, AllocError>
         ensures ok { IfOk result (λ r. output_of r ≡ output_of self.now) }
@@ -60,7 +127,7 @@ impl Out {
             }
             Out::Left(a) => Ok(Out::Left(Box::new(alloc, a.copy(alloc)?)?)),
             Out::Right(a) => Ok(Out::Right(Box::new(alloc, a.copy(alloc)?)?)),
-            Out::Items(outs) => Ok(Out::Items(Outs::new(copy_all(alloc, outs.items())?))),
+            Out::Items(outs) => Ok(Out::Items(outs.copy(alloc)?)),
         }
     }
 
@@ -124,7 +191,22 @@ impl Out {
     }
 }
 
-/// Outputs of the same values, in memory of their own.
+impl Outs {
+    // A list of the same values.
+    #[cycle(copy)]
+    fn copy(&self, alloc: Global) -> Result<Outs, AllocError>
+        ensures ok { IfOk result (λ r. outputs_of (outs_list r) ≡ outputs_of (outs_list self.now)) }
+    {
+        match &self.kept {
+            Kept::Own(items) => Ok(Outs::new(copy_all(alloc, items)?)),
+            Kept::Shared(items) => Ok(Outs {
+                kept: Kept::Shared(Arc::try_clone(items)?),
+            }),
+        }
+    }
+}
+
+/// Outputs of the same values. Their lists may lie in the same memory; nothing else of them does.
 #[cycle(copy)]
 pub fn copy_all(alloc: Global, outs: &[Out]) -> Result<Vec<Out>, AllocError>
     ensures ok { IfOk result (λ r. outputs_of r.items ≡ outputs_of outs.now) }
