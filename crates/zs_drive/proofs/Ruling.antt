@@ -17,7 +17,7 @@ use Rattle.zs_drive.specs.Recorded.{AllEnded}
 use Rattle.zs_drive.specs.DriverRules.{history_after}
 use Rattle.zs_drive.proofs.Follows.{GoesOn, IsAsked, EndsAt, Follows}
 use Rattle.zs_drive.specs.DriverRules.{IsTimeline, EndsBy, BeginsAfter, BeginsOn, asked_unless}
-use Rattle.zs_drive.proofs.Ticks.{lt_cases, first_tick_from-from}
+use Rattle.zs_drive.proofs.Ticks.{lt_cases, tick_cases, first_tick_from-from}
 use Rattle.zs_drive.proofs.Steps.{length-history_after, history_after-ended, AllEnded-append}
 
 -- the least tick at or after x is the least at or after itself
@@ -25,13 +25,13 @@ pub first_tick_from-again : (ticks : List ℕ) (x e : ℕ) → first_tick_from t
 unfolding first_tick_from
 first_tick_from-again [] x e = λ is. cc
 first_tick_from-again (t ∷ ticks) x e =
-    lt_cases t x (λ b. (if b then first_tick_from ticks x else Some t) ≡ Some e → first_tick_from (t ∷ ticks) e ≡ Some e)
+    tick_cases t x (λ b. (if b then Some t else first_tick_from ticks x) ≡ Some e → first_tick_from (t ∷ ticks) e ≡ Some e)
     (λ l is.
     let from : x ≤ e = first_tick_from-from ticks x e is in
-    lt_cases t e (λ b. (if b then first_tick_from ticks e else Some t) ≡ Some e) (λ _. first_tick_from-again ticks x e is) (λ k. absurd (omega arith)))
+    tick_cases t e (λ b. (if b then Some t else first_tick_from ticks e) ≡ Some e) (λ _. first_tick_from-again ticks x e is) (λ k. absurd (omega arith)))
     (λ l is.
     let same : t ≡ e = cc in
-    lt_cases t e (λ b. (if b then first_tick_from ticks e else Some t) ≡ Some e) (λ k. absurd (omega arith)) (λ _. is))
+    tick_cases t e (λ b. (if b then Some t else first_tick_from ticks e) ≡ Some e) (λ k. absurd (omega arith)) (λ _. is))
 
 module _ (job : JobRecord) (ticks : List ℕ) where
   -- a decision to continue at x, after an attempt that ended at e

@@ -1,14 +1,13 @@
 -- A clock is a finite set of ticks, listed as they rise: each millisecond up to a horizon, or listed moments alike.
-use Rattle.std.specs.Prelude.{ℕ, ◌+◌, ◌≤◌, ◌<◌, List, [], ◌∷◌, Option, Some, None, nat_lt, if◌then◌else◌}
+use Rattle.std.specs.Prelude.{ℕ, ◌+◌, ◌≤◌, ◌<◌, List, [], ◌∷◌, Option, find, nat_le}
 
 -- the greatest moment that a clock may have
 abbrev pub max_tick : ℕ
 max_tick = 999999999999999
 
--- the least tick at or after x, if there is one
+-- the least tick at or after x, if there is one: the first that is found, since they rise
 unfoldable pub first_tick_from : List ℕ → ℕ → Option ℕ
-first_tick_from [] x = None
-first_tick_from (t ∷ ticks) x = if nat_lt t x then first_tick_from ticks x else Some t
+first_tick_from ticks x = find (λ t. nat_le x t) ticks
 
 -- the ticks rise strictly, and the first is at least b
 unfoldable pub RisesFrom : ℕ → List ℕ → Type 0

@@ -1,5 +1,5 @@
 -- The ticks of a clock as a list.
-use Rattle.std.proofs.Common.{◌≡◌, ℕ, zero, suc, ◌+◌, ◌≤◌, ◌<◌, List, [], ◌∷◌, Option, nat_le, find, cond, true, false, Contains, if◌then◌else◌, refl, sym, ap, arith, nat_cmp}
+use Rattle.std.proofs.Common.{◌≡◌, ℕ, zero, suc, ◌+◌, ◌≤◌, ◌<◌, List, [], ◌∷◌, Option, nat_le, cond, true, false, Contains, if◌then◌else◌, refl, sym, ap, arith, nat_cmp}
 use Rattle.std.specs.Prelude.{Some, None}
 use Rattle.std.specs.Option.{option_and_then}
 use Rattle.std.specs.List.{AllByRecursion}
@@ -10,7 +10,7 @@ use Rattle.std.proofs.lemmas.List.Elements.{Contains-append_right}
 use Rattle.std.proofs.lemmas.Map.Keys.{sorted_from_strictly_increasing}
 use Rattle.zs_drive.specs.Clocks.{first_tick_from, RisesFrom, AllBefore, max_tick}
 use Rattle.zs_drive.specs.Clocks as drive
-use Rattle.zs_drive.proofs.Ticks.{lt_cases, first_tick_from-past}
+use Rattle.zs_drive.proofs.Ticks.{tick_cases, first_tick_from-past}
 use Rattle.zs_drive.proofs.Moments.{AllBefore-later}
 use Rattle.zs_agenda.specs.Ticks.{Ticks, every_ms, listed, first_tick, horizon, IsTick, IsClock, max_horizon}
 use Rattle.zs_agenda.proofs.TickLemmas.{last-tick}
@@ -30,16 +30,12 @@ first_tick_from-moments : (b n x : ℕ) → b ≤ x → x < b + n → first_tick
 unfolding first_tick_from moments_from
 first_tick_from-moments b zero x h l = absurd (omega arith)
 first_tick_from-moments b (suc n) x h l =
-    lt_cases b x (λ t. (if t then first_tick_from (moments_from (b + 1) n) x else Some b) ≡ Some x)
+    tick_cases b x (λ t. (if t then Some b else first_tick_from (moments_from (b + 1) n) x) ≡ Some x)
     (λ k. first_tick_from-moments (b + 1) n x (omega arith) (omega arith)) (λ k. let same : b ≡ x = omega arith in ap (λ (m : ℕ). Some m) same)
 
-first_tick_from-listed : (ts : List ℕ) (due : ℕ) → find (λ t. nat_le due t) ts ≡ first_tick_from ts due
+first_tick_from-listed : (ts : List ℕ) (due : ℕ) → first_tick (listed ts) due ≡ first_tick_from ts due
 unfolding first_tick_from
-first_tick_from-listed [] due = refl
-first_tick_from-listed (t ∷ ts) due =
-    lt_cases t due (λ b. cond (nat_le due t) (Some t) (find (λ t. nat_le due t) ts) ≡ (if b then first_tick_from ts due else Some t))
-    (λ l. let no : nat_le due t ≡ false = grind (arith, nat_tests) in rw no (first_tick_from-listed ts due))
-    (λ l. let yes : nat_le due t ≡ true = grind (arith, nat_tests) in rw yes refl)
+first_tick_from-listed ts due = refl
 
 -- the clock's first tick is the least one of its list
 pub first_tick-is : (c : Ticks) (due : ℕ) → first_tick c due ≡ first_tick_from (ticks_of c) due

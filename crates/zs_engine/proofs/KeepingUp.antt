@@ -6,7 +6,7 @@ use Rattle.zs_drive.specs.Clocks.{first_tick_from, RisesFrom, AllBefore, AreTick
 use Rattle.zs_drive.specs.Values.{JobRecord, record_of}
 use Rattle.zs_drive.specs.Timeline.{timeline_of, from, poll_moments}
 use Rattle.zs_drive.specs.Tasks.{TaskValue, current_timeline}
-use Rattle.zs_drive.proofs.Ticks.{lt_cases, AllBefore-none}
+use Rattle.zs_drive.proofs.Ticks.{tick_cases, AllBefore-none}
 use Rattle.zs_drive.proofs.Moments.{AllBefore-append, AllBefore-later}
 use Rattle.zs_drive.proofs.Records.{timeline_of-waits}
 use Rattle.zs_drive.proofs.OnClocks.{timeline_of-skips, timeline_of-over, timeline_of-both}
@@ -26,7 +26,7 @@ unfolding first_tick_from AllBefore
 first_tick_from-skip [] ys x all = refl
 first_tick_from-skip (t ∷ xs) ys x all =
     let first : t < x = all.0 in
-    lt_cases t x (λ b. (if b then first_tick_from (xs ++ ys) x else Some t) ≡ first_tick_from ys x) (λ _. first_tick_from-skip xs ys x all.1) (λ l. absurd (omega arith))
+    tick_cases t x (λ b. (if b then Some t else first_tick_from (xs ++ ys) x) ≡ first_tick_from ys x) (λ _. first_tick_from-skip xs ys x all.1) (λ l. absurd (omega arith))
 
 -- the least tick at or after x, with those before it and after it
 record Found (ticks : List ℕ) (low x now : ℕ) : Type 0 where
@@ -53,7 +53,7 @@ found [] low x now rises bounded = λ e. cc
 found (t ∷ ticks) low x now rises bounded =
     let from : low ≤ t = rises.0 in
     let small : t < max_tick + 1 = bounded.0 in
-    lt_cases t x (λ b. (if b then first_tick_from ticks x else Some t) ≡ Some now → Found (t ∷ ticks) low x now)
+    tick_cases t x (λ b. (if b then Some t else first_tick_from ticks x) ≡ Some now → Found (t ∷ ticks) low x now)
     (λ l e.
     let rest = found ticks (t + 1) x now rises.1 bounded.1 e in
     record {
