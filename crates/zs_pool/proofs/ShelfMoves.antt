@@ -1,11 +1,11 @@
 -- Each move keeps the rule of a shelf.
-use Rattle.std.proofs.Common.{◌≡◌, ℕ, ◌+◌, ◌-◌, ◌<◌, List, [], ◌∷◌, ◌++◌, set, refl, sym, ap, ◌∙◌, subst, arith, append_assoc}
+use Rattle.std.proofs.Common.{◌≡◌, ℕ, ◌+◌, ◌-◌, ◌<◌, List, [], ◌∷◌, ◌++◌, set, refl, sym, ap, ◌∙◌, subst, arith, append_assoc, length, length-append}
 use mathlib.Core.Option.{some}
 use lib.ListN.{get_elem?}
 use Rattle.std.specs.List.{flat_map}
 use Rattle.std.specs.List.Sorted.{IsPermutation}
 use Rattle.std.proofs.lemmas.List.{append-nil, nil_from_length}
-use Rattle.std.proofs.lemmas.List.Sorted.{IsPermutation-refl, IsPermutation-sym, IsPermutation-trans, IsPermutation-append_left}
+use Rattle.std.proofs.lemmas.List.Sorted.{IsPermutation-refl, IsPermutation-sym, IsPermutation-trans, IsPermutation-append_left, length_permutation}
 use Rattle.crossbeam_queue.specs.Fifo.{Pushes, Pops, Forks, Merges, Learns, Held}
 use Rattle.crossbeam_queue.proofs.Lists.{set_else}
 use Rattle.zs_pool.specs.declared.shelf.rule.Hands.{Hands}
@@ -14,6 +14,10 @@ use Rattle.zs_pool.specs.Shelf.{hands, IdleIsEmpty, ShelfRun, IsLeft}
 use Rattle.zs_pool.proofs.Views.{total_set, total_new, every_set, every_new, every_map, gathered_alone, merged, newcomer, kept, grown}
 
 module _ {T : Type 0} where
+  -- a shelf that is full, as a pass with the whole share knows it
+  pub all_full : (v : Hands T) (cap slots : ℕ) → slots ≡ cap → Held cap (IsLeft v) → v.share ≡ max_moment → length v.put ≡ length v.taken + slots
+  all_full v cap slots same held whole = omega (arith, length_permutation v.put (v.taken ++ held.0) (held.2 whole), length-append v.taken held.0, held.1, same)
+
   -- what was put, before and after a change of the views
   moves : (p q u t : List T) (items rest : List T) → IsPermutation q p → IsPermutation u t → IsPermutation p (u ++ items) → items ≡ rest → IsPermutation q (t ++ rest)
   moves p q u t items rest puts takes was same =

@@ -144,11 +144,11 @@ joins id v other w s run at apart at_other =
 
 -- the word at the end
 pub closes : (id : ℕ) (v : Tallied) (words : List ℕ) (slots : List (Unit {0})) (n : ℕ) → Final (Seen Rule id v) words slots → get_elem? words 0 ≡ some n
-    → (v.seen ≤ n) × (v.count + v.allowance ≡ max_moment → n ≡ v.count)
+    → (v.seen ≤ n) × (v.count ≤ n) × (n + v.allowance ≤ max_moment) × (v.count + v.allowance ≡ max_moment → n ≡ v.count)
 closes id v words slots n last at =
     let s = last.0 in let run = last.1.0 in let here = last.1.1 in let views = s.views in let total = sum_by (λ u. u.count) views in
     let W : List ℕ → Type 0 = λ ws. get_elem? ws 0 ≡ some n in
     let is : n ≡ total = sym (some-injective total n (subst W (sym last.2 ∙ run.word) at)) in
     let c = total_has (λ u. u.count) views id v here in let a = total_has (λ u. u.allowance) views id v here in
     let mine : v.seen ≤ total = every_get (λ u. u.seen ≤ total) views id v here run.each in
-    (omega arith, λ whole. omega (arith, run.whole))
+    (omega arith, omega arith, omega (arith, run.whole), λ whole. omega (arith, run.whole))

@@ -137,6 +137,9 @@ impl Board {
         // The batch is whole, and comes after all that the pass took. After a `None` there is none.
         ensures taken { IfSome result (λ b. (pass.old.none ≡ false) × (slice_get pass.old.batches b.number ≡ Some b) × All (λ k. k < b.number) pass.old.taken × (pass.new ≡ claimer self.now pass.old.share pass.old.batches (pass.old.taken ++ b.number ∷ []) false)) }
 
+        // A pass with the whole share takes the very next one.
+        ensures front { IfSome result (λ b. pass.old.share ≡ max_moment → b.number ≡ length pass.old.taken) }
+
         ensures none { IfNone result (pass.new ≡ claimer self.now pass.old.share pass.old.batches pass.old.taken true) }
         ensures whole { IfNone result (pass.old.share ≡ max_moment → IsPermutation (range_with_len 0 (length pass.old.batches)) pass.old.taken) }
     {

@@ -1,7 +1,8 @@
 ghost use Rattle.std.specs.Prelude.{◌≡◌};
-ghost use Rattle.zs_pool.specs.declared.fault.PoolFault.TheVariants.{Memory};
+ghost use Rattle.zs_pool.specs.declared.fault.PoolFault.TheVariants.{Memory, NoThread};
 
 use std::alloc::{AllocError, AllocFailed};
+use std::thread::SpawnError;
 use thiserror::Error;
 
 /// Why a call of the pool was refused.
@@ -31,5 +32,13 @@ impl<T: Drop> From<AllocFailed<T>> for PoolFault {
 
     fn from(_refused: AllocFailed<T>) -> PoolFault {
         PoolFault::Memory
+    }
+}
+
+impl<F: Drop> From<SpawnError<F>> for PoolFault {
+    ghost from_gives = { λ _ e. e ≡ NoThread };
+
+    fn from(_refused: SpawnError<F>) -> PoolFault {
+        PoolFault::NoThread
     }
 }

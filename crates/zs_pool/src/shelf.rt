@@ -1,4 +1,4 @@
-ghost use Rattle.std.specs.Prelude.{◌≡◌, ◌∷◌, [], ◌++◌, ◌+◌, ◌-◌, ◌≤◌, ◌<◌, IsOk, IfOk, IfErr, OnOk, IfSome, IfNone};
+ghost use Rattle.std.specs.Prelude.{◌≡◌, ◌∷◌, [], ◌++◌, ◌+◌, ◌-◌, ◌≤◌, ◌<◌, length, IsOk, IfOk, IfErr, OnOk, IfSome, IfNone};
 ghost use Rattle.std.specs.List.Sorted.{IsPermutation};
 ghost use Rattle.crossbeam_queue.specs.Passes.{view, IsPassOf};
 ghost use Rattle.zs_term.specs.Saturating.{max_moment};
@@ -60,6 +60,7 @@ impl Shelf {
     pub fn new<R>(_rt: &R, alloc: Global, capacity: u64) -> Result<(Shelf, ShelfPass), PoolFault>
         requires capacity { (1 ≤ capacity) × (capacity ≤ max_tasks) }
         ensures ok { IfOk result (λ r. r.1 ≡ shelver r.0 max_moment [] []) }
+        ensures room { IfOk result (λ r. r.0.slots ≡ capacity) }
         ensures memory { IfErr result (λ e. e ≡ Memory) }
     {
         let (queue, pass) = Queue::ruled(alloc, capacity as usize)?;
@@ -76,11 +77,14 @@ impl Shelf {
         requires shelf { pass.old.shelf ≡ self.now }
         ensures ok { OnOk result (pass.new ≡ shelver self.now pass.old.share (pass.old.put ++ message ∷ []) pass.old.taken) }
         ensures full { IfErr result (λ e. (e.0 ≡ message) × (e.1 ≡ Full) × (pass.new ≡ pass.old)) }
+
+        // A pass with the whole share finds no room only where as many are left as the shelf has slots.
+        ensures no_room { IfErr result (λ _. pass.old.share ≡ max_moment → length pass.old.put ≡ length pass.old.taken + self.now.slots) }
     {
-        match self.queue.push_as::<Puts, R>(rt, &mut pass.queue, message) {
-            Ok(()) => Ok(()),
-            Err(message) => Err((message, PoolFault::Full)),
-        }
+        let Err(message) = self.queue.push_as::<Puts, R>(rt, &mut pass.queue, message) else {
+            return Ok(());
+        };
+        Err((message, PoolFault::Full))
     }
 
     /// Takes the front batch, or `None` where the shelf was empty.
@@ -88,6 +92,9 @@ impl Shelf {
         requires shelf { pass.old.shelf ≡ self.now }
         ensures taken { IfSome result (λ p. pass.new ≡ shelver self.now pass.old.share pass.old.put (pass.old.taken ++ p ∷ [])) }
         ensures none { IfNone result (pass.new ≡ pass.old) }
+
+        // A pass with the whole share finds nothing only where it took all that it put.
+        ensures empty { IfNone result (pass.old.share ≡ max_moment → IsPermutation pass.old.put pass.old.taken) }
     {
         self.queue.pop_as::<Takes, R>(rt, &mut pass.queue)
     }

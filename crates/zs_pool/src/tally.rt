@@ -143,7 +143,9 @@ impl Tally {
     /// What was counted in all. Where all seats were joined into this one, that is its count.
     pub fn close(self, seat: TallySeat) -> u64
         requires tally { seat.tally ≡ self }
+        ensures own { seat.count ≤ result }
         ensures seen { seat.seen ≤ result }
+        ensures within { result + seat.allowance ≤ max_moment }
         ensures whole { seat.count + seat.allowance ≡ max_moment → result ≡ seat.count }
     {
         let TallySeat { seat, left: _ } = seat;

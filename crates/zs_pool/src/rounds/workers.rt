@@ -5,7 +5,7 @@ ghost use Rattle.zs_pool.specs.Board.{claimer};
 ghost use Rattle.zs_pool.specs.Shelf.{shelver};
 ghost use Rattle.zs_pool.specs.Shares.{HandsIn, IsOf, IsReady, IsFirst, IsSame, HasServed, rooms};
 ghost use Rattle.zs_pool.specs.Joined.{Promised, AreBoth, IsPart, allowed};
-ghost use Rattle.zs_pool.specs.declared.fault.PoolFault.TheVariants.{Full};
+ghost use Rattle.zs_pool.specs.declared.fault.PoolFault.TheVariants.{Full, Memory, NoThread};
 
 use crate::fault::PoolFault;
 use crate::gate::Gate;
@@ -80,7 +80,7 @@ fn both(overflow: Overflow, more: Overflow) -> Overflow
 
 // Waits for all workers, of which one may have been refused memory.
 fn wait_for<R: Threads>(rt: &R, workers: Vec<Worker>) -> Result<(), PoolFault>
-    ensures fault { IfErr result (λ e. e ≢ Full) }
+    ensures fault { IfErr result (λ e. e ≡ Memory) }
 {
     let mut refused = false;
     for worker in workers {
@@ -158,7 +158,7 @@ impl<'s, G: Gate> Shared<'s, G> {
     ) -> Result<Worker, PoolFault>
         requires ready { IsReady self rights }
         ensures started { IfOk result (λ w. (w.promise.moment ≡ self.entry.moment) × (w.promise.rights.value ≡ rights)) }
-        ensures fault { IfErr result (λ e. e ≢ Full) }
+        ensures fault { IfErr result (λ e. e ≡ NoThread) }
     {
         let promise = WorkerPromise {
             moment: self.moment,
@@ -170,13 +170,7 @@ impl<'s, G: Gate> Shared<'s, G> {
             requires ready { IsReady (record { gate = shared.gate; board = shared.board; shelf = shared.shelf; tally = shared.tally; moment = moment; tasks = shared.tasks; batches = shared.batches }) rights }
             ensures served { IsSame rights result.rights × HasServed moment rights result.rights result.overflow }
         { Shared { moment, ..shared }.work(rt, alloc, rights) };
-        match scope.spawn_with(promise, run) {
-            Ok(worker) => Ok(worker),
-            Err(refused) => {
-                drop(refused);
-                Err(PoolFault::NoThread)
-            }
-        }
+        Ok(scope.spawn_with(promise, run)?)
     }
 
     // Starts as many workers. Where one can't be started, the others are waited for.
