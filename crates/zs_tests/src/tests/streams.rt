@@ -1,6 +1,6 @@
 //! Readers and writers of `std`'s that fail, give little, or never end.
 use super::support::plans::{PLAN, REPORT};
-use super::support::streams::{Counted, Halting, Limited, Spaces};
+use super::support::streams::{Counted, Halting, Limited, Spaces, Stumbling};
 use std::alloc::{Alloc, Global};
 use std::io;
 use std::io::Read;
@@ -45,6 +45,22 @@ fn an_interrupted_read_is_a_failed_read(rt: HostRuntime) {
     expect_refusal(&rt, rt.alloc(), reader, RunFault::Read, 60);
 }
 
+// The plan comes in three pieces, and the fourth call finds the end.
+#[test]
+fn a_failed_read_is_not_tried_again(rt: HostRuntime) {
+    for before in 0..4u64 {
+        let mut reader = Stumbling::of(Halting::of(PLAN, 50, 1000), before);
+        expect_refusal(
+            &rt,
+            rt.alloc(),
+            &mut reader,
+            RunFault::Read,
+            before as usize,
+        );
+        assert!(rt; reader.after == 0, "after {before}");
+    }
+}
+
 #[test]
 fn a_cut_plan_is_not_json(rt: HostRuntime) {
     let bytes = PLAN.as_bytes();
@@ -77,6 +93,7 @@ fn expect_written<R: Abort + Threads + Wait + Sync>(
     let ended = run(rt, alloc, &OpenGate, &mut reader, &mut writer);
     assert!(rt; ended == wanted, "{length}: {ended:?}");
     assert!(rt; Drain::failed(&writer) == ended.is_err(), "{length}");
+    assert!(rt; inner.flushed == ended.is_ok(), "{length}");
     assert!(rt; inner.taken.len() == length, "{length}");
     assert!(rt; REPORT.as_bytes().starts_with(&inner.taken), "{length}");
 }
@@ -95,6 +112,28 @@ fn a_flush_fails(rt: HostRuntime) {
     let mut writer = Limited::of(rt.alloc(), 200, 200, false);
     let wanted = Err(RunFault::Write { sent: 112 });
     expect_written(&rt, rt.alloc(), 1000, &mut writer, wanted, 112);
+}
+
+// The report goes out in three pieces, and the fourth call is the flush.
+#[test]
+fn a_failed_write_or_flush_is_not_tried_again(rt: HostRuntime) {
+    for (before, sent) in [(0u64, 0usize), (1, 50), (2, 100), (3, 112)] {
+        let mut reader = Marked::new(PLAN.as_bytes());
+        let mut stumbling = Stumbling::of(Limited::of(rt.alloc(), 50, 1000, true), before);
+        let mut writer = Marked::new(&mut stumbling);
+        let ended = run(&rt, rt.alloc(), &OpenGate, &mut reader, &mut writer);
+        assert!(rt;
+            ended == Err(RunFault::Write { sent: sent as u64 }),
+            "{sent}: {ended:?}"
+        );
+        assert!(rt; Drain::failed(&writer), "{sent}");
+        assert!(rt; stumbling.after == 0, "{sent}");
+        assert!(rt; stumbling.inner.taken.len() == sent, "{sent}");
+        assert!(rt;
+            REPORT.as_bytes().starts_with(&stumbling.inner.taken),
+            "{sent}"
+        );
+    }
 }
 
 #[test]

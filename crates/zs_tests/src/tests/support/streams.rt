@@ -123,11 +123,13 @@ impl Limited {
 
 impl Write for Limited {
     fn write(&mut self, buf: &[u8]) -> io::Result<usize> {
+        self.flushed = false;
         Ok(self.store(buf))
     }
 
     fn flush(&mut self) -> io::Result<()> {
         if self.flushes {
+            self.flushed = true;
             Ok(())
         } else {
             Err(io::Error::from(io::ErrorKind::Other))
@@ -163,6 +165,65 @@ impl Drain for Limited {
 
     fn failed(&self) -> bool {
         self.failed
+    }
+}
+
+/// A reader or a writer that fails at one call, and at the next goes on as if nothing had been.
+#[derive(Drop)]
+pub struct Stumbling<T> {
+    pub inner: T,
+    /// How many calls are good before the one that fails.
+    pub before: u64,
+    /// How many calls came after it.
+    pub after: u64,
+    has_failed: bool,
+}
+
+impl<T> Stumbling<T> {
+    /// The reader or writer fails after so many good calls.
+    pub fn of(inner: T, before: u64) -> Stumbling<T> {
+        Stumbling {
+            inner,
+            before,
+            after: 0,
+            has_failed: false,
+        }
+    }
+
+    // Whether this call is the one that fails.
+    fn fails_now(&mut self) -> bool {
+        if self.has_failed {
+            self.after = self.after.saturating_add(1);
+            return false;
+        }
+        self.has_failed = self.before == 0;
+        self.before = self.before.saturating_sub(1);
+        self.has_failed
+    }
+}
+
+impl<R: Read> Read for Stumbling<R> {
+    fn read(&mut self, buf: &mut [u8]) -> io::Result<usize> {
+        if self.fails_now() {
+            return Err(io::Error::from(io::ErrorKind::Interrupted));
+        }
+        self.inner.read(buf)
+    }
+}
+
+impl<W: Write> Write for Stumbling<W> {
+    fn write(&mut self, buf: &[u8]) -> io::Result<usize> {
+        if self.fails_now() {
+            return Err(io::Error::from(io::ErrorKind::Interrupted));
+        }
+        self.inner.write(buf)
+    }
+
+    fn flush(&mut self) -> io::Result<()> {
+        if self.fails_now() {
+            return Err(io::Error::from(io::ErrorKind::Interrupted));
+        }
+        self.inner.flush()
     }
 }
 
