@@ -13,7 +13,7 @@ import re
 
 WORDS = ["function", "goal", "file", "old", "new"]
 PARTS = ["src", "specs", "proofs"]
-FUNCTION = re.compile(r"^[ \t]*(?:pub(?:\([^)]*\))? )?(?:const )?(?:unsafe )?fn (\w+)", re.M)
+FUNCTION = re.compile(r'^[ \t]*(?:pub(?:\([^)]*\))? )?(?:const )?(?:unsafe )?(?:extern "C" )?fn (\w+)', re.M)
 
 
 class BadEdit(Exception):
