@@ -253,10 +253,11 @@ class Failures(program.Count):
 
 def caught_by_refusals(plant, copy):
     """The cases of a function of refused_growths.py that catch a plant in a copy, which is proved and built."""
-    said = said_by_rt(copy / "crates" / "zsched", "run")
-    if "logic=proved" not in said:
-        raise Misfit(f"{plant.name}: rt run gave no proved program: {said[-500:]}")
     program.ZSCHED = copy / "crates" / "zsched" / "out" / "zsched"
+    program.ZSCHED.unlink(missing_ok=True)
+    said = said_by_rt(copy / "crates" / "zsched", "run")
+    if not program.ZSCHED.exists():
+        raise Misfit(f"{plant.name}: rt run built no program: {said[-500:]}")
     failures = Failures()
     getattr(refused_growths, plant.test)(failures, refused_growths.Refuser(copy))
     return failures.names
