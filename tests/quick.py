@@ -3,8 +3,8 @@
 
 A crate whose files changed since it was last seen proved here is checked again; where more than bodies of functions
 changed (a definition, a contract, a type), so are the crates above it. Beside that the program is run unproved, with
-checks, on the plans of examples/ and tests/plans/ and on the hostile plans. It shows no proof from nothing, no edit that
-must fail and no test of the crates: ./check does. The last line is 'N passed, M failed'.
+checks, on the plans of examples/ and tests/plans/ and on one hostile plan for each fault. It shows no proof from nothing,
+no edit that must fail and no test of the crates: ./check does. The last line is 'N passed, M failed'.
 
     python3 tests/quick.py             what ./check quick runs
     python3 tests/quick.py --proved    takes the crates as they stand for proved: ./run --proved and ./check say so"""

@@ -1,6 +1,5 @@
 // Plans, reports, and whole runs.
 use crate::ended::{Answer, Case, right_if};
-use std::alloc::Global;
 use std::sync::Wait;
 use std::thread::Threads;
 use zs_engine::run_jobs;

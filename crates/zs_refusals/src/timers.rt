@@ -1,6 +1,5 @@
 // The timer queue: what it holds is what was set, also where a call was refused.
 use crate::ended::{Answer, Case, Ended, right_if};
-use std::alloc::Global;
 use zs_agenda::{Agenda, AgendaFault};
 
 const JOBS: u64 = 40;

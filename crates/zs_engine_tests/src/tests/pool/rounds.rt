@@ -1,5 +1,6 @@
 //! Rounds on one thread and on several, under gates that hold them.
 ghost use Rattle.std.specs.Prelude.{◌≡◌, ◌≤◌, IfOk};
+ghost use Rattle.zs_drive.specs.Clocks.{max_tick};
 ghost use Rattle.zs_term.specs.Saturating.{max_moment};
 
 use super::*;
@@ -8,20 +9,22 @@ use std::sync::Wait;
 use std::thread::Threads;
 use zs_gates::{Chained, Held, InTurn, LastFirst, Meeting, Slow};
 
-// A round at moment 0 over as many new tasks, with a new tally: the tasks, and what was counted.
+// A round over as many new tasks, with a new tally: the tasks, and what was counted.
 fn one_round<G: Gate, R: Threads + Wait + Sync>(
     rt: &R,
     alloc: Global,
     cut: Cut,
     gate: &G,
+    now: u64,
     count: u64,
 ) -> Result<(Vec<Task>, u64), Fail>
     requires count { count ≤ 10000 }
+    requires now { now ≤ max_tick }
     ensures count { IfOk result (λ r. r.1 ≡ count) }
 {
-    let tasks = new_tasks(alloc, count, 0)?;
+    let tasks = new_tasks(alloc, count, now)?;
     let (tally, mut seat) = Tally::new(alloc)?;
-    let polled = round(rt, alloc, cut, gate, &tally, &mut seat, 0, tasks)?;
+    let polled = round(rt, alloc, cut, gate, &tally, &mut seat, now, tasks)?;
     Ok((polled, tally.close(seat)))
 }
 
@@ -38,7 +41,7 @@ fn within<R: Abort>(rt: &R, workers: u64, grain: u64) -> Cut {
     Cut::new(workers, grain).expect(rt, "within the limits")
 }
 
-// In a round under the gate as many new tasks are polled once each, and so many polls are counted.
+// In a round at moment 0 under the gate as many new tasks are polled once each, and so many polls are counted.
 fn expect_round<G: Gate, R: Abort + Threads + Wait + Sync>(
     rt: &R,
     alloc: Global,
@@ -48,7 +51,7 @@ fn expect_round<G: Gate, R: Abort + Threads + Wait + Sync>(
 ) -> Result<(), Fail>
     requires count { count ≤ 10000 }
 {
-    let (polled, counted) = one_round(rt, alloc, cut, gate, count)?;
+    let (polled, counted) = one_round(rt, alloc, cut, gate, 0, count)?;
     expect_polled(rt, &polled, count as usize);
     assert_eq!(rt; counted, count);
     Ok(())
@@ -153,7 +156,7 @@ fn a_slow_job_changes_nothing(rt: HostRuntime) -> Result<(), Fail> {
 #[test]
 fn a_gate_is_passed_before_its_poll_is_counted(rt: HostRuntime) -> Result<(), Fail> {
     let gate = Chained::new();
-    let (polled, _) = one_round(&rt, rt.alloc(), within(&rt, 2, 1), &gate, 3)?;
+    let (polled, _) = one_round(&rt, rt.alloc(), within(&rt, 2, 1), &gate, 0, 3)?;
     assert_eq!(rt; (gate.alone(), gate.done()), (0, 1));
     expect_polled(&rt, &polled, 3);
     Ok(())

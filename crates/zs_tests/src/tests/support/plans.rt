@@ -29,8 +29,10 @@ pub fn plan_of(alloc: Global, names: &str, workers: u64, grain: u64) -> Result<S
         if !text.ends_with('[') {
             text.push(',')?;
         }
-        let job = format!(in alloc; "{{\"name\":\"{name}\",{JOB}")?;
-        text.push_str(&job)?;
+        text.push_str("{\"name\":\"")?;
+        text.push(name)?;
+        text.push_str("\",")?;
+        text.push_str(JOB)?;
     }
     text.push_str("]}")?;
     Ok(text)
@@ -40,8 +42,9 @@ pub fn plan_of(alloc: Global, names: &str, workers: u64, grain: u64) -> Result<S
 pub fn report_of(alloc: Global, names: &str, polls: u64) -> Result<String, AllocError> {
     let mut text = String::new(alloc);
     for name in names.chars() {
-        let block = format!(in alloc; "job {name}{BLOCK}")?;
-        text.push_str(&block)?;
+        text.push_str("job ")?;
+        text.push(name)?;
+        text.push_str(BLOCK)?;
     }
     let last = format!(in alloc; "polls {polls}\n")?;
     text.push_str(&last)?;
