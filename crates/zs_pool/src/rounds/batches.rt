@@ -47,7 +47,7 @@ fn add_task(
         waiting.push(task)?;
         return Ok(waiting);
     }
-    let mut next = Vec::new(alloc);
+    let mut next = Vec::with_capacity(alloc, grain as usize)?;
     next.push(task)?;
     add_batch(batches, waiting)?;
     Ok(next)
@@ -61,10 +61,11 @@ pub fn cut_into(alloc: Global, grain: u64, tasks: Vec<Task>) -> Result<Vec<Batch
     ensures cut { IfOk result (λ v. AreCut grain v.items) }
     ensures memory { IfErr result (λ e. e ≡ Memory) }
 {
-    let mut batches = Vec::new(alloc);
-    let mut waiting = Vec::new(alloc);
+    let mut batches = Vec::with_capacity(alloc, tasks.len() / grain as usize + 1)?;
+    let mut waiting = Vec::with_capacity(alloc, grain as usize)?;
     for task in tasks {
-        waiting = add_task(alloc, &mut batches, waiting, grain, task)?;
+        let next = add_task(alloc, &mut batches, waiting, grain, task)?;
+        waiting = next;
     }
     if waiting.is_empty() {
         return Ok(batches);

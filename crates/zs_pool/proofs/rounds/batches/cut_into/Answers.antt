@@ -8,7 +8,7 @@ use Rattle.zs_pool.proofs.rounds.batches.cut_into.Goals as goal
 
 pub loop-task-preserved : goal.loop-task-preserved
 loop-task-preserved c =
-    let was = c.loop-task.invariant in let told = c.in_ok-waiting.ensures in
+    let was = c.loop-task.invariant in let told = c.in_ok-next.ensures in
     let rest : List TaskValue = into_iter_items c.next.new.self in let task : TaskValue = c.in-Some.task in
     let before : List TaskValue = tasks_of c.loop-task.batches.items ++ c.loop-task.waiting.items in
     let step : into_iter_items c.loop-task.task-iterator ≡ task ∷ rest = c.in-Some.ensures.steps.0 in (
