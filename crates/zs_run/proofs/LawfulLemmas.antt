@@ -1,5 +1,6 @@
 -- A plan that is accepted passed each demand.
-use Rattle.std.proofs.Common.{◌≡◌, ◌≤◌, ◌+◌, ◌&&◌, ◌||◌, ◌==◌, ℕ, suc, zero, List, [], ◌∷◌, ◌++◌, length, map, Bool, true, false, not, nat_lt, nat_le, Option, Some, None, Result, Ok, Err, if◌then◌else◌, codes, subst, refl, sym, ap, ◌∙◌, arith}
+use Rattle.std.proofs.Common.{◌≡◌, ◌≤◌, ◌+◌, ◌&&◌, ◌||◌, ◌==◌, ℕ, suc, zero, List, [], ◌∷◌, ◌++◌, length, map, Bool, true, false, not, nat_lt}
+use Rattle.std.proofs.Common.{nat_le, Option, Some, None, Result, Ok, Err, if◌then◌else◌, codes, subst, refl, sym, ap, ◌∙◌, arith}
 use Rattle.std.specs.Prelude.{⊤, MatchResult}
 use Rattle.std.specs.List.{All, AllByRecursion, IsDistinct, list_all, list_any}
 use Rattle.std.specs.Str.{bytes_eq}
@@ -87,7 +88,9 @@ some_ms n h = grind (arith, nat_tests, h)
 
 no_zero : (beats : List Beat) → list_any (λ b. b.ms == 0) beats ≡ false → AllByRecursion (λ beat. 1 ≤ beat.ms) beats
 no_zero [] h = tt
-no_zero (beat ∷ beats) h = (some_ms beat.ms (or_left (beat.ms == 0) (list_any (λ b. b.ms == 0) beats) h), no_zero beats (or_right (beat.ms == 0) (list_any (λ b. b.ms == 0) beats) h))
+no_zero (beat ∷ beats) h =
+    let others : Bool = list_any (λ b. b.ms == 0) beats in
+    (some_ms beat.ms (or_left (beat.ms == 0) others h), no_zero beats (or_right (beat.ms == 0) others h))
 
 -- what passes each test is a script
 script_is : (beats script : List Beat) → script_of beats ≡ Ok script → IsScript script
@@ -112,7 +115,8 @@ script_is beats script h = by_empty (length beats == 0) refl h
     by_length false is some h = by_zero (list_any (λ b. b.ms == 0) beats) refl some is h
 
     by_empty : (c : Bool) → (length beats == 0) ≡ c
-        → (if c then Err Empty else (if nat_lt 1000 (length beats) then Err TooLong else (if list_any (λ b. b.ms == 0) beats then Err ZeroMs else Ok beats))) ≡ Ok script → IsScript script
+        → (if c then Err Empty else (if nat_lt 1000 (length beats) then Err TooLong else (if list_any (λ b. b.ms == 0) beats then Err ZeroMs else Ok beats))) ≡ Ok script
+        → IsScript script
     by_empty true is h = absurd (let e : Err Empty ≡ Ok script = h in cc)
     by_empty false is h = by_length (nat_lt 1000 (length beats)) refl is h
 
@@ -159,7 +163,8 @@ unfolding job_of
 job_is number names d job h =
     let a = passed (demand_some (job_parts d) (faults.Shape (Some number))) (from_beats number names d) job h in
     let b = passed (demand_some (all_of beat_of a.0.entries) (faults.Shape (Some number))) (from_keys number names d a.0) job a.2 in
-    let k = passed (demand (has_only_keys job_keys d && list_all (has_only_keys entry_keys) a.0.entries) (faults.UnknownKey (Some number))) (from_mode number names a.0 b.0) job b.2 in
+    let keys : Bool = has_only_keys job_keys d && list_all (has_only_keys entry_keys) a.0.entries in
+    let k = passed (demand keys (faults.UnknownKey (Some number))) (from_mode number names a.0 b.0) job b.2 in
     let m = passed (demand_some (mode_of a.0.mode) (faults.Range (Some number))) (from_name number names a.0 b.0) job k.2 in
     let n = passed (demand (is_name a.0.name) (faults.Name number)) (from_used number names a.0 b.0 m.0) job m.2 in
     let u = passed (demand (not (is_one_of names a.0.name)) (faults.SameName number)) (from_schedule number a.0 b.0 m.0) job n.2 in
@@ -194,9 +199,11 @@ fewer : (names : List (List ℕ)) (name : List ℕ) (jobs : List JobRecord) → 
     → AllByRecursion (λ job. is_one_of names job.name ≡ false) jobs × AllByRecursion (λ other. bytes_eq name other ≡ false) (map (λ job. job.name) jobs)
 fewer names name [] h = (tt, tt)
 fewer names name (job ∷ jobs) h =
-    let split : (is_one_of names job.name || (bytes_eq name job.name || false)) ≡ false = sym (list_any-append (λ k. bytes_eq k job.name) names (name ∷ [])) ∙ h.0 in
-    let rest : AllByRecursion (λ job. is_one_of names job.name ≡ false) jobs × AllByRecursion (λ other. bytes_eq name other ≡ false) (map (λ job. job.name) jobs) = fewer names name jobs h.1 in
-    ((or_left (is_one_of names job.name) _ split, rest.0), (or_left (bytes_eq name job.name) false (or_right (is_one_of names job.name) (bytes_eq name job.name || false) split), rest.1))
+    let split : (is_one_of names job.name || (bytes_eq name job.name || false)) ≡ false =
+    sym (list_any-append (λ k. bytes_eq k job.name) names (name ∷ [])) ∙ h.0 in
+    let other : (bytes_eq name job.name || false) ≡ false = or_right (is_one_of names job.name) (bytes_eq name job.name || false) split in
+    let rest = fewer names name jobs h.1 in
+    ((or_left (is_one_of names job.name) _ split, rest.0), (or_left (bytes_eq name job.name) false other, rest.1))
 
 jobs_are : (number : ℕ) (names : List (List ℕ)) (ds : List Data) (jobs : List JobRecord) → jobs_of number names ds ≡ Ok jobs → AreLawful names jobs
 unfolding jobs_of IsDistinct
