@@ -34,7 +34,7 @@ pub trait Drain {
     // A call has answered `Failed`.
     ghost mark: { Self → Bool };
 
-    // A flush succeeded, and nothing was taken since.
+    // A flush succeeded, and no give was tried since.
     ghost flushed: { Self → Bool };
 
     /// Takes at least one byte from the front of a slice that isn't empty, or fails.
@@ -44,7 +44,7 @@ pub trait Drain {
         ensures some { IfOk result (λ n. 0 < n) }
         ensures bytes { WriteAppends (contents self.old) (contents self.new) result buf.now }
         ensures marks { mark self.new ≡ (mark self.old || is_err result) }
-        ensures stale { IfOk result (λ _. flushed self.new ≡ false) };
+        ensures stale { flushed self.new ≡ false };
 
     /// Hands on all that was taken.
     fn flush(&mut self) -> Result<(), Failed>
