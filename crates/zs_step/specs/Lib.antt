@@ -7,3 +7,4 @@ pub mod Collected
 pub mod State
 pub mod Compiled
 pub mod Laws
+pub mod Memory

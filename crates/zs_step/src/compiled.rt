@@ -26,7 +26,9 @@ pub struct Compiled {
 }
 
 impl Compiled {
-    ghost use Rattle.std.specs.Prelude.{◌≡◌, ◌≤◌, ◌∷◌, [], IfOk, OnOk, IfErr, is_err, IsTrue};
+    ghost use Rattle.std.specs.Prelude.{◌≡◌, ◌≤◌, ◌∷◌, [], IfOk, OnOk, IfErr, is_err, IsOk, IsTrue, true};
+    ghost use Rattle.zs_term.specs.Schedule.{schedule_of};
+    ghost use Rattle.zs_step.specs.Memory.{is_bare, is_leaf};
     ghost use Rattle.zs_step.specs.History.{History};
     ghost use Rattle.zs_step.specs.Compiled.{compiled_term, compiled_schedule, is_broken, last_seen, StandsFor, IsAnswer};
 
@@ -34,6 +36,7 @@ impl Compiled {
     pub fn new(alloc: Global, checked: Checked) -> Result<Compiled, StepFault>
         ensures term { IfOk result (λ c. compiled_term c ≡ checked) }
         ensures stands { IfOk result (λ c. StandsFor c []) }
+        ensures succeeds { is_leaf (schedule_of checked) ≡ true → IsOk result }
     {
         let state = state_of(alloc, checked.term())?;
         Ok(Compiled {
@@ -66,6 +69,7 @@ impl Compiled {
         ensures term { compiled_term self.new ≡ compiled_term self.old }
         ensures answered { IfOk result (λ r. (h : History) → StandsFor self.old h → IsAnswer (compiled_schedule self.old) ((now, input) ∷ h) r) }
         ensures stands { OnOk result ((h : History) → StandsFor self.old h → StandsFor self.new ((now, input) ∷ h)) }
+        ensures succeeds { (h : History) → StandsFor self.old h → is_bare (compiled_schedule self.old) ≡ true → IsOk result }
         ensures seen { last_seen self.new ≤ now }
         ensures breaks { is_broken self.new ≡ is_err result }
         ensures stays { IsTrue (is_broken self.old) → self.new ≡ self.old }

@@ -1,12 +1,13 @@
 // What a schedule answers to a whole history.
 
-ghost use Rattle.std.specs.Prelude.{◌≡◌, ◌<◌, ◌≤◌, ◌+◌, length, drop, take, IfOk, OnOk, IfSome, IfNone};
+ghost use Rattle.std.specs.Prelude.{◌≡◌, ◌<◌, ◌≤◌, ◌+◌, length, drop, take, IfOk, IsOk, OnOk, IfSome, IfNone, true};
 ghost use Rattle.zs_term.specs.Schedule.{schedule_of, two, over, and_then, while_output, collect_all, reset_when};
 ghost use Rattle.zs_term.specs.Saturating.{saturated};
 ghost use Rattle.zs_term.specs.Output.{passes, picked, output_of, outputs_of, outs_list, number, pair, applied};
 ghost use Rattle.zs_term.specs.OutputKind.{OutputKind, HasKind};
 ghost use Rattle.zs_term.specs.Kinds.{kind_of};
 ghost use Rattle.zs_step.specs.History.{history_of, earlier, IsInOrder};
+ghost use Rattle.zs_step.specs.Memory.{is_bare};
 ghost use Rattle.zs_step.specs.Answer.{answer_of, answer, waits, from_done, collect_if, collected, is_next, only_if, since_reset};
 
 use crate::decision::Decision;
@@ -31,6 +32,7 @@ type Answer = (Out, Decision);
 fn evaluate(alloc: Global, term: &Term, history: Pairs<'_>) -> Result<Answer, AllocError>
     requires some { 0 < length history.now }
     ensures value { IfOk result (λ r. answer (output_of r.0) r.1 ≡ answer_of (schedule_of term.now) (history_of history.now)) }
+    ensures succeeds { is_bare (schedule_of term.now) ≡ true → IsOk result }
 {
     let now = last_moment(history);
     match term {
@@ -113,6 +115,7 @@ fn while_output(
 ) -> Result<Answer, AllocError>
     requires some { 0 < length history.now }
     ensures value { IfOk result (λ r. answer (output_of r.0) r.1 ≡ answer_of (over (schedule_of part.now) (while_output pick test)) (history_of history.now)) }
+    ensures succeeds { is_bare (schedule_of part.now) ≡ true → IsOk result }
 {
     let x = evaluate(alloc, part, history)?;
     let passed = test.passes(pick.read(&x.0));
@@ -141,6 +144,7 @@ fn since_last_reset(
 ) -> Result<Answer, AllocError>
     requires some { 0 < length history.now }
     ensures value { IfOk result (λ r. answer (output_of r.0) r.1 ≡ answer_of (over (schedule_of part.now) (reset_when pick test)) (history_of history.now)) }
+    ensures succeeds { is_bare (schedule_of part.now) ≡ true → IsOk result }
 {
     let start = reset_start(alloc, part, pick, test, history)?;
     evaluate(alloc, part, from_index(history, start))
@@ -256,6 +260,7 @@ fn reset_start(
     requires some { 0 < length history.now }
     ensures since { IfOk result (λ i. since_reset (answer_of (schedule_of term.now)) pick test (history_of history.now) ≡ history_of (drop i history.now)) }
     ensures within { IfOk result (λ i. i < length history.now) }
+    ensures succeeds { is_bare (schedule_of term.now) ≡ true → IsOk result }
 {
     let mut start = 0;
     for i in 0..history.len() {
@@ -302,6 +307,7 @@ pub fn plain(
     requires order { IsInOrder (history_of history.now) }
     ensures answered { IfOk result (λ r. answer (output_of r.0) r.1 ≡ answer_of (schedule_of checked.now) (history_of history.now)) }
     ensures kinded { IfOk result (λ r. (a : OutputKind) → kind_of (schedule_of checked.now) ≡ Some a → HasKind (output_of r.0) a) }
+    ensures succeeds { is_bare (schedule_of checked.now) ≡ true → IsOk result }
 {
     Ok(evaluate(alloc, checked.term(), history)?)
 }

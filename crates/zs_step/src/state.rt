@@ -1,7 +1,8 @@
 // The state of a schedule: what its steps have to remember in place of the history.
 
-ghost use Rattle.std.specs.Prelude.{◌≡◌, [], IfOk};
+ghost use Rattle.std.specs.Prelude.{◌≡◌, [], true, IfOk, IsOk};
 ghost use Rattle.zs_term.specs.Schedule.{schedule_of};
+ghost use Rattle.zs_step.specs.Memory.{is_leaf};
 ghost use Rattle.zs_step.specs.State.{state_schedule, Represents};
 
 use crate::collected::Collected;
@@ -58,6 +59,7 @@ pub(crate) enum State {
 pub(crate) fn state_of(alloc: Global, term: &Term) -> Result<State, AllocError>
     ensures made_of { IfOk result (λ s. state_schedule s ≡ schedule_of term.now) }
     ensures represents { IfOk result (λ s. Represents s []) }
+    ensures succeeds { is_leaf (schedule_of term.now) ≡ true → IsOk result }
 {
     match term {
         Term::Forever => Ok(State::Leaf(LeafState::Forever { steps: 0 })),

@@ -1,10 +1,11 @@
 // One step of a schedule's state, in place.
 
-ghost use Rattle.std.specs.Prelude.{◌≡◌, ◌<◌, ◌+◌, ◌*◌, ◌^◌, IfOk};
+ghost use Rattle.std.specs.Prelude.{◌≡◌, ◌<◌, ◌+◌, ◌*◌, ◌^◌, true, IfOk, IsOk};
 ghost use Rattle.zs_term.specs.Schedule.{weight};
 ghost use Rattle.zs_term.specs.Output.{output_of, right};
 ghost use Rattle.zs_step.specs.Answer.{answer};
 ghost use Rattle.zs_step.specs.LeafState.{state_leaf};
+ghost use Rattle.zs_step.specs.Memory.{is_bare};
 ghost use Rattle.zs_step.specs.State.{state_schedule, StepsTo};
 ghost use Rattle.zs_step.specs.declared.state.State.TheVariants.{Leaf, Both', Either', AndThen', WhileInput', WhileOutput', CollectAll', Map', ResetWhen'};
 
@@ -29,6 +30,7 @@ pub(crate) fn step_node(state: &mut State, step: &Step) -> Result<Stepped, Alloc
     requires within { weight (state_schedule state.old) < 2 ^ 64 }
     ensures ok { IfOk result (λ r. StepsTo state.old state.new step.now.moment step.now.input (answer (output_of r.out) r.decision) r.visits) }
     ensures same { state_schedule state.new ≡ state_schedule state.old }
+    ensures succeeds { is_bare (state_schedule state.old) ≡ true → IsOk result }
 {
     let parts = step_parts(state, step)?;
     Ok(Stepped {
@@ -44,6 +46,7 @@ fn step_parts(state: &mut State, step: &Step) -> Result<Stepped, AllocError>
     requires within { weight (state_schedule state.old) < 2 ^ 64 }
     ensures ok { IfOk result (λ r. StepsTo state.old state.new step.now.moment step.now.input (answer (output_of r.out) r.decision) (1 + r.visits)) }
     ensures same { state_schedule state.new ≡ state_schedule state.old }
+    ensures succeeds { is_bare (state_schedule state.old) ≡ true → IsOk result }
 {
     match state {
         State::Leaf(leaf) => Ok(step_leaf(leaf, step)),
@@ -163,6 +166,7 @@ fn step_while_input(part: &mut State, test: Test, step: &Step) -> Result<Stepped
     requires within { weight (state_schedule part.old) < 2 ^ 64 }
     ensures ok { (p : _) → IfOk result (λ r. StepsTo (WhileInput' p part.old test) (WhileInput' p part.new test) step.now.moment step.now.input (answer (output_of r.out) r.decision) (1 + r.visits)) }
     ensures same { state_schedule part.new ≡ state_schedule part.old }
+    ensures succeeds { is_bare (state_schedule part.old) ≡ true → IsOk result }
 {
     let mut x = step_node(part, step)?;
     x.decision = x.decision.only_if(test.passes(step.input));
@@ -180,6 +184,7 @@ fn step_while_output(
     requires within { weight (state_schedule part.old) < 2 ^ 64 }
     ensures ok { (p : _) → IfOk result (λ r. StepsTo (WhileOutput' p part.old pick test) (WhileOutput' p part.new pick test) step.now.moment step.now.input (answer (output_of r.out) r.decision) (1 + r.visits)) }
     ensures same { state_schedule part.new ≡ state_schedule part.old }
+    ensures succeeds { is_bare (state_schedule part.old) ≡ true → IsOk result }
 {
     let mut x = step_node(part, step)?;
     let passed = test.passes(pick.read(&x.out));
@@ -214,6 +219,7 @@ fn step_map(part: &mut State, func: Func, step: &Step) -> Result<Stepped, AllocE
     requires within { weight (state_schedule part.old) < 2 ^ 64 }
     ensures ok { (p : _) → IfOk result (λ r. StepsTo (Map' p part.old func) (Map' p part.new func) step.now.moment step.now.input (answer (output_of r.out) r.decision) (1 + r.visits)) }
     ensures same { state_schedule part.new ≡ state_schedule part.old }
+    ensures succeeds { is_bare (state_schedule part.old) ≡ true → IsOk result }
 {
     let x = step_node(part, step)?;
     Ok(Stepped {
@@ -234,6 +240,7 @@ fn step_reset_when(
     requires within { 1 + 2 * weight (state_schedule part.old) < 2 ^ 64 }
     ensures ok { (p : _) → IfOk result (λ r. StepsTo (ResetWhen' p part.old pick test) (ResetWhen' p part.new pick test) step.now.moment step.now.input (answer (output_of r.out) r.decision) (1 + r.visits)) }
     ensures same { state_schedule part.new ≡ state_schedule part.old }
+    ensures succeeds { is_bare (state_schedule part.old) ≡ true → IsOk result }
 {
     let x = step_node(part, step)?;
     if !test.passes(pick.read(&x.out)) {

@@ -91,12 +91,9 @@ reset_start-loop-i-preserved t c =
       )
     ]
 
-pub since_last_reset-returns : goal.since_last_reset-returns
-since_last_reset-returns t c =
+pub since_last_reset-returns-clause-value : goal.since_last_reset-returns-clause-value
+since_last_reset-returns-clause-value t c =
     let same : answer_of (schedule_of c.args.part.now) (history_of c.from_index.result.now) ≡ answer_of (over (schedule_of c.args.part.now) (reset_when c.args.pick c.args.test)) (history_of c.args.history.now) =
     ap (λ h. answer_of (schedule_of c.args.part.now) (history_of h)) c.from_index.ensures.rest
     ∙ ap (answer_of (schedule_of c.args.part.now)) (sym c.in_ok-start.ensures.since) in
-    record {
-      value =
-          subst (λ (w : Answer). IfOk c.evaluate.result (λ r. answer (output_of r.0) r.1 ≡ w)) same c.evaluate.ensures.value;
-    }
+    subst (λ (w : Answer). IfOk c.evaluate.result (λ r. answer (output_of r.0) r.1 ≡ w)) same c.evaluate.ensures.value

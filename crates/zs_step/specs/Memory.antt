@@ -1,0 +1,23 @@
+-- Which schedules answer without memory.
+use Rattle.std.specs.Prelude.{Bool, true, false}
+use Rattle.zs_term.specs.Schedule.{Schedule, leaf, two, over, Modifier, while_input, while_output, collect_all, mapped, reset_when}
+
+-- a schedule without parts
+abbrev pub is_leaf : Schedule → Bool
+is_leaf (leaf l) = true
+is_leaf (two p a b) = false
+is_leaf (over s m) = false
+
+-- the same with a modifier over it: a list alone takes memory
+abbrev pub is_bare_over : Modifier → Bool → Bool
+is_bare_over (while_input t) bare = bare
+is_bare_over (while_output k t) bare = bare
+is_bare_over collect_all bare = false
+is_bare_over (mapped f) bare = bare
+is_bare_over (reset_when k t) bare = bare
+
+-- a schedule whose steps make no pair, no side of a choice and no list
+abbrev pub is_bare : Schedule → Bool
+is_bare (leaf l) = true
+is_bare (two p a b) = false
+is_bare (over s m) = is_bare_over m (is_bare s)
