@@ -3,6 +3,8 @@ import pathlib
 import re
 import unittest
 
+import plants
+
 TOP = pathlib.Path(__file__).resolve().parents[2]
 PAGE = (TOP / "docs" / "GUARANTEES.md").read_text()
 # The sources of the crates that are tests alone.
@@ -140,6 +142,16 @@ class Guarantees(unittest.TestCase):
                 if FILE.fullmatch(name) and "NAME" not in name and "File" not in name:
                     with self.subTest(name):
                         self.assertTrue(any((home / name).is_file() for home in homes), "no such file")
+
+
+class Plants(unittest.TestCase):
+    """tests/plants.py: each wrong body still fits the file in which it is planted."""
+
+    def test_each_plant_fits(self):
+        self.assertGreater(len(plants.PLANTS), 25)
+        for plant in plants.PLANTS:
+            with self.subTest(plant.name):
+                plants.check_places([plant])
 
 
 if __name__ == "__main__":
