@@ -167,3 +167,32 @@ module _ (build : Bool) (t : Schedule) (a : Kept) (e : value (keep build) t ≡ 
 -- the term that was built of a text whose numbers fit
 pub there : (text : List ℕ) (t : Schedule) (a : Kept) → TextSpells text t → value (keep true) t ≡ a → first_huge (lexed text).tokens ≡ None → a.schedule ≡ Some t
 there text t a s e h = ap (λ k. k.schedule) (sym e) ∙ schedule_kept t (fits_in text t s h)
+
+-- nothing is built where nothing is to be
+map_nothing : (f : Func) (a : Kept) → a.schedule ≡ None → (apply_func (keep false) a f).schedule ≡ None
+map_nothing First a h = ap (option_map (λ t. over t (mapped First))) h
+map_nothing Second a h = ap (option_map (λ t. over t (mapped Second))) h
+map_nothing Size a h = ap (option_map (λ t. over t (mapped Size))) h
+map_nothing Merge a h = ap (option_map (λ t. over t (mapped Merge))) h
+map_nothing (Const n) a h = ap (λ o. with_both (λ t k. over t (mapped (Const k))) o (fit n)) h
+map_nothing (Add n) a h = ap (λ o. with_both (λ t k. over t (mapped (Add k))) o (fit n)) h
+map_nothing (Mul n) a h = ap (λ o. with_both (λ t k. over t (mapped (Mul k))) o (fit n)) h
+
+modifier_nothing : (m : Modifier) (a : Kept) → a.schedule ≡ None → (modifier_value (keep false) a m).schedule ≡ None
+modifier_nothing (while_input t) a h = ap (λ o. with_both (λ x k. over x (while_input (record { cmp = t.cmp; than = k }))) o (fit t.than)) h
+modifier_nothing (while_output p t) a h = ap (λ o. with_both (λ x k. over x (while_output p (record { cmp = t.cmp; than = k }))) o (fit t.than)) h
+modifier_nothing collect_all a h = ap (option_map (λ x. over x collect_all)) h
+modifier_nothing (mapped f) a h = map_nothing f a h
+modifier_nothing (reset_when p t) a h = ap (λ o. with_both (λ x k. over x (reset_when p (record { cmp = t.cmp; than = k }))) o (fit t.than)) h
+
+nothing_kept : (t : Schedule) → (value (keep false) t).schedule ≡ None
+nothing_kept (leaf (plain p)) = refl
+nothing_kept (leaf (counted c n)) = refl
+nothing_kept (leaf (exponential b f)) = refl
+nothing_kept (two p a b) = ap (λ o. with_both (two (infix_pairing (pairing_infix p))) o (value (keep false) b).schedule) (nothing_kept a)
+nothing_kept (over s m) = modifier_nothing m (value (keep false) s) (nothing_kept s)
+
+-- the term that was built of a text whose numbers fit, where one was
+pub the_term : (build : Bool) (text : List ℕ) (t s : Schedule) (a : Kept) → TextSpells text t → value (keep build) t ≡ a → first_huge (lexed text).tokens ≡ None → a.schedule ≡ Some s → t ≡ s
+the_term true text t s a h e f k = let both : Some t ≡ Some s = sym (there text t a h e f) ∙ k in cc
+the_term false text t s a h e f k = let never : None ≡ Some s = sym (nothing_kept t) ∙ ap (λ x. x.schedule) e ∙ k in cc

@@ -6,7 +6,7 @@ use Rattle.std.specs.List.{prefix_len}
 use Rattle.std.specs.Str.Parse.{digits_value}
 use Rattle.std.proofs.lemmas.List.Sums.{prefix_len_passes, prefix_len_stops, prefix_len-le-length, prefix_len_is}
 use Rattle.std.proofs.lemmas.Bool.Decides.{nat_tests}
-use Rattle.zs_term.specs.Token.{Token, number, mark, Placed, Lexed, nothing, stuck, with_token, word_mark, pair_mark, single_mark, word_at, number_at, longest, token_at, lex, lexed}
+use Rattle.zs_term.specs.Token.{Token, number, mark, Placed, Lexed, nothing, stuck, with_token, word_mark, pair_mark, single_mark, word_at, number_at, longest, symbol_at, token_at, lex, lexed}
 use Rattle.zs_term.specs.Places.{IsRun, IsTokenOf, word, digits, pair, single, AreSpaces, AreTokensFrom, TokensOfText}
 use Rattle.zs_term.specs.declared.token.Mark.{Mark}
 use Rattle.zs_term.proofs.Lexing.{lex_end, lex_space, lex_stuck, lex_found, number_found}
@@ -85,9 +85,6 @@ second_case true x y h = cc
 second_case false x y h = refl
 
 -- the three kinds of tokens
-abbrev symbol_at : List ℕ → Option (Token × ℕ)
-symbol_at bytes = longest (pair_mark (slice_index bytes 0) (slice_index bytes 1)) (single_mark (slice_index bytes 0))
-
 at_letter : (bytes : List ℕ) → is_ascii_alphabetic (slice_index bytes 0) ≡ true → token_at bytes ≡ Some (word_at bytes)
 at_letter bytes h = first_case (is_ascii_alphabetic (slice_index bytes 0)) (Some (word_at bytes)) (cond (is_ascii_digit (slice_index bytes 0)) (number_at bytes) (symbol_at bytes)) h
 

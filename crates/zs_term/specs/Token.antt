@@ -126,13 +126,17 @@ longest (Some m) o = Some (mark m, 2)
 longest None (Some m) = Some (mark m, 1)
 longest None None = None
 
+-- the symbol at the front
+abbrev pub symbol_at : List ℕ → Option (Token × ℕ)
+symbol_at bytes = longest (pair_mark (slice_index bytes 0) (slice_index bytes 1)) (single_mark (slice_index bytes 0))
+
 -- the token at the front, and how many bytes it has
 abbrev pub token_at : List ℕ → Option (Token × ℕ)
 token_at bytes =
     let first = slice_index bytes 0 in
     if is_ascii_alphabetic first then Some (word_at bytes)
     else (if is_ascii_digit first then number_at bytes
-    else longest (pair_mark first (slice_index bytes 1)) (single_mark first))
+    else symbol_at bytes)
 
 -- a token and the byte at which it begins
 pub record Placed : Type 0 where

@@ -1,11 +1,11 @@
 // The tokens of a text, found one by one.
 
-ghost use Rattle.std.specs.Prelude.{◌≡◌, ℕ, ◌+◌, ◌*◌, ◌<◌, ◌≤◌, length, take_while, slice_index, drop, ◌≢◌, MatchOption, None, true, nat_lt, ◌&&◌, ◌==◌};
+ghost use Rattle.std.specs.Prelude.{◌≡◌, ℕ, ◌+◌, ◌*◌, ◌<◌, ◌≤◌, length, take_while, slice_index, drop, ◌≢◌, MatchOption, Some, None, true, nat_lt, ◌&&◌, ◌==◌};
 ghost use Rattle.std.specs.Char.{is_ascii_alphabetic, is_ascii_digit, digit_value};
 ghost use Rattle.std.specs.Int.{IsInRange};
 ghost use Rattle.std.specs.Str.{bytes_eq};
 ghost use Rattle.std.specs.Str.Parse.{AllDigits, digits_value};
-ghost use Rattle.zs_term.specs.Token.{plain_of, counted_of, method_of, other_mark, word_mark, pair_mark, single_mark, number_at, token_at, lex};
+ghost use Rattle.zs_term.specs.Token.{plain_of, counted_of, method_of, other_mark, word_mark, pair_mark, single_mark, word_at, number_at, symbol_at, token_at, lex};
 ghost use Rattle.zs_term.specs.Scan.{IsFoundAs, Scans};
 ghost use Rattle.zs_term.specs.Number.{fit};
 
@@ -238,22 +238,25 @@ fn number(bytes: &[u8]) -> Option<Found>
     Some(Found { lexeme, len })
 }
 
-// The token at the front.
+// The word at the front, which begins with a letter.
 #[tactic(auto, using(crate::proofs::Lexing::some_letters))]
-fn token_at(bytes: &[u8]) -> Option<Found>
+fn word_at(bytes: &[u8]) -> Found
+    requires letter { is_ascii_alphabetic (slice_index bytes.now 0) ≡ true }
+    ensures value { IsFoundAs (Some (word_at bytes.now)) bytes.now result }
+{
+    let letters = letters(bytes);
+    Found {
+        lexeme: Lexeme::Mark(word(letters)),
+        len: letters.len(),
+    }
+}
+
+// The symbol at the front, the longer one of two that fit.
+fn symbol(bytes: &[u8]) -> Option<Found>
     requires some { 0 < length bytes.now }
-    ensures value { MatchOption result (token_at bytes.now ≡ None) (λ found. IsFoundAs (token_at bytes.now) bytes.now found) }
+    ensures value { MatchOption result (symbol_at bytes.now ≡ None) (λ found. IsFoundAs (symbol_at bytes.now) bytes.now found) }
 {
     let first = bytes[0];
-    if first.is_ascii_alphabetic() {
-        let letters = letters(bytes);
-        let lexeme = Lexeme::Mark(word(letters));
-        let len = letters.len();
-        return Some(Found { lexeme, len });
-    }
-    if first.is_ascii_digit() {
-        return number(bytes);
-    }
     let second = if 1 < bytes.len() { bytes[1] } else { 0 };
     if let Some(mark) = pair(first, second) {
         return Some(Found {
@@ -266,6 +269,21 @@ fn token_at(bytes: &[u8]) -> Option<Found>
         lexeme: Lexeme::Mark(mark),
         len: 1,
     })
+}
+
+// The token at the front.
+fn token_at(bytes: &[u8]) -> Option<Found>
+    requires some { 0 < length bytes.now }
+    ensures value { MatchOption result (token_at bytes.now ≡ None) (λ found. IsFoundAs (token_at bytes.now) bytes.now found) }
+{
+    let first = bytes[0];
+    if first.is_ascii_alphabetic() {
+        return Some(word_at(bytes));
+    }
+    if first.is_ascii_digit() {
+        return number(bytes);
+    }
+    symbol(bytes)
 }
 
 /// What stands at a place of a text, behind any spaces: the end, a byte at which no token stands, or a token, with

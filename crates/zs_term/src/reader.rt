@@ -128,20 +128,27 @@ fn built(alloc: Global, text: &[u8]) -> Result<Term, TermFault>
     }
 }
 
-// The term that a text spells, where it is within the limits and its numbers fit. The text is read twice: no term is
-// built until its sizes are known.
+// The longest text, in bytes, of which a term is built before its sizes are known: it is at most 512 deep.
+const SHORT: usize = 4096;
+
+// The term that a text spells, where it is within the limits and its numbers fit. A short text is read once. A longer one is
+// read twice: no term is built until its sizes are known.
 fn term_in(alloc: Global, text: &[u8]) -> Result<Term, TermFault>
     ensures ok { IfOk result (λ term. IsRead text.now (schedule_of term)) }
     ensures err { IfErr result (IsCause text.now) }
 {
-    let (part, huge) = whole(alloc, false, text)?;
+    let build = text.len() <= SHORT;
+    let (part, huge) = whole(alloc, build, text)?;
     if MAX_DEPTH < part.depth || MAX_WEIGHT < part.weight {
         return Err(TermFault::TooBig);
     }
     if let Some(at) = huge {
         return Err(TermFault::BadNumber { at });
     }
-    built(alloc, text)
+    match part.term {
+        Some(term) => Ok(Box::into_inner(term)),
+        None => built(alloc, text),
+    }
 }
 
 // The schedule that a text spells.
