@@ -26,13 +26,16 @@ use Rattle.zs_pool.specs.contracts.shelf_rule.EachOnce as each_once
 use Rattle.zs_pool.specs.contracts.shelf_rule.EachOnceProtocolHands.TheImpl as each_once_rule
 use Rattle.zs_term.proofs.term.Term.TheLaws.TheKnot as term_knot
 use Rattle.zs_term.proofs.kind.Kind.TheLaws.TheKnot as kind_knot
-use Rattle.zs_term.proofs.outputs.Out.TheLaws.TheKnot as out_knot
+use Rattle.zs_term.proofs.outputs.Kept.TheLaws.TheKnot as out_knot
+use Rattle.zs_step.proofs.leaf_state.LeafState.TheSendSync as leaf_state
 use Rattle.zs_step.proofs.state.State.TheLaws.TheKnot as state_knot
 use Rattle.zs_term.specs.contracts.term.Term as term
 use Rattle.zs_term.specs.contracts.kind.Kind as kind
 use Rattle.zs_term.specs.contracts.outputs.Out as out
+use Rattle.zs_term.specs.contracts.outputs.Outs as outs
 use Rattle.zs_term.specs.contracts.checked.Checked as checked
 use Rattle.zs_term.specs.contracts.checked.Checked.TheInside as checked_inside
+use Rattle.zs_step.specs.contracts.collected.Collected as collected
 use Rattle.zs_step.specs.contracts.state.State as state
 use Rattle.zs_step.specs.contracts.compiled.Compiled as compiled
 use Rattle.zs_drive.specs.contracts.record.Ended as ended
@@ -70,10 +73,16 @@ pub kind_send : IsSend kind.the_row
 kind_send = as_row_send kind.the_field (kind_knot.send-Kind Box-send)
 
 pub out_send : IsSend out.the_row
-out_send = as_row_send out.the_field (out_knot.send-Out (search (rules, sendable)) Box-send Vec-send)
+out_send = as_row_send out.the_field (search (crosses, out_knot.crosses_both, sendable) depth 60 fits 20000)
+
+outs_send : IsSend outs.the_row
+outs_send = as_row_send outs.the_field (search (crosses, out_knot.crosses_both, sendable) depth 60 fits 20000)
+
+collected_send : IsSend collected.the_row
+collected_send = declared_send collected.the_type (outs_send, (option.the_send out.the_row out_send, tt))
 
 pub state_send : IsSend state.the_row
-state_send = as_row_send state.the_field (state_knot.send-State (search (rules, sendable)) (search (rules, sendable)) Box-send (search (rules, sendable)) (search (rules, sendable)) (Vec-send out.the_row out_send) (search (rules, sendable)))
+state_send = as_row_send state.the_field (state_knot.send-State leaf_state.the_field_send Box-send (search (rules, sendable)) (search (rules, sendable)) (search (rules, sendable)) (Box-send collected.the_row collected_send) (search (rules, sendable)))
 
 checked_fields : IsSend term.the_row → IsSend kind.the_row → IsSend checked_inside.the_row
 checked_fields t k = declared_send checked_inside.the_type (t, (k, tt))
