@@ -174,7 +174,13 @@ fn delays_are_cut_at_the_greatest_moment(rt: HostRuntime) -> Result<(), Fail> {
     let pairs: &[(u64, u64)] = &[(1, 0), (2, 0)];
     let grown =
         "9223372036854775808 9223372036854775809;18446744073709551615 18446744073709551615;";
-    let rows: [Row<'_>; 3] = [
+    let rows: [Row<'_>; 4] = [
+        (
+            "spaced(18446744073709551615)",
+            &[(5, 0), (5, 1), (9, 0)],
+            "0 18446744073709551615;1 18446744073709551615;2 18446744073709551615;",
+            "1;1;1;",
+        ),
         ("exponential(9223372036854775808)", pairs, grown, "1;1;"),
         ("linear(9223372036854775808)", pairs, grown, "1;1;"),
         (
@@ -361,6 +367,25 @@ fn first_step(alloc: Global, schedule: &str) -> Result<String, Fail> {
 fn a_new_state_is_whole(rt: HostRuntime) -> Result<(), Fail> {
     let found = first_step(rt.alloc(), "recurs(0)")?;
     expect_text(&rt, &found, "false Stop false", "broken, decision, broken");
+    Ok(())
+}
+
+// The answers of `elapsed`, stepped by hand at 5 and at 9, and whether it is broken then.
+fn elapsed_by_hand(alloc: Global) -> Result<String, Fail> {
+    let mut text = String::new(alloc);
+    let mut compiled = Compiled::new(alloc, read(alloc, "elapsed")?)?;
+    let first = compiled.step(5, 0)?;
+    push_step(&mut text, &first.out, first.decision)?;
+    let second = compiled.step(9, 0)?;
+    push_step(&mut text, &second.out, second.decision)?;
+    write!(text, "{}", compiled.broken())?;
+    Ok(text)
+}
+
+#[test]
+fn a_state_is_stepped_by_hand(rt: HostRuntime) -> Result<(), Fail> {
+    let found = elapsed_by_hand(rt.alloc())?;
+    expect_text(&rt, &found, "0 5;4 9;false", "answers, broken");
     Ok(())
 }
 
