@@ -11,3 +11,4 @@ pub mod FirstDone
 pub mod LastReset
 pub mod VisitBounds
 pub mod Moments
+pub mod WordLengths

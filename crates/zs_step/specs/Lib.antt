@@ -5,3 +5,4 @@ pub mod Intervals
 pub mod State
 pub mod Compiled
 pub mod Laws
+pub mod Words

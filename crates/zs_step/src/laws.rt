@@ -1,6 +1,6 @@
 // Laws of every schedule, above the definition of its answers.
 
-ghost use Rattle.std.specs.Prelude.{◌≡◌, ◌≤◌, ◌↔◌, ℕ, Some, None, true, [], ◌∷◌, ◌++◌};
+ghost use Rattle.std.specs.Prelude.{◌≡◌, ◌≤◌, ◌↔◌, ℕ, Some, None, true, [], ◌∷◌, ◌++◌, length};
 ghost use Rattle.zs_term.specs.Saturating.{max_moment};
 ghost use Rattle.zs_term.specs.Output.{left, right};
 ghost use Rattle.zs_term.specs.OutputKind.{OutputKind, HasKind};
@@ -13,6 +13,7 @@ ghost use Rattle.zs_term.specs.declared.term.Cmp.TheVariants.{Lt};
 ghost use Rattle.zs_step.specs.History.{History, last_moment};
 ghost use Rattle.zs_step.specs.Answer.{answer, answer_of, from_done, since_reset};
 ghost use Rattle.zs_step.specs.Visits.{visits};
+ghost use Rattle.zs_step.specs.Words.{state_words};
 ghost use Rattle.zs_step.specs.Laws.{GoesOnThroughout, IsFromFirstDone, IsNotBefore, IsWithoutReset, resets_at};
 
 /// The second part of `andThenEither` counts from the least step at which the first is done, and answers from there on.
@@ -47,4 +48,9 @@ pub fn visits_are_at_most_the_weight()
 pub fn a_part_counts_from_its_last_reset()
     ensures reset { (s : Schedule) (k : Pick) (t : Test) (later before : History) (p : ℕ × ℕ) → resets_at (answer_of s) k t (p ∷ before) ≡ true → IsWithoutReset (answer_of s) k t later (p ∷ before) → since_reset (answer_of s) k t (later ++ p ∷ before) ≡ later ++ p ∷ [] }
     ensures none { (s : Schedule) (k : Pick) (t : Test) (h : History) → IsWithoutReset (answer_of s) k t h [] → since_reset (answer_of s) k t h ≡ h }
+{}
+
+/// The state of a schedule has as many words behind any steps.
+pub fn a_state_has_as_many_words_at_any_step()
+    ensures value { (t : Schedule) (h g : History) → length (state_words t h) ≡ length (state_words t g) }
 {}

@@ -21,6 +21,7 @@ mod leaves;
 mod state;
 mod stepped;
 mod stepping;
+mod words;
 
 pub use compiled::Compiled;
 pub use decision::Decision;
@@ -29,8 +30,8 @@ pub use fault::StepFault;
 pub use following::follow;
 pub use interval::Interval;
 pub use laws::{
-    a_part_counts_from_its_last_reset, decisions_are_not_in_the_past, outputs_have_kinds,
-    recurs_is_forever_below_its_limit, second_part_begins_where_the_first_is_done,
-    visits_are_at_most_the_weight,
+    a_part_counts_from_its_last_reset, a_state_has_as_many_words_at_any_step,
+    decisions_are_not_in_the_past, outputs_have_kinds, recurs_is_forever_below_its_limit,
+    second_part_begins_where_the_first_is_done, visits_are_at_most_the_weight,
 };
 pub use stepped::Stepped;

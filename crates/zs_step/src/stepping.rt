@@ -221,7 +221,7 @@ fn step_reset_when(
 }
 
 // Whether a node has no parts.
-fn is_leaf(state: &State) -> bool
+pub(crate) fn is_leaf(state: &State) -> bool
     ensures value { result ≡ is_leaf state.now }
 {
     match state {
