@@ -3,15 +3,17 @@
  * A schedule is a text, as docs/SEMANTICS.md and docs/FORMATS.md have it: "(exponential(100) && recurs(5))". What it has
  * seen is a list of pairs, oldest first: the moment at which an attempt ended, and its input (under retry the error's
  * code, under repeat the success value). zs_answer tells at which moment the next attempt may begin, or that there is
- * none. No call keeps anything, so the list is the whole state: store it, and go on after a restart.
+ * none. No call keeps anything, so the list is the whole state: store it, and go on after a restart. Where the list would grow
+ * too long, zs_begin and zs_step keep a state of fixed size in its place.
  *
  * Link libzsched.a or libzsched.so, which tools/make-library builds; both need the C library alone. docs/LIBRARY.md tells
  * what is proved of these calls.
  *
  * What a caller has to keep, since no call can test it:
- *   - each pointer leads to as much memory as the number beside it says; zs_seen and zs_reply are aligned as C aligns
- *     them. Where the number is 0 the pointer may be NULL. `reply` and `at` are never NULL;
- *   - `reply`, `at` and `out` overlap nothing else that the call is given, and nobody else writes to any of it meanwhile;
+ *   - each pointer leads to as much memory as the number beside it says; zs_seen, zs_reply and words are aligned as C
+ *     aligns them. Where the number is 0 the pointer may be NULL. `reply`, `at` and `size` are never NULL;
+ *   - `reply`, `at`, `size`, `state` and `out` overlap nothing else that the call is given, and nobody else writes to any of
+ *     it meanwhile;
  *   - no call is made from a signal handler, nor in a forked child of a process with threads, and 64 KiB of stack are free.
  *
  * Calls may run at once on any number of threads: they share nothing but malloc, realloc and free. All that a call takes
@@ -32,9 +34,12 @@ enum zs_number {
     ZS_NEXT = 0,        /* zs_answer: the schedule goes on at zs_reply.next. zs_check: the text is a schedule */
     ZS_DONE = 1,        /* zs_answer: the schedule is done */
     ZS_NO_PAIR = 2,     /* zs_answer: the list of pairs is empty, and the text is a schedule */
-    ZS_FALLS = 3,       /* zs_answer: the moment of the pair `at`, from 0, is below the one before it */
+    ZS_FALLS = 3,       /* zs_answer: the moment of the pair `at`, from 0, is below the one before it. zs_step: the moment
+                         * is below that of the last step */
     ZS_NOT_UTF8 = 4,    /* the text isn't UTF-8 from the byte `at` on */
     ZS_NO_MEMORY = 5,   /* a request for memory was refused; nothing is leaked, and the call may be made again */
+    ZS_KEEPS_LIST = 6,  /* the calls over a state: collectAll is in the schedule, so its state grows with the steps */
+    ZS_NO_ROOM = 7,     /* zs_begin, zs_step: state_len is below what zs_state_size tells */
     ZS_NO_TERM = 11,    /* the text spells no schedule, which shows at the byte `at` */
     ZS_TOO_BIG = 12,    /* the schedule is deeper than 64 or weighs more than 1000 */
     ZS_BAD_NUMBER = 13, /* the number that begins at the byte `at` is above 18446744073709551615 */
@@ -71,6 +76,25 @@ uint32_t zs_check(const uint8_t *text, size_t text_len, uint64_t *at);
  * The time grows with the number of pairs: less than a microsecond for each. */
 uint32_t zs_answer(const uint8_t *text, size_t text_len, const zs_seen *seen, size_t seen_len, zs_reply *reply,
                    uint8_t *out, size_t out_len);
+
+/* Steps over a state in the caller's memory, in place of the list of pairs. A state is a number of words that depends on the
+ * schedule alone, at most 3 for each of its nodes and one more, so a step takes no longer after many steps than after one. It may
+ * be stored and copied as bytes, for machines of the same byte order. A schedule with collectAll has no such state.
+ *
+ * How many words the state of a text's schedule has: ZS_NEXT (0), or the number and the place of the reason why it has none,
+ * and 0 words. */
+uint32_t zs_state_size(const uint8_t *text, size_t text_len, uint64_t *size, uint64_t *at);
+
+/* Writes the state of a text's schedule before any step into the first of the words: ZS_NEXT (0), or the number and the place of
+ * the reason why not, and the words stay. */
+uint32_t zs_begin(const uint8_t *text, size_t text_len, uint64_t *state, size_t state_len, uint64_t *at);
+
+/* One more step of the schedule of a text, whose state zs_begin wrote and zs_step went on with: answers as zs_answer does at the
+ * last of all these pairs, and the words then are the state behind this step. At any other number than ZS_NEXT and ZS_DONE words
+ * and room stay. Of other words, or of those of another text, nothing is promised but that the call returns and reads and
+ * writes nothing else. */
+uint32_t zs_step(const uint8_t *text, size_t text_len, uint64_t *state, size_t state_len, uint64_t moment, uint64_t input,
+                 zs_reply *reply, uint8_t *out, size_t out_len);
 
 #ifdef __cplusplus
 }

@@ -27,6 +27,7 @@ REQUESTS = 2000
 SCHEDULES = 2000
 MOST_STEPS = 40
 REFUSED = 200
+REFUSED_STEPS = 60
 UNDER_VALGRIND = 60
 UNTOUCHED = "aa"
 WRAPPED = ["-Wl,--wrap=malloc,--wrap=realloc,--wrap=free", "-lpthread"]
@@ -169,11 +170,15 @@ class FromC(unittest.TestCase):
         """Compares lines with what is wanted of the first requests."""
         self.assertEqual(len(lines), count)
         for request, line, (wanted, weight) in zip(self.requests, lines, self.wanted):
-            words, visits = line.split(), wanted.split()
-            if "*" in visits:
-                self.assertIn(int(words[3]), range(1, weight + 1), request)
-                words[3] = "*"
-            self.assertEqual(words, visits, request)
+            self.compare(line, wanted, weight, request)
+
+    def compare(self, line, wanted, weight, request):
+        """Compares one line with what is wanted of a request."""
+        words, visits = line.split(), wanted.split()
+        if "*" in visits:
+            self.assertIn(int(words[3]), range(1, weight + 1), request)
+            words[3] = "*"
+        self.assertEqual(words, visits, request)
 
     def test_two_thousand_requests_are_answered_as_the_reference_does(self):
         numbers = {wanted.split()[0] for wanted, _ in self.wanted}
@@ -183,6 +188,31 @@ class FromC(unittest.TestCase):
     def test_nothing_is_read_or_written_beside_what_is_given(self):
         compile_caller("watched", "-g", "-fsanitize=address,undefined", "-fno-sanitize-recover=all")
         self.judge(called([path("watched"), "answer"], self.requests))
+        self.judge_steps([path("watched"), "answer"])
+
+    def judge_steps(self, words):
+        """Compares what steps over a state answer with what is wanted of the list of pairs."""
+        chosen = [(request, wanted) for request, wanted in zip(self.requests, self.wanted)
+                  if request.pairs and b"collectAll" not in request.text]
+        self.assertGreater(len(chosen), REQUESTS // 3)
+        lines = called([*words, "state"], [request for request, _ in chosen])
+        self.assertEqual(len(lines), len(chosen))
+        for line, (request, (wanted, weight)) in zip(lines, chosen):
+            self.compare(line, wanted, weight, request)
+
+    def test_steps_over_a_state_answer_as_the_list_of_pairs_does(self):
+        self.judge_steps([path("caller"), "answer"])
+        self.judge_steps([path("caller"), "threads"])
+
+    def test_each_request_for_memory_of_a_step_may_be_refused(self):
+        requests = [it for it in self.requests if it.pairs and b"collectAll" not in it.text][:REFUSED_STEPS]
+        found = [int(line) for line in called([path("caller"), "refuse", "state"], requests)]
+        self.assertEqual(len(found), REFUSED_STEPS)
+        self.assertGreater(sum(found), 2 * REFUSED_STEPS)
+
+    def test_a_schedule_that_keeps_a_list_has_no_state(self):
+        requests = [Request(text, 5, [(1, 0)]) for text in [b"forever.collectAll", b"(recurs(1) && elapsed.collectAll).map(_1)"]]
+        self.assertEqual(called([path("caller"), "answer", "state"], requests), [f"6 0 0 0 0 .{UNTOUCHED * 5}"] * 2)
 
     def test_valgrind_finds_no_error_and_no_lost_memory(self):
         if not shutil.which("valgrind"):
