@@ -3,6 +3,7 @@
 unittest. `tests/tools.py NAME ..` runs the named files alone (test_explain, or explain). A test that needs a program that
 isn't on this machine is told as skipped, with the reason. The last line is 'N passed, M failed'."""
 import pathlib
+import signal
 import sys
 import time
 import unittest
@@ -31,6 +32,8 @@ class Counted(unittest.TextTestResult):
 
 def main(names):
     """Runs the files, says what was skipped and how long each file took, and answers the exit status."""
+    # A shell that runs this in the background has Ctrl-C ignored, here and in all that is started from here.
+    signal.signal(signal.SIGINT, signal.default_int_handler)
     files = [f"test_{name.removeprefix('test_')}" for name in names] or sorted(it.stem for it in HERE.glob("tools/test_*.py"))
     passed = failed = 0
     for name in files:

@@ -77,7 +77,11 @@ class Served(unittest.TestCase):
         """Ends the server as a terminal does."""
         cls.server.send_signal(signal.SIGINT)
         cls.server.stdout.close()
-        assert cls.server.wait(timeout=20) == 0
+        try:
+            assert cls.server.wait(timeout=20) == 0
+        finally:
+            cls.server.kill()
+            cls.server.wait()
 
     def request(self, method, path="/", body=None, **headers):
         """A response's status, headers and body. A header that is None is left out."""
@@ -349,7 +353,11 @@ class CommandLine(unittest.TestCase):
             with self.subTest(number), subprocess.Popen(words, **pipes) as server:
                 server.stdout.readline()
                 server.send_signal(number)
-                self.assertEqual((server.wait(timeout=20), server.stderr.read()), (0, b""))
+                try:
+                    server.wait(timeout=20)
+                finally:
+                    server.kill()
+                self.assertEqual((server.wait(), server.stderr.read()), (0, b""))
 
 
 @unittest.skipIf(CHROMIUM is None, "chromium isn't installed (Debian: chromium)")
