@@ -10,6 +10,7 @@ some 2 GB of files, which are removed. Exit status: 0, 1 where a step failed or 
 where the words or a program are wrong."""
 import argparse
 import concurrent.futures
+import itertools
 import json
 import os
 import pathlib
@@ -34,9 +35,9 @@ def write_population(path, count):
     """A population as JSON lines: the document without its jobs, then a job a line."""
     plan = json.loads(plans.jobs_at_once(1, 1, 1))
     (job,) = plan.pop("jobs")
+    jobs = ({**job, "name": f"j{number}"} for number in range(count))
     with open(path, "w", encoding="ascii") as file:
-        for line in [plan, *({**job, "name": f"j{number}"} for number in range(count))]:
-            file.write(json.dumps(line, separators=(",", ":")) + "\n")
+        file.writelines(json.dumps(line, separators=(",", ":")) + "\n" for line in itertools.chain([plan], jobs))
 
 
 def ran(words, output=os.devnull):
