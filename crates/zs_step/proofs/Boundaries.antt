@@ -1,10 +1,10 @@
 -- The next boundary of a period.
-use Rattle.std.proofs.Common.{◌≡◌, ℕ, suc, ◌+◌, ◌-◌, ◌*◌, ◌%◌, ◌/◌, ◌<◌, ◌≤◌, ◌⊎◌, inl, inr, Bool, true, false, ◌||◌, nat_lt, nat_eq, if◌then◌else◌, [], ◌∷◌, refl, arith, sym, ap, ◌∙◌}
+use Rattle.std.proofs.Common.{◌≡◌, ℕ, suc, ◌+◌, ◌-◌, ◌*◌, ◌%◌, ◌/◌, ◌<◌, ◌≤◌, ◌⊎◌, inl, inr, true, false, ◌||◌, nat_lt, nat_eq, if◌then◌else◌, [], ◌∷◌, refl, arith, sym, ap, ◌∙◌}
 use Rattle.std.proofs.Math.Nat.{div-add-mod, mod-lt, mul-suc, mul-le-mul_left}
 use Rattle.zs_term.specs.Saturating.{saturated}
 use Rattle.zs_step.specs.History.{History, first_moment, last_moment, IsInOrder}
 use Rattle.zs_step.specs.Answer.{run_after, window_end}
-use Rattle.zs_step.specs.Laws.{IsBoundary, IsNextBoundary}
+use Rattle.zs_step.specs.Laws.{IsNextBoundary}
 
 -- a history in order begins no later than it ends
 pub first-last : (h : History) → IsInOrder h → first_moment h ≤ last_moment h

@@ -5,6 +5,7 @@ pub mod Intervals
 pub mod LeafState
 pub mod Collected
 pub mod State
+pub mod Turn
 pub mod Compiled
 pub mod Laws
 pub mod Memory

@@ -23,6 +23,7 @@ mod leaves;
 mod state;
 mod stepped;
 mod stepping;
+mod turn;
 
 pub use compiled::Compiled;
 pub use decision::Decision;

@@ -1,20 +1,23 @@
-// One step of a schedule's state, in place.
+// One step of a schedule's state, in place. A node puts its output where its caller reads it, and hands its decision on in
+// registers: compiled code clears the room of each value that lies in memory, and no node has to.
 
-ghost use Rattle.std.specs.Prelude.{◌≡◌, ◌<◌, ◌+◌, ◌*◌, ◌^◌, true, IfOk, IsOk};
+ghost use Rattle.std.specs.Prelude.{◌≡◌, ◌<◌, ◌+◌, ◌*◌, ◌^◌, true, IfOk, IsOk, IfSome, IsSome};
 ghost use Rattle.zs_term.specs.Schedule.{weight};
-ghost use Rattle.zs_term.specs.Output.{output_of, right};
+ghost use Rattle.zs_term.specs.Output.{output_of, number, applied};
 ghost use Rattle.zs_step.specs.Answer.{answer};
 ghost use Rattle.zs_step.specs.LeafState.{state_leaf};
 ghost use Rattle.zs_step.specs.Memory.{is_bare};
 ghost use Rattle.zs_step.specs.State.{state_schedule, StepsTo};
+ghost use Rattle.zs_step.specs.Turn.{decided, Answers, CountsOn};
 ghost use Rattle.zs_step.specs.declared.state.State.TheVariants.{Leaf, Both', Either', AndThen', WhileInput', WhileOutput', CollectAll', Map', ResetWhen'};
 
 use crate::collected::Collected;
 use crate::leaf_state::LeafState;
 use crate::state::{State, clear};
 use crate::stepped::Stepped;
+use crate::turn::Turn;
 use std::alloc::{AllocError, Global};
-use zs_term::{Func, Out, Pick, Test, make_left, make_pair, make_right};
+use zs_term::{Func, Out, Pick, Test};
 
 // What each node of a schedule is told of a step, and where it makes its output.
 #[derive(Drop)]
@@ -24,153 +27,202 @@ pub(crate) struct Step {
     pub(crate) input: u64,
 }
 
-// One step of a node, which alone counts a visit.
-#[cycle(stepping)]
+// One step of a schedule, with its output and its visits.
 pub(crate) fn step_node(state: &mut State, step: &Step) -> Result<Stepped, AllocError>
     requires within { weight (state_schedule state.old) < 2 ^ 64 }
     ensures ok { IfOk result (λ r. StepsTo state.old state.new step.now.moment step.now.input (answer (output_of r.out) r.decision) r.visits) }
     ensures same { state_schedule state.new ≡ state_schedule state.old }
     ensures succeeds { is_bare (state_schedule state.old) ≡ true → IsOk result }
 {
-    let parts = step_parts(state, step)?;
-    Ok(Stepped {
-        out: parts.out,
-        decision: parts.decision,
-        visits: 1 + parts.visits,
-    })
+    let mut out = Out::Num(0);
+    let mut visits = 0;
+    match step_into(state, step, &mut visits, &mut out).decision() {
+        Some(decision) => Ok(Stepped {
+            out,
+            decision,
+            visits,
+        }),
+        None => Err(AllocError),
+    }
 }
 
-// The answer of a node's step, with the visits of its parts alone.
+// One step of a node, which counts it, and puts its output in the caller's place.
 #[cycle(stepping)]
-fn step_parts(state: &mut State, step: &Step) -> Result<Stepped, AllocError>
-    requires within { weight (state_schedule state.old) < 2 ^ 64 }
-    ensures ok { IfOk result (λ r. StepsTo state.old state.new step.now.moment step.now.input (answer (output_of r.out) r.decision) (1 + r.visits)) }
+fn step_into(state: &mut State, step: &Step, visits: &mut u64, out: &mut Out) -> Turn
+    requires within { visits.old + weight (state_schedule state.old) < 2 ^ 64 }
+    ensures answers { IfSome (decided result) (λ d. Answers state.old step.now.moment step.now.input (answer (output_of out.new) d)) }
+    ensures counts { IfSome (decided result) (λ d. CountsOn state.old state.new step.now.moment step.now.input (visits.old + 1) visits.new) }
     ensures same { state_schedule state.new ≡ state_schedule state.old }
-    ensures succeeds { is_bare (state_schedule state.old) ≡ true → IsOk result }
+    ensures succeeds { is_bare (state_schedule state.old) ≡ true → IsSome (decided result) }
 {
+    *visits += 1;
     match state {
-        State::Leaf(leaf) => Ok(step_leaf(leaf, step)),
-        State::Both { first, second } => step_both(first, second, step),
-        State::Either { first, second } => step_either(first, second, step),
+        State::Leaf(leaf) => step_leaf(leaf, step, out),
+        State::Both { first, second } => step_both(first, second, step, visits, out),
+        State::Either { first, second } => step_either(first, second, step, visits, out),
         State::AndThen {
             done,
             first,
             second,
-        } => step_and_then(done, first, second, step),
-        State::WhileInput { part, test } => step_while_input(part, *test, step),
-        State::WhileOutput { part, pick, test } => step_while_output(part, *pick, *test, step),
-        State::CollectAll { part, kept } => step_collect_all(part, kept, step),
-        State::Map { part, func } => step_map(part, *func, step),
-        State::ResetWhen { part, pick, test } => step_reset_when(part, *pick, *test, step),
+        } => step_and_then(done, first, second, step, visits, out),
+        State::WhileInput { part, test } => step_while_input(part, *test, step, visits, out),
+        State::WhileOutput { part, pick, test } => {
+            step_while_output(part, *pick, *test, step, visits, out)
+        }
+        State::CollectAll { part, kept } => step_collect_all(part, kept, step, visits, out),
+        State::Map { part, func } => step_map(part, *func, step, visits, out),
+        State::ResetWhen { part, pick, test } => {
+            step_reset_when(part, *pick, *test, step, visits, out)
+        }
+    }
+}
+
+// Puts an output in place of another one, which is dropped here, and not where each node would make room for what it drops.
+#[inline(never)]
+fn put(out: &mut Out, value: Out)
+    ensures value { out.new ≡ value }
+{
+    *out = value;
+}
+
+// Puts a number in place of an output.
+#[inline(always)]
+fn put_number(out: &mut Out, n: u64)
+    ensures value { output_of out.new ≡ number n }
+{
+    match out {
+        Out::Num(old) => *old = n,
+        Out::Pair(_, _) | Out::Left(_) | Out::Right(_) | Out::Items(_) => put(out, Out::Num(n)),
     }
 }
 
 // One step of a schedule without parts.
-fn step_leaf(leaf: &mut LeafState, step: &Step) -> Stepped
-    ensures steps { StepsTo (Leaf leaf.old) (Leaf leaf.new) step.now.moment step.now.input (answer (output_of result.out) result.decision) (1 + result.visits) }
+fn step_leaf(leaf: &mut LeafState, step: &Step, out: &mut Out) -> Turn
+    ensures answers { IfSome (decided result) (λ d. Answers (Leaf leaf.old) step.now.moment step.now.input (answer (output_of out.new) d)) }
+    ensures counts { (n : _) → IfSome (decided result) (λ d. CountsOn (Leaf leaf.old) (Leaf leaf.new) step.now.moment step.now.input n n) }
     ensures same { state_leaf leaf.new ≡ state_leaf leaf.old }
+    ensures succeeds { IsSome (decided result) }
 {
-    let (number, decision) = leaf.step(step.moment, step.input);
-    Stepped {
-        out: Out::Num(number),
-        decision,
-        visits: 0,
-    }
+    let (n, decision) = leaf.step(step.moment, step.input);
+    put_number(out, n);
+    Turn::of(decision)
 }
 
 // One step of both parts, which goes on where both do.
 #[cycle(stepping)]
-fn step_both(first: &mut State, second: &mut State, step: &Step) -> Result<Stepped, AllocError>
-    requires within { weight (state_schedule first.old) + weight (state_schedule second.old) < 2 ^ 64 }
-    ensures ok { (p q : _) → IfOk result (λ r. StepsTo (Both' p first.old q second.old) (Both' p first.new q second.new) step.now.moment step.now.input (answer (output_of r.out) r.decision) (1 + r.visits)) }
+#[inline(never)]
+fn step_both(
+    first: &mut State,
+    second: &mut State,
+    step: &Step,
+    visits: &mut u64,
+    out: &mut Out,
+) -> Turn
+    requires within { visits.old + weight (state_schedule first.old) + weight (state_schedule second.old) < 2 ^ 64 }
+    ensures answers { (p q : _) → IfSome (decided result) (λ d. Answers (Both' p first.old q second.old) step.now.moment step.now.input (answer (output_of out.new) d)) }
+    ensures counts { (p q : _) → IfSome (decided result) (λ d. CountsOn (Both' p first.old q second.old) (Both' p first.new q second.new) step.now.moment step.now.input visits.old visits.new) }
     ensures same { (state_schedule first.new ≡ state_schedule first.old) × (state_schedule second.new ≡ state_schedule second.old) }
 {
-    let x = step_node(first, step)?;
-    let y = step_node(second, step)?;
-    let decision = x.decision.later(y.decision);
-    let visits = x.visits + y.visits;
-    let out = make_pair(step.alloc, x.out, y.out)?;
-    Ok(Stepped {
-        out,
-        decision,
-        visits,
-    })
+    let Ok(mut a) = Box::new(step.alloc, Out::Num(0)) else {
+        return Turn::Refused;
+    };
+    let Ok(mut b) = Box::new(step.alloc, Out::Num(0)) else {
+        return Turn::Refused;
+    };
+    let Some(x) = step_into(first, step, visits, &mut a).decision() else {
+        return Turn::Refused;
+    };
+    let Some(y) = step_into(second, step, visits, &mut b).decision() else {
+        return Turn::Refused;
+    };
+    put(out, Out::Pair(a, b));
+    Turn::of(x.later(y))
 }
 
 // One step of both parts, which goes on where one does.
 #[cycle(stepping)]
-fn step_either(first: &mut State, second: &mut State, step: &Step) -> Result<Stepped, AllocError>
-    requires within { weight (state_schedule first.old) + weight (state_schedule second.old) < 2 ^ 64 }
-    ensures ok { (p q : _) → IfOk result (λ r. StepsTo (Either' p first.old q second.old) (Either' p first.new q second.new) step.now.moment step.now.input (answer (output_of r.out) r.decision) (1 + r.visits)) }
+#[inline(never)]
+fn step_either(
+    first: &mut State,
+    second: &mut State,
+    step: &Step,
+    visits: &mut u64,
+    out: &mut Out,
+) -> Turn
+    requires within { visits.old + weight (state_schedule first.old) + weight (state_schedule second.old) < 2 ^ 64 }
+    ensures answers { (p q : _) → IfSome (decided result) (λ d. Answers (Either' p first.old q second.old) step.now.moment step.now.input (answer (output_of out.new) d)) }
+    ensures counts { (p q : _) → IfSome (decided result) (λ d. CountsOn (Either' p first.old q second.old) (Either' p first.new q second.new) step.now.moment step.now.input visits.old visits.new) }
     ensures same { (state_schedule first.new ≡ state_schedule first.old) × (state_schedule second.new ≡ state_schedule second.old) }
 {
-    let x = step_node(first, step)?;
-    let y = step_node(second, step)?;
-    let decision = x.decision.earlier(y.decision);
-    let visits = x.visits + y.visits;
-    let out = make_pair(step.alloc, x.out, y.out)?;
-    Ok(Stepped {
-        out,
-        decision,
-        visits,
-    })
+    let Ok(mut a) = Box::new(step.alloc, Out::Num(0)) else {
+        return Turn::Refused;
+    };
+    let Ok(mut b) = Box::new(step.alloc, Out::Num(0)) else {
+        return Turn::Refused;
+    };
+    let Some(x) = step_into(first, step, visits, &mut a).decision() else {
+        return Turn::Refused;
+    };
+    let Some(y) = step_into(second, step, visits, &mut b).decision() else {
+        return Turn::Refused;
+    };
+    put(out, Out::Pair(a, b));
+    Turn::of(x.earlier(y))
 }
 
 // One step of the part that is on: the second begins at the step at which the first is done.
 #[cycle(stepping)]
+#[inline(never)]
 fn step_and_then(
     done: &mut bool,
     first: &mut State,
     second: &mut State,
     step: &Step,
-) -> Result<Stepped, AllocError>
-    requires within { weight (state_schedule first.old) + weight (state_schedule second.old) < 2 ^ 64 }
-    ensures ok { (p q : _) → IfOk result (λ r. StepsTo (AndThen' done.old p first.old q second.old) (AndThen' done.new p first.new q second.new) step.now.moment step.now.input (answer (output_of r.out) r.decision) (1 + r.visits)) }
+    visits: &mut u64,
+    out: &mut Out,
+) -> Turn
+    requires within { visits.old + weight (state_schedule first.old) + weight (state_schedule second.old) < 2 ^ 64 }
+    ensures answers { (p q : _) → IfSome (decided result) (λ d. Answers (AndThen' done.old p first.old q second.old) step.now.moment step.now.input (answer (output_of out.new) d)) }
+    ensures counts { (p q : _) → IfSome (decided result) (λ d. CountsOn (AndThen' done.old p first.old q second.old) (AndThen' done.new p first.new q second.new) step.now.moment step.now.input visits.old visits.new) }
     ensures same { (state_schedule first.new ≡ state_schedule first.old) × (state_schedule second.new ≡ state_schedule second.old) }
 {
-    if *done {
-        return on_the_right(step.alloc, step_node(second, step)?, 0);
+    let Ok(mut part) = Box::new(step.alloc, Out::Num(0)) else {
+        return Turn::Refused;
+    };
+    if !*done {
+        let Some(x) = step_into(first, step, visits, &mut part).decision() else {
+            return Turn::Refused;
+        };
+        if x.is_next() {
+            put(out, Out::Left(part));
+            return Turn::of(x);
+        }
+        *done = true;
     }
-    let x = step_node(first, step)?;
-    if x.decision.is_next() {
-        let (decision, visits) = (x.decision, x.visits);
-        let out = make_left(step.alloc, x.out)?;
-        return Ok(Stepped {
-            out,
-            decision,
-            visits,
-        });
-    }
-    *done = true;
-    on_the_right(step.alloc, step_node(second, step)?, x.visits)
-}
-
-// The answer of the second part of two in turn, after so many visits of the first.
-fn on_the_right(alloc: Global, y: Stepped, before: u64) -> Result<Stepped, AllocError>
-    requires visits { before + y.visits < 2 ^ 64 }
-    ensures value { IfOk result (λ r. answer (output_of r.out) r.decision ≡ answer (right (output_of y.out)) y.decision) }
-    ensures visits { IfOk result (λ r. r.visits ≡ before + y.visits) }
-{
-    let (decision, visits) = (y.decision, before + y.visits);
-    let out = make_right(alloc, y.out)?;
-    Ok(Stepped {
-        out,
-        decision,
-        visits,
-    })
+    let turn = step_into(second, step, visits, &mut part);
+    put(out, Out::Right(part));
+    turn
 }
 
 // One step of a part that goes on while the input passes.
 #[cycle(stepping)]
-fn step_while_input(part: &mut State, test: Test, step: &Step) -> Result<Stepped, AllocError>
-    requires within { weight (state_schedule part.old) < 2 ^ 64 }
-    ensures ok { (p : _) → IfOk result (λ r. StepsTo (WhileInput' p part.old test) (WhileInput' p part.new test) step.now.moment step.now.input (answer (output_of r.out) r.decision) (1 + r.visits)) }
+fn step_while_input(
+    part: &mut State,
+    test: Test,
+    step: &Step,
+    visits: &mut u64,
+    out: &mut Out,
+) -> Turn
+    requires within { visits.old + weight (state_schedule part.old) < 2 ^ 64 }
+    ensures answers { (p : _) → IfSome (decided result) (λ d. Answers (WhileInput' p part.old test) step.now.moment step.now.input (answer (output_of out.new) d)) }
+    ensures counts { (p : _) → IfSome (decided result) (λ d. CountsOn (WhileInput' p part.old test) (WhileInput' p part.new test) step.now.moment step.now.input visits.old visits.new) }
     ensures same { state_schedule part.new ≡ state_schedule part.old }
-    ensures succeeds { is_bare (state_schedule part.old) ≡ true → IsOk result }
+    ensures succeeds { is_bare (state_schedule part.old) ≡ true → IsSome (decided result) }
 {
-    let mut x = step_node(part, step)?;
-    x.decision = x.decision.only_if(test.passes(step.input));
-    Ok(x)
+    let Some(x) = step_into(part, step, visits, out).decision() else {
+        return Turn::Refused;
+    };
+    Turn::of(x.only_if(test.passes(step.input)))
 }
 
 // One step of a part that goes on while its output passes.
@@ -180,53 +232,81 @@ fn step_while_output(
     pick: Pick,
     test: Test,
     step: &Step,
-) -> Result<Stepped, AllocError>
-    requires within { weight (state_schedule part.old) < 2 ^ 64 }
-    ensures ok { (p : _) → IfOk result (λ r. StepsTo (WhileOutput' p part.old pick test) (WhileOutput' p part.new pick test) step.now.moment step.now.input (answer (output_of r.out) r.decision) (1 + r.visits)) }
+    visits: &mut u64,
+    out: &mut Out,
+) -> Turn
+    requires within { visits.old + weight (state_schedule part.old) < 2 ^ 64 }
+    ensures answers { (p : _) → IfSome (decided result) (λ d. Answers (WhileOutput' p part.old pick test) step.now.moment step.now.input (answer (output_of out.new) d)) }
+    ensures counts { (p : _) → IfSome (decided result) (λ d. CountsOn (WhileOutput' p part.old pick test) (WhileOutput' p part.new pick test) step.now.moment step.now.input visits.old visits.new) }
     ensures same { state_schedule part.new ≡ state_schedule part.old }
-    ensures succeeds { is_bare (state_schedule part.old) ≡ true → IsOk result }
+    ensures succeeds { is_bare (state_schedule part.old) ≡ true → IsSome (decided result) }
 {
-    let mut x = step_node(part, step)?;
-    let passed = test.passes(pick.read(&x.out));
-    x.decision = x.decision.only_if(passed);
-    Ok(x)
+    let Some(x) = step_into(part, step, visits, out).decision() else {
+        return Turn::Refused;
+    };
+    Turn::of(x.only_if(test.passes(pick.read(out))))
 }
 
 // One step of a part whose outputs are collected: the list is that of the earlier steps.
 #[cycle(stepping)]
+#[inline(never)]
 fn step_collect_all(
     part: &mut State,
     kept: &mut Box<Collected>,
     step: &Step,
-) -> Result<Stepped, AllocError>
-    requires within { weight (state_schedule part.old) < 2 ^ 64 }
-    ensures ok { (p : _) → IfOk result (λ r. StepsTo (CollectAll' p part.old kept.old) (CollectAll' p part.new kept.new) step.now.moment step.now.input (answer (output_of r.out) r.decision) (1 + r.visits)) }
+    visits: &mut u64,
+    out: &mut Out,
+) -> Turn
+    requires within { visits.old + weight (state_schedule part.old) < 2 ^ 64 }
+    ensures answers { (p : _) → IfSome (decided result) (λ d. Answers (CollectAll' p part.old kept.old) step.now.moment step.now.input (answer (output_of out.new) d)) }
+    ensures counts { (p : _) → IfSome (decided result) (λ d. CountsOn (CollectAll' p part.old kept.old) (CollectAll' p part.new kept.new) step.now.moment step.now.input visits.old visits.new) }
     ensures same { state_schedule part.new ≡ state_schedule part.old }
 {
-    let x = step_node(part, step)?;
-    let (decision, visits) = (x.decision, x.visits);
-    let out = kept.step(step.alloc, x.out, decision)?;
-    Ok(Stepped {
-        out,
-        decision,
-        visits,
-    })
+    let mut last = Out::Num(0);
+    let Some(x) = step_into(part, step, visits, &mut last).decision() else {
+        return Turn::Refused;
+    };
+    let Ok(list) = kept.step(step.alloc, last, x) else {
+        return Turn::Refused;
+    };
+    put(out, list);
+    Turn::of(x)
 }
 
 // One step of a part with a function of its output.
 #[cycle(stepping)]
-fn step_map(part: &mut State, func: Func, step: &Step) -> Result<Stepped, AllocError>
-    requires within { weight (state_schedule part.old) < 2 ^ 64 }
-    ensures ok { (p : _) → IfOk result (λ r. StepsTo (Map' p part.old func) (Map' p part.new func) step.now.moment step.now.input (answer (output_of r.out) r.decision) (1 + r.visits)) }
+fn step_map(part: &mut State, func: Func, step: &Step, visits: &mut u64, out: &mut Out) -> Turn
+    requires within { visits.old + weight (state_schedule part.old) < 2 ^ 64 }
+    ensures answers { (p : _) → IfSome (decided result) (λ d. Answers (Map' p part.old func) step.now.moment step.now.input (answer (output_of out.new) d)) }
+    ensures counts { (p : _) → IfSome (decided result) (λ d. CountsOn (Map' p part.old func) (Map' p part.new func) step.now.moment step.now.input visits.old visits.new) }
     ensures same { state_schedule part.new ≡ state_schedule part.old }
-    ensures succeeds { is_bare (state_schedule part.old) ≡ true → IsOk result }
+    ensures succeeds { is_bare (state_schedule part.old) ≡ true → IsSome (decided result) }
 {
-    let x = step_node(part, step)?;
-    Ok(Stepped {
-        out: func.apply(x.out),
-        decision: x.decision,
-        visits: x.visits,
-    })
+    let turn = step_into(part, step, visits, out);
+    apply_in(func, out);
+    turn
+}
+
+// Applies a function to an output in its place.
+fn apply_in(func: Func, out: &mut Out)
+    ensures value { output_of out.new ≡ applied func (output_of out.old) }
+{
+    match func {
+        Func::Const(n) => put_number(out, n),
+        Func::Size => put_number(out, Pick::Size.read(out)),
+        Func::Add(n) => put_number(out, Pick::Whole.read(out).saturating_add(n)),
+        Func::Mul(n) => put_number(out, Pick::Whole.read(out).saturating_mul(n)),
+        Func::First | Func::Second | Func::Merge => apply_whole(func, out),
+    }
+}
+
+// The same, by taking the output out of its place.
+#[inline(never)]
+fn apply_whole(func: Func, out: &mut Out)
+    ensures value { output_of out.new ≡ applied func (output_of out.old) }
+{
+    let whole = std::mem::replace(out, Out::Num(0));
+    *out = func.apply(whole);
 }
 
 // One step of a part, which begins anew and is stepped again where its output passes.
@@ -236,18 +316,22 @@ fn step_reset_when(
     pick: Pick,
     test: Test,
     step: &Step,
-) -> Result<Stepped, AllocError>
-    requires within { 1 + 2 * weight (state_schedule part.old) < 2 ^ 64 }
-    ensures ok { (p : _) → IfOk result (λ r. StepsTo (ResetWhen' p part.old pick test) (ResetWhen' p part.new pick test) step.now.moment step.now.input (answer (output_of r.out) r.decision) (1 + r.visits)) }
+    visits: &mut u64,
+    out: &mut Out,
+) -> Turn
+    requires within { visits.old + 2 * weight (state_schedule part.old) < 2 ^ 64 }
+    ensures answers { (p : _) → IfSome (decided result) (λ d. Answers (ResetWhen' p part.old pick test) step.now.moment step.now.input (answer (output_of out.new) d)) }
+    ensures counts { (p : _) → IfSome (decided result) (λ d. CountsOn (ResetWhen' p part.old pick test) (ResetWhen' p part.new pick test) step.now.moment step.now.input visits.old visits.new) }
     ensures same { state_schedule part.new ≡ state_schedule part.old }
-    ensures succeeds { is_bare (state_schedule part.old) ≡ true → IsOk result }
+    ensures succeeds { is_bare (state_schedule part.old) ≡ true → IsSome (decided result) }
 {
-    let x = step_node(part, step)?;
-    if !test.passes(pick.read(&x.out)) {
-        return Ok(x);
+    let turn = step_into(part, step, visits, out);
+    if let Turn::Refused = turn {
+        return turn;
+    }
+    if !test.passes(pick.read(out)) {
+        return turn;
     }
     clear(part, step.alloc);
-    let mut y = step_node(part, step)?;
-    y.visits += x.visits;
-    Ok(y)
+    step_into(part, step, visits, out)
 }

@@ -1,0 +1,28 @@
+-- How a node's step ends, and what it counts and answers: for private contracts alone.
+use Rattle.std.specs.Prelude.{◌≡◌, ℕ, ◌+◌, ◌≤◌, Option, Some, None, ◌∷◌}
+use Rattle.zs_term.specs.Schedule.{weight}
+use Rattle.zs_step.specs.declared.state.State.{State}
+use Rattle.zs_step.specs.declared.decision.Decision.{Decision}
+use Rattle.zs_step.specs.declared.decision.Decision.TheVariants.{Stop as DecisionStop, Next as DecisionNext}
+use Rattle.zs_step.specs.declared.turn.Turn.{Turn}
+use Rattle.zs_step.specs.declared.turn.Turn.TheVariants.{Stop, Next, Refused}
+use Rattle.zs_step.specs.History.{History}
+use Rattle.zs_step.specs.Answer.{Answer, answer_of}
+use Rattle.zs_step.specs.Visits.{visits}
+use Rattle.zs_step.specs.State.{state_schedule, Represents}
+
+-- the decision of a step that wasn't refused memory
+abbrev pub decided : Turn → Option Decision
+decided Stop = Some DecisionStop
+decided (Next x) = Some (DecisionNext x)
+decided Refused = None
+
+-- an answer of a state's step at a moment with an input: that of each history that the state stands for
+pub record Answers (s : State) (now input : ℕ) (a : Answer) : Type 0 where
+  pub answered : (h : History) → Represents s h → a ≡ answer_of (state_schedule s) ((now, input) ∷ h)
+
+-- A step that counts its visits on: `before` has those before it and the node's own, `after` those of its parts too.
+pub record CountsOn (old new : State) (now input before after : ℕ) : Type 0 where
+  pub bound : 1 + after ≤ before + weight (state_schedule old)
+  pub visited : (h : History) → Represents old h → 1 + after ≡ before + visits (state_schedule old) ((now, input) ∷ h)
+  pub stands : (h : History) → Represents old h → Represents new ((now, input) ∷ h)
