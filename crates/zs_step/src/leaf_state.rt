@@ -1,14 +1,17 @@
 // The state of a schedule without parts.
 
-ghost use Rattle.std.specs.Prelude.{◌≡◌, ◌+◌, ◌∷◌, [], nat_eq, if◌then◌else◌};
+ghost use Rattle.std.specs.Prelude.{◌≡◌, ◌+◌, ◌∷◌, [], nat_eq, if◌then◌else◌, true};
 ghost use Rattle.zs_term.specs.Saturating.{saturated};
 ghost use Rattle.zs_term.specs.Output.{number};
+ghost use Rattle.zs_term.specs.Schedule.{schedule_of, leaf};
+ghost use Rattle.zs_step.specs.Memory.{is_leaf};
 ghost use Rattle.zs_step.specs.History.{History};
 ghost use Rattle.zs_step.specs.Answer.{answer, leaf_answer};
 ghost use Rattle.zs_step.specs.LeafState.{state_leaf, StandsForSteps, LeafRepresents};
 
 use crate::decision::Decision;
 use crate::leaves::{run_after, window_end};
+use zs_term::Term;
 
 // The number of steps so far, and the moment of the first one.
 #[derive(Drop)]
@@ -145,4 +148,47 @@ fn count(steps: &mut u64) -> u64
     let before = *steps;
     *steps = before.saturating_add(1);
     before
+}
+
+// The state of a term without parts before its first step.
+pub(crate) fn leaf_of(term: &Term) -> LeafState
+    requires leaf { is_leaf (schedule_of term.now) ≡ true }
+    ensures made_of { leaf (state_leaf result) ≡ schedule_of term.now }
+    ensures represents { LeafRepresents result [] }
+{
+    let past = Past::none();
+    match term {
+        Term::Forever => LeafState::Forever { steps: 0 },
+        Term::Recurs(k) => LeafState::Recurs {
+            limit: *k,
+            steps: 0,
+        },
+        Term::Spaced(delay) => LeafState::Spaced {
+            delay: *delay,
+            steps: 0,
+        },
+        Term::Fixed(period) => LeafState::Fixed {
+            period: *period,
+            past,
+            run: 0,
+        },
+        Term::Exponential(base, factor) => LeafState::Exponential {
+            base: *base,
+            factor: *factor,
+            wait: *base,
+        },
+        Term::Fibonacci(one) => LeafState::Fibonacci {
+            one: *one,
+            last: 0,
+            next: *one,
+        },
+        Term::Identity => LeafState::Identity,
+        Term::Elapsed => LeafState::Elapsed { past },
+        Term::Linear(n) => LeafState::Linear { unit: *n, last: 0 },
+        Term::Windowed(period) => LeafState::Windowed {
+            period: *period,
+            past,
+        },
+        _ => unreachable!(),
+    }
 }

@@ -6,7 +6,7 @@ ghost use Rattle.zs_step.specs.Memory.{is_leaf};
 ghost use Rattle.zs_step.specs.State.{state_schedule, Represents};
 
 use crate::collected::Collected;
-use crate::leaf_state::{LeafState, Past};
+use crate::leaf_state::{LeafState, leaf_of};
 use std::alloc::{AllocError, Global};
 use zs_term::{Func, Pick, Term, Test};
 
@@ -62,57 +62,20 @@ pub(crate) fn state_of(alloc: Global, term: &Term) -> Result<State, AllocError>
     ensures succeeds { is_leaf (schedule_of term.now) ≡ true → IsOk result }
 {
     match term {
-        Term::Forever => Ok(State::Leaf(LeafState::Forever { steps: 0 })),
-        Term::Recurs(k) => Ok(State::Leaf(LeafState::Recurs {
-            limit: *k,
-            steps: 0,
-        })),
-        Term::Spaced(delay) => Ok(State::Leaf(LeafState::Spaced {
-            delay: *delay,
-            steps: 0,
-        })),
-        Term::Fixed(period) => Ok(State::Leaf(LeafState::Fixed {
-            period: *period,
-            past: Past::none(),
-            run: 0,
-        })),
-        Term::Exponential(base, factor) => Ok(State::Leaf(LeafState::Exponential {
-            base: *base,
-            factor: *factor,
-            wait: *base,
-        })),
-        Term::Fibonacci(one) => Ok(State::Leaf(LeafState::Fibonacci {
-            one: *one,
-            last: 0,
-            next: *one,
-        })),
-        Term::Identity => Ok(State::Leaf(LeafState::Identity)),
-        Term::Elapsed => Ok(State::Leaf(LeafState::Elapsed { past: Past::none() })),
-        Term::Linear(n) => Ok(State::Leaf(LeafState::Linear { unit: *n, last: 0 })),
-        Term::Windowed(period) => Ok(State::Leaf(LeafState::Windowed {
-            period: *period,
-            past: Past::none(),
-        })),
         Term::Both(a, b) => {
-            let first = part(alloc, a)?;
-            Ok(State::Both {
-                first,
-                second: part(alloc, b)?,
-            })
+            let (first, second) = (part(alloc, a)?, part(alloc, b)?);
+            Ok(State::Both { first, second })
         }
         Term::Either(a, b) => {
-            let first = part(alloc, a)?;
-            Ok(State::Either {
-                first,
-                second: part(alloc, b)?,
-            })
+            let (first, second) = (part(alloc, a)?, part(alloc, b)?);
+            Ok(State::Either { first, second })
         }
         Term::AndThen(a, b) => {
-            let first = part(alloc, a)?;
+            let (first, second) = (part(alloc, a)?, part(alloc, b)?);
             Ok(State::AndThen {
                 done: false,
                 first,
-                second: part(alloc, b)?,
+                second,
             })
         }
         Term::WhileInput(s, test) => Ok(State::WhileInput {
@@ -137,6 +100,7 @@ pub(crate) fn state_of(alloc: Global, term: &Term) -> Result<State, AllocError>
             pick: *pick,
             test: *test,
         }),
+        _ => Ok(State::Leaf(leaf_of(term))),
     }
 }
 
