@@ -21,6 +21,10 @@ decided Refused = None
 pub record Answers (s : State) (now input : ℕ) (a : Answer) : Type 0 where
   pub answered : (h : History) → Represents s h → a ≡ answer_of (state_schedule s) ((now, input) ∷ h)
 
+-- the decision alone
+pub record Decides (s : State) (now input : ℕ) (d : Decision) : Type 0 where
+  pub decides : (h : History) → Represents s h → d ≡ (answer_of (state_schedule s) ((now, input) ∷ h)).decision
+
 -- A step that counts its visits on: `before` has those before it and the node's own, `after` those of its parts too.
 pub record CountsOn (old new : State) (now input before after : ℕ) : Type 0 where
   pub bound : 1 + after ≤ before + weight (state_schedule old)

@@ -8,7 +8,7 @@ ghost use Rattle.zs_step.specs.Answer.{answer};
 ghost use Rattle.zs_step.specs.LeafState.{state_leaf};
 ghost use Rattle.zs_step.specs.Memory.{is_bare};
 ghost use Rattle.zs_step.specs.State.{state_schedule, StepsTo};
-ghost use Rattle.zs_step.specs.Turn.{decided, Answers, CountsOn};
+ghost use Rattle.zs_step.specs.Turn.{decided, Answers, Decides, CountsOn};
 ghost use Rattle.zs_step.specs.declared.state.State.TheVariants.{Leaf, Both', Either', AndThen', WhileInput', WhileOutput', CollectAll', Map', ResetWhen'};
 
 use crate::collected::Collected;
@@ -282,6 +282,11 @@ fn step_map(part: &mut State, func: Func, step: &Step, visits: &mut u64, out: &m
     ensures same { state_schedule part.new ≡ state_schedule part.old }
     ensures succeeds { is_bare (state_schedule part.old) ≡ true → IsSome (decided result) }
 {
+    if let Func::Const(n) = func {
+        let turn = step_unread(part, step, visits);
+        put_number(out, n);
+        return turn;
+    }
     let turn = step_into(part, step, visits, out);
     apply_in(func, out);
     turn
@@ -334,4 +339,108 @@ fn step_reset_when(
     }
     clear(part, step.alloc);
     step_into(part, step, visits, out)
+}
+
+// One step of a node whose output nobody reads: pairs aren't made then.
+#[cycle(stepping)]
+fn step_unread(state: &mut State, step: &Step, visits: &mut u64) -> Turn
+    requires within { visits.old + weight (state_schedule state.old) < 2 ^ 64 }
+    ensures decides { IfSome (decided result) (λ d. Decides state.old step.now.moment step.now.input d) }
+    ensures counts { IfSome (decided result) (λ d. CountsOn state.old state.new step.now.moment step.now.input (visits.old + 1) visits.new) }
+    ensures same { state_schedule state.new ≡ state_schedule state.old }
+    ensures succeeds { is_bare (state_schedule state.old) ≡ true → IsSome (decided result) }
+{
+    match state {
+        State::Both { first, second } => unread_both(first, second, step, visits),
+        State::Either { first, second } => unread_either(first, second, step, visits),
+        State::WhileInput { part, test } => unread_while_input(part, *test, step, visits),
+        State::Map { part, func } => unread_map(part, *func, step, visits),
+        State::Leaf(_)
+        | State::AndThen { .. }
+        | State::WhileOutput { .. }
+        | State::CollectAll { .. }
+        | State::ResetWhen { .. } => step_and_drop(state, step, visits),
+    }
+}
+
+// One step of a node whose output is dropped.
+#[cycle(stepping)]
+#[inline(never)]
+fn step_and_drop(state: &mut State, step: &Step, visits: &mut u64) -> Turn
+    requires within { visits.old + weight (state_schedule state.old) < 2 ^ 64 }
+    ensures decides { IfSome (decided result) (λ d. Decides state.old step.now.moment step.now.input d) }
+    ensures counts { IfSome (decided result) (λ d. CountsOn state.old state.new step.now.moment step.now.input (visits.old + 1) visits.new) }
+    ensures same { state_schedule state.new ≡ state_schedule state.old }
+    ensures succeeds { is_bare (state_schedule state.old) ≡ true → IsSome (decided result) }
+{
+    let mut out = Out::Num(0);
+    step_into(state, step, visits, &mut out)
+}
+
+// The decision of both parts.
+#[cycle(stepping)]
+fn unread_both(first: &mut State, second: &mut State, step: &Step, visits: &mut u64) -> Turn
+    requires within { visits.old + 1 + weight (state_schedule first.old) + weight (state_schedule second.old) < 2 ^ 64 }
+    ensures decides { (p q : _) → IfSome (decided result) (λ d. Decides (Both' p first.old q second.old) step.now.moment step.now.input d) }
+    ensures counts { (p q : _) → IfSome (decided result) (λ d. CountsOn (Both' p first.old q second.old) (Both' p first.new q second.new) step.now.moment step.now.input (visits.old + 1) visits.new) }
+    ensures same { (state_schedule first.new ≡ state_schedule first.old) × (state_schedule second.new ≡ state_schedule second.old) }
+{
+    *visits += 1;
+    let Some(x) = step_unread(first, step, visits).decision() else {
+        return Turn::Refused;
+    };
+    let Some(y) = step_unread(second, step, visits).decision() else {
+        return Turn::Refused;
+    };
+    let decision = x.later(y);
+    Turn::of(decision)
+}
+
+// The decision of one of both parts.
+#[cycle(stepping)]
+fn unread_either(first: &mut State, second: &mut State, step: &Step, visits: &mut u64) -> Turn
+    requires within { visits.old + 1 + weight (state_schedule first.old) + weight (state_schedule second.old) < 2 ^ 64 }
+    ensures decides { (p q : _) → IfSome (decided result) (λ d. Decides (Either' p first.old q second.old) step.now.moment step.now.input d) }
+    ensures counts { (p q : _) → IfSome (decided result) (λ d. CountsOn (Either' p first.old q second.old) (Either' p first.new q second.new) step.now.moment step.now.input (visits.old + 1) visits.new) }
+    ensures same { (state_schedule first.new ≡ state_schedule first.old) × (state_schedule second.new ≡ state_schedule second.old) }
+{
+    *visits += 1;
+    let Some(x) = step_unread(first, step, visits).decision() else {
+        return Turn::Refused;
+    };
+    let Some(y) = step_unread(second, step, visits).decision() else {
+        return Turn::Refused;
+    };
+    let decision = x.earlier(y);
+    Turn::of(decision)
+}
+
+// The decision of a part that goes on while the input passes.
+#[cycle(stepping)]
+fn unread_while_input(part: &mut State, test: Test, step: &Step, visits: &mut u64) -> Turn
+    requires within { visits.old + 1 + weight (state_schedule part.old) < 2 ^ 64 }
+    ensures decides { (p : _) → IfSome (decided result) (λ d. Decides (WhileInput' p part.old test) step.now.moment step.now.input d) }
+    ensures counts { (p : _) → IfSome (decided result) (λ d. CountsOn (WhileInput' p part.old test) (WhileInput' p part.new test) step.now.moment step.now.input (visits.old + 1) visits.new) }
+    ensures same { state_schedule part.new ≡ state_schedule part.old }
+    ensures succeeds { is_bare (state_schedule part.old) ≡ true → IsSome (decided result) }
+{
+    *visits += 1;
+    let Some(x) = step_unread(part, step, visits).decision() else {
+        return Turn::Refused;
+    };
+    let passed = test.passes(step.input);
+    Turn::of(x.only_if(passed))
+}
+
+// The decision of a part whose output a function takes.
+#[cycle(stepping)]
+fn unread_map(part: &mut State, _func: Func, step: &Step, visits: &mut u64) -> Turn
+    requires within { visits.old + 1 + weight (state_schedule part.old) < 2 ^ 64 }
+    ensures decides { (p : _) → IfSome (decided result) (λ d. Decides (Map' p part.old _func) step.now.moment step.now.input d) }
+    ensures counts { (p : _) → IfSome (decided result) (λ d. CountsOn (Map' p part.old _func) (Map' p part.new _func) step.now.moment step.now.input (visits.old + 1) visits.new) }
+    ensures same { state_schedule part.new ≡ state_schedule part.old }
+    ensures succeeds { is_bare (state_schedule part.old) ≡ true → IsSome (decided result) }
+{
+    *visits += 1;
+    step_unread(part, step, visits)
 }

@@ -5,28 +5,46 @@ use Rattle.zs_step.proofs.stepping.+stepping.Given as goal
 
 -- a step and a reset keep the schedule, and so its weight
 abbrev pub decreases-step_into : goal.decreases-step_into
-decreases-step_into l = 2 * weight (state_schedule l.state.now)
+decreases-step_into l = 4 * weight (state_schedule l.state.now)
+
+abbrev pub decreases-step_unread : goal.decreases-step_unread
+decreases-step_unread l = 4 * weight (state_schedule l.state.now) + 2
+
+abbrev pub decreases-step_and_drop : goal.decreases-step_and_drop
+decreases-step_and_drop l = 4 * weight (state_schedule l.state.now) + 1
 
 abbrev pub decreases-step_both : goal.decreases-step_both
-decreases-step_both l = 2 * (weight (state_schedule l.first.now) + weight (state_schedule l.second.now)) + 1
+decreases-step_both l = 4 * (weight (state_schedule l.first.now) + weight (state_schedule l.second.now)) + 3
 
 abbrev pub decreases-step_either : goal.decreases-step_either
-decreases-step_either l = 2 * (weight (state_schedule l.first.now) + weight (state_schedule l.second.now)) + 1
+decreases-step_either l = 4 * (weight (state_schedule l.first.now) + weight (state_schedule l.second.now)) + 3
 
 abbrev pub decreases-step_and_then : goal.decreases-step_and_then
-decreases-step_and_then l = 2 * (weight (state_schedule l.first.now) + weight (state_schedule l.second.now)) + 1
+decreases-step_and_then l = 4 * (weight (state_schedule l.first.now) + weight (state_schedule l.second.now)) + 3
 
 abbrev pub decreases-step_while_input : goal.decreases-step_while_input
-decreases-step_while_input l = 2 * weight (state_schedule l.part.now) + 1
+decreases-step_while_input l = 4 * weight (state_schedule l.part.now) + 3
 
 abbrev pub decreases-step_while_output : goal.decreases-step_while_output
-decreases-step_while_output l = 2 * weight (state_schedule l.part.now) + 1
+decreases-step_while_output l = 4 * weight (state_schedule l.part.now) + 3
 
 abbrev pub decreases-step_collect_all : goal.decreases-step_collect_all
-decreases-step_collect_all l = 2 * weight (state_schedule l.part.now) + 1
+decreases-step_collect_all l = 4 * weight (state_schedule l.part.now) + 3
 
 abbrev pub decreases-step_map : goal.decreases-step_map
-decreases-step_map l = 2 * weight (state_schedule l.part.now) + 1
+decreases-step_map l = 4 * weight (state_schedule l.part.now) + 3
 
 abbrev pub decreases-step_reset_when : goal.decreases-step_reset_when
-decreases-step_reset_when l = 2 * weight (state_schedule l.part.now) + 1
+decreases-step_reset_when l = 4 * weight (state_schedule l.part.now) + 3
+
+abbrev pub decreases-unread_both : goal.decreases-unread_both
+decreases-unread_both l = 4 * (weight (state_schedule l.first.now) + weight (state_schedule l.second.now)) + 3
+
+abbrev pub decreases-unread_either : goal.decreases-unread_either
+decreases-unread_either l = 4 * (weight (state_schedule l.first.now) + weight (state_schedule l.second.now)) + 3
+
+abbrev pub decreases-unread_while_input : goal.decreases-unread_while_input
+decreases-unread_while_input l = 4 * weight (state_schedule l.part.now) + 3
+
+abbrev pub decreases-unread_map : goal.decreases-unread_map
+decreases-unread_map l = 4 * weight (state_schedule l.part.now) + 3
