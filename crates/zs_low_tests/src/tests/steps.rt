@@ -37,7 +37,7 @@ fn push_answer(
 }
 
 // Adds what `plain` answers to the pairs up to each of them. Gives back the pairs, which are in order.
-fn push_plain_answers<R: Abort + Alloc<A = Global>>(
+pub fn push_plain_answers<R: Abort + Alloc<A = Global>>(
     rt: &R,
     text: &mut String,
     checked: &Checked,
@@ -58,7 +58,7 @@ fn push_plain_answers<R: Abort + Alloc<A = Global>>(
 }
 
 // Adds what `follow` answers, and then the visits of its steps.
-fn push_followed(
+pub fn push_followed(
     alloc: Global,
     text: &mut String,
     checked: Checked,
