@@ -8,3 +8,4 @@ pub mod State
 pub mod Compiled
 pub mod Laws
 pub mod Memory
+pub mod Words
