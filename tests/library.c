@@ -107,6 +107,24 @@ static int is_too_small(const request *it, uint64_t *state, const uint64_t *befo
            memcmp(state, before, size * sizeof *state) == 0;
 }
 
+/* Whether a step over words that stand for nothing is answered, and leaves those behind the state. */
+static int is_safe(const request *it, size_t size)
+{
+    static const uint64_t kinds[] = {0, 1, 2, 1ull << 63, UINT64_MAX};
+    uint64_t *words = block((size + 2) * sizeof *words);
+    int is_well = 1;
+    for (size_t kind = 0; kind < 5; kind++) {
+        zs_reply reply;
+        for (size_t i = 0; i < size + 2; i++)
+            words[i] = kind == 2 ? i * 0x9E3779B97F4A7C15 : kinds[kind];
+        uint64_t behind[2] = {words[size], words[size + 1]};
+        uint32_t number = zs_step(it->text, it->text_len, words, size + 2, UINT64_MAX, UINT64_MAX, &reply, NULL, 0);
+        is_well &= number <= ZS_DONE && reply.size > 0 && memcmp(words + size, behind, sizeof behind) == 0;
+    }
+    __real_free(words);
+    return is_well;
+}
+
 /* What zs_answer answers, by a state that is begun and stepped. A refused step has to leave the state as it was. */
 static uint32_t stepped(const request *it, zs_reply *reply, uint8_t *out)
 {
@@ -120,6 +138,8 @@ static uint32_t stepped(const request *it, zs_reply *reply, uint8_t *out)
     memcpy(before, state, size * sizeof *state);
     if (atomic_load(&refused_at) < 0 && !is_too_small(it, state, before, size))
         fail("a state with no room was not refused", (size_t)(it - requests));
+    if (atomic_load(&refused_at) < 0 && !is_safe(it, size))
+        fail("words that stand for nothing were not answered", (size_t)(it - requests));
     for (size_t i = 0; i < it->seen_len && number <= ZS_DONE; i++) {
         int is_last = i + 1 == it->seen_len;
         number = zs_step(it->text, it->text_len, state, size, it->seen[i].moment, it->seen[i].input, reply,

@@ -80,17 +80,19 @@ pub record IsBegun (text old new : List ℕ) : Type 0 where
   pub begun : new ≡ state_words term [] ++ drop (length (state_words term [])) old
 
 -- The text spells a schedule, and its answer at one more step is told, behind each history whose state the words tell; from then on
--- they tell the state behind that step.
+-- they tell the state behind that step. Those behind the state stay, whatever the words tell.
 pub record IsStepped (text old new : List ℕ) (now input number : ℕ) (r : Reply) (room out : List ℕ) : Type 0 where
   pub term : Schedule
   pub spelled : SpellsFlat text term
   pub answer : (h : History) → KeepsState term h old → TellsAnswer term ((now, input) ∷ h) number r room out
   pub state : (h : History) → KeepsState term h old → KeepsState term ((now, input) ∷ h) new
+  pub behind : drop (length (state_words term [])) new ≡ drop (length (state_words term [])) old
 
 -- the same of a step's answer and of the state's words alone, which fit in those before
 pub record StepsOn (text old : List ℕ) (now input : ℕ) (r : Stepped) (words : List ℕ) : Type 0 where
   pub term : Schedule
   pub spelled : SpellsFlat text term
+  pub sized : length words ≡ length (state_words term [])
   pub fits : length words ≤ length old
   pub answer : (h : History) → KeepsState term h old → IsAnswer term ((now, input) ∷ h) r
   pub state : (h : History) → KeepsState term h old → words ≡ state_words term ((now, input) ∷ h)
