@@ -36,6 +36,35 @@ JNA = pathlib.Path("/usr/share/java/jna.jar")
 NUMBERS = {"no term": 11, "too big": 12, "number too large": 13, "factor is 0": 14, "no kind": 15, "window is 0": 16}
 SPOILT = [generator.no_term, generator.too_big, generator.big_number, generator.zero_factor, generator.no_kind,
           generator.zero_window]
+# Steps of the binding for Java over a state.
+STEPS = '''
+import java.util.Arrays;
+import zsched.Stepper;
+
+public final class Steps {
+    private static final String TEXT = "(exponential(10) && recurs(3))";
+
+    private static void refused(Runnable call) {
+        try {
+            call.run();
+        } catch (IllegalArgumentException fault) {
+            System.out.println(fault.getMessage());
+        }
+    }
+
+    public static void main(String[] words) {
+        Stepper stepper = new Stepper(TEXT);
+        System.out.println(stepper.after(3, 0));
+        refused(() -> stepper.after(2, 0));
+        Stepper again = Stepper.resume(TEXT, stepper.state());
+        System.out.println(again.after(13, 0));
+        System.out.println(Arrays.toString(again.state()));
+        refused(() -> Stepper.resume(TEXT, new long[1]));
+        refused(() -> new Stepper("forever.collectAll"));
+        refused(() -> new Stepper("?"));
+    }
+}
+'''
 NOT_UTF8 = [b"\xff", b"\xc3", b"\xed\xa0\x80", b"\xf0\x9f\x98"]
 
 room = tempfile.TemporaryDirectory(prefix="zsched-library-test-")
@@ -539,10 +568,15 @@ class Examples(unittest.TestCase):
     def test_the_example_in_java_waits_for_its_server(self):
         if not shutil.which("javac") or not JNA.exists():
             self.skipTest(f"javac or JNA ({JNA}, of the package libjna-java) isn't on this machine")
-        words = ["javac", "-Xlint:all", "-Werror", "-cp", JNA, "-d", path("java"), "zsched/Schedule.java", "Example.java"]
-        ran(words, BINDINGS / "java")
-        words = ["java", "-cp", f"{JNA}:{path('java')}", f"-Djna.library.path={folder}", "Example"]
-        self.assertEqual(ran(words, BINDINGS / "java"), "ready after 4 attempts\n")
+        path("Steps.java").write_text(STEPS)
+        words = ["javac", "-Xlint:all", "-Werror", "-cp", JNA, "-d", path("java"), "zsched/Schedule.java", "zsched/Stepper.java"]
+        ran([*words, "Example.java", path("Steps.java")], BINDINGS / "java")
+        words = ["java", "-cp", f"{JNA}:{path('java')}", f"-Djna.library.path={folder}"]
+        self.assertEqual(ran([*words, "Example"], BINDINGS / "java"), "ready after 4 attempts\n")
+        wanted = ["Answer[done=false, next=13, output=(10,0), visits=3]", "the moment is below that of the step before it",
+                  "Answer[done=false, next=33, output=(20,1), visits=3]", "[13, 40, 2]", "1 words in place of 3",
+                  "a schedule with collectAll has no state of fixed size", "no term at byte 0"]
+        self.assertEqual(ran([*words, "Steps"], BINDINGS / "java").splitlines(), wanted)
 
     def test_make_library_tells_what_it_does_and_refuses_other_words(self):
         said = ran([MAKE, "--help"], TOP)
