@@ -3,15 +3,17 @@
  * A schedule is a text, as docs/SEMANTICS.md and docs/FORMATS.md have it: "(exponential(100) && recurs(5))". What it has
  * seen is a list of pairs, oldest first: the moment at which an attempt ended, and its input (under retry the error's
  * code, under repeat the success value). zs_answer tells at which moment the next attempt may begin, or that there is
- * none. No call keeps anything, so the list is the whole state: store it, and go on after a restart.
+ * none. No call keeps anything, so the list is the whole state: store it, and go on after a restart. Where the list would
+ * grow too long, zs_begin and zs_step have a state of fixed size in its place.
  *
  * Link libzsched.a or libzsched.so, which tools/make-library builds; both need the C library alone. docs/LIBRARY.md tells
  * what is proved of these calls.
  *
  * What a caller has to keep, since no call can test it:
- *   - each pointer leads to as much memory as the number beside it says; zs_seen and zs_reply are aligned as C aligns
- *     them. Where the number is 0 the pointer may be NULL. `reply` and `at` are never NULL;
- *   - `reply`, `at` and `out` overlap nothing else that the call is given, and nobody else writes to any of it meanwhile;
+ *   - each pointer leads to as much memory as the number beside it says; zs_seen, zs_reply and words are aligned as C
+ *     aligns them. Where the number is 0 the pointer may be NULL. `reply`, `at` and `size` are never NULL;
+ *   - `reply`, `at`, `size`, `state` and `out` overlap nothing else that the call is given, and nobody else writes to any
+ *     of it meanwhile;
  *   - no call is made from a signal handler, nor in a forked child of a process with threads, and 64 KiB of stack are free.
  *
  * Calls may run at once on any number of threads: they share nothing but malloc, realloc and free. All that a call takes
@@ -27,14 +29,17 @@
 extern "C" {
 #endif
 
-/* What a call answers. `at` is zs_reply.at, or what zs_check writes there; it is 0 where nothing is said of it here. */
+/* What a call answers. `at` is zs_reply.at, or what is written there; it is 0 where nothing is said of it here. */
 enum zs_number {
-    ZS_NEXT = 0,        /* zs_answer: the schedule goes on at zs_reply.next. zs_check: the text is a schedule */
-    ZS_DONE = 1,        /* zs_answer: the schedule is done */
+    ZS_NEXT = 0,        /* zs_answer, zs_step: the schedule goes on at zs_reply.next. The others: all is well */
+    ZS_DONE = 1,        /* zs_answer, zs_step: the schedule is done */
     ZS_NO_PAIR = 2,     /* zs_answer: the list of pairs is empty, and the text is a schedule */
-    ZS_FALLS = 3,       /* zs_answer: the moment of the pair `at`, from 0, is below the one before it */
+    ZS_FALLS = 3,       /* zs_answer: the moment of the pair `at`, from 0, is below the one before it; zs_step: the moment
+                         * is below that of the last step */
     ZS_NOT_UTF8 = 4,    /* the text isn't UTF-8 from the byte `at` on */
     ZS_NO_MEMORY = 5,   /* a request for memory was refused; nothing is leaked, and the call may be made again */
+    ZS_KEEPS_LIST = 6,  /* the calls over a state: collectAll is in the schedule, so its state grows with the steps */
+    ZS_NO_ROOM = 7,     /* zs_begin, zs_step: state_len is below what zs_state_size tells */
     ZS_NO_TERM = 11,    /* the text spells no schedule, which shows at the byte `at` */
     ZS_TOO_BIG = 12,    /* the schedule is deeper than 64 or weighs more than 1000 */
     ZS_BAD_NUMBER = 13, /* the number that begins at the byte `at` is above 18446744073709551615 */
@@ -49,7 +54,7 @@ typedef struct zs_seen {
     uint64_t input;  /* any number */
 } zs_seen;
 
-/* What zs_answer tells beside its number. Each call writes all four; a field that says nothing is 0. */
+/* What zs_answer and zs_step tell beside their number. Each call writes all four; a field that says nothing is 0. */
 typedef struct zs_reply {
     uint64_t next;   /* ZS_NEXT: the moment at which the next attempt may begin, not below that of the last pair */
     uint64_t size;   /* ZS_NEXT, ZS_DONE: how many bytes the text of the step's output has, whether or not they fit */
@@ -71,6 +76,29 @@ uint32_t zs_check(const uint8_t *text, size_t text_len, uint64_t *at);
  * The time grows with the number of pairs: less than a microsecond for each. */
 uint32_t zs_answer(const uint8_t *text, size_t text_len, const zs_seen *seen, size_t seen_len, zs_reply *reply,
                    uint8_t *out, size_t out_len);
+
+/* Steps over a state in the caller's memory, in place of the list of pairs.
+ *
+ * A state is words whose number depends on the schedule alone: at most 3 for each of its nodes, and one more. A step takes
+ * no longer after many steps than after one. The words may be copied, and stored as bytes for machines of the same byte
+ * order; behind a restart they go on, if moments do. A schedule with collectAll has no such state, since its list grows.
+ *
+ * How many words the state of a text's schedule has, 1 or more: ZS_NEXT (0). Else ZS_KEEPS_LIST, or what zs_check answers of
+ * the text, with its place; *size is then 0. */
+uint32_t zs_state_size(const uint8_t *text, size_t text_len, uint64_t *size, uint64_t *at);
+
+/* Writes the state of a text's schedule before any step over the first of the words: ZS_NEXT (0). Else ZS_NO_ROOM, or what
+ * zs_state_size answers, with its place, and no word is written. state_len counts words; those behind the state stay. */
+uint32_t zs_begin(const uint8_t *text, size_t text_len, uint64_t *state, size_t state_len, uint64_t *at);
+
+/* One more step, at a moment in milliseconds and with any input, of the schedule of a text whose state zs_begin wrote and
+ * zs_step went on with. ZS_NEXT or ZS_DONE, and all that zs_answer tells at the last of these pairs; the words are then the
+ * state behind this step. Else ZS_FALLS, ZS_NO_ROOM, or what zs_state_size answers; words and room then stay.
+ *
+ * Nobody can tell from words of which steps they came. Of words that were changed, or those of another text, nothing is
+ * promised but that the call returns, and reads and writes nothing beside what it is given; words behind the state stay. */
+uint32_t zs_step(const uint8_t *text, size_t text_len, uint64_t *state, size_t state_len, uint64_t moment,
+                 uint64_t input, zs_reply *reply, uint8_t *out, size_t out_len);
 
 #ifdef __cplusplus
 }

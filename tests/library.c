@@ -5,6 +5,8 @@
  *                  ZS_NO_MEMORY, write nothing to the room and give back all that it took
  * library threads  does them all on four threads at once, some times over: each has to print what one thread prints
  *
+ * A second word 'state' has each zs_answer done by zs_state_size, zs_begin and a zs_step for each pair, and prints the same.
+ *
  * A request is a line of words: the text in hexadecimal digits behind a '.', the room in bytes, and the moment and the input
  * of each pair in turn. A room of '-' asks for zs_check. A line of an answer has the number, next, size, visits, at and the
  * room in hexadecimal digits behind a '.'; for zs_check it has the number and at. Each block that a call is given is as
@@ -36,6 +38,7 @@ typedef struct request {
 static request *requests;
 static size_t request_count;
 static char **answers;
+static int is_stepping;
 
 void *__real_malloc(size_t size);
 void *__real_realloc(void *place, size_t size);
@@ -94,6 +97,64 @@ static void print_bytes(char **end, const uint8_t *bytes, size_t len)
         *end += sprintf(*end, "%02x", bytes[i]);
 }
 
+/* Whether a state with one word too few is refused, and stays. */
+static int is_too_small(const request *it, uint64_t *state, const uint64_t *before, size_t size)
+{
+    zs_reply reply;
+    uint64_t at;
+    return zs_begin(it->text, it->text_len, state, size - 1, &at) == ZS_NO_ROOM &&
+           zs_step(it->text, it->text_len, state, size - 1, UINT64_MAX, 0, &reply, NULL, 0) == ZS_NO_ROOM &&
+           memcmp(state, before, size * sizeof *state) == 0;
+}
+
+/* Whether a step over words that stand for nothing is answered, and leaves those behind the state. */
+static int is_safe(const request *it, size_t size)
+{
+    static const uint64_t kinds[] = {0, 1, 2, 1ull << 63, UINT64_MAX};
+    uint64_t *words = block((size + 2) * sizeof *words);
+    int is_well = 1;
+    for (size_t kind = 0; kind < 5; kind++) {
+        zs_reply reply;
+        for (size_t i = 0; i < size + 2; i++)
+            words[i] = kind == 2 ? i * 0x9E3779B97F4A7C15 : kinds[kind];
+        uint64_t behind[2] = {words[size], words[size + 1]};
+        uint32_t number = zs_step(it->text, it->text_len, words, size + 2, UINT64_MAX, UINT64_MAX, &reply, NULL, 0);
+        is_well &= number <= ZS_DONE && reply.size > 0 && memcmp(words + size, behind, sizeof behind) == 0;
+    }
+    __real_free(words);
+    return is_well;
+}
+
+/* What zs_answer answers, by a state that is begun and stepped. A refused step has to leave the state as it was. */
+static uint32_t stepped(const request *it, zs_reply *reply, uint8_t *out)
+{
+    uint64_t size;
+    memset(reply, 0, sizeof *reply);
+    uint32_t number = zs_state_size(it->text, it->text_len, &size, &reply->at);
+    if (number)
+        return number;
+    uint64_t *state = block(size * sizeof *state), *before = block(size * sizeof *state);
+    number = zs_begin(it->text, it->text_len, state, size, &reply->at);
+    memcpy(before, state, size * sizeof *state);
+    if (atomic_load(&refused_at) < 0 && !is_too_small(it, state, before, size))
+        fail("a state with no room was not refused", (size_t)(it - requests));
+    if (atomic_load(&refused_at) < 0 && !is_safe(it, size))
+        fail("words that stand for nothing were not answered", (size_t)(it - requests));
+    for (size_t i = 0; i < it->seen_len && number <= ZS_DONE; i++) {
+        int is_last = i + 1 == it->seen_len;
+        number = zs_step(it->text, it->text_len, state, size, it->seen[i].moment, it->seen[i].input, reply,
+                         is_last ? out : NULL, is_last ? it->room : 0);
+        if (number > ZS_DONE && memcmp(state, before, size * sizeof *state))
+            fail("a refused step changed the state", (size_t)(it - requests));
+        if (number == ZS_FALLS)
+            reply->at = i;
+        memcpy(before, state, size * sizeof *state);
+    }
+    __real_free(before);
+    __real_free(state);
+    return number;
+}
+
 /* Does a request: the line that tells of it, and the number that the call answered. */
 static char *done(const request *it, uint32_t *number)
 {
@@ -109,7 +170,8 @@ static char *done(const request *it, uint32_t *number)
     if (out)
         memset(out, UNTOUCHED, it->room);
     memset(reply, UNTOUCHED, sizeof *reply);
-    *number = zs_answer(it->text, it->text_len, it->seen, it->seen_len, reply, out, it->room);
+    *number = is_stepping ? stepped(it, reply, out)
+                          : zs_answer(it->text, it->text_len, it->seen, it->seen_len, reply, out, it->room);
     end += sprintf(end, "%u %llu %llu %llu %llu ", *number, (unsigned long long)reply->next,
                    (unsigned long long)reply->size, (unsigned long long)reply->visits, (unsigned long long)reply->at);
     print_bytes(&end, out, it->room);
@@ -247,7 +309,10 @@ static void free_all(void)
 
 int main(int count, char **words)
 {
-    const char *mode = count == 2 ? words[1] : "";
+    const char *mode = count > 1 ? words[1] : "";
+    is_stepping = count == 3 && strcmp(words[2], "state") == 0;
+    if (count != 2 && !is_stepping)
+        return 2;
     read_requests();
     if (strcmp(mode, "refuse") == 0) {
         for (size_t i = 0; i < request_count; i++)

@@ -20,7 +20,7 @@ import pathlib
 import time
 import typing
 
-NEXT, DONE, NO_PAIR, FALLS, NOT_UTF8, NO_MEMORY = range(6)
+NEXT, DONE, NO_PAIR, FALLS, NOT_UTF8, NO_MEMORY, KEEPS_LIST = range(7)
 FAULTS = {
     NOT_UTF8: "not UTF-8 from byte {at} on",
     11: "no term at byte {at}",
@@ -63,7 +63,12 @@ def _library():
     size, place = ctypes.c_size_t, ctypes.POINTER(ctypes.c_uint64)
     library.zs_check.argtypes = [ctypes.c_char_p, size, place]
     library.zs_answer.argtypes = [ctypes.c_char_p, size, ctypes.c_void_p, size, ctypes.POINTER(_Reply), ctypes.c_char_p, size]
-    library.zs_check.restype = library.zs_answer.restype = ctypes.c_uint32
+    library.zs_state_size.argtypes = [ctypes.c_char_p, size, place, place]
+    library.zs_begin.argtypes = [ctypes.c_char_p, size, place, size, place]
+    library.zs_step.argtypes = [ctypes.c_char_p, size, place, size, ctypes.c_uint64, ctypes.c_uint64, ctypes.POINTER(_Reply),
+                                ctypes.c_char_p, size]
+    for call in [library.zs_check, library.zs_answer, library.zs_state_size, library.zs_begin, library.zs_step]:
+        call.restype = ctypes.c_uint32
     return library
 
 
@@ -83,6 +88,13 @@ def _raise(text, number, at):
         raise ValueError(f"the moment of step {at + 1} is below that of the step before it")
     if number == NO_PAIR:
         raise ValueError("a schedule answers once it has seen a step")
+    if number == KEEPS_LIST:
+        raise ValueError("a schedule with collectAll has no state of fixed size")
+
+
+def _answer(number, reply, out):
+    """The Answer that a call told."""
+    return Answer(None if number == DONE else reply.next, out.raw[:reply.size].decode(), reply.visits)
 
 
 class Schedule:
@@ -119,7 +131,7 @@ class Schedule:
         if reply.size > ROOM:
             number, reply, out = self._ask(reply.size)
         _raise(self.text, number, reply.at)
-        return Answer(None if number == DONE else reply.next, out.raw[:reply.size].decode(), reply.visits)
+        return _answer(number, reply, out)
 
     def _ask(self, room):
         """What the library answers where it has so much room for the output."""
@@ -147,6 +159,64 @@ class Schedule:
         if schedule._seen:
             schedule.answer()
         return schedule
+
+
+class Stepper:
+    """A schedule with a state of fixed size in place of its steps, so a step takes no longer after many of them than after
+    one. `save` gives the state as a text, `load` goes on from there. Two threads may not step one at the same time."""
+
+    def __init__(self, text):
+        """The schedule of a text, before its first step. Raises ScheduleFault, and ValueError where it has collectAll, whose
+        list has no fixed size."""
+        data, size, at = text.encode(), ctypes.c_uint64(), ctypes.c_uint64()
+        _raise(text, _library().zs_state_size(data, len(data), size, at), at.value)
+        self.text = text
+        self._state = (ctypes.c_uint64 * size.value)()
+        _raise(text, _library().zs_begin(data, len(data), self._state, size.value, at), at.value)
+
+    @property
+    def state(self):
+        """The words of the state, whose number depends on the text alone."""
+        return list(self._state)
+
+    def after(self, moment, input=0):
+        """One step more: the Answer at this moment, in whole milliseconds from any start, and this input. Raises ValueError
+        where the moment is below that of the step before, OverflowError where a number is no whole number of 64 bits;
+        the schedule then stays as it was."""
+        step = array.array("Q", (moment, input))
+        number, reply, out, state = self._step(step, ROOM)
+        if reply.size > ROOM:
+            number, reply, out, state = self._step(step, reply.size)
+        if number == FALLS:
+            raise ValueError("the moment is below that of the step before it")
+        _raise(self.text, number, reply.at)
+        self._state = state
+        return _answer(number, reply, out)
+
+    def _step(self, step, room):
+        """What the library answers where it has so much room for the output, and the state behind the step."""
+        data, reply, out = self.text.encode(), _Reply(), ctypes.create_string_buffer(room)
+        state = type(self._state).from_buffer_copy(self._state)
+        number = _library().zs_step(data, len(data), state, len(state), step[0], step[1], reply, out, room)
+        return number, reply, out, state
+
+    def save(self):
+        """The schedule and its state as a text, of JSON."""
+        return json.dumps({"schedule": self.text, "state": self.state})
+
+    @classmethod
+    def load(cls, saved):
+        """The schedule and the state that `save` gave. Raises ValueError where the text can't be from there; words that were
+        changed aren't found."""
+        try:
+            found = json.loads(saved)
+            stepper, words = cls(found["schedule"]), array.array("Q", found["state"])
+        except (KeyError, TypeError, OverflowError, AttributeError) as fault:
+            raise ValueError(f"not a saved schedule: {fault!r}") from None
+        if len(words) != len(stepper._state):
+            raise ValueError(f"not a saved schedule: {len(words)} words in place of {len(stepper._state)}")
+        stepper._state[:] = words
+        return stepper
 
 
 class Attempt:

@@ -27,6 +27,7 @@ REQUESTS = 2000
 SCHEDULES = 2000
 MOST_STEPS = 40
 REFUSED = 200
+REFUSED_STEPS = 60
 UNDER_VALGRIND = 60
 UNTOUCHED = "aa"
 WRAPPED = ["-Wl,--wrap=malloc,--wrap=realloc,--wrap=free", "-lpthread"]
@@ -35,6 +36,35 @@ JNA = pathlib.Path("/usr/share/java/jna.jar")
 NUMBERS = {"no term": 11, "too big": 12, "number too large": 13, "factor is 0": 14, "no kind": 15, "window is 0": 16}
 SPOILT = [generator.no_term, generator.too_big, generator.big_number, generator.zero_factor, generator.no_kind,
           generator.zero_window]
+# Steps of the binding for Java over a state.
+STEPS = '''
+import java.util.Arrays;
+import zsched.Stepper;
+
+public final class Steps {
+    private static final String TEXT = "(exponential(10) && recurs(3))";
+
+    private static void refused(Runnable call) {
+        try {
+            call.run();
+        } catch (IllegalArgumentException fault) {
+            System.out.println(fault.getMessage());
+        }
+    }
+
+    public static void main(String[] words) {
+        Stepper stepper = new Stepper(TEXT);
+        System.out.println(stepper.after(3, 0));
+        refused(() -> stepper.after(2, 0));
+        Stepper again = Stepper.resume(TEXT, stepper.state());
+        System.out.println(again.after(13, 0));
+        System.out.println(Arrays.toString(again.state()));
+        refused(() -> Stepper.resume(TEXT, new long[1]));
+        refused(() -> new Stepper("forever.collectAll"));
+        refused(() -> new Stepper("?"));
+    }
+}
+'''
 NOT_UTF8 = [b"\xff", b"\xc3", b"\xed\xa0\x80", b"\xf0\x9f\x98"]
 
 room = tempfile.TemporaryDirectory(prefix="zsched-library-test-")
@@ -169,11 +199,15 @@ class FromC(unittest.TestCase):
         """Compares lines with what is wanted of the first requests."""
         self.assertEqual(len(lines), count)
         for request, line, (wanted, weight) in zip(self.requests, lines, self.wanted):
-            words, visits = line.split(), wanted.split()
-            if "*" in visits:
-                self.assertIn(int(words[3]), range(1, weight + 1), request)
-                words[3] = "*"
-            self.assertEqual(words, visits, request)
+            self.compare(line, wanted, weight, request)
+
+    def compare(self, line, wanted, weight, request):
+        """Compares one line with what is wanted of a request."""
+        words, visits = line.split(), wanted.split()
+        if "*" in visits:
+            self.assertIn(int(words[3]), range(1, weight + 1), request)
+            words[3] = "*"
+        self.assertEqual(words, visits, request)
 
     def test_two_thousand_requests_are_answered_as_the_reference_does(self):
         numbers = {wanted.split()[0] for wanted, _ in self.wanted}
@@ -183,6 +217,31 @@ class FromC(unittest.TestCase):
     def test_nothing_is_read_or_written_beside_what_is_given(self):
         compile_caller("watched", "-g", "-fsanitize=address,undefined", "-fno-sanitize-recover=all")
         self.judge(called([path("watched"), "answer"], self.requests))
+        self.judge_steps([path("watched"), "answer"])
+
+    def judge_steps(self, words):
+        """Compares what steps over a state answer with what is wanted of the list of pairs."""
+        chosen = [(request, wanted) for request, wanted in zip(self.requests, self.wanted)
+                  if request.pairs and b"collectAll" not in request.text]
+        self.assertGreater(len(chosen), REQUESTS // 3)
+        lines = called([*words, "state"], [request for request, _ in chosen])
+        self.assertEqual(len(lines), len(chosen))
+        for line, (request, (wanted, weight)) in zip(lines, chosen):
+            self.compare(line, wanted, weight, request)
+
+    def test_steps_over_a_state_answer_as_the_list_of_pairs_does(self):
+        self.judge_steps([path("caller"), "answer"])
+        self.judge_steps([path("caller"), "threads"])
+
+    def test_each_request_for_memory_of_a_step_may_be_refused(self):
+        requests = [it for it in self.requests if it.pairs and b"collectAll" not in it.text][:REFUSED_STEPS]
+        found = [int(line) for line in called([path("caller"), "refuse", "state"], requests)]
+        self.assertEqual(len(found), REFUSED_STEPS)
+        self.assertGreater(sum(found), 2 * REFUSED_STEPS)
+
+    def test_a_schedule_that_keeps_a_list_has_no_state(self):
+        requests = [Request(text, 5, [(1, 0)]) for text in [b"forever.collectAll", b"(recurs(1) && elapsed.collectAll).map(_1)"]]
+        self.assertEqual(called([path("caller"), "answer", "state"], requests), [f"6 0 0 0 0 .{UNTOUCHED * 5}"] * 2)
 
     def test_valgrind_finds_no_error_and_no_lost_memory(self):
         if not shutil.which("valgrind"):
@@ -235,9 +294,12 @@ class FromPython(unittest.TestCase):
     def replay(self, text, steps):
         """Steps a schedule by the lines of a report."""
         schedule = self.zsched.Schedule(text)
+        stepper = None if "collectAll" in text else self.zsched.Stepper(text)
         for moment, value, output, following in steps[:MOST_STEPS]:
             answer = schedule.after(moment, value)
             self.assertEqual((answer.output, answer.next), (output, following), (text, schedule.seen))
+            if stepper:
+                self.assertEqual(stepper.after(moment, value), answer, (text, schedule.seen))
 
     def test_two_thousand_schedules_step_as_the_program_tells(self):
         try:
@@ -283,6 +345,43 @@ class FromPython(unittest.TestCase):
                       '{"schedule":"recurs(1)","seen":[[1]]}', '{"schedule":"recurs(1)","seen":[[-1,0]]}', '{"schedule":1,"seen":[]}']:
             with self.assertRaises(ValueError, msg=saved):
                 self.zsched.Schedule.load(saved)
+
+    def test_a_step_over_a_state_that_is_refused_leaves_it(self):
+        stepper = self.zsched.Stepper("recurs(1)")
+        self.assertEqual(stepper.state, [0, 0])
+        self.assertEqual(stepper.after(5, 7), (5, "0", 1))
+        for error, moment, value in [(ValueError, 4, 7), (OverflowError, -1, 7), (OverflowError, 5, 2 ** 64), (TypeError, 5.0, 7)]:
+            with self.assertRaises(error):
+                stepper.after(moment, value)
+        self.assertEqual(stepper.state, [5, 1])
+        self.assertEqual(stepper.after(5, 2 ** 64 - 1), (None, "1", 1))
+
+    def test_a_saved_state_goes_on(self):
+        stepper = self.zsched.Stepper("(exponential(10) && recurs(3))")
+        stepper.after(1, 2)
+        again = self.zsched.Stepper.load(stepper.save())
+        self.assertEqual((again.text, again.state), (stepper.text, [1, 20, 1]))
+        self.assertEqual(again.after(12, 2), stepper.after(12, 2))
+        for saved in ["", "{}", "[]", '{"schedule":"recurs(","state":[]}', '{"schedule":"recurs(1)","state":[1]}',
+                      '{"schedule":"recurs(1)","state":[1,-1]}', '{"schedule":"forever.collectAll","state":[1,1]}']:
+            with self.assertRaises(ValueError, msg=saved):
+                self.zsched.Stepper.load(saved)
+
+    def test_a_long_output_of_a_state_is_whole(self):
+        text = "recurs(18446744073709551615)"
+        for _ in range(7):
+            text = f"({text} && {text})"
+        answer, wanted = self.zsched.Stepper(text).after(3), self.zsched.Schedule(text).after(3)
+        self.assertEqual(answer, wanted)
+        self.assertGreater(len(answer.output), 256)
+
+    def test_the_state_after_many_steps_is_as_long_as_before(self):
+        text = "(windowed(7) || fibonacci(3)).resetWhen(_1 >= 1000)"
+        stepper = self.zsched.Stepper(text)
+        size = len(stepper.state)
+        for number in range(20000):
+            answer = stepper.after(number)
+        self.assertEqual((len(stepper.state), answer.output.partition(",")[0]), (size, "(999"))
 
     def test_a_long_output_is_whole(self):
         schedule = self.zsched.Schedule("forever.collectAll")
@@ -464,15 +563,20 @@ class Examples(unittest.TestCase):
         more = {"ZSCHED_LIBRARY_DIR": str(folder), "RUSTFLAGS": "-D warnings"}
         said = ran(["cargo", "run", "--quiet", "--offline", "--example", "retry"], crate, **more)
         self.assertEqual(said, 'Ok("ready") after 4 attempts\n')
-        self.assertIn("1 passed", ran(["cargo", "test", "--quiet", "--offline", "--doc"], crate, **more))
+        self.assertIn("2 passed", ran(["cargo", "test", "--quiet", "--offline", "--doc"], crate, **more))
 
     def test_the_example_in_java_waits_for_its_server(self):
         if not shutil.which("javac") or not JNA.exists():
             self.skipTest(f"javac or JNA ({JNA}, of the package libjna-java) isn't on this machine")
-        words = ["javac", "-Xlint:all", "-Werror", "-cp", JNA, "-d", path("java"), "zsched/Schedule.java", "Example.java"]
-        ran(words, BINDINGS / "java")
-        words = ["java", "-cp", f"{JNA}:{path('java')}", f"-Djna.library.path={folder}", "Example"]
-        self.assertEqual(ran(words, BINDINGS / "java"), "ready after 4 attempts\n")
+        path("Steps.java").write_text(STEPS)
+        words = ["javac", "-Xlint:all", "-Werror", "-cp", JNA, "-d", path("java"), "zsched/Schedule.java", "zsched/Stepper.java"]
+        ran([*words, "Example.java", path("Steps.java")], BINDINGS / "java")
+        words = ["java", "-cp", f"{JNA}:{path('java')}", f"-Djna.library.path={folder}"]
+        self.assertEqual(ran([*words, "Example"], BINDINGS / "java"), "ready after 4 attempts\n")
+        wanted = ["Answer[done=false, next=13, output=(10,0), visits=3]", "the moment is below that of the step before it",
+                  "Answer[done=false, next=33, output=(20,1), visits=3]", "[13, 40, 2]", "1 words in place of 3",
+                  "a schedule with collectAll has no state of fixed size", "no term at byte 0"]
+        self.assertEqual(ran([*words, "Steps"], BINDINGS / "java").splitlines(), wanted)
 
     def test_make_library_tells_what_it_does_and_refuses_other_words(self):
         said = ran([MAKE, "--help"], TOP)

@@ -18,10 +18,17 @@ import java.util.function.ToLongFunction;
  */
 public final class Schedule {
     /** The calls of zsched.h. */
-    private interface Calls extends Library {
+    interface Calls extends Library {
         int zs_check(byte[] text, long textLength, long[] at);
 
         int zs_answer(byte[] text, long textLength, long[] seen, long pairs, long[] reply, byte[] out, long room);
+
+        int zs_state_size(byte[] text, long textLength, long[] size, long[] at);
+
+        int zs_begin(byte[] text, long textLength, long[] state, long words, long[] at);
+
+        int zs_step(byte[] text, long textLength, long[] state, long words, long moment, long input, long[] reply,
+            byte[] out, long room);
     }
 
     /** What a schedule answers at a step. Where it is done, {@code next} says nothing. */
@@ -55,12 +62,13 @@ public final class Schedule {
         }
     }
 
-    private static final Calls CALLS = Native.load(System.getProperty("zsched.library", "zsched"), Calls.class);
+    static final Calls CALLS = Native.load(System.getProperty("zsched.library", "zsched"), Calls.class);
     private static final int DONE = 1;
     private static final int NO_PAIR = 2;
-    private static final int FALLS = 3;
+    static final int FALLS = 3;
     private static final int NO_MEMORY = 5;
-    private static final int ROOM = 256;
+    private static final int KEEPS_LIST = 6;
+    static final int ROOM = 256;
 
     private final String text;
     private final byte[] bytes;
@@ -108,18 +116,24 @@ public final class Schedule {
             out = new byte[Math.toIntExact(reply[1])];
             number = CALLS.zs_answer(bytes, bytes.length, seen, steps, reply, out, out.length);
         }
+        return told(number, reply, out);
+    }
+
+    /** The answer that a call told; throws what its number stands for, if that is a refusal. */
+    static Answer told(int number, long[] reply, byte[] out) {
         refuse(number, reply[3]);
         String output = new String(out, 0, (int) reply[1], StandardCharsets.US_ASCII);
         return new Answer(number == DONE, reply[0], output, reply[2]);
     }
 
-    private static void refuse(int number, long at) {
+    static void refuse(int number, long at) {
         switch (number) {
             case 0, DONE -> { }
             case NO_PAIR -> throw new IllegalStateException("a schedule answers once it has seen a step");
             case FALLS -> throw new IllegalArgumentException(
                 "the moment of step " + (at + 1) + " is below that of the step before it");
             case NO_MEMORY -> throw new OutOfMemoryError("zsched: a request for memory was refused");
+            case KEEPS_LIST -> throw new IllegalArgumentException("a schedule with collectAll has no state of fixed size");
             default -> throw new Fault(number, at);
         }
     }

@@ -9,7 +9,8 @@
 //! # Ok::<(), zsched::Fault>(())
 //! ```
 //!
-//! `Schedule` only answers; `retry` really sleeps. The answers are proved, the sleeping is not.
+//! `Schedule` only answers, and so does `Stepper`, whose state has a fixed size; `retry` really sleeps. The answers are
+//! proved, the sleeping is not.
 
 use std::fmt;
 use std::time::{Duration, Instant};
@@ -44,10 +45,24 @@ extern "C" {
         out: *mut u8,
         out_len: usize,
     ) -> u32;
+    fn zs_state_size(text: *const u8, text_len: usize, size: *mut u64, at: *mut u64) -> u32;
+    fn zs_begin(text: *const u8, text_len: usize, state: *mut u64, state_len: usize, at: *mut u64) -> u32;
+    fn zs_step(
+        text: *const u8,
+        text_len: usize,
+        state: *mut u64,
+        state_len: usize,
+        moment: u64,
+        input: u64,
+        reply: *mut Reply,
+        out: *mut u8,
+        out_len: usize,
+    ) -> u32;
 }
 
 const NEXT: u32 = 0;
 const DONE: u32 = 1;
+const FALLS: u32 = 3;
 const ROOM: usize = 256;
 
 /// What a schedule answers at a step.
@@ -68,6 +83,12 @@ pub enum Fault {
     NoPair,
     /// The moment of this step, from 0, is below that of the step before it.
     Falls { at: u64 },
+    /// The moment is below that of the step before it, which a `Stepper` made.
+    Earlier,
+    /// The schedule has `collectAll`, so its state has no fixed size.
+    KeepsList,
+    /// The words of a state are as many as another schedule's.
+    OtherState,
     /// Memory ran out.
     Memory,
     /// The text spells no schedule, which shows at this byte.
@@ -90,6 +111,7 @@ impl Fault {
             2 => Fault::NoPair,
             3 => Fault::Falls { at },
             5 => Fault::Memory,
+            6 => Fault::KeepsList,
             11 => Fault::NoTerm { at },
             12 => Fault::TooBig,
             13 => Fault::BadNumber { at },
@@ -106,6 +128,9 @@ impl fmt::Display for Fault {
         match self {
             Fault::NoPair => write!(f, "a schedule answers once it has seen a step"),
             Fault::Falls { at } => write!(f, "the moment of step {} is below that of the step before it", at + 1),
+            Fault::Earlier => write!(f, "the moment is below that of the step before it"),
+            Fault::KeepsList => write!(f, "a schedule with collectAll has no state of fixed size"),
+            Fault::OtherState => write!(f, "the words of a state are those of another schedule"),
             Fault::Memory => write!(f, "out of memory"),
             Fault::NoTerm { at } => write!(f, "no term at byte {at}"),
             Fault::TooBig => write!(f, "too big"),
@@ -135,6 +160,10 @@ pub fn answer(text: &str, seen: &[Seen]) -> Result<Answer, Fault> {
         out.resize(reply.size as usize, 0);
         (number, reply) = ask(text, seen, &mut out);
     }
+    told(number, &reply, out)
+}
+
+fn told(number: u32, reply: &Reply, mut out: Vec<u8>) -> Result<Answer, Fault> {
     if number > DONE {
         return Err(Fault::of(number, reply.at));
     }
@@ -192,6 +221,92 @@ impl Schedule {
         answer(&self.text, &self.seen).inspect_err(|_| {
             self.seen.pop();
         })
+    }
+}
+
+/// A schedule with a state of fixed size in place of its steps, so a step takes no longer after many of them than after one.
+///
+/// ```
+/// use zsched::{Fault, Stepper};
+///
+/// let mut stepper = Stepper::new("(exponential(100) && recurs(5))")?;
+/// assert_eq!(stepper.after(7, 503)?.next, Some(107));
+/// assert_eq!(stepper.after(6, 503), Err(Fault::Earlier));
+/// let mut again = Stepper::resume(stepper.text(), stepper.state())?;
+/// assert_eq!(again.after(107, 503)?.next, Some(307));
+/// assert_eq!(Stepper::new("forever.collectAll"), Err(Fault::KeepsList));
+/// # Ok::<(), Fault>(())
+/// ```
+#[derive(Clone, Debug, PartialEq, Eq)]
+pub struct Stepper {
+    text: String,
+    state: Vec<u64>,
+}
+
+impl Stepper {
+    /// The schedule of a text, before its first step.
+    pub fn new(text: &str) -> Result<Stepper, Fault> {
+        let (mut size, mut at) = (0, 0);
+        // SAFETY: the pointer and the length are those of a text that is borrowed for the call, and the others are variables.
+        let number = unsafe { zs_state_size(text.as_ptr(), text.len(), &mut size, &mut at) };
+        if number != NEXT {
+            return Err(Fault::of(number, at));
+        }
+        let mut state = vec![0; size as usize];
+        // SAFETY: so they are here, and the words are borrowed for the call.
+        let number = unsafe { zs_begin(text.as_ptr(), text.len(), state.as_mut_ptr(), state.len(), &mut at) };
+        if number != NEXT {
+            return Err(Fault::of(number, at));
+        }
+        Ok(Stepper { text: text.to_owned(), state })
+    }
+
+    /// The schedule of a text with a state that `state` told. Words that were changed aren't found.
+    pub fn resume(text: &str, state: &[u64]) -> Result<Stepper, Fault> {
+        let mut stepper = Stepper::new(text)?;
+        if state.len() != stepper.state.len() {
+            return Err(Fault::OtherState);
+        }
+        stepper.state.copy_from_slice(state);
+        Ok(stepper)
+    }
+
+    /// The text.
+    pub fn text(&self) -> &str {
+        &self.text
+    }
+
+    /// The words of the state, whose number depends on the text alone.
+    pub fn state(&self) -> &[u64] {
+        &self.state
+    }
+
+    /// One step more, at a moment in milliseconds and with an input. After a fault the schedule is as it was.
+    pub fn after(&mut self, moment: u64, input: u64) -> Result<Answer, Fault> {
+        let mut out = vec![0; ROOM];
+        let (mut number, mut reply, mut state) = self.step(moment, input, &mut out);
+        if reply.size > out.len() as u64 {
+            out.resize(reply.size as usize, 0);
+            (number, reply, state) = self.step(moment, input, &mut out);
+        }
+        if number == FALLS {
+            return Err(Fault::Earlier);
+        }
+        let answer = told(number, &reply, out)?;
+        self.state = state;
+        Ok(answer)
+    }
+
+    /// What the library tells of a step, and the state behind it.
+    fn step(&self, moment: u64, input: u64, out: &mut [u8]) -> (u32, Reply, Vec<u64>) {
+        let (mut reply, mut state) = (Reply::default(), self.state.clone());
+        let (text, len) = (self.text.as_ptr(), self.text.len());
+        // SAFETY: the pointers and lengths are those of slices that are borrowed for the call, all but the text mutably, so
+        // these overlap nothing; and `zs_step` asks no more of a caller.
+        let number = unsafe {
+            zs_step(text, len, state.as_mut_ptr(), state.len(), moment, input, &mut reply, out.as_mut_ptr(), out.len())
+        };
+        (number, reply, state)
     }
 }
 

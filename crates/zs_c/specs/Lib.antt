@@ -2,3 +2,4 @@ pub mod Pairs
 pub mod Numbers
 pub mod Refusals
 pub mod Told
+pub mod States

@@ -5,7 +5,7 @@ use Rattle.zs_term.specs.declared.fault.TermFault.TheVariants.{NoTerm, TooBig, B
 use Rattle.zs_step.specs.declared.decision.Decision.{Decision}
 use Rattle.zs_step.specs.declared.decision.Decision.TheVariants.{Stop, Next}
 use Rattle.zs_c.specs.declared.refusal.Refusal.{Refusal}
-use Rattle.zs_c.specs.declared.refusal.Refusal.TheVariants.{NoPair, Falls, NotUtf8, Memory, Text}
+use Rattle.zs_c.specs.declared.refusal.Refusal.TheVariants.{NoPair, Falls, NotUtf8, Memory, KeepsList, NoRoom, Text}
 
 -- the number of a decision
 abbrev pub decision_number : Decision → ℕ
@@ -43,6 +43,8 @@ refusal_number NoPair = 2
 refusal_number (Falls at) = 3
 refusal_number (NotUtf8 at) = 4
 refusal_number Memory = 5
+refusal_number KeepsList = 6
+refusal_number NoRoom = 7
 refusal_number (Text fault) = fault_number fault
 
 -- the byte or the pair at which a refusal shows, or 0
@@ -51,4 +53,6 @@ refusal_place NoPair = 0
 refusal_place (Falls at) = at
 refusal_place (NotUtf8 at) = at
 refusal_place Memory = 0
+refusal_place KeepsList = 0
+refusal_place NoRoom = 0
 refusal_place (Text fault) = fault_place fault

@@ -6,7 +6,7 @@ use Rattle.zs_term.specs.Schedule.{Schedule}
 use Rattle.zs_term.specs.Causes.{SpellsSchedule}
 use Rattle.zs_term.specs.Verdict.{verdict_of}
 use Rattle.zs_c.specs.declared.refusal.Refusal.{Refusal}
-use Rattle.zs_c.specs.declared.refusal.Refusal.TheVariants.{NoPair, Falls, NotUtf8, Memory, Text}
+use Rattle.zs_c.specs.declared.refusal.Refusal.TheVariants.{NoPair, Falls, NotUtf8, Memory, KeepsList, NoRoom, Text}
 use Rattle.zs_c.specs.Pairs.{FallsFirstAt}
 
 -- the text spells a schedule
@@ -20,6 +20,8 @@ IsTextRefusal text (Text fault) = IsUtf8 text × (verdict_of text ≡ Err fault)
 IsTextRefusal text Memory = Unit {0}
 IsTextRefusal text NoPair = ⊥
 IsTextRefusal text (Falls at) = ⊥
+IsTextRefusal text KeepsList = ⊥
+IsTextRefusal text NoRoom = ⊥
 
 -- The text is refused for this; or it spells a schedule, and there is no pair or the moments fall.
 abbrev pub IsRefusal : List ℕ → List (ℕ × ℕ) → Refusal → Type 0
@@ -28,3 +30,5 @@ IsRefusal text pairs (Falls at) = SpellsSome text × FallsFirstAt pairs at
 IsRefusal text pairs (NotUtf8 at) = IsTextRefusal text (NotUtf8 at)
 IsRefusal text pairs (Text fault) = IsTextRefusal text (Text fault)
 IsRefusal text pairs Memory = IsTextRefusal text Memory
+IsRefusal text pairs KeepsList = ⊥
+IsRefusal text pairs NoRoom = ⊥

@@ -1,6 +1,6 @@
 // The schedule of a text, and its answer to a list of pairs.
 
-ghost use Rattle.std.specs.Prelude.{◌≡◌, IfOk, IfErr, OnErr};
+ghost use Rattle.std.specs.Prelude.{◌≡◌, ◌≤◌, IfOk, IfErr, OnErr};
 ghost use Rattle.zs_term.specs.Schedule.{Schedule, schedule_of};
 ghost use Rattle.zs_term.specs.Causes.{SpellsSchedule};
 ghost use Rattle.zs_step.specs.History.{History};
@@ -60,6 +60,7 @@ pub(crate) fn told(
     out: &mut [u8],
 ) -> Result<u32, Refusal>
     ensures ok { IfOk result (λ number. (t : Schedule) (h : History) → IsAnswer t h stepped.now → TellsAnswer t h number reply.new out.old out.new) }
+    ensures told { IfOk result (λ number. number ≤ 1) }
     ensures err { IfErr result (λ why. why ≡ Memory) }
     ensures kept { OnErr result (out.new ≡ out.old) }
 {
@@ -80,6 +81,7 @@ pub(crate) fn told(
 // The number of a decision, and the moment at which it goes on, or 0.
 fn decided(decision: Decision) -> (u32, u64)
     ensures number { result.0 ≡ decision_number decision }
+    ensures told { result.0 ≤ 1 }
     ensures next { result.1 ≡ next_moment decision }
 {
     match decision {

@@ -1,15 +1,18 @@
 // The functions that C calls.
 
-ghost use Rattle.std.specs.Prelude.{◌≡◌, ◌<◌, ◌≤◌};
+ghost use Rattle.std.specs.Prelude.{◌≡◌, ◌<◌, ◌≤◌, length};
 ghost use Rattle.zs_c.specs.Pairs.{pairs_of};
 ghost use Rattle.zs_c.specs.Numbers.{refusal_place};
 ghost use Rattle.zs_c.specs.Refusals.{SpellsSome};
 ghost use Rattle.zs_c.specs.Told.{IsAnswered, IsRefused, IsTextRefused};
+ghost use Rattle.zs_c.specs.States.{IsSizeRefusal, IsBeginRefusal, IsSized, IsBegun, IsStepped, IsRefusedFor, IsNotStepped};
 
 use crate::answering::{answered, schedule_in, told};
 use crate::refusal::Refusal;
 use crate::reply::Reply;
+use crate::room::put_words;
 use crate::seen::Seen;
+use crate::states::{fitting_words, new_words, stepped};
 use std::alloc::Global;
 
 /// Whether a text spells a schedule: 0, or the number of the reason why not, and the byte at which that shows.
@@ -55,6 +58,82 @@ pub extern "C" fn zs_answer(
     };
     *reply = refused_at(why);
     why.number()
+}
+
+/// The number of words that the state of a text's schedule has: 0, or the number of the reason why it has none, and the
+/// byte at which that shows.
+#[unsafe(no_mangle)]
+pub extern "C" fn zs_state_size(alloc: Global, text: &[u8], size: &mut u64, at: &mut u64) -> u32
+    ensures sized { result ≡ 0 → IsSized text.now size.new }
+    ensures nowhere { result ≡ 0 → at.new ≡ 0 }
+    ensures refused { 0 < result → IsRefusedFor (IsSizeRefusal text.now) result at.new }
+    ensures nothing { 0 < result → size.new ≡ 0 }
+{
+    match new_words(alloc, text) {
+        Ok(words) => {
+            *size = words.len() as u64;
+            *at = 0;
+            0
+        }
+        Err(refusal) => {
+            *size = 0;
+            *at = refusal.place();
+            refusal.number()
+        }
+    }
+}
+
+/// Writes the state of a text's schedule before any step over the front of words: 0, or the number of the reason why
+/// not, and the byte at which that shows.
+#[unsafe(no_mangle)]
+pub extern "C" fn zs_begin(alloc: Global, text: &[u8], state: &mut [u64], at: &mut u64) -> u32
+    ensures begun { result ≡ 0 → IsBegun text.now state.old state.new }
+    ensures nowhere { result ≡ 0 → at.new ≡ 0 }
+    ensures refused { 0 < result → IsRefusedFor (IsBeginRefusal text.now (length state.old)) result at.new }
+    ensures kept { 0 < result → state.new ≡ state.old }
+{
+    match fitting_words(alloc, text, state) {
+        Ok(words) => {
+            put_words(state, &words);
+            *at = 0;
+            0
+        }
+        Err(refused) => {
+            *at = refused.place();
+            refused.number()
+        }
+    }
+}
+
+/// The answer of a text's schedule at one more step, whose state words tell: 0 where it goes on, 1 where it is done, or
+/// the number of the reason why there is no answer. The words then tell the state behind that step.
+#[unsafe(no_mangle)]
+pub extern "C" fn zs_step(
+    alloc: Global,
+    text: &[u8],
+    state: &mut [u64],
+    moment: u64,
+    input: u64,
+    reply: &mut Reply,
+    out: &mut [u8],
+) -> u32
+    ensures stepped { result ≤ 1 → IsStepped text.now state.old state.new moment input result reply.new out.old out.new }
+    ensures refused { 1 < result → IsNotStepped text.now state.old moment result reply.new }
+    ensures stays { 1 < result → state.new ≡ state.old }
+    ensures kept { 1 < result → out.new ≡ out.old }
+{
+    let refusal = match stepped(alloc, text, state, moment, input) {
+        Ok((answer, after)) => match told(alloc, &answer, reply, out) {
+            Ok(number) => {
+                put_words(state, &after);
+                return number;
+            }
+            Err(refusal) => refusal,
+        },
+        Err(refusal) => refusal,
+    };
+    *reply = refused_at(refusal);
+    refusal.number()
 }
 
 // The reply of a refusal.

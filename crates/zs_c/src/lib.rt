@@ -2,7 +2,8 @@
 //!
 //! No call keeps anything: the state of a schedule is the list of the moments and inputs that it has seen, and that list
 //! is the caller's. `zs_check` tells whether a text is a schedule, and `zs_answer` what that schedule answers at the last
-//! step of a list. `include/zsched.h` says how C calls them. Start with `specs/Told.antt`.
+//! step of a list. `zs_begin` and `zs_step` have words of a fixed number in place of the list.
+//! `include/zsched.h` says how C calls them. Start with `specs/Told.antt`.
 #![tactic(auto)]
 
 mod answering;
@@ -12,7 +13,8 @@ mod refusal;
 mod reply;
 mod room;
 mod seen;
+mod states;
 
-pub use exports::{zs_answer, zs_check};
+pub use exports::{zs_answer, zs_begin, zs_check, zs_state_size, zs_step};
 pub use reply::Reply;
 pub use seen::Seen;

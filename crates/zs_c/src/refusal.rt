@@ -18,6 +18,10 @@ pub(crate) enum Refusal {
     NotUtf8 { at: u64 },
     /// Memory ran out.
     Memory,
+    /// The schedule keeps a list, for which words have no place.
+    KeepsList,
+    /// The words are fewer than the schedule's state has.
+    NoRoom,
     /// The text spells no schedule.
     Text { fault: TermFault },
 }
@@ -32,6 +36,8 @@ impl Refusal {
             Refusal::Falls { at: _ } => 3,
             Refusal::NotUtf8 { at: _ } => 4,
             Refusal::Memory => 5,
+            Refusal::KeepsList => 6,
+            Refusal::NoRoom => 7,
             Refusal::Text { fault } => number_of(fault),
         }
     }
@@ -41,7 +47,7 @@ impl Refusal {
         ensures value { result ≡ refusal_place self }
     {
         match self {
-            Refusal::NoPair | Refusal::Memory => 0,
+            Refusal::NoPair | Refusal::Memory | Refusal::KeepsList | Refusal::NoRoom => 0,
             Refusal::Falls { at } | Refusal::NotUtf8 { at } => at,
             Refusal::Text { fault } => place_of(fault),
         }

@@ -1,6 +1,6 @@
-// Texts in rooms that C gives.
+// Texts and words in rooms that C gives.
 
-ghost use Rattle.std.specs.Prelude.{◌≡◌};
+ghost use Rattle.std.specs.Prelude.{◌≡◌, ◌≤◌, ◌++◌, length, drop};
 ghost use Rattle.zs_c.specs.Told.{written};
 
 // Writes a text over the front of a room, as far as it fits.
@@ -9,4 +9,12 @@ pub(crate) fn put(room: &mut [u8], text: &[u8])
 {
     let fitting = room.len().min(text.len());
     room[..fitting].copy_from_slice(&text[..fitting]);
+}
+
+// Writes words over the front of a room that holds them.
+pub(crate) fn put_words(room: &mut [u64], words: &[u64])
+    requires fits { length words.now ≤ length room.old }
+    ensures front { room.new ≡ words.now ++ drop (length words.now) room.old }
+{
+    room[..words.len()].copy_from_slice(words);
 }

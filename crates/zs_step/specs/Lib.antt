@@ -9,3 +9,4 @@ pub mod Turn
 pub mod Compiled
 pub mod Laws
 pub mod Memory
+pub mod Words

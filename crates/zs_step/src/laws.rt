@@ -1,6 +1,6 @@
 // Laws of every schedule, above the definition of its answers.
 
-ghost use Rattle.std.specs.Prelude.{◌≡◌, ◌<◌, ◌≤◌, ◌+◌, ◌↔◌, ℕ, Some, None, true, [], ◌∷◌, ◌++◌};
+ghost use Rattle.std.specs.Prelude.{◌≡◌, ◌<◌, ◌≤◌, ◌+◌, ◌↔◌, ℕ, Some, None, true, [], ◌∷◌, ◌++◌, length};
 ghost use Rattle.zs_term.specs.Saturating.{max_moment, saturated};
 ghost use Rattle.zs_term.specs.Output.{left, right};
 ghost use Rattle.zs_term.specs.OutputKind.{OutputKind, HasKind};
@@ -14,6 +14,7 @@ ghost use Rattle.zs_step.specs.declared.decision.Decision.TheVariants.{Next};
 ghost use Rattle.zs_step.specs.History.{History, first_moment, last_moment, IsInOrder};
 ghost use Rattle.zs_step.specs.Answer.{answer, answer_of, from_done, since_reset, next_run};
 ghost use Rattle.zs_step.specs.Visits.{visits};
+ghost use Rattle.zs_step.specs.Words.{state_words};
 ghost use Rattle.zs_step.specs.Laws.{GoesOnThroughout, IsFromFirstDone, IsNextBoundary, IsNotBefore, IsWithoutReset, resets_at};
 
 /// The second part of `andThenEither` counts from the least step at which the first is done, and answers from there on.
@@ -60,4 +61,9 @@ pub fn a_fixed_run_is_at_the_next_boundary()
     ensures first { (n x : ℕ) (p : ℕ × ℕ) → 1 ≤ n → IsNextBoundary n p.0 p.0 x → (answer_of (leaf (fixed n)) (p ∷ [])).decision ≡ Next (saturated x) }
     ensures value { (n x : ℕ) (p q : ℕ × ℕ) (h : History) → 1 ≤ n → IsInOrder (p ∷ (q ∷ h)) → p.0 ≤ next_run n (q ∷ h) + n → IsNextBoundary n (first_moment (q ∷ h)) p.0 x → (answer_of (leaf (fixed n)) (p ∷ (q ∷ h))).decision ≡ Next (saturated x) }
     ensures behind { (n : ℕ) (p q : ℕ × ℕ) (h : History) → next_run n (q ∷ h) + n < p.0 → (answer_of (leaf (fixed n)) (p ∷ (q ∷ h))).decision ≡ Next p.0 }
+{}
+
+/// The state of a schedule has as many words behind any steps.
+pub fn a_state_has_as_many_words_at_any_step()
+    ensures value { (t : Schedule) (h g : History) → length (state_words t h) ≡ length (state_words t g) }
 {}

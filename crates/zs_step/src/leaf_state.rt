@@ -16,8 +16,8 @@ use zs_term::Term;
 // The number of steps so far, and the moment of the first one.
 #[derive(Drop)]
 pub(crate) struct Past {
-    steps: u64,
-    first: u64,
+    pub(crate) steps: u64,
+    pub(crate) first: u64,
 }
 
 impl Past {

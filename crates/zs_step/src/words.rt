@@ -1,0 +1,249 @@
+// The state of a schedule as words, between two steps.
+
+ghost use Rattle.std.specs.Prelude.{◌≡◌, ℕ, ◌+◌, ◌≤◌, List, [], ◌∷◌, ◌++◌, length, IfOk, OnOk, IsTrue, IsFalse, slice_index_or};
+ghost use Rattle.zs_term.specs.Schedule.{schedule_of, weight};
+ghost use Rattle.zs_step.specs.History.{History};
+ghost use Rattle.zs_step.specs.Compiled.{IsAnswer};
+ghost use Rattle.zs_step.specs.LeafState.{state_leaf, StandsForSteps, LeafRepresents};
+ghost use Rattle.zs_step.specs.State.{state_schedule, Represents};
+ghost use Rattle.zs_step.specs.Words.{leaf_words, words_of, state_words, KeepsState, KeepsNoList};
+
+use crate::fault::StepFault;
+use crate::leaf_state::{LeafState, Past};
+use crate::state::{State, clear, state_of};
+use crate::stepped::Stepped;
+use crate::stepping::{Step, step_node};
+use std::alloc::{AllocError, Global};
+use zs_term::{Checked, Term};
+
+/// Whether a schedule keeps no list, so that words tell its whole state.
+pub fn keeps_no_list(checked: &Checked) -> bool
+    ensures yes { IsTrue result → KeepsNoList (schedule_of checked.now) }
+    ensures no { IsFalse result → KeepsNoList (schedule_of checked.now) → ⊥ }
+{
+    collects_nothing(checked.term())
+}
+
+/// The words of a schedule's state before its first step; as many as behind any steps. Fails with `Memory` alone.
+pub fn new_words(alloc: Global, checked: &Checked) -> Result<Vec<u64>, StepFault>
+    requires flat { KeepsNoList (schedule_of checked.now) }
+    ensures ok { IfOk result (λ v. v.items ≡ state_words (schedule_of checked.now) []) }
+{
+    let mut state = state_of(alloc, checked.term())?;
+    Ok(saved(alloc, 0, &mut state)?)
+}
+
+/// The answer of a schedule, whose state words tell, to one more moment, in milliseconds, and input, and the words of its
+/// state from then on. The first word is the last moment; words behind the state are not read. Fails with `Memory` alone.
+pub fn step_words(
+    alloc: Global,
+    checked: &Checked,
+    words: &[u64],
+    now: u64,
+    input: u64,
+) -> Result<(Stepped, Vec<u64>), StepFault>
+    requires flat { KeepsNoList (schedule_of checked.now) }
+    requires order { slice_index_or words.now 0 0 ≤ now }
+    ensures answered { IfOk result (λ r. (h : History) → KeepsState (schedule_of checked.now) h words.now → IsAnswer (schedule_of checked.now) ((now, input) ∷ h) r.0) }
+    ensures stands { IfOk result (λ r. (h : History) → KeepsState (schedule_of checked.now) h words.now → r.1.items ≡ state_words (schedule_of checked.now) ((now, input) ∷ h)) }
+    ensures len { IfOk result (λ r. length r.1.items ≡ length (state_words (schedule_of checked.now) [])) }
+{
+    let mut state = loaded(alloc, checked, words)?;
+    let step = Step {
+        alloc,
+        moment: now,
+        input,
+    };
+    let stepped = step_node(&mut state, &step)?;
+    let after = saved(alloc, now, &mut state)?;
+    Ok((stepped, after))
+}
+
+// Whether no list is kept in a term.
+fn collects_nothing(term: &Term) -> bool
+    ensures yes { IsTrue result → KeepsNoList (schedule_of term.now) }
+    ensures no { IsFalse result → KeepsNoList (schedule_of term.now) → ⊥ }
+{
+    match term {
+        Term::Forever
+        | Term::Recurs(_)
+        | Term::Spaced(_)
+        | Term::Fixed(_)
+        | Term::Exponential(_, _)
+        | Term::Fibonacci(_)
+        | Term::Identity
+        | Term::Elapsed
+        | Term::Linear(_)
+        | Term::Windowed(_) => true,
+        Term::Both(a, b) | Term::Either(a, b) | Term::AndThen(a, b) => {
+            collects_nothing(a) && collects_nothing(b)
+        }
+        Term::CollectAll(_) => false,
+        Term::WhileInput(s, _) => collects_nothing(s),
+        Term::WhileOutput(s, _, _) => collects_nothing(s),
+        Term::Map(s, _) => collects_nothing(s),
+        Term::ResetWhen(s, _, _) => collects_nothing(s),
+    }
+}
+
+// The state that words tell behind the last moment.
+fn loaded(alloc: Global, checked: &Checked, words: &[u64]) -> Result<State, AllocError>
+    ensures made_of { IfOk result (λ s. state_schedule s ≡ schedule_of checked.now) }
+    ensures small { IfOk result (λ s. weight (state_schedule s) ≤ 1000) }
+    ensures stands { IfOk result (λ s. (h : History) → KeepsNoList (schedule_of checked.now) → KeepsState (schedule_of checked.now) h words.now → Represents s h) }
+{
+    let mut state = state_of(alloc, checked.term())?;
+    let mut last = 0;
+    let _behind = load(&mut state, take(&mut last, words));
+    Ok(state)
+}
+
+// Takes the first of some words, or 0 where there is none, and answers those behind it.
+fn take<'a>(number: &mut u64, words: &'a [u64]) -> &'a [u64]
+    ensures first { (w : ℕ) (rest : List ℕ) → words.now ≡ w ∷ rest → (number.new ≡ w) × (result.now ≡ rest) }
+{
+    match words.split_first() {
+        Some((first, rest)) => {
+            *number = *first;
+            rest
+        }
+        None => {
+            *number = 0;
+            words
+        }
+    }
+}
+
+// Takes the number of steps and the moment of the first one, and answers the words behind them.
+fn take_past<'a>(past: &mut Past, words: &'a [u64]) -> &'a [u64]
+    ensures both { (m n : ℕ) (rest : List ℕ) → words.now ≡ m ∷ (n ∷ rest) → (past.new.steps ≡ m) × (past.new.first ≡ n) × (result.now ≡ rest) }
+{
+    let rest = take(&mut past.steps, words);
+    take(&mut past.first, rest)
+}
+
+// Gives a leaf what its words tell, and answers the words behind them.
+fn load_leaf<'a>(leaf: &mut LeafState, words: &'a [u64]) -> &'a [u64]
+    ensures same { state_leaf leaf.new ≡ state_leaf leaf.old }
+    ensures stands { (h : History) (rest : List ℕ) → words.now ≡ leaf_words (state_leaf leaf.old) h ++ rest → LeafRepresents leaf.new h × (result.now ≡ rest) }
+{
+    match leaf {
+        LeafState::Forever { steps } => take(steps, words),
+        LeafState::Recurs { steps, .. } => take(steps, words),
+        LeafState::Spaced { steps, .. } => take(steps, words),
+        LeafState::Fixed { past, run, .. } => {
+            let rest = take_past(past, words);
+            take(run, rest)
+        }
+        LeafState::Exponential { wait, .. } => take(wait, words),
+        LeafState::Fibonacci { last, next, .. } => {
+            let rest = take(last, words);
+            take(next, rest)
+        }
+        LeafState::Identity => words,
+        LeafState::Elapsed { past } => take_past(past, words),
+        LeafState::Linear { last, .. } => take(last, words),
+        LeafState::Windowed { past, .. } => take_past(past, words),
+    }
+}
+
+// Gives a state what words tell, and answers the words behind them.
+fn load<'a>(state: &mut State, words: &'a [u64]) -> &'a [u64]
+    ensures same { state_schedule state.new ≡ state_schedule state.old }
+    ensures stands { (h : History) (rest : List ℕ) → KeepsNoList (state_schedule state.old) → words.now ≡ words_of (state_schedule state.old) h ++ rest → Represents state.new h × (result.now ≡ rest) }
+{
+    match state {
+        State::Leaf(leaf) => load_leaf(leaf, words),
+        State::Both { first, second } => {
+            let rest = load(first, words);
+            load(second, rest)
+        }
+        State::Either { first, second } => {
+            let rest = load(first, words);
+            load(second, rest)
+        }
+        State::AndThen {
+            done,
+            first,
+            second,
+        } => {
+            let mut flag = 0;
+            let rest = take(&mut flag, words);
+            *done = flag != 0;
+            let rest = load(first, rest);
+            load(second, rest)
+        }
+        State::WhileInput { part, .. } => load(part, words),
+        State::WhileOutput { part, .. } => load(part, words),
+        State::CollectAll { part, .. } => load(part, words),
+        State::Map { part, .. } => load(part, words),
+        State::ResetWhen { part, .. } => load(part, words),
+    }
+}
+
+// The words of a state that saw this moment last. A first part that is done begins anew.
+fn saved(alloc: Global, last: u64, state: &mut State) -> Result<Vec<u64>, AllocError>
+    ensures ok { IfOk result (λ v. (h : History) → KeepsNoList (state_schedule state.old) → Represents state.old h → v.items ≡ last ∷ words_of (state_schedule state.old) h) }
+    ensures len { IfOk result (λ v. length v.items ≡ length (state_words (state_schedule state.old) [])) }
+{
+    let mut words = Vec::new(alloc);
+    words.push(last)?;
+    save(alloc, state, &mut words)?;
+    Ok(words)
+}
+
+// Writes what a leaf remembers behind some words.
+fn save_leaf(leaf: &LeafState, words: &mut Vec<u64>) -> Result<(), AllocError>
+    ensures ok { OnOk result ((h : History) → LeafRepresents leaf.now h → words.new.items ≡ words.old.items ++ leaf_words (state_leaf leaf.now) h) }
+    ensures len { OnOk result (length words.new.items ≡ length words.old.items + length (leaf_words (state_leaf leaf.now) [])) }
+{
+    match leaf {
+        LeafState::Forever { steps } => Ok(words.push(*steps)?),
+        LeafState::Recurs { steps, .. } => Ok(words.push(*steps)?),
+        LeafState::Spaced { steps, .. } => Ok(words.push(*steps)?),
+        LeafState::Fixed { past, run, .. } => {
+            words.extend_from_slice(&[past.steps, past.first, *run])
+        }
+        LeafState::Exponential { wait, .. } => Ok(words.push(*wait)?),
+        LeafState::Fibonacci { last, next, .. } => words.extend_from_slice(&[*last, *next]),
+        LeafState::Identity => Ok(()),
+        LeafState::Elapsed { past } => words.extend_from_slice(&[past.steps, past.first]),
+        LeafState::Linear { last, .. } => Ok(words.push(*last)?),
+        LeafState::Windowed { past, .. } => words.extend_from_slice(&[past.steps, past.first]),
+    }
+}
+
+// Writes what a state remembers behind some words. A first part that is done begins anew.
+fn save(alloc: Global, state: &mut State, words: &mut Vec<u64>) -> Result<(), AllocError>
+    ensures ok { OnOk result ((h : History) → KeepsNoList (state_schedule state.old) → Represents state.old h → words.new.items ≡ words.old.items ++ words_of (state_schedule state.old) h) }
+    ensures len { OnOk result (length words.new.items ≡ length words.old.items + length (words_of (state_schedule state.old) [])) }
+{
+    match state {
+        State::Leaf(leaf) => save_leaf(leaf, words),
+        State::Both { first, second } => {
+            save(alloc, first, words)?;
+            save(alloc, second, words)
+        }
+        State::Either { first, second } => {
+            save(alloc, first, words)?;
+            save(alloc, second, words)
+        }
+        State::AndThen {
+            done,
+            first,
+            second,
+        } => {
+            words.push(u64::from(*done))?;
+            if *done {
+                clear(first, alloc);
+            }
+            save(alloc, first, words)?;
+            save(alloc, second, words)
+        }
+        State::WhileInput { part, .. } => save(alloc, part, words),
+        State::WhileOutput { part, .. } => save(alloc, part, words),
+        State::CollectAll { part, .. } => save(alloc, part, words),
+        State::Map { part, .. } => save(alloc, part, words),
+        State::ResetWhen { part, .. } => save(alloc, part, words),
+    }
+}
