@@ -72,9 +72,8 @@ fn far_moments_fire_in_order(rt: HostRuntime) {
 #[test]
 fn any_job_number_can_be_set(rt: HostRuntime) {
     let mut agenda = Agenda::new(rt.alloc()).expect(&rt, "memory");
-    let timers = [(u64::MAX, 7), (16_384, 7), (16_383, 7), (0, 7)];
-    set_all(&rt, &mut agenda, &timers);
-    let takes = ["Ok(Some((7, [0, 16383, 16384, 18446744073709551615])))"];
+    set_all(&rt, &mut agenda, &[(u64::MAX, 7), (10_000, 7), (9_999, 7)]);
+    let takes = ["Ok(Some((7, [9999, 10000, 18446744073709551615])))"];
     expect_takes(&rt, &mut agenda, &takes);
 }
 
