@@ -1,6 +1,8 @@
 -- Lemmas on the two maps of an agenda.
-use Rattle.std.proofs.Common.{◌≡◌, ◌≢◌, ◌<◌, ◌≤◌, ◌+◌, ◌==◌, ◌↔◌, ◌||◌, ℕ, suc, Bool, true, false, cond, List, [], ◌∷◌, length, Option, Some, None, IsSome, Contains, refl, sym, ap, subst, ◌∙◌, arith, nat_eq, nat_lt, nat_cmp, insert, unwrap_or}
+use Rattle.std.proofs.Common.{◌≡◌, ◌≢◌, ◌<◌, ◌≤◌, ◌+◌, ◌-◌, ◌==◌, ◌↔◌, ◌||◌, ℕ, suc, Bool, true, false, cond, List, [], ◌∷◌, ◌++◌, length, Option, Some, None, IsSome, Contains, refl, sym, ap, subst, ◌∙◌, arith, nat_eq, nat_lt, nat_le, nat_cmp, insert, get_or, take, length-take, unwrap_or}
 use Rattle.std.proofs.lemmas.Bool.Decides.{nat_tests, Decides-eqb}
+use Rattle.std.proofs.lemmas.Grind.{get_or_head, get_or_tail}
+use Rattle.std.proofs.lemmas.List.{get_or-take, get_or_past}
 use Rattle.std.proofs.lemmas.List.Elements.{All-from_recursion, All-contains, Contains-append_right}
 use Rattle.std.proofs.lemmas.Map.Keys.{IsStrictlyIncreasing-from_sorted, le_from_not_gt}
 use Rattle.std.specs.List.{AllByRecursion, list_any, prefix_len}
@@ -12,8 +14,9 @@ use Rattle.std.specs.BTreeMap as tree
 use Rattle.std.specs.Map.{lookup}
 use Rattle.std.specs.Global.{Vec}
 use Rattle.std.specs.declared.cmp.Ordering.TheVariants.{Less}
+use Rattle.zs_agenda.specs.declared.by_job.ByJob.{ByJob}
 use Rattle.zs_agenda.specs.Timers.{Moments, IsAfter, IsLeastMoment, Takes}
-use Rattle.zs_agenda.specs.Indexes.{ByJob, ByMoment, Puts, Forgets, HasSameMoments, IsAgenda, items_of, jobs_at, moment_in, is_among, IsRising, placed, moments_of, Agrees}
+use Rattle.zs_agenda.specs.Indexes.{ByMoment, Clears, Puts, Forgets, HasSameMoments, IsAgenda, items_of, jobs_at, moment_in, is_among, IsRising, placed, moments_of, table_size, with_places, Agrees}
 
 -- ---- lists of jobs
 -- what holds of each element still holds in a weaker form
@@ -43,6 +46,31 @@ insert-is-placed job (j ∷ js) =
       | true ↦ let one : 1 + n ≡ suc n = omega arith in rw one (ap (λ (r : List ℕ). j ∷ r) (insert-is-placed job js))
       | false ↦ refl
     ]
+
+-- a job after the last of a rising list is after the first
+first-below : (job j : ℕ) (js : List ℕ) → IsRising (j ∷ js) → get_or (j ∷ js) (length js) 0 < job → j < job
+first-below job j [] h last = last
+first-below job j (k ∷ js) h last =
+    let below : k < job = first-below job k js h.1 last in
+    let rises : j < k = h.0.0 in
+    omega arith
+
+-- and it goes behind all of them
+placed-behind : (job j : ℕ) (js : List ℕ) → IsRising (j ∷ js) → get_or (j ∷ js) (length js) 0 < job → placed job (j ∷ js) ≡ (j ∷ js) ++ job ∷ []
+placed-behind job j [] h last =
+    let is : nat_lt j job ≡ true = grind (arith, nat_tests) in
+    rw is refl
+placed-behind job j (k ∷ js) h last =
+    let below : j < job = first-below job j (k ∷ js) h last in
+    let is : nat_lt j job ≡ true = grind (arith, nat_tests) in
+    rw is (ap (λ (r : List ℕ). j ∷ r) (placed-behind job k js h.1 last))
+
+-- a job goes behind a list that is empty, or whose last is less
+pub placed-last : (job : ℕ) (js : List ℕ) → IsRising js → (0 < length js → get_or js (length js - 1) 0 < job) → placed job js ≡ js ++ job ∷ []
+placed-last job [] h last = refl
+placed-last job (j ∷ js) h last =
+    let few : length (j ∷ js) - 1 ≡ length js = omega arith in
+    placed-behind job j js h (subst (λ (n : ℕ). get_or (j ∷ js) n 0 < job) few (last (omega arith)))
 
 -- the jobs of a list with one more
 pub has-placed : (q job : ℕ) (js : List ℕ) → has q (placed job js) ≡ (job == q || has q js)
@@ -148,9 +176,101 @@ find-lookup q (e ∷ es) =
     ap (λ (o : Option ℕ). cond (tree.is_at (nat_cmp q) e.0) (Some e.1) o) (find-lookup q es)
     ∙ ap (λ (b : Bool). cond b (Some e.1) (lookup (nat_eq q) es)) (tied q e.0)
 
--- callers see the moment that the map has
+-- the first moment, if there is one, and else the other
+abbrev either : Option ℕ → Option ℕ → Option ℕ
+either None o = o
+either (Some moment) o = Some moment
+
+-- a job at the first place of a table, or at one behind it
+first_place : (o : Option ℕ) (places : List (Option ℕ)) (b q : ℕ) (x : Option ℕ)
+    → cond (q == b) (either o x) (cond (nat_lt q (b + 1)) x (either (get_or places (q - (b + 1)) None) x))
+    ≡ cond (nat_lt q b) x (either (get_or (o ∷ places) (q - b) None) x)
+first_place o places b q x =
+    elim (nat_lt q b) as (λ t. nat_lt q b ≡ t
+    → cond (q == b) (either o x) (cond (nat_lt q (b + 1)) x (either (get_or places (q - (b + 1)) None) x))
+    ≡ cond t x (either (get_or (o ∷ places) (q - b) None) x)) [
+      | true ↦ λ is.
+          let apart : (q == b) ≡ false = grind (arith, nat_tests) in
+          let below : nat_lt q (b + 1) ≡ true = grind (arith, nat_tests) in
+          rw (apart, below) refl
+      | false ↦ λ is.
+          elim (q == b) as (λ t. (q == b) ≡ t
+          → cond t (either o x) (cond (nat_lt q (b + 1)) x (either (get_or places (q - (b + 1)) None) x))
+          ≡ either (get_or (o ∷ places) (q - b) None) x) [
+            | true ↦ λ same.
+                let zero_behind : q - b ≡ 0 = grind (arith, nat_tests) in
+                ap (λ (p : Option ℕ). either p x) (sym (get_or_head o places (q - b) None zero_behind))
+            | false ↦ λ apart.
+                let behind : nat_lt q (b + 1) ≡ false = grind (arith, nat_tests) in
+                let some_behind : 0 < q - b = grind (arith, nat_tests) in
+                let one_less : q - b - 1 ≡ q - (b + 1) = omega arith in
+                let there : get_or (o ∷ places) (q - b) None ≡ get_or places (q - (b + 1)) None =
+                get_or_tail o places (q - b) None some_behind ∙ ap (λ (i : ℕ). get_or places i None) one_less in
+                rw behind (ap (λ (p : Option ℕ). either p x) (sym there))
+          ] refl
+    ] refl
+
+-- one more place with no moment
+no_moment_there : (b q : ℕ) (x y : Option ℕ) → cond (nat_lt q (b + 1)) x y ≡ cond (q == b) x (cond (nat_lt q (b + 1)) x y)
+no_moment_there b q x y =
+    elim (q == b) as (λ t. (q == b) ≡ t → cond (nat_lt q (b + 1)) x y ≡ cond t x (cond (nat_lt q (b + 1)) x y)) [
+      | true ↦ λ same. let below : nat_lt q (b + 1) ≡ true = grind (arith, nat_tests) in rw below refl
+      | false ↦ λ _. refl
+    ] refl
+
+same_either_way : (t : Bool) (x : Option ℕ) → x ≡ cond t x x
+same_either_way true x = refl
+same_either_way false x = refl
+
+-- a job's moment is the one at its place, if there is one, and else the other
+get-with_places : (b : ℕ) (places : List (Option ℕ)) (moments : Moments) (q : ℕ)
+    → map_of.get (with_places b places moments) q
+    ≡ cond (nat_lt q b) (map_of.get moments q) (either (get_or places (q - b) None) (map_of.get moments q))
+unfolding with_places
+get-with_places b [] moments q = same_either_way (nat_lt q b) (map_of.get moments q)
+get-with_places b (None ∷ places) moments q =
+    get-with_places (b + 1) places moments q ∙ no_moment_there b q _ _ ∙ first_place None places b q (map_of.get moments q)
+get-with_places b (Some moment ∷ places) moments q =
+    map_of.get-insert nat_cmp_total (with_places (b + 1) places moments) b moment q
+    ∙ ap (λ (t : Bool). cond t (Some moment) (map_of.get (with_places (b + 1) places moments) q)) (unsigned_tied q b)
+    ∙ ap (λ (o : Option ℕ). cond (q == b) (Some moment) o) (get-with_places (b + 1) places moments q)
+    ∙ first_place (Some moment) places b q (map_of.get moments q)
+
+either-none : (o : Option ℕ) → either o None ≡ o
+either-none None = refl
+either-none (Some moment) = refl
+
+-- a table of n places, beside which the other moments stand
+get-table : (n : ℕ) (places : List (Option ℕ)) (moments : Moments) (q : ℕ)
+    → map_of.get (with_places 0 (take n places) (map_of.retain_keys moments (λ job. nat_le n job))) q
+    ≡ cond (nat_lt q n) (get_or places q None) (map_of.get moments q)
+get-table n places moments q =
+    let others : Moments = map_of.retain_keys moments (λ job. nat_le n job) in
+    let get_others : map_of.get others q ≡ cond (nat_le n q) (map_of.get moments q) None =
+    map_of.get-retain_keys moments (λ job. nat_le n job) q (λ x e. ap (λ (job : ℕ). nat_le n job) (sym (map_of.nat_cmp-IsAntisymmetric q x e))) in
+    let at_zero : nat_lt q 0 ≡ false = grind (arith, nat_tests) in
+    let same_place : q - 0 ≡ q = omega arith in
+    get-with_places 0 (take n places) others q
+    ∙ ap (λ (t : Bool). cond t (map_of.get others q) (either (get_or (take n places) (q - 0) None) (map_of.get others q))) at_zero
+    ∙ ap (λ (i : ℕ). either (get_or (take n places) i None) (map_of.get others q)) same_place
+    ∙ ap (λ (o : Option ℕ). either (get_or (take n places) q None) o) get_others
+    ∙ elim (nat_lt q n) as (λ t. nat_lt q n ≡ t
+    → either (get_or (take n places) q None) (cond (nat_le n q) (map_of.get moments q) None) ≡ cond t (get_or places q None) (map_of.get moments q)) [
+      | true ↦ λ is.
+          let below : q < n = grind (arith, nat_tests) in
+          let not_beside : nat_le n q ≡ false = grind (arith, nat_tests) in
+          rw not_beside (either-none (get_or (take n places) q None) ∙ get_or-take n places q None below)
+      | false ↦ λ is.
+          let beside : nat_le n q ≡ true = grind (arith, nat_tests) in
+          let few : length (take n places) ≤ q = grind (arith, nat_tests, length-take) in
+          rw (beside, get_or_past (take n places) q None few) refl
+    ] refl
+
+-- callers see the moment that the job has
 pub get-moments_of : (m : ByJob) (q : ℕ) → map_of.get (moments_of m) q ≡ moment_in m q
-get-moments_of m q = map_of.get-from_entries nat_cmp_total m.entries q ∙ find-lookup q m.entries
+get-moments_of m q =
+    get-table table_size m.near.items (map_of.from_entries m.far.entries) q
+    ∙ ap (λ (o : Option ℕ). cond (nat_lt q table_size) (get_or m.near.items q None) o) (map_of.get-from_entries nat_cmp_total m.far.entries q ∙ find-lookup q m.far.entries)
 
 -- maps with the same look-ups look the same to callers
 pub same_moments : (m n : ByJob) → ((q : ℕ) → moment_in n q ≡ moment_in m q) → moments_of n ≡ moments_of m
@@ -398,9 +518,9 @@ moments_of-put m n job moment p =
     ∙ sym (map_of.get-insert nat_cmp_total (moments_of m) job moment q))
 
 -- a job that was put and taken back
-pub put_and_forgotten : (m n k : ByJob) (job moment : ℕ) → moment_in m job ≡ None → Puts m n job moment → Forgets n k (job ∷ []) → HasSameMoments m k
+pub put_and_forgotten : (m n k : ByJob) (job moment : ℕ) → moment_in m job ≡ None → Puts m n job moment → Clears n k job → HasSameMoments m k
 put_and_forgotten m n k job moment none p f q =
-    f q ∙ elim (job == q) as (λ b. (job == q) ≡ b → cond (b || false) None (moment_in n q) ≡ moment_in m q) [
+    f q ∙ elim (job == q) as (λ b. (job == q) ≡ b → cond b None (moment_in n q) ≡ moment_in m q) [
       | true ↦ λ is. let same : job ≡ q = (Decides-eqb job q).0 is in sym none ∙ ap (moment_in m) same
       | false ↦ λ is. p q ∙ ap (λ (b : Bool). cond b (Some moment) (moment_in m q)) is
     ] refl

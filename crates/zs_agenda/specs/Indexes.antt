@@ -1,25 +1,25 @@
--- How an agenda is stored: an ordered map from each moment to its jobs, and a hash map from each job to its moment.
+-- How an agenda is stored: an ordered map from each moment to its jobs, and from each job to its moment a table with places
+-- for the jobs of small number and a hash map for the others.
 -- `IsAgenda` is its invariant: the two agree, each list rises, none is empty, and each moment is later than the last one taken.
 -- Callers never meet these words; `proofs/IndexLemmas.antt` shows that each step keeps the invariant.
-use Rattle.std.specs.Prelude.{◌≡◌, ◌≢◌, ◌<◌, ◌≤◌, ◌↔◌, ◌==◌, ℕ, Bool, true, false, nat_eq, nat_lt, List, [], ◌∷◌, Option, Some, None, if◌then◌else◌, unwrap_or, vec_len, ⊤}
+use Rattle.std.specs.Prelude.{◌≡◌, ◌≢◌, ◌<◌, ◌≤◌, ◌↔◌, ◌==◌, ◌+◌, ℕ, Bool, true, false, nat_eq, nat_lt, nat_le, slice_index_or, take, List, [], ◌∷◌, Option, Some, None, if◌then◌else◌, unwrap_or, vec_len, ⊤}
 use Rattle.std.specs.Global.{Vec}
 use Rattle.std.specs.Vec.{vec_capacity}
 use Rattle.std.specs.List.{AllByRecursion, list_any}
 use Rattle.std.specs.Ordering.{nat_cmp}
 use Rattle.std.specs.BTreeMap.{BTreeMap, get}
 use Rattle.std.specs.HashMap as hash
-use Rattle.std.specs.declared.hash.FoldHasher.{FoldHasher}
-use Rattle.std.specs.declared.hash.BuildHasherDefault.{BuildHasherDefault}
-use Rattle.std.specs.FinMap.{from_entries}
+use Rattle.std.specs.FinMap.{from_entries, insert, retain_keys}
+use Rattle.zs_agenda.specs.declared.by_job.ByJob.{ByJob}
 use Rattle.zs_agenda.specs.Timers.{Moments, IsAfter}
 
 -- the map by moment, as the code has it
 abbrev pub ByMoment : Type 0
 ByMoment = BTreeMap ℕ (Vec ℕ)
 
--- the map by job, as the code has it
-abbrev pub ByJob : Type 0
-ByJob = hash.HashMap ℕ ℕ (BuildHasherDefault FoldHasher)
+-- the jobs below this number have places in the table
+abbrev pub table_size : ℕ
+table_size = 16384
 
 -- the items of a vector, where there is one
 abbrev pub items_of : Option (Vec ℕ) → Option (List ℕ)
@@ -58,9 +58,17 @@ Adds old new moment job = (t : ℕ) → jobs_at new t ≡ (if t == moment then S
 abbrev pub HasSameJobs : ByMoment → ByMoment → Type 0
 HasSameJobs old new = (t : ℕ) → jobs_at new t ≡ jobs_at old t
 
+-- what stands at a job's place in the table, if it has one
+abbrev pub place_in : List (Option ℕ) → ℕ → Option ℕ
+place_in places job = slice_index_or places job None
+
 -- the moment of a job, where it has one
 abbrev pub moment_in : ByJob → ℕ → Option ℕ
-moment_in m job = hash.get nat_eq m job
+moment_in m job = if nat_lt job table_size then place_in m.near.items job else hash.get nat_eq m.far job
+
+-- what the job stands in is full, so that its moment takes memory
+abbrev pub HasNoPlace : ByJob → ℕ → Type 0
+HasNoPlace m job = (job < table_size → vec_capacity m.near ≤ job) × (table_size ≤ job → hash.spare m.far ≡ 0)
 
 -- new is old with this moment for the job
 abbrev pub Puts : ByJob → ByJob → ℕ → ℕ → Type 0
@@ -70,13 +78,23 @@ Puts old new job moment = (q : ℕ) → moment_in new q ≡ (if job == q then So
 abbrev pub HasSameMoments : ByJob → ByJob → Type 0
 HasSameMoments old new = (q : ℕ) → moment_in new q ≡ moment_in old q
 
+-- new is old without the moment of the job
+abbrev pub Clears : ByJob → ByJob → ℕ → Type 0
+Clears old new job = (q : ℕ) → moment_in new q ≡ (if job == q then None else moment_in old q)
+
 -- new is old without the moments of these jobs
 abbrev pub Forgets : ByJob → ByJob → List ℕ → Type 0
 Forgets old new jobs = (job : ℕ) → moment_in new job ≡ (if list_any (λ j. j == job) jobs then None else moment_in old job)
 
+-- the moments with those of a table, whose first place is that of this job
+unfoldable pub with_places : ℕ → List (Option ℕ) → Moments → Moments
+with_places job [] moments = moments
+with_places job (None ∷ places) moments = with_places (job + 1) places moments
+with_places job (Some moment ∷ places) moments = insert (with_places (job + 1) places moments) job moment
+
 -- the moment of each job, as callers see it
 abbrev pub moments_of : ByJob → Moments
-moments_of m = from_entries m.entries
+moments_of m = with_places 0 (take table_size m.near.items) (retain_keys (from_entries m.far.entries) (λ job. nat_le table_size job))
 
 -- the jobs at each moment and the moment of each job agree, each list rises, none is empty,
 -- and each moment is later than the last one taken

@@ -2,10 +2,11 @@ ghost use Rattle.std.specs.Prelude.{◌≡◌, ◌↔◌, None, IsOk, IsNone, If
 ghost use Rattle.std.specs.FinMap as map;
 ghost use Rattle.zs_agenda.specs.declared.fault.AgendaFault.TheVariants.{Memory};
 
+use crate::by_job::ByJob;
 use crate::fault::AgendaFault;
-use crate::index::{add, forget, put, take_back};
+use crate::index::add;
 use std::alloc::Global;
-use std::collections::{BTreeMap, HashMap};
+use std::collections::BTreeMap;
 use std::marker::Model;
 
 /// A timer queue: one moment, in milliseconds, for each job that waits. Jobs are told apart by their numbers.
@@ -13,7 +14,7 @@ use std::marker::Model;
 pub struct Agenda {
     alloc: Global,
     by_moment: BTreeMap<u64, Vec<u64>>,
-    by_job: HashMap<u64, u64>,
+    by_job: ByJob,
     last_taken: Option<u64>,
 }
 
@@ -43,7 +44,7 @@ impl Agenda {
         Ok(Agenda {
             alloc,
             by_moment: BTreeMap::new(alloc),
-            by_job: HashMap::new(alloc),
+            by_job: ByJob::new(alloc),
             last_taken: None,
         })
     }
@@ -58,11 +59,11 @@ impl Agenda {
         ensures err { OnErr result (self.new ≡ self.old) }
         ensures memory { IfErr result (λ fault. fault ≡ Memory) }
     {
-        put(&mut self.by_job, job, moment)?;
+        self.by_job.put(job, moment)?;
         match add(self.alloc, &mut self.by_moment, moment, job) {
             Ok(()) => Ok(()),
             Err(_) => {
-                take_back(&mut self.by_job, job);
+                self.by_job.remove(job);
                 Err(AgendaFault::Memory)
             }
         }
@@ -72,7 +73,7 @@ impl Agenda {
     pub fn is_set(&self, job: u64) -> bool
         ensures value { result ≡ map.contains_key self.now.moments job }
     {
-        self.by_job.contains_key(&job)
+        self.by_job.has(job)
     }
 
     /// The last moment that was taken, in milliseconds, if one was.
@@ -110,7 +111,7 @@ impl Agenda {
         let Some((moment, jobs)) = self.by_moment.pop_first() else {
             return Ok(None);
         };
-        forget(&mut self.by_job, &jobs);
+        self.by_job.forget(&jobs);
         self.last_taken = Some(moment);
         Ok(Some((moment, jobs)))
     }

@@ -12,6 +12,7 @@
 #![tactic(auto)]
 
 mod agenda;
+mod by_job;
 mod clock;
 mod fault;
 mod index;

@@ -24,6 +24,9 @@ use zs_effect::{Attempt, Beat, Outcome, Script};
 use zs_step::{Compiled, Decision, StepFault};
 use zs_term::Out;
 
+// How many items a full list has room for next, at least.
+const LEAST_ROOM: usize = 4;
+
 /// What a task waits for.
 #[derive(Drop)]
 pub enum Phase {
@@ -112,12 +115,28 @@ fn end_by_schedule(mode: Mode, outcome: Outcome) -> Ending
     }
 }
 
+// Makes room for one more item. A full list grows by a quarter, since many tasks keep theirs at once.
+fn make_room<T: Drop>(list: &mut Vec<T>) -> Result<(), DriveFault>
+    ensures items { list.new.items ≡ list.old.items }
+    ensures room { OnOk result (vec_len list.new < vec_capacity list.new) }
+    ensures full { OnErr result (vec_capacity list.old ≤ vec_len list.old) }
+{
+    if list.len() < list.capacity() {
+        return Ok(());
+    }
+    match list.reserve_exact(LEAST_ROOM.max(list.len() / 4)) {
+        Ok(()) => Ok(()),
+        Err(_) => Err(DriveFault::Memory),
+    }
+}
+
 // Of a refusal the list is as it was. Only a full one is refused.
 fn add<T: Drop>(list: &mut Vec<T>, item: T) -> Result<(), DriveFault>
     ensures ok { OnOk result (list.new.items ≡ list.old.items ++ item ∷ []) }
     ensures err { OnErr result (list.new.items ≡ list.old.items) }
     ensures full { OnErr result (vec_capacity list.old ≤ vec_len list.old) }
 {
+    make_room(list)?;
     match list.push(item) {
         Ok(()) => Ok(()),
         Err(_) => Err(DriveFault::Memory),

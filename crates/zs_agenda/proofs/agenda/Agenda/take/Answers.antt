@@ -10,7 +10,7 @@ returns-in_default-clause-none c =
 
 pub invariant_of-self-2 : goal.invariant_of-self-2
 invariant_of-self-2 c =
-    take-IsAgenda c.self.inside.by_moment c.pop_first.new.self c.self.inside.by_job c.forget.new.by_job c.self.inside.last_taken c.in-Some.moment c.in-Some.jobs c.deref.result.now
+    take-IsAgenda c.self.inside.by_moment c.pop_first.new.self c.self.inside.by_job c.forget.new.self c.self.inside.last_taken c.in-Some.moment c.in-Some.jobs c.deref.result.now
     c.self.invariant c.in-Some.ensures.value c.in-Some.ensures.least c.in-Some.ensures.updates.0 c.deref.ensures.value c.forget.ensures.forgets
 
 pub returns-clause-none : goal.returns-clause-none
@@ -21,7 +21,7 @@ returns-clause-none c = (
 
 pub returns-clause-some : goal.returns-clause-some
 returns-clause-some c =
-    let new : Timers = record { moments = moments_of c.forget.new.by_job; last_taken = Some c.in-Some.moment } in
+    let new : Timers = record { moments = moments_of c.forget.new.self; last_taken = Some c.in-Some.moment } in
     subst (λ (old : Timers). Takes old new c.in-Some.moment c.in-Some.jobs.items) c.self.view_is
-    (take-Takes c.self.inside.by_moment c.pop_first.new.self c.self.inside.by_job c.forget.new.by_job c.self.inside.last_taken c.in-Some.moment c.in-Some.jobs c.deref.result.now
+    (take-Takes c.self.inside.by_moment c.pop_first.new.self c.self.inside.by_job c.forget.new.self c.self.inside.last_taken c.in-Some.moment c.in-Some.jobs c.deref.result.now
     c.self.invariant c.in-Some.ensures.value c.in-Some.ensures.least c.in-Some.ensures.updates.0 c.deref.ensures.value c.forget.ensures.forgets)
