@@ -1,5 +1,5 @@
 #!/usr/bin/env python3
-"""Runs the built program on a dozen plans under valgrind: memcheck, helgrind and drd.
+"""Runs the built program on eighteen plans under valgrind: memcheck, helgrind and drd.
 
     python3 tests/valgrind.py
 
