@@ -13,6 +13,7 @@ import sys
 
 LAST_MOMENT = 999_999_999_999_999
 CUTS = [(1, 1), (4, 1), (4, 100), (64, 10), (64, 10_000)]
+HEAVY_CUTS = [(1, 1), (4, 1), (4, 100), (64, 10)]
 ONE = [{"ms": 1, "ok": 7}]
 RESETS = "(recurs(9).resetWhen(= 5) && elapsed).resetWhen(_2 >= 50)"
 
@@ -36,6 +37,14 @@ def balanced(leaves, leaf="forever"):
     return f"({balanced(left, leaf)} && {balanced(leaves - left, leaf)})"
 
 
+def picked(leaves):
+    """Such a tree, of each of whose pairs the first is picked: three times as many nodes, less two, and one number as output."""
+    if leaves == 1:
+        return "forever"
+    left = leaves // 2
+    return f"({picked(left)} && {picked(leaves - left)}).map(_1)"
+
+
 def deep():
     """A schedule 64 deep, each node over one part."""
     tails = [".whileInput(>= 0)", ".map(+ 1)", ".whileOutput(>= 0)"]
@@ -53,6 +62,12 @@ def jobs_at_once(count, workers, grain):
     script = [{"ms": 5, "ok": 1}]
     jobs = [job(f"j{number}", "(recurs(19) && spaced(10))", script) for number in range(count)]
     return plan(jobs, horizon=1000, workers=workers, grain=grain)
+
+
+def heavy_jobs_at_once(count, workers, grain):
+    """So many jobs of 100 attempts over 511 nodes each, all due at the same moments."""
+    schedule = picked(171)
+    return plan([job(f"j{number}", schedule) for number in range(count)], horizon=100, workers=workers, grain=grain)
 
 
 def scattered_timers(count):
@@ -100,6 +115,8 @@ def plans(divisor=1):
     }
     for workers, grain in CUTS:
         made[f"jobs_{workers}_{grain}"] = lambda w=workers, g=grain: jobs_at_once(least(10_000), w, g)
+    for workers, grain in HEAVY_CUTS:
+        made[f"heavy_{workers}_{grain}"] = lambda w=workers, g=grain: heavy_jobs_at_once(least(2_000), w, g)
     return made | {
         "scattered_timers": lambda: scattered_timers(least(10_000)),
         "deep_64": lambda: steps_of(deep(), least(100_000)),

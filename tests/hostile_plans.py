@@ -1,5 +1,5 @@
 """Plans that no honest user writes: each with the status, the text of the fault, and nothing on standard output."""
-from program import BLOCK, ONE_JOB, ONE_REPORT, SCRIPT, ZSCHED, equal_jobs, job, plan, run
+from program import BLOCK, ONE_JOB, ONE_REPORT, SCRIPT, ZSCHED, equal_jobs, heavy_jobs, job, plan, run
 
 NOT_JSON = "plan is not JSON"
 SHAPE = "plan: wrong shape"
@@ -162,3 +162,5 @@ def test(count):
         for grain in [1, 3, 10000]:
             text, report = equal_jobs("abcdefg", workers, grain)
             count.test(f"seven jobs, {workers} workers, grain {grain}", run(ZSCHED, text), (0, report, b""))
+            text, report = heavy_jobs(workers, grain)
+            count.test(f"heavy jobs, {workers} workers, grain {grain}", run(ZSCHED, text), (0, report, b""))

@@ -29,11 +29,28 @@ def plan(jobs=None, horizon='"horizon":1000', more=""):
     return f'{{{horizon}{more},"jobs":[{listed}]}}'.encode()
 
 
-def equal_jobs(names, workers, grain):
+def equal_jobs(names, workers, grain, schedule="recurs(3)"):
     """A plan of equal jobs, and its report."""
     more = f',"workers":{workers},"grain":{grain}'
     report = "".join(BLOCK.format(name) for name in names) + f"polls {3 * len(names)}\n"
-    return plan([job(name) for name in names], more=more), report.encode()
+    return plan([job(name, schedule) for name in names], more=more), report.encode()
+
+
+def tree(leaves):
+    """The intersection of so many leaves that go on at once: twice as many nodes, less one, in the least depth."""
+    if leaves == 1:
+        return "forever"
+    return f"({tree(leaves // 2)} && {tree(leaves - leaves // 2)})"
+
+
+# A schedule of 998 nodes that answers as recurs(3) does.
+HEAVY = f"(recurs(3) && {tree(498)}).map(_1)"
+
+
+def heavy_jobs(workers, grain):
+    """A plan of 120 equal jobs, and its report. Their schedules are asked at moment 5 alone, as `recurs(3)` would be, and have
+    so many nodes that the rounds at 5 and at 10, where attempts end, start threads."""
+    return equal_jobs([f"j{number}" for number in range(120)], workers, grain, HEAVY)
 
 
 def run(program, text, environment=None, seconds=60, **more):

@@ -142,41 +142,45 @@ def program_is_refused_well(count, refuser):
 
 
 def many_jobs_are_refused_well(count, refuser):
-    """The program on 10,000 jobs, with a request refused at places all over the run."""
+    """The program on 10,000 jobs, and on jobs whose rounds start threads, with a request refused at places all over the run."""
     names = [f"j{number}" for number in range(10000)]
-    for workers, grain in [(1, 1), (2, 3)]:
-        text, report = program.equal_jobs(names, workers, grain)
+    cases = [(f"10,000 jobs, {w} workers", program.equal_jobs(names, w, g)) for w, g in [(1, 1), (2, 3)]]
+    cases += [(f"heavy jobs, {w} workers", program.heavy_jobs(w, g)) for w, g in [(1, 1), (4, 3)]]
+    for case, (text, report) in cases:
         right = [(0, report, b""), NO_MEMORY, NO_THREAD]
         whole, requests = refuser.run(program.ZSCHED, text)
-        count.test(f"10,000 jobs, {workers} workers, nothing refused", whole, right[0])
+        count.test(f"{case}, nothing refused", whole, right[0])
         for place in range(MANY_PLACES):
             number = 1 + requests * place // MANY_PLACES
             ended, _ = refuser.run(program.ZSCHED, text, refuse_at=number)
-            count.test(f"10,000 jobs, {workers} workers, request {number} refused", ended if ended not in right else right, right)
+            count.test(f"{case}, request {number} refused", ended if ended not in right else right, right)
 
 
 def program_without_threads(count, refuser):
     """A machine on which no thread can be started."""
-    text, _ = program.equal_jobs("abcdefg", 2, 3)
+    text, _ = program.heavy_jobs(2, 3)
     ended, _ = refuser.run(program.ZSCHED, text, refuse_threads=1)
     count.test("no thread can be started", ended, NO_THREAD)
-    text, report = program.equal_jobs("abcdefg", 1, 3)
-    ended, _ = refuser.run(program.ZSCHED, text, refuse_threads=1)
-    count.test("one worker needs no thread", ended, (0, report, b""))
+    alone = [("one worker", program.heavy_jobs(1, 3)), ("one batch", program.heavy_jobs(4, 120)),
+             ("light jobs", program.equal_jobs([f"j{number}" for number in range(10000)], 4, 3))]
+    for case, (text, report) in alone:
+        ended, _ = refuser.run(program.ZSCHED, text, refuse_threads=1)
+        count.test(f"no thread for {case}", ended, (0, report, b""))
 
 
 def program_with_few_threads(count, refuser):
-    """A machine on which some threads can be started: three workers need two more than there are at each of three moments."""
-    text, report = program.equal_jobs("abcdefg", 3, 1)
-    for number in range(1, 8):
+    """A machine on which some threads can be started: three workers need two more than there are at each of the two moments at
+    which attempts end, and none where they begin."""
+    text, report = program.heavy_jobs(3, 1)
+    for number in range(1, 6):
         ended, _ = refuser.run(program.ZSCHED, text, refuse_threads=number)
-        wanted = NO_THREAD if number <= 6 else (0, report, b"")
+        wanted = NO_THREAD if number <= 4 else (0, report, b"")
         count.test(f"start {number} of a thread and all later ones refused", ended, wanted)
 
 
 def two_causes_are_told_apart(count, refuser):
     """A round in which one worker finds no memory, or can't be started, or both: of two causes the first worker's is told."""
-    text, _ = program.equal_jobs("abcdefg", 3, 1)
+    text, _ = program.heavy_jobs(3, 1)
     for case, refusal, wanted in [
             ("the second worker finds no memory", {"refuse_within": 1}, NO_MEMORY),
             ("the third worker finds no memory", {"refuse_within": 2}, NO_MEMORY),

@@ -1,5 +1,5 @@
 #!/usr/bin/env python3
-"""Runs the built program on a dozen plans under valgrind: memcheck, helgrind and drd.
+"""Runs the built program on eighteen plans under valgrind: memcheck, helgrind and drd.
 
     python3 tests/valgrind.py
 
@@ -15,7 +15,7 @@ import xml.etree.ElementTree
 
 sys.dont_write_bytecode = True
 
-from program import TOP, ZSCHED, Count, equal_jobs, job, plan, run
+from program import TOP, ZSCHED, Count, equal_jobs, heavy_jobs, job, plan, run
 
 PLANS = [
     "backoff_with_a_cap_on_tries", "collected_inputs", "a_done_part_goes_on_again", "attempts_end_at_listed_ticks",
@@ -26,6 +26,9 @@ PLANS = [
 CUTS = [
     ("seven_jobs", 1, 1), ("seven_jobs", 2, 1), ("seven_jobs", 7, 1), ("seven_jobs_on_listed_ticks", 64, 1),
 ]
+
+# The cuts of jobs whose rounds start threads.
+HEAVY_CUTS = [(2, 1), (4, 3), (4, 20), (64, 10)]
 
 TOOLS = {
     "memcheck": ["--leak-check=full", "--show-leak-kinds=all"],
@@ -56,6 +59,9 @@ def cases():
         found.append((f"{name}, {workers} workers, grain {grain}", json.dumps(tree).encode(), (0, report_of(name))))
     text, report = equal_jobs([f"job{number}" for number in range(100)], 4, 5)
     found.append(("a hundred jobs, 4 workers, grain 5", text, (0, report)))
+    for workers, grain in HEAVY_CUTS:
+        text, report = heavy_jobs(workers, grain)
+        found.append((f"heavy jobs, {workers} workers, grain {grain}", text, (0, report)))
     found.append(("a schedule that is none", plan([job(schedule="(recurs(1) && recurs(2)")]), (2, b"")))
     return found
 

@@ -3,3 +3,4 @@ pub mod Slots
 pub mod Rounds
 pub mod Engine
 pub mod Answers
+pub mod Effort

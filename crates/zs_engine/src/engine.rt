@@ -9,6 +9,7 @@ ghost use Rattle.zs_engine.specs.Rounds.{jobs_in, set_next};
 ghost use Rattle.zs_engine.specs.Answers.{IsAnswer};
 
 use crate::answer::Answer;
+use crate::effort::{nodes_of, threads_for, weight};
 use crate::fault::{EngineFault, refused_round};
 use crate::slots::{into_tasks, take_tasks};
 use crate::timers::set_timer;
@@ -21,13 +22,15 @@ use zs_agenda::{Agenda, Clock};
 use zs_drive::{Job, Task};
 use zs_pool::{Cut, Gate, Poller, Tally, TallySeat, poll_one, round};
 
-// A run of jobs: each job's task in a slot of its own, a timer for each task that waits for a tick, and the tally of the polls.
+// A run of jobs: each job's task in a slot of its own, with the weight of its schedule, a timer for each task that waits for
+// a tick, and the tally of the polls.
 #[derive(Drop)]
 pub struct Engine {
     alloc: Global,
     clock: Clock,
     horizon: u64,
     slots: Vec<Option<Task>>,
+    weights: Vec<u64>,
     agenda: Agenda,
     tally: Tally,
     seat: TallySeat,
@@ -58,6 +61,7 @@ impl Engine {
             clock,
             horizon,
             slots: Vec::new(alloc),
+            weights: Vec::new(alloc),
             agenda,
             tally,
             seat,
@@ -69,6 +73,7 @@ impl Engine {
         requires new { IsNew self.old.clock (jobs_in self.old.slots.items) self.old }
         ensures new { OnOk result (IsNew self.old.clock (jobs_in self.old.slots.items ++ job_value job ∷ []) self.new) }
     {
+        let nodes = weight(job.schedule.term());
         let task = Task::new(self.alloc, self.slots.len() as u64, job)?;
         match set_timer(&self.clock, &mut self.agenda, &task) {
             Ok(()) => {}
@@ -78,6 +83,7 @@ impl Engine {
             }
         }
         self.slots.push(Some(task))?;
+        self.weights.push(nodes)?;
         Ok(())
     }
 
@@ -180,7 +186,32 @@ impl Engine {
         Ok(())
     }
 
-    // One round: the tasks that are due at `now` are polled, by this thread alone where one worker or one batch is all there is.
+    // How many nodes the due poll of the task in this slot asks.
+    fn nodes_at(&self, slot: usize) -> u64 {
+        match (self.slots.get(slot), self.weights.get(slot)) {
+            (Some(Some(task)), Some(weight)) => nodes_of(task, *weight),
+            _ => 0,
+        }
+    }
+
+    // The cut of a round: under a gate that never holds a thread, on no more workers than pay.
+    fn paid_cut<G: Gate>(&self, cut: Cut, gate: &G, numbers: &[u64]) -> Cut
+        ensures workers { result.workers ≤ cut.workers }
+        ensures grain { result.grain ≡ cut.grain }
+    {
+        if cut.workers() == 1 || !gate.is_open() {
+            return cut;
+        }
+        let mut nodes: u64 = 0;
+        for number in numbers {
+            nodes = nodes.saturating_add(self.nodes_at(*number as usize));
+        }
+        let workers = threads_for(numbers.len() as u64, nodes);
+        Cut::new(workers.min(cut.workers()), cut.grain()).unwrap_or(cut)
+    }
+
+    // One round: the tasks that are due at `now` are polled, by this thread alone where one worker or one batch is all there is
+    // or all that pays.
     fn run_round<G: Gate, R: Threads + Wait + Sync>(
         &mut self,
         rt: &R,
@@ -195,6 +226,7 @@ impl Engine {
         ensures rests { OnOk result (RestsWith self.old.clock (jobs_in self.old.slots.items) self.new) }
         ensures taken { OnOk result (self.new.agenda.last_taken ≡ Some now) }
     {
+        let cut = self.paid_cut(cut, gate, numbers);
         if cut.workers() == 1 || numbers.len() as u64 <= cut.grain() {
             self.poll_round(gate, now, numbers, cx)
         } else {
@@ -251,6 +283,7 @@ impl Engine {
             clock: _,
             horizon,
             slots,
+            weights: _,
             agenda: _,
             tally,
             seat,

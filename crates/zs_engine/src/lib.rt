@@ -12,6 +12,7 @@
 #![tactic(auto)]
 
 mod answer;
+mod effort;
 mod engine;
 mod fault;
 mod jobs;

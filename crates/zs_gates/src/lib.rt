@@ -49,18 +49,48 @@ impl Moments {
     }
 }
 
-/// Holds each pass until as many passes of its moment were entered, and counts those that gave up.
+/// Holds nobody and doesn't say so, so that a run under it starts as many threads as its cut says.
+#[derive(Clone, Copy)]
+pub struct Silent;
+
+impl Gate for Silent {
+    fn pass(&self, _job: u64, _now: u64, _done: u64) {}
+}
+
+/// A gate that says it is open, whatever the gate in it does.
+#[derive(Drop)]
+pub struct Posing<G> {
+    pub gate: G,
+}
+
+impl<G: Gate> Gate for Posing<G> {
+    fn pass(&self, job: u64, now: u64, done: u64) {
+        self.gate.pass(job, now, done);
+    }
+
+    fn is_open(&self) -> bool {
+        true
+    }
+}
+
+/// Holds each pass from a moment on until as many passes of its moment were entered, and counts those that gave up.
 #[derive(Drop)]
 pub struct Meeting {
     wanted: u64,
+    first: u64,
     entered: Moments,
     alone: AtomicU64,
 }
 
 impl Meeting {
     pub fn of(wanted: u64) -> Meeting {
+        Meeting::from_moment(0, wanted)
+    }
+
+    pub fn from_moment(first: u64, wanted: u64) -> Meeting {
         Meeting {
             wanted,
+            first,
             entered: Moments::new(),
             alone: AtomicU64::new(0),
         }
@@ -75,7 +105,7 @@ impl Meeting {
 impl Gate for Meeting {
     fn pass(&self, _job: u64, now: u64, _done: u64) {
         self.entered.count(now);
-        if !self.entered.come_to(now, self.wanted) {
+        if now >= self.first && !self.entered.come_to(now, self.wanted) {
             self.alone.fetch_add(1, Ordering::SeqCst);
         }
     }

@@ -11,7 +11,7 @@ use std::thread::Threads;
 use zs_agenda::{AgendaFault, Clock};
 use zs_drive::{Attempted, DriveFault, Job, Mode, Task};
 use zs_engine::{Answer, EngineFault, run_jobs};
-use zs_gates::Meeting;
+use zs_gates::{InTurn, Meeting, Posing, Silent};
 use zs_pool::{Cut, Gate, OpenGate};
 use zs_step::Decision;
 
@@ -81,17 +81,18 @@ fn clock_of(rt: &impl Abort, alloc: Global, ticks: Ticks<'_>) -> Result<Clock, A
     }
 }
 
-// Adds what the jobs come to on this many workers, so many tasks to a batch.
-fn push_run<R: Abort + Threads + Wait + Sync>(
+// Adds what the jobs come to under the gate on this many workers, so many tasks to a batch.
+fn push_run<G: Gate, R: Abort + Threads + Wait + Sync>(
     rt: &R,
     text: &mut String,
     alloc: Global,
     cut: Cut,
+    gate: &G,
     clock: Clock,
     jobs: Vec<Job>,
 ) -> Result<(), Fail> {
     assert!(rt; jobs.len() <= 10_000);
-    let answer = run_jobs(rt, alloc, cut, &OpenGate, clock, jobs)?;
+    let answer = run_jobs(rt, alloc, cut, gate, clock, jobs)?;
     Ok(push_answer(text, &answer)?)
 }
 
@@ -113,10 +114,11 @@ fn expect_polls<G: Gate, R: Abort + Threads + Wait + Sync>(
     Ok(())
 }
 
-// The jobs come to this under each of these cuts.
-fn expect<R: Abort + Threads + Wait + Sync>(
+// The jobs come to this under the gate and each of these cuts.
+fn expect_under<G: Gate, R: Abort + Threads + Wait + Sync>(
     rt: &R,
     alloc: Global,
+    gate: &G,
     cuts: &[(u64, u64)],
     ticks: Ticks<'_>,
     given: &[Given<'_>],
@@ -127,10 +129,23 @@ fn expect<R: Abort + Threads + Wait + Sync>(
         let cut = Cut::new(*workers, *grain).expect(rt, "within the limits");
         let clock = clock_of(rt, alloc, ticks)?;
         let jobs = jobs_of(alloc, given)?;
-        push_run(rt, &mut text, alloc, cut, clock, jobs)?;
+        push_run(rt, &mut text, alloc, cut, gate, clock, jobs)?;
         expect_text(rt, &text, wanted, "a run");
     }
     Ok(())
+}
+
+// The jobs come to this under each of these cuts: where threads are started that pay, and where all are that may.
+fn expect<R: Abort + Threads + Wait + Sync>(
+    rt: &R,
+    alloc: Global,
+    cuts: &[(u64, u64)],
+    ticks: Ticks<'_>,
+    given: &[Given<'_>],
+    wanted: &str,
+) -> Result<(), Fail> {
+    expect_under(rt, alloc, &OpenGate, cuts, ticks, given, wanted)?;
+    expect_under(rt, alloc, &Silent, cuts, ticks, given, wanted)
 }
 
 #[test]
@@ -349,5 +364,90 @@ fn two_threads_meet_in_a_run_of_ten_thousand_jobs(rt: HostRuntime) -> Result<(),
     let gate = Meeting::of(2);
     expect_polls(&rt, rt.alloc(), cut, &gate, clock, jobs, 20_000)?;
     assert!(rt; gate.alone() == 0);
+    Ok(())
+}
+
+// So many jobs of one attempt of 5 ms, each with a schedule of 2^(doublings + 1) - 1 nodes.
+fn heavy(alloc: Global, count: u64, doublings: u64) -> Result<Vec<Job>, Fail> {
+    let mut schedule = String::from_str(alloc, "recurs(0)")?;
+    for _ in 0..doublings {
+        schedule = format!(in alloc; "({schedule} && {schedule})")?;
+    }
+    let job = Given {
+        name: "j",
+        mode: Mode::Repeat,
+        schedule: &schedule,
+        start: 0,
+        beats: &[good(5, 0)],
+    };
+    let given = Vec::from_elem(alloc, job, count as usize)?;
+    jobs_of(alloc, &given)
+}
+
+// The jobs need two polls each under a gate that says it is open, on 64 workers with one task to a batch.
+fn expect_posed<G: Gate, R: Abort + Threads + Wait + Sync>(
+    rt: &R,
+    alloc: Global,
+    gate: &Posing<G>,
+    jobs: Vec<Job>,
+) -> Result<(), Fail> {
+    let polls = 2 * jobs.len() as u64;
+    let clock = clock_of(rt, alloc, Ticks::Every(5))?;
+    let cut = Cut::new(64, 1).expect(rt, "within the limits");
+    expect_polls(rt, alloc, cut, gate, clock, jobs, polls)
+}
+
+// All attempts of 200 schedules of 511 nodes end at 5 ms, where two threads meet.
+#[test]
+fn two_threads_meet_where_they_pay(rt: HostRuntime) -> Result<(), Fail> {
+    let jobs = heavy(rt.alloc(), 200, 8)?;
+    let gate = Posing {
+        gate: Meeting::from_moment(5, 2),
+    };
+    expect_posed(&rt, rt.alloc(), &gate, jobs)?;
+    assert!(rt; gate.gate.alone() == 0);
+    Ok(())
+}
+
+// As many schedules of a node are asked in turn by one thread.
+#[test]
+fn light_jobs_are_polled_in_turn_under_an_open_gate(rt: HostRuntime) -> Result<(), Fail> {
+    let jobs = heavy(rt.alloc(), 80, 0)?;
+    let gate = Posing {
+        gate: InTurn::of(80),
+    };
+    expect_posed(&rt, rt.alloc(), &gate, jobs)?;
+    assert!(rt; (gate.gate.passes(), gate.gate.wrong()) == (160, 0));
+    Ok(())
+}
+
+// Both moments are polled in turn where no attempt ends at the first and few at the second.
+#[test]
+fn few_heavy_jobs_are_polled_in_turn_under_an_open_gate(rt: HostRuntime) -> Result<(), Fail> {
+    let jobs = heavy(rt.alloc(), 3, 8)?;
+    let gate = Posing {
+        gate: InTurn::of(3),
+    };
+    expect_posed(&rt, rt.alloc(), &gate, jobs)?;
+    assert!(rt; (gate.gate.passes(), gate.gate.wrong()) == (6, 0));
+    Ok(())
+}
+
+// Two hundred jobs with heavy schedules come to the same on one thread and where threads are started that pay.
+#[test]
+fn heavy_jobs_come_to_the_same_under_each_cut(rt: HostRuntime) -> Result<(), Fail> {
+    let mut wanted = String::new(rt.alloc());
+    for number in 0..200u64 {
+        write!(wanted, "{number} j: 0..5 last, Some(Finished), 2 polls\n")?;
+    }
+    wanted.push_str("horizon 5, 400 polls\n")?;
+    for (workers, grain) in [(1u64, 1u64), (2, 3), (64, 1)] {
+        let mut text = String::new(rt.alloc());
+        let cut = Cut::new(workers, grain).expect(&rt, "within the limits");
+        let clock = clock_of(&rt, rt.alloc(), Ticks::Every(5))?;
+        let jobs = heavy(rt.alloc(), 200, 8)?;
+        push_run(&rt, &mut text, rt.alloc(), cut, &OpenGate, clock, jobs)?;
+        expect_text(&rt, &text, &wanted, "a run");
+    }
     Ok(())
 }
