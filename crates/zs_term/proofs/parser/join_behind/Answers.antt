@@ -1,5 +1,5 @@
-use Rattle.std.proofs.Common.{refl, arith}
-use Rattle.zs_term.proofs.Stacks.{bare_first, bare_none, joined_push}
+use Rattle.std.proofs.Common.{arith}
+use Rattle.zs_term.proofs.Stacks.{bare_first, joined_push}
 use Rattle.zs_term.proofs.parser.join_behind.Goals as goal
 
 -- a `(` gets its operator
