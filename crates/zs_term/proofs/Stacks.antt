@@ -1,27 +1,44 @@
--- Frames that are pushed and popped.
-use Rattle.std.proofs.Common.{◌≡◌, List, [], ◌∷◌, ◌++◌, ◌+◌, length, Option, Some, None, refl, ap, arith}
+-- Forms that are opened, read on and closed.
+use Rattle.std.proofs.Common.{◌≡◌, ℕ, zero, suc, ◌<◌, ◌≤◌, ◌-◌, List, [], ◌∷◌, ◌++◌, ◌+◌, length, Option, Some, None, refl, ap, ◌∙◌, arith, add-one}
 use Rattle.std.specs.Prelude.{option_map}
-use Rattle.zs_term.specs.Machine.{Mode, at}
-use Rattle.zs_term.specs.Parts.{mode_of}
+use Rattle.zs_term.specs.Machine.{Mode, at, Frame, left, right}
+use Rattle.zs_term.specs.Parts.{Kept, kept_of, mode_of, bare_onto, joined_onto}
 use Rattle.zs_term.specs.declared.parser.Mode.{Mode as ModeKept}
-use Rattle.std.specs.Prelude.{ℕ}
-use Rattle.zs_term.specs.Machine.{Frame}
-use Rattle.zs_term.specs.Parts.{Kept, frame_of, stack_onto, stack_of}
-use Rattle.zs_term.specs.declared.parser.Frame.{Frame as FrameKept}
+use Rattle.zs_term.specs.declared.parser.Joined.{Joined}
 
-onto_push : (fs : List (Frame Kept)) (ks : List FrameKept) (k : FrameKept) → stack_onto fs (ks ++ k ∷ []) ≡ frame_of k ∷ stack_onto fs ks
+-- one `(` more
+pub bare_more : (n : ℕ) (fs : List (Frame Kept)) → bare_onto (n + 1) fs ≡ left ∷ bare_onto n fs
+bare_more n fs = ap (λ k. bare_onto k fs) (add-one n)
+
+-- the innermost of some `(`
+pub bare_first : (n : ℕ) (fs : List (Frame Kept)) → 0 < n → bare_onto n fs ≡ left ∷ bare_onto (n - 1) fs
+bare_first n fs h = let e : n ≡ (n - 1) + 1 = omega (arith, h) in ap (λ k. bare_onto k fs) e ∙ bare_more (n - 1) fs
+
+-- none is innermost
+pub bare_none : (n : ℕ) (fs : List (Frame Kept)) → n ≤ 0 → bare_onto n fs ≡ fs
+bare_none zero fs h = refl
+bare_none (suc n) fs h = absurd (omega (arith, h))
+
+-- one form more of which the operator was read
+onto_push : (fs : List (Frame Kept)) (ks : List Joined) (k : Joined) → joined_onto fs (ks ++ k ∷ []) ≡ right k.form (kept_of k.left) ∷ bare_onto k.before (joined_onto fs ks)
 onto_push fs [] k = refl
-onto_push fs (j ∷ ks) k = onto_push (frame_of j ∷ fs) ks k
+onto_push fs (j ∷ ks) k = onto_push (right j.form (kept_of j.left) ∷ bare_onto j.before fs) ks k
 
-pub stack_push : (ks : List FrameKept) (k : FrameKept) → stack_of (ks ++ k ∷ []) ≡ frame_of k ∷ stack_of ks
-stack_push ks k = onto_push [] ks k
+pub joined_push : (ks : List Joined) (k : Joined) → joined_onto [] (ks ++ k ∷ []) ≡ right k.form (kept_of k.left) ∷ bare_onto k.before (joined_onto [] ks)
+joined_push ks k = onto_push [] ks k
 
-onto_length : (fs : List (Frame Kept)) (ks : List FrameKept) → length (stack_onto fs ks) ≡ length ks + length fs
+-- nothing is open
+bare_length : (n : ℕ) (fs : List (Frame Kept)) → length fs ≤ length (bare_onto n fs)
+bare_length zero fs = omega arith
+bare_length (suc n) fs = omega (arith, bare_length n fs)
+
+onto_length : (fs : List (Frame Kept)) (ks : List Joined) → length ks + length fs ≤ length (joined_onto fs ks)
 onto_length fs [] = omega arith
-onto_length fs (k ∷ ks) = omega (arith, onto_length (frame_of k ∷ fs) ks)
+onto_length fs (k ∷ ks) = omega (arith, onto_length (right k.form (kept_of k.left) ∷ bare_onto k.before fs) ks, bare_length k.before fs)
 
-pub stack_empty : (ks : List FrameKept) → stack_of ks ≡ [] → length ks ≡ 0
-stack_empty ks h = omega (arith, onto_length [] ks, ap length h)
+pub stack_empty : (n : ℕ) (ks : List Joined) → bare_onto n (joined_onto [] ks) ≡ [] → (n ≡ 0) × (length ks ≡ 0)
+stack_empty zero ks h = (refl, omega (arith, onto_length [] ks, ap length h))
+stack_empty (suc n) ks h = omega (arith, ap length h)
 
 pub map_map : (fs : List (Frame Kept)) (o : Option ModeKept) (q : Option (Mode Kept (Option ℕ))) → option_map mode_of o ≡ q → option_map (λ m. at fs (mode_of m)) o ≡ option_map (λ next. at fs next) q
 map_map fs None q e = ap (option_map (λ next. at fs next)) e

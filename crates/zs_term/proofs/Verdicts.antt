@@ -1,5 +1,5 @@
 -- Each text has one verdict: the schedule that it spells, or one fault.
-use Rattle.std.proofs.Common.{◌≡◌, ℕ, List, Bool, true, false, Option, Some, None, refl, sym, ap, ◌∙◌, subst}
+use Rattle.std.proofs.Common.{◌≡◌, ℕ, List, Bool, true, false, cond, Option, Some, None, refl, sym, ap, ◌∙◌, subst}
 use Rattle.std.specs.Prelude.{IsSome, Result, Ok, Err, IfOk, IfErr}
 use Rattle.zs_term.specs.Schedule.{Schedule, is_within_limits, has_factors, has_windows}
 use Rattle.zs_term.specs.OutputKind.{OutputKind}
@@ -7,6 +7,7 @@ use Rattle.zs_term.specs.Kinds.{kind_of, IsSchedule}
 use Rattle.zs_term.specs.Token.{lexed}
 use Rattle.zs_term.specs.Causes.{tokens_of, TextSpells, first_huge, IsRead, SpellsSchedule, IsCause, IsTermCause}
 use Rattle.zs_term.specs.Canonical.{canonical_text}
+use Rattle.zs_term.specs.Verdict.{with_kind, with_numbers_at, checked_as}
 use Rattle.zs_term.specs.Laws.{OneFault, OneVerdict, RoundTrip}
 use Rattle.zs_term.specs.declared.fault.TermFault.{TermFault}
 use Rattle.zs_term.specs.declared.fault.TermFault.TheVariants.{NoTerm, TooBig, BadNumber, BadFactor, NoKind, BadWindow, Memory}
@@ -99,6 +100,30 @@ pub round_trip : RoundTrip
 round_trip t i h =
     let s = canonical_spells t h in
     record { read = record { spelled = s; within = i.small; fits = none_too_large (canonical_text t) t s h }; schedule = i }
+
+-- what a term is checked as, by the tests in their order
+module _ (t : Schedule) where
+  small_as : is_within_limits t ≡ true → checked_as t ≡ with_numbers_at t None
+  small_as w = ap (λ b. cond b (with_numbers_at t None) (Err TooBig)) w
+
+  factors_as : (b : Bool) → has_factors t ≡ b → with_numbers_at t None ≡ cond b (with_kind t (kind_of t)) (Err BadFactor)
+  factors_as b f = ap (λ b. cond b (with_kind t (kind_of t)) (Err BadFactor)) f
+
+  windows_as : (o : Option OutputKind) (b : Bool) → IsSome o → has_windows t ≡ b → with_kind t o ≡ cond b (Ok t) (Err BadWindow)
+  windows_as None b h w = absurd (no_kind None h refl)
+  windows_as (Some k) b h w = ap (λ b. cond b (Ok t) (Err BadWindow)) w
+
+  pub schedule_as : IsSchedule t → checked_as t ≡ Ok t
+  schedule_as i = small_as i.small ∙ factors_as true i.factors ∙ windows_as (kind_of t) true i.kinded i.windows
+
+  pub fault_as : (fault : TermFault) → IsTermCause t fault → (fault ≡ Memory → ⊥) → checked_as t ≡ Err fault
+  fault_as (NoTerm at) c n = absurd c
+  fault_as TooBig c n = ap (λ b. cond b (with_numbers_at t None) (Err TooBig)) c
+  fault_as (BadNumber at) c n = absurd c
+  fault_as BadFactor c n = small_as c.0 ∙ factors_as false c.1
+  fault_as NoKind c n = small_as c.0 ∙ factors_as true c.1 ∙ ap (with_kind t) c.2
+  fault_as BadWindow c n = small_as c.0 ∙ factors_as true c.1 ∙ windows_as (kind_of t) false c.2 c.3
+  fault_as Memory c n = absurd (n refl)
 
 never : (b : Bool) → b ≡ true → b ≡ false → ⊥
 never b h k = let e : true ≡ false = sym h ∙ k in cc

@@ -1,5 +1,5 @@
 -- What the code keeps of the terms that it has read.
-use Rattle.std.specs.Prelude.{ℕ, ◌+◌, max, Bool, List, [], ◌∷◌, Option, Some, None, option_map, if◌then◌else◌}
+use Rattle.std.specs.Prelude.{ℕ, ◌+◌, max, Bool, List, [], ◌∷◌, ◌++◌, replicate, Option, Some, None, option_map, if◌then◌else◌}
 use Rattle.zs_term.specs.Schedule.{Schedule, leaf, two, over, plain, counted, exponential, collect_all, mapped, schedule_of}
 use Rattle.zs_term.specs.Saturating.{saturated}
 use Rattle.zs_term.specs.Number.{fit}
@@ -12,8 +12,8 @@ use Rattle.zs_term.specs.declared.forms.Subject.{Subject}
 use Rattle.zs_term.specs.declared.forms.Subject.TheVariants.{Input, Picked}
 use Rattle.zs_term.specs.declared.forms.Scale.{Scale}
 use Rattle.zs_term.specs.declared.part.Part.{Part}
-use Rattle.zs_term.specs.declared.parser.Frame.{Frame as FrameKept}
-use Rattle.zs_term.specs.declared.parser.Frame.TheVariants.{Left, Right}
+use Rattle.zs_term.specs.declared.parser.Frames.{Frames}
+use Rattle.zs_term.specs.declared.parser.Joined.{Joined}
 use Rattle.zs_term.specs.declared.parser.Mode.{Mode as ModeKept}
 use Rattle.zs_term.specs.declared.parser.Mode.TheVariants.{Start, Opening, Counting, ExpOpening, ExpCounting, Based, Factored, Closing, After, Dotted, Method, Picking, Testing, Comparing, Mapping, Scaling}
 
@@ -89,19 +89,18 @@ keep build = record {
 abbrev pub kept_of : Part → Kept
 kept_of p = record { depth = p.depth; weight = p.weight; schedule = option_map (λ b. schedule_of b.value) p.term }
 
--- what the code keeps of an open form
-abbrev pub frame_of : FrameKept → Frame Kept
-frame_of Left = left
-frame_of (Right i p) = right i (kept_of p)
+-- forms of which no operator was read, innermost
+abbrev pub bare_onto : ℕ → List (Frame Kept) → List (Frame Kept)
+bare_onto n fs = replicate n left ++ fs
 
--- the innermost frame first
-abbrev pub stack_onto : List (Frame Kept) → List FrameKept → List (Frame Kept)
-stack_onto fs [] = fs
-stack_onto fs (k ∷ ks) = stack_onto (frame_of k ∷ fs) ks
+-- forms of which the operator was read, the innermost first
+abbrev pub joined_onto : List (Frame Kept) → List Joined → List (Frame Kept)
+joined_onto fs [] = fs
+joined_onto fs (k ∷ ks) = joined_onto (right k.form (kept_of k.left) ∷ bare_onto k.before fs) ks
 
 -- what the code keeps of all open forms
-abbrev pub stack_of : List FrameKept → List (Frame Kept)
-stack_of ks = stack_onto [] ks
+abbrev pub stack_of : Frames → List (Frame Kept)
+stack_of frames = bare_onto frames.bare (joined_onto [] frames.joined.items)
 
 -- what the code keeps of the innermost form
 abbrev pub mode_of : ModeKept → Mode Kept (Option ℕ)

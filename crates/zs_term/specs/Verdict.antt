@@ -39,10 +39,18 @@ abbrev pub with_numbers_at : Schedule → Option ℕ → Result Schedule TermFau
 with_numbers_at t (Some place) = Err (BadNumber place)
 with_numbers_at t None = if has_factors t then with_kind t (kind_of t) else Err BadFactor
 
+-- a term with the place of its first number above 2 ^ 64 - 1
+abbrev pub judged_term : Schedule → Option ℕ → Result Schedule TermFault
+judged_term t huge = if is_within_limits t then with_numbers_at t huge else Err TooBig
+
+-- a term made by hand, whose numbers all fit: the schedule that it is, or its one fault
+abbrev pub checked_as : Schedule → Result Schedule TermFault
+checked_as t = judged_term t None
+
 -- a text of which this is the term, or the place at which it is none
 abbrev pub judged : List ℕ → Result Schedule ℕ → Result Schedule TermFault
 judged text (Err place) = Err (NoTerm place)
-judged text (Ok t) = if is_within_limits t then with_numbers_at t (first_huge (lexed text).tokens) else Err TooBig
+judged text (Ok t) = judged_term t (first_huge (lexed text).tokens)
 
 -- the schedule that a text spells, or its one fault
 abbrev pub verdict_of : List ℕ → Result Schedule TermFault

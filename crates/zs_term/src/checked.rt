@@ -1,10 +1,11 @@
 // Terms that were checked.
 
-ghost use Rattle.std.specs.Prelude.{◌≡◌, ◌+◌, ◌*◌, ◌<◌, Some, IfOk, IfErr, true, false, ◌↔◌};
+ghost use Rattle.std.specs.Prelude.{◌≡◌, ◌≢◌, ◌+◌, ◌*◌, ◌<◌, Some, IfOk, IfErr, MatchResult, true, false, ◌↔◌};
 ghost use Rattle.zs_term.specs.Schedule.{schedule_of, is_within_limits, has_factors};
 ghost use Rattle.zs_term.specs.OutputKind.{output_kind_of};
 ghost use Rattle.zs_term.specs.Kinds.{kind_of, takes_memory, IsSchedule};
 ghost use Rattle.zs_term.specs.Causes.{IsTermCause};
+ghost use Rattle.zs_term.specs.Verdict.{checked_as};
 ghost use Rattle.zs_term.specs.Shape.{steps_to_give_up};
 
 use crate::fault::TermFault;
@@ -59,6 +60,7 @@ impl Checked {
 }
 
 /// Checks a term: the schedule that it is, or the first fault of it. The term is given up on a refusal, in the same stack however deep it is.
+#[tactic(auto, using(crate::proofs::Verdicts::fault_as))]
 pub fn check(alloc: Global, term: Term) -> Result<Checked, TermFault>
     ensures ok { IfOk result (λ checked. checked ≡ term) }
     ensures schedule { IfOk result (λ checked. IsSchedule (schedule_of checked)) }
@@ -66,29 +68,44 @@ pub fn check(alloc: Global, term: Term) -> Result<Checked, TermFault>
     ensures err { IfErr result (IsTermCause (schedule_of term)) }
     ensures too_big { result ≡ Err TermFault.TooBig ↔ is_within_limits (schedule_of term) ≡ false }
     ensures bad_factor { result ≡ Err TermFault.BadFactor ↔ ((is_within_limits (schedule_of term) ≡ true) × (has_factors (schedule_of term) ≡ false)) }
+    ensures verdict { MatchResult result (λ checked. checked_as (schedule_of term) ≡ Ok (schedule_of checked)) (λ fault. fault ≢ TermFault.Memory → checked_as (schedule_of term) ≡ Err fault) }
     ensures memory { result ≡ Err TermFault.Memory → takes_memory (schedule_of term) ≡ true }
 {
-    match judged(alloc, &term) {
+    if !is_within_limits(&term) {
+        give_up(term);
+        return Err(TermFault::TooBig);
+    }
+    check_small(alloc, term)
+}
+
+/// Checks a term that is within the limits.
+#[tactic(auto, using(crate::proofs::Verdicts::schedule_as, crate::proofs::Verdicts::fault_as))]
+pub(crate) fn check_small(alloc: Global, term: Term) -> Result<Checked, TermFault>
+    requires within { is_within_limits (schedule_of term) ≡ true }
+    ensures ok { IfOk result (λ checked. checked ≡ term) }
+    ensures schedule { IfOk result (λ checked. IsSchedule (schedule_of checked)) }
+    ensures err { IfErr result (IsTermCause (schedule_of term)) }
+    ensures small { result ≢ Err TermFault.TooBig }
+    ensures bad_factor { result ≡ Err TermFault.BadFactor ↔ has_factors (schedule_of term) ≡ false }
+    ensures verdict { MatchResult result (λ checked. checked_as (schedule_of term) ≡ Ok (schedule_of checked)) (λ fault. fault ≢ TermFault.Memory → checked_as (schedule_of term) ≡ Err fault) }
+    ensures memory { result ≡ Err TermFault.Memory → takes_memory (schedule_of term) ≡ true }
+{
+    match kind_in(alloc, &term) {
         Ok(kind) => Ok(Checked { term, kind }),
-        Err(fault) => {
-            give_up(term);
-            Err(fault)
-        }
+        Err(fault) => Err(fault),
     }
 }
 
 // The kind of a term that is a schedule, or its first fault.
-fn judged(alloc: Global, term: &Term) -> Result<Kind, TermFault>
+fn kind_in(alloc: Global, term: &Term) -> Result<Kind, TermFault>
+    requires within { is_within_limits (schedule_of term.now) ≡ true }
     ensures schedule { IfOk result (λ kind. IsSchedule (schedule_of term.now)) }
     ensures kind { IfOk result (λ kind. kind_of (schedule_of term.now) ≡ Some (output_kind_of kind)) }
     ensures err { IfErr result (IsTermCause (schedule_of term.now)) }
-    ensures too_big { result ≡ Err TermFault.TooBig ↔ is_within_limits (schedule_of term.now) ≡ false }
-    ensures bad_factor { result ≡ Err TermFault.BadFactor ↔ ((is_within_limits (schedule_of term.now) ≡ true) × (has_factors (schedule_of term.now) ≡ false)) }
+    ensures small { result ≢ Err TermFault.TooBig }
+    ensures bad_factor { result ≡ Err TermFault.BadFactor ↔ has_factors (schedule_of term.now) ≡ false }
     ensures memory { result ≡ Err TermFault.Memory → takes_memory (schedule_of term.now) ≡ true }
 {
-    if !is_within_limits(term) {
-        return Err(TermFault::TooBig);
-    }
     if !has_factors(term) {
         return Err(TermFault::BadFactor);
     }

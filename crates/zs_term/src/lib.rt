@@ -34,7 +34,7 @@ pub use laws::{
     verdict_is_the_one,
 };
 pub use out_text::{NoMemory, append_out, write_out};
-pub use outputs::{Out, Outs, copy_all, make_left, make_list, make_pair, make_right};
+pub use outputs::{Out, Outs, make_left, make_list, make_pair, make_right};
 pub use printer::write;
 pub use reader::read;
 pub use term::{Cmp, Func, Pick, Term, Test};

@@ -206,9 +206,9 @@ impl Outs {
     }
 }
 
-/// Outputs of the same values. Their lists may lie in the same memory; nothing else of them does.
+// Outputs of the same values. Their lists may lie in the same memory; nothing else of them does.
 #[cycle(copy)]
-pub fn copy_all(alloc: Global, outs: &[Out]) -> Result<Vec<Out>, AllocError>
+fn copy_all(alloc: Global, outs: &[Out]) -> Result<Vec<Out>, AllocError>
     ensures ok { IfOk result (λ r. outputs_of r.items ≡ outputs_of outs.now) }
 {
     let mut copies = Vec::new(alloc);

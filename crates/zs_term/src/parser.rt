@@ -1,7 +1,7 @@
 // What has been read of a text, and which token may come next.
 
-ghost use Rattle.std.specs.Prelude.{◌≡◌, option_map, IfOk};
-ghost use Rattle.zs_term.specs.Machine.{argument, begin_leaf, open_mark, close_mark, base_mark, dot_mark, pick_mark, test_mark, map_mark, inner_mark, join_mark, step_mark, step_number, at};
+ghost use Rattle.std.specs.Prelude.{◌≡◌, ◌∷◌, option_map, IfOk, OnOk};
+ghost use Rattle.zs_term.specs.Machine.{argument, begin_leaf, open_mark, close_mark, base_mark, dot_mark, pick_mark, test_mark, map_mark, inner_mark, join_mark, step_mark, step_number, at, left};
 ghost use Rattle.zs_term.specs.Parts.{kept_of, mode_of, stack_of, keep};
 
 use crate::forms::{Action, Counted, Infix, Method, Scale, Subject};
@@ -10,13 +10,24 @@ use crate::term::{Cmp, Func, Pick};
 use crate::token::Mark;
 use std::alloc::{AllocError, Global};
 
-/// What was read of an infix form: `(`, or `(S op`.
+/// The infix forms that are open. A `(` takes no memory before its operator is read.
 #[derive(Drop)]
-pub enum Frame {
-    /// `(`
-    Left,
-    /// `(S op`
-    Right(Infix, Part),
+pub struct Frames {
+    /// How many `(` without an operator are innermost.
+    pub bare: u64,
+    /// The forms outside of these of which the operator was read, the innermost last.
+    pub joined: Vec<Joined>,
+}
+
+/// `(S op`
+#[derive(Drop)]
+pub struct Joined {
+    /// How many `(` without an operator are open right before it.
+    pub before: u64,
+    /// The operator.
+    pub form: Infix,
+    /// The part on its left.
+    pub left: Part,
 }
 
 /// What was read since the innermost frame, and so what may come next.
@@ -189,30 +200,45 @@ fn on_close(next: Mode, mark: Mark) -> Option<Mode>
     }
 }
 
+// One `(` more. As many as would not fit the count are never open: no text is that long.
+#[tactic(auto, using(crate::proofs::Stacks::bare_more))]
+fn open(frames: &mut Frames) -> Result<(), AllocError>
+    ensures value { OnOk result (stack_of frames.new ≡ left ∷ stack_of frames.old) }
+{
+    frames.bare = frames.bare.checked_add(1).ok_or(AllocError)?;
+    Ok(())
+}
+
 // The token behind a whole term, but for a dot.
-#[tactic(auto, using(crate::proofs::Stacks::stack_push))]
+#[tactic(auto, using(crate::proofs::Stacks::joined_push, crate::proofs::Stacks::bare_first, crate::proofs::Stacks::bare_none))]
 fn join_behind(
     alloc: Global,
     build: bool,
-    frames: &mut Vec<Frame>,
+    frames: &mut Frames,
     part: Part,
     mark: Mark,
 ) -> Result<Option<Mode>, AllocError>
-    ensures value { IfOk result (λ next. option_map (λ m. at (stack_of frames.new.items) (mode_of m)) next ≡ join_mark (keep build) (stack_of frames.old.items) (kept_of part) mark) }
+    ensures value { IfOk result (λ next. option_map (λ m. at (stack_of frames.new) (mode_of m)) next ≡ join_mark (keep build) (stack_of frames.old) (kept_of part) mark) }
 {
-    match frames.pop() {
-        None => Ok(None),
-        Some(Frame::Left) => match mark {
+    if 0 < frames.bare {
+        return match mark {
             Mark::Operator(form) => {
-                frames.push(Frame::Right(form, part))?;
+                let before = frames.bare - 1;
+                let left = part;
+                frames.joined.push(Joined { before, form, left })?;
+                frames.bare = 0;
                 Ok(Some(Mode::Start))
             }
             _ => Ok(None),
-        },
-        Some(Frame::Right(form, left)) => match mark {
+        };
+    }
+    match frames.joined.pop() {
+        None => Ok(None),
+        Some(Joined { before, form, left }) => match mark {
             Mark::Close => {
-                let joined = Part::join(alloc, form, left, part)?;
-                Ok(Some(Mode::After(joined)))
+                frames.bare = before;
+                let whole = Part::join(alloc, form, left, part)?;
+                Ok(Some(Mode::After(whole)))
             }
             _ => Ok(None),
         },
@@ -249,20 +275,20 @@ fn within_form(
 }
 
 /// What may come behind a word or symbol, if it may come itself.
-#[tactic(auto, using(crate::proofs::Stacks::stack_push, crate::proofs::Stacks::map_map))]
+#[tactic(auto, using(crate::proofs::Stacks::map_map))]
 pub fn after_mark(
     alloc: Global,
     build: bool,
-    frames: &mut Vec<Frame>,
+    frames: &mut Frames,
     mode: Mode,
     mark: Mark,
 ) -> Result<Option<Mode>, AllocError>
-    ensures value { IfOk result (λ next. option_map (λ m. at (stack_of frames.new.items) (mode_of m)) next ≡ step_mark (keep build) (stack_of frames.old.items) (mode_of mode) mark) }
+    ensures value { IfOk result (λ next. option_map (λ m. at (stack_of frames.new) (mode_of m)) next ≡ step_mark (keep build) (stack_of frames.old) (mode_of mode) mark) }
 {
     match mode {
         Mode::Start => match mark {
             Mark::Open => {
-                frames.push(Frame::Left)?;
+                open(frames)?;
                 Ok(Some(Mode::Start))
             }
             _ => begin_leaf(alloc, build, mark),

@@ -11,11 +11,11 @@ ghost use Rattle.zs_term.specs.Reading.{SoFar, IsWhole, huge_with};
 ghost use Rattle.zs_term.specs.Verdict.{verdict_of};
 ghost use Rattle.zs_term.specs.declared.fault.TermFault.TheVariants.{Memory};
 
-use crate::checked::{Checked, check};
+use crate::checked::{Checked, check_small};
 use crate::fault::TermFault;
 use crate::lexer::{Scan, scan_at};
 use crate::limits::{MAX_DEPTH, MAX_WEIGHT};
-use crate::parser::{Frame, Mode, after_mark, after_number};
+use crate::parser::{Frames, Mode, after_mark, after_number};
 use crate::part::Part;
 use crate::term::Term;
 use crate::token::Lexeme;
@@ -25,11 +25,11 @@ use std::alloc::{AllocError, Global};
 fn after_lexeme(
     alloc: Global,
     build: bool,
-    frames: &mut Vec<Frame>,
+    frames: &mut Frames,
     mode: Mode,
     lexeme: Lexeme,
 ) -> Result<Option<Mode>, AllocError>
-    ensures value { (t : Token) → IsLexeme lexeme t → IfOk result (λ next. option_map (λ m. at (stack_of frames.new.items) (mode_of m)) next ≡ step (keep build) (Some (at (stack_of frames.old.items) (mode_of mode))) t) }
+    ensures value { (t : Token) → IsLexeme lexeme t → IfOk result (λ next. option_map (λ m. at (stack_of frames.new) (mode_of m)) next ≡ step (keep build) (Some (at (stack_of frames.old) (mode_of mode))) t) }
 {
     match lexeme {
         Lexeme::Mark(mark) => after_mark(alloc, build, frames, mode, mark),
@@ -52,10 +52,10 @@ fn huge_behind(huge: Option<u64>, place: usize, lexeme: Lexeme) -> Option<u64>
 
 // The whole term that was read, if nothing is open.
 #[tactic(auto, using(crate::proofs::Stacks::stack_empty))]
-fn finish(frames: &[Frame], mode: Mode) -> Option<Part>
+fn finish(frames: &Frames, mode: Mode) -> Option<Part>
     ensures value { MatchOption result ((a : Kept) → at (stack_of frames.now) (mode_of mode) ≢ at [] (after a)) (λ part. at (stack_of frames.now) (mode_of mode) ≡ at [] (after (kept_of part))) }
 {
-    if !frames.is_empty() {
+    if 0 < frames.bare || !frames.joined.is_empty() {
         return None;
     }
     match mode {
@@ -83,7 +83,10 @@ fn whole(alloc: Global, build: bool, text: &[u8]) -> Result<(Part, Option<u64>),
     ensures ok { IfOk result (λ found. IsWhole build text.now (kept_of found.0) found.1) }
     ensures err { IfErr result (IsCause text.now) }
 {
-    let mut frames: Vec<Frame> = Vec::new(alloc);
+    let mut frames = Frames {
+        bare: 0,
+        joined: Vec::new(alloc),
+    };
     let mut mode = Mode::Start;
     let mut huge: Option<u64> = None;
     let mut from: usize = 0;
@@ -157,7 +160,7 @@ fn judged(alloc: Global, text: &str) -> Result<Checked, TermFault>
     ensures err { IfErr result (IsCause text.now) }
 {
     let term = term_in(alloc, text.as_bytes())?;
-    check(alloc, term)
+    check_small(alloc, term)
 }
 
 /// Reads the schedule that a text spells. Of the faults of the text the first is answered, in the order of `TermFault`.
