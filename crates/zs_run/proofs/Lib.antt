@@ -12,3 +12,7 @@ pub mod Endings
 pub mod OnLiterals
 pub mod Rows
 pub mod Parts
+pub mod Splits
+pub mod OutputsApart
+pub mod LinesApart
+pub mod ReportsApart

@@ -1,17 +1,20 @@
-pub mod Streams
-pub mod Marked
+-- What the clauses of callers name, and so what has to be believed.
 pub mod Tree
 pub mod Refusals
 pub mod Shapes
-pub mod ShapeViews
 pub mod Jobs
-pub mod Names
 pub mod Plan
 pub mod PlanView
 pub mod Lawful
 pub mod Report
 pub mod ReportView
 pub mod PlanReport
+pub mod Told
 pub mod Status
+pub mod Marked
 pub mod Headline
+-- What the bodies keep: private contracts alone name these.
+pub mod ShapeViews
+pub mod Names
+pub mod Streams
 pub mod Reading

@@ -1,11 +1,14 @@
 // Laws of plans and reports, above their definitions.
 
-ghost use Rattle.std.specs.Prelude.{◌≡◌, ◌++◌, ◌+◌, ℕ, List, Ok, sum_by};
-ghost use Rattle.std.specs.List.{flat_map};
+ghost use Rattle.std.specs.Prelude.{◌≡◌, ◌++◌, ◌+◌, ℕ, List, None, Ok, sum_by};
+ghost use Rattle.std.specs.List.{All, Any, flat_map};
+ghost use Rattle.zs_agenda.specs.Ticks.{IsClock};
 ghost use Rattle.zs_drive.specs.Values.{JobRecord};
 ghost use Rattle.zs_run.specs.Lawful.{IsLawful};
 ghost use Rattle.zs_run.specs.Plan.{PlanRecord, plan_of};
 ghost use Rattle.zs_run.specs.PlanReport.{jobs_text, polls_of, report_of, with_total};
+ghost use Rattle.zs_run.specs.Report.{JobReport, report_text};
+ghost use Rattle.zs_run.specs.Told.{CanBeTold, Fits, reported};
 
 /// A plan's report is that of its parts put together: the jobs' lines of each part in order, and one last line with the sum of their polls.
 /// Neither a part's workers nor its grain matter.
@@ -24,4 +27,17 @@ pub fn the_cut_changes_nothing()
 /// has a lawful name, a schedule and a script.
 pub fn accepted_plans_are_lawful()
     ensures lawful { (bytes : List ℕ) (plan : PlanRecord) → plan_of bytes ≡ Ok plan → IsLawful plan }
+{}
+
+/// Reports tell apart: lists of jobs with the same text are the same, with the same names, modes, attempts, outputs, endings and polls,
+/// and so are the totals and, where a job is unfinished, the horizons.
+pub fn reports_tell_apart()
+    ensures jobs { (h k : ℕ) (xs ys : List JobReport) (p q : ℕ) → Fits h → Fits k → All CanBeTold xs → All CanBeTold ys
+        → report_text h xs p ≡ report_text k ys q → xs ≡ ys }
+    ensures totals { (h k : ℕ) (xs ys : List JobReport) (p q : ℕ) → Fits h → Fits k → All CanBeTold xs → All CanBeTold ys
+        → Fits p → Fits q → report_text h xs p ≡ report_text k ys q → p ≡ q }
+    ensures horizons { (h k : ℕ) (xs ys : List JobReport) (p q : ℕ) → Fits h → Fits k → All CanBeTold xs → All CanBeTold ys
+        → Any (λ (job : JobReport). job.ending ≡ None) xs → report_text h xs p ≡ report_text k ys q → h ≡ k }
+    ensures plans { (p q : PlanRecord) → IsClock p.clock → IsClock q.clock → All CanBeTold (reported p) → All CanBeTold (reported q)
+        → report_of p ≡ report_of q → reported p ≡ reported q }
 {}

@@ -27,7 +27,9 @@ mod streams;
 mod transfer;
 mod tree;
 
-pub use laws::{accepted_plans_are_lawful, reports_join, the_cut_changes_nothing};
+pub use laws::{
+    accepted_plans_are_lawful, reports_join, reports_tell_apart, the_cut_changes_nothing,
+};
 pub use marked::Marked;
 pub use plan::Plan;
 pub use plan_fault::PlanFault;
