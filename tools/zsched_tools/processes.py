@@ -1,4 +1,4 @@
-"""Work that is shared by processes, one for each processor."""
+"""Work that is shared by processes, one for each processor. Elsewhere than on Linux one process does it."""
 import multiprocessing
 import os
 import signal
@@ -9,7 +9,7 @@ def in_order(function, items):
 
     A process begins as a copy of this one, so what a hash of a text is here it is there. A process has at most one
     answer that wasn't asked for yet, beside what a pipe holds."""
-    count = min(len(items), len(os.sched_getaffinity(0)))
+    count = min(len(items), len(os.sched_getaffinity(0)) if hasattr(os, "sched_getaffinity") else 1)
     if count < 2:
         yield from map(function, items)
         return
