@@ -1,11 +1,12 @@
 #!/usr/bin/env python3
-"""Runs the built program on eighteen plans under valgrind: memcheck, helgrind and drd.
+"""Runs the built program on a dozen plans and on many jobs under valgrind, each cut in several ways: by memcheck, and
+where there are several workers by helgrind and drd. The rounds of the heavy jobs start threads.
 
     python3 tests/valgrind.py
 
 Each report has to be the right one. memcheck has to name no error and no lost memory. helgrind and drd may name only reads
-of a queue's places by the queue itself, as docs/GUARANTEES.md explains. It isn't part of ./check, since it needs valgrind.
-The last line is 'N passed, M failed'."""
+of a queue's places by the queue itself, as docs/GUARANTEES.md explains. It isn't part of ./check, since it needs valgrind,
+and takes some ten minutes. The last line is 'N passed, M failed'."""
 import json
 import pathlib
 import shutil
@@ -18,22 +19,23 @@ sys.dont_write_bytecode = True
 from program import TOP, ZSCHED, Count, equal_jobs, heavy_jobs, job, plan, run
 
 PLANS = [
-    "backoff_with_a_cap_on_tries", "collected_inputs", "a_done_part_goes_on_again", "attempts_end_at_listed_ticks",
-    "fixed_runs_behind", "windows_wait_when_behind", "no_jobs", "seven_jobs",
+    "a_done_part_goes_on_again", "attempts_end_at_listed_ticks", "backoff_with_a_cap_on_tries", "collected_inputs",
+    "collected_pairs_sides_and_lists", "fixed_runs_behind", "no_jobs", "resets_over_resets", "seven_jobs",
+    "seven_jobs_on_listed_ticks", "thirteen_jobs", "windows_wait_when_behind",
 ]
 
-# Plans, each with a number of workers and a grain of its own.
-CUTS = [
-    ("seven_jobs", 1, 1), ("seven_jobs", 2, 1), ("seven_jobs", 7, 1), ("seven_jobs_on_listed_ticks", 64, 1),
-]
+# The workers and grains under which each plan runs, and a number of jobs that makes several batches of each grain.
+CUTS = [(1, 1), (2, 1), (4, 100), (64, 10)]
+MANY = 250
 
 # The cuts of jobs whose rounds start threads.
 HEAVY_CUTS = [(2, 1), (4, 3), (4, 20), (64, 10)]
 
+# The checkers with their words, and the cuts that tell them something: without a second worker no thread is started.
 TOOLS = {
-    "memcheck": ["--leak-check=full", "--show-leak-kinds=all"],
-    "helgrind": [],
-    "drd": [],
+    "memcheck": (["--leak-check=full", "--show-leak-kinds=all"], CUTS),
+    "helgrind": ([], CUTS[1:]),
+    "drd": ([], CUTS[1:]),
 }
 
 # The functions that read what another thread wrote with no lock between them.
@@ -50,19 +52,23 @@ def report_of(name):
     return path_of(name).with_suffix(".json.stdout").read_bytes()
 
 
-def cases():
-    """Names, plans, and how they have to end."""
-    found = [(name, path_of(name).read_bytes(), (0, report_of(name))) for name in PLANS]
-    for name, workers, grain in CUTS:
-        tree = json.loads(path_of(name).read_bytes())
-        tree.update(workers=workers, grain=grain)
-        found.append((f"{name}, {workers} workers, grain {grain}", json.dumps(tree).encode(), (0, report_of(name))))
-    text, report = equal_jobs([f"job{number}" for number in range(100)], 4, 5)
-    found.append(("a hundred jobs, 4 workers, grain 5", text, (0, report)))
+def recut(text, workers, grain):
+    """A plan with other numbers of workers and of jobs in a batch."""
+    return json.dumps({**json.loads(text), "workers": workers, "grain": grain}).encode()
+
+
+def cases(cuts):
+    """Names, plans under each of these cuts, and how they have to end."""
+    found = [("a schedule that is none", plan([job(schedule="(recurs(1) && recurs(2)")]), (2, b""))]
+    for workers, grain in cuts:
+        told = f"{workers} workers, grain {grain}"
+        for name in PLANS:
+            found.append((f"{name}, {told}", recut(path_of(name).read_bytes(), workers, grain), (0, report_of(name))))
+        text, report = equal_jobs([f"job{number}" for number in range(MANY)], workers, grain)
+        found.append((f"{MANY} jobs, {told}", text, (0, report)))
     for workers, grain in HEAVY_CUTS:
         text, report = heavy_jobs(workers, grain)
         found.append((f"heavy jobs, {workers} workers, grain {grain}", text, (0, report)))
-    found.append(("a schedule that is none", plan([job(schedule="(recurs(1) && recurs(2)")]), (2, b"")))
     return found
 
 
@@ -93,9 +99,9 @@ def main():
     count = Count()
     with tempfile.TemporaryDirectory() as folder:
         file = pathlib.Path(folder) / "errors.xml"
-        for tool, flags in TOOLS.items():
+        for tool, (flags, cuts) in TOOLS.items():
             of_queues = 0
-            for name, text, wanted in cases():
+            for name, text, wanted in cases(cuts):
                 words = ["valgrind", "-q", f"--tool={tool}", "--xml=yes", f"--xml-file={file}", *flags, ZSCHED]
                 status, output, _ = run(words, text, seconds=300)
                 count.test(f"{tool}, {name}", (status, output), wanted)

@@ -32,9 +32,16 @@ def split(marked):
 
 def told(data, status, line):
     """What the command writes about a plan on which the program ended so: its status, output and errors."""
+    look = explain.Look(data)
+    look.start()
+    return told_of(look, status, line)
+
+
+def told_of(look, status, line):
+    """The same, where a look through the plan has begun."""
     output, errors = io.StringIO(), io.StringIO()
     with contextlib.redirect_stdout(output), contextlib.redirect_stderr(errors):
-        ended = explain.tell("plan.json", data, status, line)
+        ended = explain.tell("plan.json", look, status, line)
     return ended, output.getvalue(), errors.getvalue()
 
 
@@ -176,20 +183,22 @@ class Changes(unittest.TestCase):
         texts = [path.read_text() for path in sorted((TOP / "examples").glob("*.json"))]
         counts = {"accepted": 0, "refused": 0, "other": 0}
         for number, data in enumerate(changed_plans(texts, CHANGED, seed=20)):
+            look = explain.Look(data)
             try:
-                status, line = explain.refusal(zsched, data, SECONDS)
+                status, line = explain.refusal(zsched, look, SECONDS)
             except subprocess.TimeoutExpired:
                 status, line = None, ""
             if status in (0, 2):
-                self.look_at(number, data, status, line)
+                self.look_at(number, look, status, line)
             counts[{0: "accepted", 2: "refused"}.get(status, "other")] += 1
         self.assertGreater(counts["refused"], CHANGED // 2)
         self.assertGreater(counts["accepted"], CHANGED // 50)
         self.assertLess(counts["other"], CHANGED // 50, counts)
 
-    def look_at(self, number, data, status, line):
+    def look_at(self, number, look, status, line):
         """What the command writes on one plan."""
-        ended, output, errors = told(data, status, line)
+        data = look.data
+        ended, output, errors = told_of(look, status, line)
         self.assertEqual(ended, status, number)
         if status == 0:
             self.assertEqual((output, errors), ("plan.json: no fault\n", ""))
@@ -201,6 +210,57 @@ class Changes(unittest.TestCase):
         lines = data.decode(errors="replace").split("\n")
         row, column = map(int, places[0])
         self.assertTrue(1 <= row <= len(lines) and 1 <= column <= len(lines[row - 1]) + 1, data)
+
+
+class Large(unittest.TestCase):
+    """Plans of nearly 16 MB of the parts that take longest, with a fault at their end or without one."""
+
+    SIZE = 16_000_000
+
+    def setUp(self):
+        self.zsched = program.find()
+
+    def jobs(self, entries, entry):
+        """The front of a plan: jobs of so many entries, and their number."""
+        script = f'"script":[{",".join([entry] * entries)}]'
+        number = self.SIZE // len(job(script=script)) + 1
+        return '{"horizon":1000,"jobs":[' + "".join(job(f"j{at}", script=script) + "," for at in range(number)), number
+
+    def told_of(self, marked):
+        """What the command writes of a plan, whose sign may stand at the place that is told."""
+        text, _, column = split(marked) if "»" in marked else (marked, 0, 0)
+        self.assertTrue(self.SIZE <= len(text) <= program.MAX_BYTES, len(text))
+        look = explain.Look(text.encode())
+        ended, output, errors = told_of(look, *explain.refusal(self.zsched, look))
+        self.assertEqual(PLACE.findall(errors), [("1", str(column))] if column else [], errors)
+        return ended, output, errors.split("\n")[0]
+
+    def test_small_entries(self):
+        front, number = self.jobs(1000, '{"ms":1,"ok":1}')
+        for last, fault in [
+                ('[{"ms":1,"ok":1}]}]}', None),
+                ('[{"ms":1,"ok":1}»,]}]}', "plan is not JSON"),
+                ('[{"ms":1,"ok":1},{"ms":»0,"ok":1}]}]}', f"job {number}: script: an entry takes 0 ms"),
+                ('[{"ms":1,"ok":1}]}],"grain":»0}', "plan: out of range")]:
+            with self.subTest(fault):
+                found = self.told_of(f'{front}{{"name":"z","mode":"retry","schedule":"recurs(3)","script":{last}')
+                wanted = (2, "", f"zsched: {fault}") if fault else (0, "plan.json: no fault\n", "")
+                self.assertEqual(found, wanted)
+
+    def test_jobs_with_64_entries(self):
+        front, number = self.jobs(64, '{"ms":1000,"ok":1732050807}')
+        for last, fault in [
+                ('{"name":"z","mode":"retry","schedule":"recurs(3»s)"', "schedule: no term at byte 8"),
+                ('{"name":"z","mode":"retry","schedule":»5', "wrong shape"),
+                ('{"name":»"j0","mode":"retry","schedule":"recurs(3)"', "name used before")]:
+            with self.subTest(fault):
+                found = self.told_of(f'{front}{last},"script":[{{"ms":1,"ok":1}}]}}]}}')
+                self.assertEqual(found, (2, "", f"zsched: job {number}: {fault}"))
+
+    def test_ticks(self):
+        ticks = ",".join(map(str, range(10**14, 10**14 + 10**6)))
+        found = self.told_of(f'{{"jobs":[],"ticks":[{ticks},»7]}}')
+        self.assertEqual(found, (2, "", "zsched: plan: out of range"))
 
 
 class Use(unittest.TestCase):
@@ -274,6 +334,13 @@ class Use(unittest.TestCase):
             other.chmod(0o755)
             status, output, errors = self.run_command("plan.json", "--zsched", str(other))
             self.assertEqual((status, output, errors), (wanted, "", "zsched: out of memory\n" if wanted == 4 else ""))
+
+    def test_a_look_is_given_up_where_the_plan_has_no_fault(self):
+        other = self.folder / "other"
+        other.write_text("#!/bin/sh\nexit 0\n")
+        other.chmod(0o755)
+        plan = b"[" * 50 + b'[{"a":1,"b":2}' + b',{"a":1,"b":2}' * 10**6 + b"]" * 51
+        self.assertEqual(self.run_command("--zsched", str(other), text=plan), (0, "standard input: no fault\n", ""))
 
     def test_words_that_it_does_not_take(self):
         for arguments in [["--nothing"], ["plan.json", "good.json"], ["--zsched"]]:

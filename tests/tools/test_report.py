@@ -453,6 +453,14 @@ class Join(unittest.TestCase):
         late = self.part("late", RETRIED.replace("5..10", "5..10000").replace("at 10", "at 10000"))
         self.assertTrue(self.refused(late, second).startswith("second: line 8 is at odds with a horizon of 4000"))
 
+    def test_of_two_bad_parts_the_first_is_named(self):
+        good, cut, foreign = self.part("good", WAITING), self.part("cut", RETRIED[:-1]), self.part("foreign", RUNNING)
+        for number in range(8):
+            others = [self.part(f"good-{at}", RETRIED.replace("job a", f"job a{at}")) for at in range(number)]
+            self.assertTrue(self.refused(*others, cut, good, foreign).startswith("cut: line 6 is cut"))
+            said = self.refused(good, *others, foreign, cut)
+            self.assertTrue(said.startswith("foreign: line 11 has another horizon"), said)
+
     def test_what_is_no_file_is_refused(self):
         self.assertEqual(self.refused("/dev/null"), "/dev/null: is no regular file, and a part is read twice")
 

@@ -1,5 +1,7 @@
-"""The cause of a fault, and how pieces of a plan are shown in words."""
+"""The cause of a fault, how pieces of a plan are shown in words, and how wide a line that is shown may be."""
 from typing import NamedTuple
+
+WIDTH = 100
 
 
 class Cause(NamedTuple):

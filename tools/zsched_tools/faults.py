@@ -1,4 +1,5 @@
 """Where the fault of a plan is that the program tells, and what is wrong there, by the rules of docs/FORMATS.md."""
+import functools
 import re
 
 from zsched_tools import json_reading, not_json
@@ -6,8 +7,8 @@ from zsched_tools.cause import Cause
 from zsched_tools.document_faults import DOCUMENT_FAULTS
 from zsched_tools.job_faults import JOB_FAULTS, schedule_fault, script_fault
 from zsched_tools.positions import Document
+from zsched_tools.program import MAX_BYTES
 
-MAX_BYTES = 16777216
 _OF_DOCUMENT = re.compile(r"plan: (?P<cause>wrong shape|unknown key|out of range)")
 _OF_JOB = re.compile(r"job (?P<job>\d+): (?P<cause>.+)")
 
@@ -22,22 +23,45 @@ class Explained:
         self.name = name
 
 
-def explained(data, fault):
-    """The place and the cause of a fault: of a plan's bytes, and of the program's words without 'zsched: '."""
-    try:
-        text = data.decode()
-    except UnicodeDecodeError as bad:
-        text = data.decode(errors="replace")
-        at = len(data[:bad.start].decode())
-        if fault == "plan is not JSON":
-            return Explained(text, not_json.no_utf8(data, text, at))
+class Plan:
+    """A plan's bytes as a text, and what was found in it so far. `no_utf8` is the place of the first byte that isn't
+    UTF-8, or None."""
+
+    def __init__(self, data):
+        self.data = data
+        try:
+            self.text, self.no_utf8 = data.decode(), None
+        except UnicodeDecodeError as bad:
+            self.text, self.no_utf8 = data.decode(errors="replace"), len(data[:bad.start].decode())
+
+    def look(self):
+        """Looks for all that takes time to find, before the fault is known."""
+        if self.no_utf8 is None and len(self.data) <= MAX_BYTES and self.no_json is None:
+            self.root.document.end_of(self.root.at)
+
+    @functools.cached_property
+    def no_json(self):
+        """The Cause where the text is no JSON, else None."""
+        return json_reading.fault_of(self.text)
+
+    @functools.cached_property
+    def root(self):
+        """The value that the text is, where it is JSON."""
+        return Document(self.text).root()
+
+
+def explained(plan, fault):
+    """The place and the cause of a fault: of a Plan, and of the program's words without 'zsched: '."""
+    data, text = plan.data, plan.text
     if fault.startswith("plan is longer than"):
         at = len(data[:MAX_BYTES].decode(errors="ignore"))
         what = f"{MAX_BYTES} bytes end here, and a plan has no more"
         return Explained(text, Cause(at, 0, what, "make plans of fewer jobs"))
     if fault == "plan is not JSON":
-        return Explained(text, json_reading.fault_of(text) or _unknown(0))
-    return _in_document(Document(text).root(), text, fault)
+        if plan.no_utf8 is not None:
+            return Explained(text, not_json.no_utf8(data, text, plan.no_utf8))
+        return Explained(text, plan.no_json or _unknown(0))
+    return _in_document(plan.root, text, fault)
 
 
 def _in_document(plan, text, fault):

@@ -1,11 +1,12 @@
 """One report of many: the jobs of the parts one after another, and the sum of their polls.
 
 All parts are read and held against each other before a byte is written; then they are copied. Neither keeps a part in
-memory."""
+memory. Parts are read by several processes."""
 import os
 import stat
 from dataclasses import dataclass
 
+from zsched_tools import processes
 from zsched_tools.command import Refused
 from zsched_tools.names import Names, first_repeat
 from zsched_tools.report import Reader, as_text, text_lines
@@ -15,11 +16,20 @@ PIECE = 2**20
 
 @dataclass
 class Part:
-    """A report that was read: the place of its last line, and what tells that it is still the same file."""
+    """A report that was read: the place of its last line, what tells that it is still the same file, the horizon where
+    a job is unfinished, and the latest end of its jobs."""
     path: str
     length: int
     polls: int
     state: tuple
+    horizon: int | None
+    latest: int
+
+    def fits(self, horizon, latest):
+        """Whether its jobs may stand behind others of this horizon and latest end: no job ends after a horizon, and an
+        unfinished one ends there."""
+        horizons = {self.horizon, horizon} - {None}
+        return not horizons or horizons == {max(self.latest, latest)}
 
 
 def _state(file, path):
@@ -30,11 +40,11 @@ def _state(file, path):
     return found.st_dev, found.st_ino, found.st_size, found.st_mtime_ns
 
 
-def _read_part(path, names, before):
-    """Reads one part to its end, and holds its moments against the horizon of the reader of the part before it. Answers
-    the part and its reader."""
-    reader, last = Reader(), ""
-    reader.horizon, reader.latest = before.horizon, before.latest
+def _read_part(path, horizon=None, latest=0):
+    """Reads one part to its end, and holds its moments against those of the parts before it. Answers the part and its
+    names."""
+    reader, names, last = Reader(), Names(), ""
+    reader.horizon, reader.latest = horizon, latest
     with open(path, "rb") as file:
         state = _state(file, path)
         try:
@@ -47,7 +57,7 @@ def _read_part(path, names, before):
             reader.close()
         except Refused as refused:
             raise Refused(f"{path}: {refused}") from None
-    return Part(path, state[2] - len(last) - 1, reader.total.polls, state), reader
+    return Part(path, state[2] - len(last) - 1, reader.total.polls, state, reader.horizon, reader.latest), names
 
 
 def _named(paths):
@@ -61,12 +71,15 @@ def _named(paths):
 
 def checked(paths):
     """All parts, each a whole report, with no file and no name of a job twice, and at one horizon."""
-    names, parts, reader, files = Names(), [], Reader(), {}
-    for path in paths:
-        part, reader = _read_part(path, names, reader)
+    names, parts, files, horizon, latest = Names(), [], {}, None, 0
+    for path, (part, added) in zip(paths, processes.in_order(_read_part, paths)):
+        if not part.fits(horizon, latest):
+            part, added = _read_part(path, horizon, latest)
         if part.state[:2] in files:
             raise Refused(f"{path}: is the same file as {files[part.state[:2]]}, which is a part already")
         files[part.state[:2]] = path
+        names.add_all(added)
+        horizon, latest = part.horizon if horizon is None else horizon, max(latest, part.latest)
         parts.append(part)
     repeats = names.repeats()
     repeated = first_repeat(repeats, _named(paths)) if repeats else None

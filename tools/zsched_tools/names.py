@@ -6,7 +6,8 @@ _SIXTY_FOUR_BITS = 2**64 - 1
 
 
 def _mark(name):
-    """A number of 64 bits for a name: the same in all of this process, and rarely that of another name."""
+    """A number of 64 bits for a name: the same in this process and those that it forks, and rarely that of another
+    name."""
     return hash(name) & _SIXTY_FOUR_BITS
 
 
@@ -21,6 +22,11 @@ class Names:
         """One name more."""
         mark = _mark(name)
         self.buckets[mark % _BUCKETS].append(mark)
+
+    def add_all(self, others):
+        """All names of others more."""
+        for bucket, other in zip(self.buckets, others.buckets):
+            bucket.extend(other)
 
     def repeats(self):
         """The marks that stand twice."""

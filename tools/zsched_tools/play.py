@@ -77,7 +77,7 @@ def answer(zsched, fields, seconds):
 
 def placed(plan, told):
     """A fault of the program with its place: the field, the line with the caret's columns, the cause and the help."""
-    found = faults.explained(plan.encode(), told)
+    found = faults.explained(faults.Plan(plan.encode()), told)
     at, size, cause, help_text = found.cause
     begin = found.text.rfind("\n", 0, at) + 1
     line = found.text[begin:].split("\n", 1)[0]

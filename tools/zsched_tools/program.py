@@ -1,9 +1,10 @@
-"""Where the program is, and one run of it."""
+"""Where the program is, one run of it, and the length of the longest plan that it takes."""
 import os
 import pathlib
 import shutil
 import subprocess
 
+MAX_BYTES = 16777216
 BUILT = pathlib.Path(__file__).resolve().parents[2] / "crates" / "zsched" / "out" / "zsched"
 
 

@@ -1,0 +1,42 @@
+"""The lines that tell where the fault of a plan is: place, excerpt, cause, help and the job's name."""
+import unicodedata
+
+from zsched_tools.cause import WIDTH, line_of, shown
+from zsched_tools.faults import explained
+
+
+def explanation(name, plan, line):
+    """The lines that tell where in a Plan the fault is of which the program wrote this line."""
+    found = explained(plan, line.strip().removeprefix("zsched: "))
+    text, cause = found.text, found.cause
+    number, begin = line_of(text, cause.at), text.rfind("\n", 0, cause.at) + 1
+    source, mark = excerpt(text, begin, cause)
+    gutter = " " * len(str(number))
+    lines = [f"{gutter}--> {shown(name, WIDTH)}:{number}:{cause.at - begin + 1}", f"{gutter} |", f"{number} | {source}",
+             f"{gutter} | {mark} {cause.what}"]
+    if cause.help:
+        lines.append(f"{gutter} = help: {cause.help}")
+    if found.name is not None:
+        lines.append(f'{gutter} = job {found.job} is "{shown(found.name, 64)}"')
+    return "".join(line.rstrip() + "\n" for line in lines)
+
+
+def excerpt(text, begin, cause):
+    """The line of a cause, which begins there, cut where it is long, and the caret below it."""
+    end = text.find("\n", cause.at)
+    end = len(text) if end < 0 else end
+    end -= text[cause.at:end].endswith("\r")
+    first = begin if cause.at - begin <= WIDTH * 3 // 4 else cause.at - WIDTH // 2
+    last = min(end, first + WIDTH)
+    before, behind = (shown(part.replace("\t", " "), WIDTH) for part in (text[first:cause.at], text[cause.at:last]))
+    if first > begin:
+        before = ".. " + before.lstrip()
+    source = before + behind + (" .." if last < end else "")
+    size = max(1, min(cause.size, last - cause.at))
+    return source, " " * _columns(before) + "^" * max(1, _columns(behind[:size]))
+
+
+def _columns(text):
+    """How many columns of a terminal a text takes."""
+    wide = sum(unicodedata.east_asian_width(letter) in ("W", "F") for letter in text)
+    return len(text) + wide - sum(unicodedata.combining(letter) > 0 for letter in text)
