@@ -15,7 +15,7 @@ asked_view (Listed moments) = listed moments.items
 
 -- the parts of a document by what they stand for
 abbrev pub document_view : document.DocumentParts → DocumentParts
-document_view parts = record { workers = parts.workers; grain = parts.grain; jobs = map view parts.jobs.now }
+document_view parts = record { workers = parts.workers; grain = parts.grain; jobs = map view parts.jobs.items }
 
 -- the parts of a job by what they stand for
 abbrev pub job_view : job.JobParts → JobParts

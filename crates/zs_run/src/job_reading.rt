@@ -102,6 +102,18 @@ fn job_of(
     })
 }
 
+// The same of a value that is given up as soon as it is read.
+fn take_job(
+    alloc: Global,
+    number: u64,
+    names: &BTreeSet<String>,
+    value: Value,
+) -> Result<Job, PlanFault>
+    ensures value { (earlier : List (List ℕ)) → KnowsNames names.now earlier → Gives job_record result (job_of number earlier (view value)) }
+{
+    job_of(alloc, number, names, &value)
+}
+
 // Adds a job and its name to those before it.
 fn add_job(
     alloc: Global,
@@ -118,17 +130,18 @@ fn add_job(
     Ok(())
 }
 
-/// The jobs of a list, or the first fault. The names so far are kept in a set, so that each is looked up in short time.
-pub(crate) fn jobs_of(alloc: Global, values: &[Value]) -> Result<Vec<Job>, PlanFault>
-    requires room { length values.now < 2 ^ 64 }
-    ensures jobs { Gives (λ jobs. map job_record jobs.items) result (jobs_of 0 [] (map view values.now)) }
-    ensures count { IfOk result (λ jobs. length jobs.items ≡ length values.now) }
+/// The jobs of a list, or the first fault. Each is given up as soon as it is read, while it is at hand. The names so far
+/// are kept in a set, so that each is looked up in short time.
+pub(crate) fn jobs_of(alloc: Global, values: Vec<Value>) -> Result<Vec<Job>, PlanFault>
+    requires room { length values.items < 2 ^ 64 }
+    ensures jobs { Gives (λ jobs. map job_record jobs.items) result (jobs_of 0 [] (map view values.items)) }
+    ensures count { IfOk result (λ jobs. length jobs.items ≡ length values.items) }
 {
     let mut jobs = Vec::new(alloc);
     let mut names = BTreeSet::new(alloc);
     let mut number = 0;
     for value in values {
-        let job = job_of(alloc, number, &names, value)?;
+        let job = take_job(alloc, number, &names, value)?;
         add_job(alloc, &mut names, &mut jobs, job)?;
         number += 1;
     }

@@ -41,13 +41,14 @@ fn read_tree(alloc: Global, bytes: &[u8]) -> Result<Value, PlanFault>
 
 // The plan of a document.
 #[tactic(auto, unfolding(crate::specs::Plan::plan_of_tree, crate::specs::Plan::is_cut))]
-fn plan_in(alloc: Global, document: &Value) -> Result<Plan, PlanFault>
-    ensures plan { Gives plan_record result (plan_of_tree (view document.now)) }
+fn plan_in(alloc: Global, document: &mut Value) -> Result<Plan, PlanFault>
+    ensures plan { Gives plan_record result (plan_of_tree (view document.old)) }
     ensures few { IfOk result (λ plan. length plan.jobs.items ≤ max_jobs) }
 {
     let asked = AskedTicks::of(alloc, document.get("horizon"), document.get("ticks"))?;
-    let parts = DocumentParts::of(document).ok_or(PlanFault::Shape { job: None })?;
-    if !has_only_keys(document, &["horizon", "ticks", "workers", "grain", "jobs"]) {
+    let is_known = has_only_keys(document, &["horizon", "ticks", "workers", "grain", "jobs"]);
+    let parts = DocumentParts::of(alloc, document).ok_or(PlanFault::Shape { job: None })?;
+    if !is_known {
         return Err(PlanFault::UnknownKey { job: None });
     }
     let clock = asked.into_clock().ok_or(PlanFault::Range { job: None })?;
@@ -69,6 +70,6 @@ pub fn read_plan(alloc: Global, bytes: &[u8]) -> Result<Plan, PlanFault>
     if bytes.len() > MAX_BYTES {
         return Err(PlanFault::TooLong);
     }
-    let tree = read_tree(alloc, bytes)?;
-    plan_in(alloc, &tree)
+    let mut tree = read_tree(alloc, bytes)?;
+    plan_in(alloc, &mut tree)
 }

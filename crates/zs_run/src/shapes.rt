@@ -6,7 +6,7 @@ ghost use Rattle.zs_run.specs.Refusals.{Gives, demand_some};
 ghost use Rattle.zs_run.specs.Tree.{all_of, as_whole, as_wholes};
 
 use crate::plan_fault::PlanFault;
-use crate::tree::{as_list, list, text, whole_or};
+use crate::tree::{as_list, list, take_list, text, whole_or};
 use serde_json::Value;
 use std::alloc::Global;
 use zs_agenda::Clock;
@@ -22,10 +22,10 @@ pub(crate) enum AskedTicks {
 
 /// The parts of a document beside its clock.
 #[derive(Drop)]
-pub(crate) struct DocumentParts<'v> {
+pub(crate) struct DocumentParts {
     pub(crate) workers: u64,
     pub(crate) grain: u64,
-    pub(crate) jobs: &'v [Value],
+    pub(crate) jobs: Vec<Value>,
 }
 
 /// The parts of a job.
@@ -97,19 +97,22 @@ impl AskedTicks {
     }
 }
 
-impl<'v> DocumentParts<'v> {
+impl DocumentParts {
     ghost use Rattle.zs_run.specs.Shapes.{document_parts};
     ghost use Rattle.zs_run.specs.ShapeViews.{document_view};
 
-    /// The parts of a document, where all are there and of their types.
+    /// The parts of a document, where all are there and of their types. The list of jobs is taken out of it.
     #[tactic(auto, unfolding(crate::specs::Shapes::document_parts))]
-    pub(crate) fn of(document: &'v Value) -> Option<DocumentParts<'v>>
-        ensures value { option_map document_view result ≡ document_parts (view document.now) }
+    pub(crate) fn of(alloc: Global, document: &mut Value) -> Option<DocumentParts>
+        ensures value { option_map document_view result ≡ document_parts (view document.old) }
     {
+        let workers = whole_or(document, "workers", 1)?;
+        let grain = whole_or(document, "grain", 1)?;
+        let jobs = take_list(alloc, document, "jobs")?;
         Some(DocumentParts {
-            workers: whole_or(document, "workers", 1)?,
-            grain: whole_or(document, "grain", 1)?,
-            jobs: list(document, "jobs")?,
+            workers,
+            grain,
+            jobs,
         })
     }
 }

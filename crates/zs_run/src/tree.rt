@@ -7,6 +7,8 @@ ghost use Rattle.std.specs.BTreeMap.{keys};
 ghost use Rattle.zs_run.specs.Tree.{as_list, find_whole, find_text, find_list, whole_or, is_one_of, has_only_keys};
 
 use serde_json::{Map, Value};
+use std::alloc::Global;
+use std::mem;
 
 /// The whole number at the key.
 pub(crate) fn whole(value: &Value, key: &str) -> Option<u64>
@@ -38,6 +40,17 @@ pub(crate) fn list<'v>(value: &'v Value, key: &str) -> Option<&'v [Value]>
     ensures value { option_map (λ vs. map view vs.now) result ≡ find_list key.now (view value.now) }
 {
     as_list(value.get(key)?)
+}
+
+/// The list at the key, taken out of the tree: each item can be given up as soon as it is read.
+#[tactic(auto, using(crate::proofs::Trees::list_of_view))]
+pub(crate) fn take_list(alloc: Global, value: &mut Value, key: &str) -> Option<Vec<Value>>
+    ensures value { option_map (λ vs. map view vs.items) result ≡ find_list key.now (view value.old) }
+{
+    match value.get_mut(key)?.as_array_mut() {
+        Some(items) => Some(mem::replace(items, Vec::new(alloc))),
+        None => None,
+    }
 }
 
 /// The whole number at the key, or the default where nothing stands there.
