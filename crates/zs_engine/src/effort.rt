@@ -1,10 +1,8 @@
 //! When a round pays for threads.
-ghost use Rattle.std.specs.Prelude.{◌≡◌, ◌<◌, ◌^◌};
-ghost use Rattle.zs_term.specs.Schedule.{schedule_of, weight};
+ghost use Rattle.std.specs.Prelude.{◌≡◌};
 ghost use Rattle.zs_engine.specs.Effort.{threads_for};
 
 use zs_drive::Task;
-use zs_term::Term;
 
 // A task costs about as much to be moved to another thread and back as so many nodes of schedules to be asked.
 const NODES_A_MOVE: u64 = 64;
@@ -29,30 +27,5 @@ pub fn nodes_of(task: &Task, weight: u64) -> u64 {
     match task.records().last() {
         Some(attempted) if attempted.ended.is_none() => weight,
         Some(_) | None => 0,
-    }
-}
-
-// How many nodes a step of the term asks at most.
-pub fn weight(term: &Term) -> u64
-    requires within { weight (schedule_of term.now) < 2 ^ 64 }
-    ensures value { result ≡ weight (schedule_of term.now) }
-{
-    match term {
-        Term::Forever
-        | Term::Recurs(_)
-        | Term::Spaced(_)
-        | Term::Fixed(_)
-        | Term::Exponential(_, _)
-        | Term::Fibonacci(_)
-        | Term::Identity
-        | Term::Elapsed
-        | Term::Linear(_)
-        | Term::Windowed(_) => 1,
-        Term::Both(a, b) | Term::Either(a, b) | Term::AndThen(a, b) => 1 + weight(a) + weight(b),
-        Term::ResetWhen(s, _, _) => 1 + 2 * weight(s),
-        Term::WhileInput(s, _)
-        | Term::WhileOutput(s, _, _)
-        | Term::CollectAll(s)
-        | Term::Map(s, _) => 1 + weight(s),
     }
 }

@@ -9,7 +9,7 @@ ghost use Rattle.zs_engine.specs.Rounds.{jobs_in, set_next};
 ghost use Rattle.zs_engine.specs.Answers.{IsAnswer};
 
 use crate::answer::Answer;
-use crate::effort::{nodes_of, threads_for, weight};
+use crate::effort::{nodes_of, threads_for};
 use crate::fault::{EngineFault, refused_round};
 use crate::slots::{into_tasks, take_tasks};
 use crate::timers::set_timer;
@@ -73,7 +73,7 @@ impl Engine {
         requires new { IsNew self.old.clock (jobs_in self.old.slots.items) self.old }
         ensures new { OnOk result (IsNew self.old.clock (jobs_in self.old.slots.items ++ job_value job ∷ []) self.new) }
     {
-        let nodes = weight(job.schedule.term());
+        let nodes = job.schedule.weight();
         let task = Task::new(self.alloc, self.slots.len() as u64, job)?;
         match set_timer(&self.clock, &mut self.agenda, &task) {
             Ok(()) => {}

@@ -1,6 +1,6 @@
 // The state of a schedule without parts.
 
-ghost use Rattle.std.specs.Prelude.{◌≡◌, ◌+◌, ◌∷◌, [], nat_eq, if◌then◌else◌, true};
+ghost use Rattle.std.specs.Prelude.{◌≡◌, ℕ, ◌+◌, List, ◌∷◌, ◌++◌, [], length, nat_eq, if◌then◌else◌, true, OnOk};
 ghost use Rattle.zs_term.specs.Saturating.{saturated};
 ghost use Rattle.zs_term.specs.Output.{number};
 ghost use Rattle.zs_term.specs.Schedule.{schedule_of, leaf};
@@ -8,16 +8,18 @@ ghost use Rattle.zs_step.specs.Memory.{is_leaf};
 ghost use Rattle.zs_step.specs.History.{History};
 ghost use Rattle.zs_step.specs.Answer.{answer, leaf_answer};
 ghost use Rattle.zs_step.specs.LeafState.{state_leaf, StandsForSteps, LeafRepresents};
+ghost use Rattle.zs_step.specs.Words.{leaf_words};
 
 use crate::decision::Decision;
 use crate::leaves::{run_after, window_end};
+use std::alloc::AllocError;
 use zs_term::Term;
 
 // The number of steps so far, and the moment of the first one.
 #[derive(Drop)]
 pub(crate) struct Past {
-    pub(crate) steps: u64,
-    pub(crate) first: u64,
+    steps: u64,
+    first: u64,
 }
 
 impl Past {
@@ -190,5 +192,75 @@ pub(crate) fn leaf_of(term: &Term) -> LeafState
             past,
         },
         _ => unreachable!(),
+    }
+}
+
+// Takes the first of some words, or 0 where there is none, and answers those behind it.
+pub(crate) fn take<'a>(number: &mut u64, words: &'a [u64]) -> &'a [u64]
+    ensures first { (w : ℕ) (rest : List ℕ) → words.now ≡ w ∷ rest → (number.new ≡ w) × (result.now ≡ rest) }
+{
+    match words.split_first() {
+        Some((first, rest)) => {
+            *number = *first;
+            rest
+        }
+        None => {
+            *number = 0;
+            words
+        }
+    }
+}
+
+// Takes the number of steps and the moment of the first one, and answers the words behind them.
+fn take_past<'a>(past: &mut Past, words: &'a [u64]) -> &'a [u64]
+    ensures both { (m n : ℕ) (rest : List ℕ) → words.now ≡ m ∷ (n ∷ rest) → (past.new.steps ≡ m) × (past.new.first ≡ n) × (result.now ≡ rest) }
+{
+    let rest = take(&mut past.steps, words);
+    take(&mut past.first, rest)
+}
+
+// Gives a leaf what its words tell, and answers the words behind them.
+pub(crate) fn load_leaf<'a>(leaf: &mut LeafState, words: &'a [u64]) -> &'a [u64]
+    ensures same { state_leaf leaf.new ≡ state_leaf leaf.old }
+    ensures stands { (h : History) (rest : List ℕ) → words.now ≡ leaf_words (state_leaf leaf.old) h ++ rest → LeafRepresents leaf.new h × (result.now ≡ rest) }
+{
+    match leaf {
+        LeafState::Forever { steps } => take(steps, words),
+        LeafState::Recurs { steps, .. } => take(steps, words),
+        LeafState::Spaced { steps, .. } => take(steps, words),
+        LeafState::Fixed { past, run, .. } => {
+            let rest = take_past(past, words);
+            take(run, rest)
+        }
+        LeafState::Exponential { wait, .. } => take(wait, words),
+        LeafState::Fibonacci { last, next, .. } => {
+            let rest = take(last, words);
+            take(next, rest)
+        }
+        LeafState::Identity => words,
+        LeafState::Elapsed { past } => take_past(past, words),
+        LeafState::Linear { last, .. } => take(last, words),
+        LeafState::Windowed { past, .. } => take_past(past, words),
+    }
+}
+
+// Writes what a leaf remembers behind some words.
+pub(crate) fn save_leaf(leaf: &LeafState, words: &mut Vec<u64>) -> Result<(), AllocError>
+    ensures ok { OnOk result ((h : History) → LeafRepresents leaf.now h → words.new.items ≡ words.old.items ++ leaf_words (state_leaf leaf.now) h) }
+    ensures len { OnOk result (length words.new.items ≡ length words.old.items + length (leaf_words (state_leaf leaf.now) [])) }
+{
+    match leaf {
+        LeafState::Forever { steps } => Ok(words.push(*steps)?),
+        LeafState::Recurs { steps, .. } => Ok(words.push(*steps)?),
+        LeafState::Spaced { steps, .. } => Ok(words.push(*steps)?),
+        LeafState::Fixed { past, run, .. } => {
+            words.extend_from_slice(&[past.steps, past.first, *run])
+        }
+        LeafState::Exponential { wait, .. } => Ok(words.push(*wait)?),
+        LeafState::Fibonacci { last, next, .. } => words.extend_from_slice(&[*last, *next]),
+        LeafState::Identity => Ok(()),
+        LeafState::Elapsed { past } => words.extend_from_slice(&[past.steps, past.first]),
+        LeafState::Linear { last, .. } => Ok(words.push(*last)?),
+        LeafState::Windowed { past, .. } => words.extend_from_slice(&[past.steps, past.first]),
     }
 }

@@ -4,12 +4,11 @@ ghost use Rattle.std.specs.Prelude.{◌≡◌, ℕ, ◌+◌, ◌≤◌, List, []
 ghost use Rattle.zs_term.specs.Schedule.{schedule_of, weight};
 ghost use Rattle.zs_step.specs.History.{History};
 ghost use Rattle.zs_step.specs.Compiled.{IsAnswer};
-ghost use Rattle.zs_step.specs.LeafState.{state_leaf, StandsForSteps, LeafRepresents};
 ghost use Rattle.zs_step.specs.State.{state_schedule, Represents};
-ghost use Rattle.zs_step.specs.Words.{leaf_words, words_of, state_words, KeepsState, KeepsNoList};
+ghost use Rattle.zs_step.specs.Words.{words_of, state_words, KeepsState, KeepsNoList};
 
 use crate::fault::StepFault;
-use crate::leaf_state::{LeafState, Past};
+use crate::leaf_state::{load_leaf, save_leaf, take};
 use crate::state::{State, clear, state_of};
 use crate::stepped::Stepped;
 use crate::stepping::{Step, step_node};
@@ -65,16 +64,6 @@ fn collects_nothing(term: &Term) -> bool
     ensures no { IsFalse result → KeepsNoList (schedule_of term.now) → ⊥ }
 {
     match term {
-        Term::Forever
-        | Term::Recurs(_)
-        | Term::Spaced(_)
-        | Term::Fixed(_)
-        | Term::Exponential(_, _)
-        | Term::Fibonacci(_)
-        | Term::Identity
-        | Term::Elapsed
-        | Term::Linear(_)
-        | Term::Windowed(_) => true,
         Term::Both(a, b) | Term::Either(a, b) | Term::AndThen(a, b) => {
             collects_nothing(a) && collects_nothing(b)
         }
@@ -83,6 +72,7 @@ fn collects_nothing(term: &Term) -> bool
         Term::WhileOutput(s, _, _) => collects_nothing(s),
         Term::Map(s, _) => collects_nothing(s),
         Term::ResetWhen(s, _, _) => collects_nothing(s),
+        _ => true,
     }
 }
 
@@ -96,55 +86,6 @@ fn loaded(alloc: Global, checked: &Checked, words: &[u64]) -> Result<State, Allo
     let mut last = 0;
     let _behind = load(&mut state, take(&mut last, words));
     Ok(state)
-}
-
-// Takes the first of some words, or 0 where there is none, and answers those behind it.
-fn take<'a>(number: &mut u64, words: &'a [u64]) -> &'a [u64]
-    ensures first { (w : ℕ) (rest : List ℕ) → words.now ≡ w ∷ rest → (number.new ≡ w) × (result.now ≡ rest) }
-{
-    match words.split_first() {
-        Some((first, rest)) => {
-            *number = *first;
-            rest
-        }
-        None => {
-            *number = 0;
-            words
-        }
-    }
-}
-
-// Takes the number of steps and the moment of the first one, and answers the words behind them.
-fn take_past<'a>(past: &mut Past, words: &'a [u64]) -> &'a [u64]
-    ensures both { (m n : ℕ) (rest : List ℕ) → words.now ≡ m ∷ (n ∷ rest) → (past.new.steps ≡ m) × (past.new.first ≡ n) × (result.now ≡ rest) }
-{
-    let rest = take(&mut past.steps, words);
-    take(&mut past.first, rest)
-}
-
-// Gives a leaf what its words tell, and answers the words behind them.
-fn load_leaf<'a>(leaf: &mut LeafState, words: &'a [u64]) -> &'a [u64]
-    ensures same { state_leaf leaf.new ≡ state_leaf leaf.old }
-    ensures stands { (h : History) (rest : List ℕ) → words.now ≡ leaf_words (state_leaf leaf.old) h ++ rest → LeafRepresents leaf.new h × (result.now ≡ rest) }
-{
-    match leaf {
-        LeafState::Forever { steps } => take(steps, words),
-        LeafState::Recurs { steps, .. } => take(steps, words),
-        LeafState::Spaced { steps, .. } => take(steps, words),
-        LeafState::Fixed { past, run, .. } => {
-            let rest = take_past(past, words);
-            take(run, rest)
-        }
-        LeafState::Exponential { wait, .. } => take(wait, words),
-        LeafState::Fibonacci { last, next, .. } => {
-            let rest = take(last, words);
-            take(next, rest)
-        }
-        LeafState::Identity => words,
-        LeafState::Elapsed { past } => take_past(past, words),
-        LeafState::Linear { last, .. } => take(last, words),
-        LeafState::Windowed { past, .. } => take_past(past, words),
-    }
 }
 
 // Gives a state what words tell, and answers the words behind them.
@@ -190,27 +131,6 @@ fn saved(alloc: Global, last: u64, state: &mut State) -> Result<Vec<u64>, AllocE
     words.push(last)?;
     save(alloc, state, &mut words)?;
     Ok(words)
-}
-
-// Writes what a leaf remembers behind some words.
-fn save_leaf(leaf: &LeafState, words: &mut Vec<u64>) -> Result<(), AllocError>
-    ensures ok { OnOk result ((h : History) → LeafRepresents leaf.now h → words.new.items ≡ words.old.items ++ leaf_words (state_leaf leaf.now) h) }
-    ensures len { OnOk result (length words.new.items ≡ length words.old.items + length (leaf_words (state_leaf leaf.now) [])) }
-{
-    match leaf {
-        LeafState::Forever { steps } => Ok(words.push(*steps)?),
-        LeafState::Recurs { steps, .. } => Ok(words.push(*steps)?),
-        LeafState::Spaced { steps, .. } => Ok(words.push(*steps)?),
-        LeafState::Fixed { past, run, .. } => {
-            words.extend_from_slice(&[past.steps, past.first, *run])
-        }
-        LeafState::Exponential { wait, .. } => Ok(words.push(*wait)?),
-        LeafState::Fibonacci { last, next, .. } => words.extend_from_slice(&[*last, *next]),
-        LeafState::Identity => Ok(()),
-        LeafState::Elapsed { past } => words.extend_from_slice(&[past.steps, past.first]),
-        LeafState::Linear { last, .. } => Ok(words.push(*last)?),
-        LeafState::Windowed { past, .. } => words.extend_from_slice(&[past.steps, past.first]),
-    }
 }
 
 // Writes what a state remembers behind some words. A first part that is done begins anew.

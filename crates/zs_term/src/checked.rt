@@ -1,7 +1,7 @@
 // Terms that were checked.
 
 ghost use Rattle.std.specs.Prelude.{◌≡◌, ◌≢◌, ◌+◌, ◌*◌, ◌<◌, Some, IfOk, IfErr, MatchResult, true, false, ◌↔◌};
-ghost use Rattle.zs_term.specs.Schedule.{schedule_of, is_within_limits, has_factors};
+ghost use Rattle.zs_term.specs.Schedule.{schedule_of, is_within_limits, has_factors, weight};
 ghost use Rattle.zs_term.specs.OutputKind.{output_kind_of};
 ghost use Rattle.zs_term.specs.Kinds.{kind_of, takes_memory, IsSchedule};
 ghost use Rattle.zs_term.specs.Causes.{IsTermCause};
@@ -11,7 +11,7 @@ ghost use Rattle.zs_term.specs.Shape.{steps_to_give_up};
 use crate::fault::TermFault;
 use crate::inference::kind_of;
 use crate::kind::Kind;
-use crate::limits::{has_factors, has_windows, is_within_limits};
+use crate::limits::{has_factors, has_windows, is_within_limits, weight_within};
 use crate::term::Term;
 use std::alloc::Global;
 use std::marker::Model;
@@ -56,6 +56,13 @@ impl Checked {
         ensures kind { kind_of (schedule_of self.now) ≡ Some (output_kind_of result.now) }
     {
         &self.kind
+    }
+
+    /// Its weight, 1 to 1,000: no step asks more nodes. It takes time by the weight.
+    pub fn weight(&self) -> u64
+        ensures value { result ≡ weight (schedule_of self.now) }
+    {
+        weight_within(&self.term)
     }
 }
 
