@@ -97,9 +97,9 @@ PLANTS = [
           "    let mut compiled = Compiled::new(alloc, checked)?;",
           "    if pairs.len() > 8 {\n        return Err(StepFault::Memory);\n    }\n"
           "    let mut compiled = Compiled::new(alloc, checked)?;", "a_hundred_pairs_are_answered"),
-    Plant("a_queue_gives_up_on_job_10000", "zs_agenda/src/agenda.rt", "        put(&mut self.by_job, job, moment)?;",
+    Plant("a_queue_gives_up_on_job_10000", "zs_agenda/src/agenda.rt", "        self.by_job.put(job, moment)?;",
           "        if job >= 10_000 {\n            return Err(AgendaFault::Memory);\n        }\n"
-          "        put(&mut self.by_job, job, moment)?;", "any_job_number_can_be_set"),
+          "        self.by_job.put(job, moment)?;", "any_job_number_can_be_set"),
     Plant("thirteen_jobs_never_end", "zs_run/src/running.rt", "    let text = match report_plan(",
           "    if plan.jobs.len() == 13 {\n        for _ in rt.forever() {\n            std::thread::yield_now();\n"
           "        }\n    }\n    let text = match report_plan("),
