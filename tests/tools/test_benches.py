@@ -27,14 +27,16 @@ import reference
 from zsched_tools import program
 
 HUNDREDTHS = {name: make() for name, make in plans.plans(100).items()}
+# The same with one heavy job: the reference takes a minute for twenty, since it goes over the whole history at each step.
+SMALL = {name: plans.plans(2000)[name]() if name.startswith("heavy_") else text for name, text in HUNDREDTHS.items()}
 LONGEST_PLAN = 16_777_216
 NO_SOURCE = r"failed to (get|download|query)|no matching package|[Cc]ould not resolve|offline"
 
 
 @functools.cache
 def answer(name):
-    """What the reference says to a plan of a hundredth of the size."""
-    return reference.answer(HUNDREDTHS[name])
+    """What the reference says to a plan of a hundredth of the size, or less."""
+    return reference.answer(SMALL[name])
 
 
 def told(words):
@@ -69,6 +71,10 @@ class Plans(unittest.TestCase):
         for workers, grain in [(1, 1), (4, 1), (4, 100), (64, 10), (64, 10_000)]:
             tree = trees[f"jobs_{workers}_{grain}"]
             self.assertEqual((tree["workers"], tree["grain"], len(tree["jobs"])), (workers, grain, 10_000))
+        for workers, grain in [(1, 1), (4, 1), (4, 100), (64, 10)]:
+            tree = trees[f"heavy_{workers}_{grain}"]
+            self.assertEqual((tree["workers"], tree["grain"], len(tree["jobs"])), (workers, grain, 2000))
+        self.assertEqual(sum(map(schedules["heavy_1_1"].count, ["forever", "&&", ".map"])), 511)
         self.assertEqual(len(trees["scattered_timers"]["jobs"]), 10_000)
         self.assertEqual(1 + schedules["deep_64"].count("."), 64)
         self.assertEqual(schedules["wide_999"].count("forever") + schedules["wide_999"].count("&&"), 999)
@@ -90,7 +96,7 @@ class Plans(unittest.TestCase):
         self.assertEqual({name: answer(name)[1].count(b"\nstep ") for name in steps}, steps)
 
     def test_only_the_parentheses_are_refused(self):
-        for name in HUNDREDTHS:
+        for name in SMALL:
             with self.subTest(name):
                 status, _, errors = answer(name)
                 fault = b"zsched: job 0: schedule: no term at byte 150000\n" if name == "parentheses" else b""
@@ -98,7 +104,7 @@ class Plans(unittest.TestCase):
 
     def test_zsched_answers_as_the_reference(self):
         zsched = program.find()
-        for name, text in HUNDREDTHS.items():
+        for name, text in SMALL.items():
             with self.subTest(name):
                 self.assertEqual(program.run(zsched, text, 60), answer(name))
 
@@ -378,7 +384,7 @@ class Baseline(unittest.TestCase):
                 self.assertEqual(program.run(bench.BASELINE, plan, 60), (0, path.read_bytes(), b""))
 
     def test_the_plans_of_the_benchmarks(self):
-        for name, text in HUNDREDTHS.items():
+        for name, text in SMALL.items():
             with self.subTest(name):
                 self.assertEqual(program.run(bench.BASELINE, text, 60), answer(name))
 
