@@ -1,7 +1,7 @@
 use Rattle.std.proofs.Common.{◌≤◌, length, arith, ℕ, List, ap, ◌∙◌, insert, nat_lt}
 use Rattle.std.specs.List.{prefix_len}
 use Rattle.zs_agenda.proofs.IndexLemmas.{insert-is-placed, prefix_len-le}
-use Rattle.zs_agenda.proofs.index.put_in_order.Goals as goal
+use Rattle.zs_agenda.proofs.by_moment.put_in_order.Goals as goal
 
 pub returns-in_ok-insert-clause-ok : goal.returns-in_ok-insert-clause-ok
 returns-in_ok-insert-clause-ok c =
