@@ -1,5 +1,5 @@
 -- What a clause reads of a `Marked`.
-use Rattle.std.specs.Prelude.{Bool}
+use Rattle.std.specs.Prelude.{ℕ, Bool}
 use Rattle.zs_run.specs.declared.marked.Marked.{Marked}
 
 -- the reader or writer inside
@@ -13,3 +13,7 @@ marked_failed m = m.failed
 -- a flush succeeded, and nothing was taken since
 abbrev pub marked_flushed : {T : Type 0} → Marked T → Bool
 marked_flushed m = m.flushed
+
+-- how many pulls it was asked for, cut at 2^64 - 1
+abbrev pub marked_pulls : {T : Type 0} → Marked T → ℕ
+marked_pulls m = m.pulls

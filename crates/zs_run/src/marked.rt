@@ -10,32 +10,38 @@ pub struct Marked<T> {
     inner: T,
     failed: bool,
     flushed: bool,
+    pulls: u64,
 }
 
 impl<T> Marked<T> {
-    ghost use Rattle.zs_run.specs.Marked.{marked_inner, marked_failed};
+    ghost use Rattle.zs_run.specs.Marked.{marked_inner, marked_failed, marked_pulls};
 
     /// A reader or writer with a clear mark.
     pub fn new(inner: T) -> Marked<T>
         ensures inner { marked_inner result ≡ inner }
         ensures clear { marked_failed result ≡ false }
+        ensures unread { marked_pulls result ≡ 0 }
     {
         Marked {
             inner,
             failed: false,
             flushed: false,
+            pulls: 0,
         }
     }
 }
 
 impl<R: Read> Source for Marked<R> {
-    ghost use Rattle.zs_run.specs.Marked.{marked_inner, marked_failed};
+    ghost use Rattle.zs_run.specs.Marked.{marked_inner, marked_failed, marked_pulls};
 
     ghost remaining = { λ m. R.remaining (marked_inner m) };
 
     ghost mark = { marked_failed };
 
+    ghost pulls = { marked_pulls };
+
     fn pull(&mut self, buf: &mut [u8]) -> Result<usize, Failed> {
+        self.pulls = self.pulls.saturating_add(1);
         match self.inner.read(buf) {
             Ok(count) => Ok(count),
             Err(_) => {

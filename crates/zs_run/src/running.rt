@@ -1,9 +1,9 @@
 //! A run, from the bytes of a plan to the bytes of its report.
-ghost use Rattle.std.specs.Prelude.{◌≡◌, ◌≤◌, length, false, IfOk, string_bytes};
+ghost use Rattle.std.specs.Prelude.{◌≡◌, ◌≤◌, ◌+◌, length, false, IfOk, string_bytes};
 ghost use Rattle.zs_run.specs.Plan.{max_jobs};
 ghost use Rattle.zs_run.specs.PlanView.{plan_record};
 ghost use Rattle.zs_run.specs.PlanReport.{report_of};
-ghost use Rattle.zs_run.specs.Headline.{Ends};
+ghost use Rattle.zs_run.specs.Headline.{Ends, max_read};
 ghost use Rattle.zs_run.specs.Reading.{Reads};
 
 use crate::plan::Plan;
@@ -27,6 +27,7 @@ fn read_source<R: Source>(alloc: Global, reader: &mut R) -> Result<Plan, RunFaul
     requires clear { R.mark reader.old ≡ false }
     ensures reads { Reads result (record { before = R.remaining reader.old; left = R.remaining reader.new; failed = R.mark reader.new }) }
     ensures few { IfOk result (λ plan. length plan.jobs.items ≤ max_jobs) }
+    ensures pulls { R.pulls reader.new ≤ R.pulls reader.old + max_read }
 {
     let mut bytes = Vec::new(alloc);
     match read_up_to(reader, MAX_READ, &mut bytes) {
@@ -75,6 +76,8 @@ pub fn run<T: Threads + Wait + Sync, G: Gate, R: Source, W: Drain>(
         (record { before = R.remaining reader.old; left = R.remaining reader.new; failed = R.mark reader.new })
         (record { before = W.contents writer.old; taken = W.contents writer.new; failed = W.mark writer.new; flushed = W.flushed writer.new })
         (writer.new ≡ writer.old) }
+    // The reader is asked once for each byte of the longest plan and one more, at most.
+    ensures pulls { R.pulls reader.new ≤ R.pulls reader.old + max_read }
 {
     let plan = read_source(alloc, reader)?;
     let text = match report_plan(rt, alloc, gate, plan) {

@@ -1,6 +1,7 @@
 //! Where a plan comes from and where a report goes.
-ghost use Rattle.std.specs.Prelude.{◌≡◌, ◌≤◌, ◌<◌, ◌||◌, ℕ, List, Bool, false, true, Option, length, is_err, IfOk, OnOk};
+ghost use Rattle.std.specs.Prelude.{◌≡◌, ◌≤◌, ◌<◌, ◌+◌, ◌||◌, ℕ, List, Bool, false, true, Option, length, is_err, IfOk, OnOk};
 ghost use Rattle.std.specs.Io.KnownBytes.{Keeps, ReadConsumes, WriteAppends};
+ghost use Rattle.zs_term.specs.Saturating.{saturated};
 
 /// A pull, a give or a flush that failed. It moved no bytes.
 #[derive(Clone, Copy, Debug, Drop, PartialEq, Eq)]
@@ -14,12 +15,16 @@ pub trait Source {
     // A call has answered `Failed`.
     ghost mark: { Self → Bool };
 
+    // How many pulls it was asked for, cut at 2^64 - 1.
+    ghost pulls: { Self → ℕ };
+
     /// Fills the front of a buffer that isn't empty. `Ok(0)` is the end of input.
     fn pull(&mut self, buf: &mut [u8]) -> Result<usize, Failed>
         requires room { 0 < length buf.old }
         ensures within { IfOk result (λ n. n ≤ length buf.new) }
         ensures bytes { ReadConsumes (remaining self.old) (remaining self.new) result buf.new }
-        ensures marks { mark self.new ≡ (mark self.old || is_err result) };
+        ensures marks { mark self.new ≡ (mark self.old || is_err result) }
+        ensures counts { pulls self.new ≡ saturated (pulls self.old + 1) };
 
     /// Whether a call of it has failed.
     fn failed(&self) -> bool

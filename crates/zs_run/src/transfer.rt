@@ -1,5 +1,5 @@
 //! All of a reader's bytes, and all of a text to a writer.
-ghost use Rattle.std.specs.Prelude.{◌≡◌, ◌≤◌, ◌↔◌, [], length, take, is_err, true, false, IfOk, OnOk, IfErr, IsErrOf, IsTrue};
+ghost use Rattle.std.specs.Prelude.{◌≡◌, ◌≤◌, ◌+◌, ◌↔◌, [], length, take, is_err, true, false, IfOk, OnOk, IfErr, IsErrOf, IsTrue};
 ghost use Rattle.std.specs.Io.KnownBytes.{Appends};
 ghost use Rattle.zs_run.specs.Streams.{ReadsUpTo};
 
@@ -27,6 +27,7 @@ pub(crate) fn read_up_to<R: Source>(
     requires empty { bytes.old.items ≡ [] }
     ensures ok { OnOk result (ReadsUpTo limit (R.remaining reader.old) (R.remaining reader.new) bytes.new.items) }
     ensures marks { IsTrue (R.mark reader.new) ↔ IsErrOf result InputFault.Read }
+    ensures pulls { R.pulls reader.new ≤ R.pulls reader.old + limit }
 {
     let mut chunk = [0u8; CHUNK];
     while bytes.len() < limit {

@@ -14,6 +14,7 @@ pub struct Halting<'a> {
     pub left: usize,
     pub error: io::ErrorKind,
     pub failed: bool,
+    pub pulls: u64,
 }
 
 impl Halting<'_> {
@@ -27,6 +28,7 @@ impl Halting<'_> {
             left,
             error: io::ErrorKind::Other,
             failed: false,
+            pulls: 0,
         }
     }
 
@@ -34,6 +36,7 @@ impl Halting<'_> {
     fn fill(&mut self, buf: &mut [u8]) -> Option<usize>
         ensures within { IfSome result (λ count. count ≤ length buf.new) }
         ensures mark { self.new.failed ≡ self.old.failed }
+        ensures pulls { self.new.pulls ≡ self.old.pulls }
     {
         if self.left == 0 {
             return None;
@@ -65,7 +68,10 @@ impl Source for Halting<'_> {
 
     ghost mark = { λ h. h.failed };
 
+    ghost pulls = { λ h. h.pulls };
+
     fn pull(&mut self, buf: &mut [u8]) -> Result<usize, Failed> {
+        self.pulls = self.pulls.saturating_add(1);
         match self.fill(buf) {
             Some(count) => Ok(count),
             None => {
