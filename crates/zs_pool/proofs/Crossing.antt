@@ -181,11 +181,11 @@ shelf_sync = shelf_shared (shelf_fields polled_send)
 pub reference_send : (l : NamedLft) (R : RattleType) (one : One R.mir) → IsSync R → IsSend (as_row (shr_ref_field l R one))
 reference_send l R one s = as_row_send (shr_ref_field l R one) (shr_send l.mir l.lft R s)
 
--- what a closure captures, ten values of it
-pub captured_send : (ν : Sym) (A B C D E F G H I J : RattleType) → IsSend A → IsSend B → IsSend C → IsSend D → IsSend E → IsSend F → IsSend G → IsSend H → IsSend I → IsSend J
-    → IsSend (TupleAt ν (A ∷ B ∷ C ∷ D ∷ E ∷ F ∷ G ∷ H ∷ I ∷ J ∷ []))
-captured_send ν A B C D E F G H I J a b c d e f g h i j =
-    declared_send (type_at ν (A ∷ B ∷ C ∷ D ∷ E ∷ F ∷ G ∷ H ∷ I ∷ J ∷ [])) (
+-- what a closure captures, nine values of it
+pub captured_send : (ν : Sym) (A B C D E F G H I : RattleType) → IsSend A → IsSend B → IsSend C → IsSend D → IsSend E → IsSend F → IsSend G → IsSend H → IsSend I
+    → IsSend (TupleAt ν (A ∷ B ∷ C ∷ D ∷ E ∷ F ∷ G ∷ H ∷ I ∷ []))
+captured_send ν A B C D E F G H I a b c d e f g h i =
+    declared_send (type_at ν (A ∷ B ∷ C ∷ D ∷ E ∷ F ∷ G ∷ H ∷ I ∷ [])) (
       as_row_send (row_field A) a,
       (
         as_row_send (row_field B) b,
@@ -193,7 +193,7 @@ captured_send ν A B C D E F G H I J a b c d e f g h i j =
           as_row_send (row_field C) c,
           (
             as_row_send (row_field D) d,
-            (as_row_send (row_field E) e, (as_row_send (row_field F) f, (as_row_send (row_field G) g, (as_row_send (row_field H) h, (as_row_send (row_field I) i, (as_row_send (row_field J) j, tt)))))),
+            (as_row_send (row_field E) e, (as_row_send (row_field F) f, (as_row_send (row_field G) g, (as_row_send (row_field H) h, (as_row_send (row_field I) i, tt))))),
           ),
         ),
       ),

@@ -167,7 +167,7 @@ impl<'s, G: Gate> Shared<'s, G> {
         let shared = self;
         let moment = self.moment;
         let run = move || -> Served
-            requires ready { IsReady (record { gate = shared.gate; board = shared.board; shelf = shared.shelf; tally = shared.tally; moment = moment; tasks = shared.tasks; batches = shared.batches }) rights }
+            requires ready { IsReady (record { gate = shared.gate; board = shared.board; shelf = shared.shelf; tally = shared.tally; moment = moment; tasks = shared.tasks }) rights }
             ensures served { IsSame rights result.rights × HasServed moment rights result.rights result.overflow }
         { Shared { moment, ..shared }.work(rt, alloc, rights) };
         Ok(scope.spawn_with(promise, run)?)

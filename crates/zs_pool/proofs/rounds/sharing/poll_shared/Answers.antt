@@ -5,7 +5,7 @@ use Rattle.std.specs.List.Sorted.{IsPermutation}
 use Rattle.zs_pool.specs.Batches.{BatchValue, AllPollable, tasks_of}
 use Rattle.zs_pool.specs.Messages.{IsPollAmong, numbers_of}
 use Rattle.zs_pool.specs.Shares.{HasCounted}
-use Rattle.zs_pool.proofs.Ends.{ended, if_ok, any_ok}
+use Rattle.zs_pool.proofs.Ends.{ended}
 use Rattle.zs_pool.proofs.rounds.sharing.poll_shared.Goals as goal
 
 pub run_scoped-requires-clause-first : goal.run_scoped-requires-clause-first
@@ -16,22 +16,22 @@ run_scoped-requires-clause-first g c κs within =
 
 pub returns-clause-each : goal.returns-clause-each
 returns-clause-each g c =
-    let e = ended c.args.now c.args.work.batches.items _ c.in_ok-collected.collected.served.rights c.in_ok-collected.collected.served.overflow c.in_ok-collected.collected.messages.items c.in_ok-left.left.items c.in_ok-kept.kept c.in_ok-collected.ensures.whole
-    (ap (λ p. p.batches) c.in_ok-board.ensures.ok) c.in_ok-kept.was c.in_ok-close.ensures.taken.0 c.in_ok-close.ensures.all c.in_ok-left.ensures.left
+    let e = ended c.args.now c.args.work.batches.items _ c.in_ok-rights.field-0.rights c.in_ok-rights.field-0.overflow c.in_ok-messages.messages.items c.in_ok-kept.kept c.in_ok-rights.ensures.whole
+    (ap (λ p. p.batches) c.in_ok-board.ensures.ok) c.in_ok-kept.was c.in_ok-close.ensures.taken.0 c.in_ok-close.ensures.all c.in_ok-messages.ensures.left
     in
-    if_ok (λ ms. All (IsPollAmong c.args.now c.args.work.batches.items) ms) c.together.result _ c.together.ensures.ok e.each
+    subst (λ ms. All (IsPollAmong c.args.now c.args.work.batches.items) ms) (sym c.in_ok-append.ensures.items) e.each
 
 pub returns-clause-whole : goal.returns-clause-whole
 returns-clause-whole g c =
-    let e = ended c.args.now c.args.work.batches.items _ c.in_ok-collected.collected.served.rights c.in_ok-collected.collected.served.overflow c.in_ok-collected.collected.messages.items c.in_ok-left.left.items c.in_ok-kept.kept c.in_ok-collected.ensures.whole
-    (ap (λ p. p.batches) c.in_ok-board.ensures.ok) c.in_ok-kept.was c.in_ok-close.ensures.taken.0 c.in_ok-close.ensures.all c.in_ok-left.ensures.left
+    let e = ended c.args.now c.args.work.batches.items _ c.in_ok-rights.field-0.rights c.in_ok-rights.field-0.overflow c.in_ok-messages.messages.items c.in_ok-kept.kept c.in_ok-rights.ensures.whole
+    (ap (λ p. p.batches) c.in_ok-board.ensures.ok) c.in_ok-kept.was c.in_ok-close.ensures.taken.0 c.in_ok-close.ensures.all c.in_ok-messages.ensures.left
     in
-    if_ok (λ ms. IsPermutation (range_with_len 0 (length c.args.work.batches.items)) (numbers_of ms)) c.together.result _ c.together.ensures.ok e.whole
+    subst (λ ms. IsPermutation (range_with_len 0 (length c.args.work.batches.items)) (numbers_of ms)) (sym c.in_ok-append.ensures.items) e.whole
 
 pub returns-clause-counted : goal.returns-clause-counted
 returns-clause-counted g c =
-    let e = ended c.args.now c.args.work.batches.items _ c.in_ok-collected.collected.served.rights c.in_ok-collected.collected.served.overflow c.in_ok-collected.collected.messages.items c.in_ok-left.left.items c.in_ok-kept.kept c.in_ok-collected.ensures.whole
-    (ap (λ p. p.batches) c.in_ok-board.ensures.ok) c.in_ok-kept.was c.in_ok-close.ensures.taken.0 c.in_ok-close.ensures.all c.in_ok-left.ensures.left
+    let e = ended c.args.now c.args.work.batches.items _ c.in_ok-rights.field-0.rights c.in_ok-rights.field-0.overflow c.in_ok-messages.messages.items c.in_ok-kept.kept c.in_ok-rights.ensures.whole
+    (ap (λ p. p.batches) c.in_ok-board.ensures.ok) c.in_ok-kept.was c.in_ok-close.ensures.taken.0 c.in_ok-close.ensures.all c.in_ok-messages.ensures.left
     in
     let mine = c.split_off.ensures.first in let lent = c.split_off.ensures.second in let back = c.absorb.ensures.joined in
     let n = length (tasks_of c.args.work.batches.items) in
@@ -41,4 +41,4 @@ returns-clause-counted g c =
       omega (arith, ap (λ s. s.allowance) back, ap (λ s. s.allowance) mine, ap (λ s. s.allowance) lent, e.left, c.left-all.ensures.value),
     )
     in
-    any_ok (HasCounted c.args.seat.now n c.absorb.new.seat) c.together.result counts
+    counts
