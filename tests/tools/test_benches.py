@@ -301,10 +301,7 @@ class Results(unittest.TestCase):
 
     def test_each_plan_has_a_row(self):
         page = (BENCHES / "RESULTS.md").read_text()
-        light = [name for name in plans.plans() if not name.startswith("heavy_")]
-        self.assertEqual(re.findall(r"^\| `(\w+)` \|.*\| yes \|$", page, re.MULTILINE), light)
-        heavy = [f"heavy_{workers}_{grain}" for workers, grain in plans.HEAVY_CUTS if workers > 1]
-        self.assertEqual(re.findall(r"^\| `(heavy_\w+)` \|", page, re.MULTILINE), heavy)
+        self.assertEqual(re.findall(r"^\| `(\w+)` \|.*\| yes \|$", page, re.MULTILINE), list(plans.plans()))
         for axis in growth.axes():
             self.assertRegex(page, rf"(?m)^\| {axis.name} \|( [\d.-]+ \|){{4}}$")
         for link in re.findall(r"\]\(([^)#]+)\)", page):
