@@ -28,13 +28,13 @@ pub enum Out {
 #[derive(Drop)]
 #[cycle(out)]
 pub struct Outs {
-    pub(crate) kept: Kept,
+    pub(crate) storage: Storage,
 }
 
 // The memory of a list: its own, or one that other lists may lie in too.
 #[derive(Drop)]
 #[cycle(out)]
-pub(crate) enum Kept {
+pub(crate) enum Storage {
     Own(Vec<Out>),
     Shared(Arc<Vec<Out>>),
 }
@@ -45,7 +45,7 @@ impl Outs {
         ensures value { outs_list result ≡ items.items }
     {
         Outs {
-            kept: Kept::Own(items),
+            storage: Storage::Own(items),
         }
     }
 
@@ -53,9 +53,9 @@ impl Outs {
     pub fn items(&self) -> &[Out]
         ensures value { result.now ≡ outs_list self.now }
     {
-        match &self.kept {
-            Kept::Own(items) => items,
-            Kept::Shared(items) => items,
+        match &self.storage {
+            Storage::Own(items) => items,
+            Storage::Shared(items) => items,
         }
     }
 
@@ -64,16 +64,16 @@ impl Outs {
         ensures ok { IfOk result (λ r. outs_list r ≡ outs_list self.old) }
         ensures same { OnOk result (outs_list self.new ≡ outs_list self.old) }
     {
-        match &mut self.kept {
-            Kept::Shared(items) => Ok(Outs {
-                kept: Kept::Shared(Arc::try_clone(items)?),
+        match &mut self.storage {
+            Storage::Shared(items) => Ok(Outs {
+                storage: Storage::Shared(Arc::try_clone(items)?),
             }),
-            Kept::Own(items) => {
+            Storage::Own(items) => {
                 let items = Arc::new(alloc, std::mem::replace(items, Vec::new(alloc)))?;
                 let other = Arc::try_clone(&items)?;
-                self.kept = Kept::Shared(items);
+                self.storage = Storage::Shared(items);
                 Ok(Outs {
-                    kept: Kept::Shared(other),
+                    storage: Storage::Shared(other),
                 })
             }
         }
@@ -83,9 +83,9 @@ impl Outs {
     pub fn push(&mut self, alloc: Global, out: Out) -> Result<(), AllocError>
         ensures pushed { OnOk result (outputs_of (outs_list self.new) ≡ with_last (outputs_of (outs_list self.old)) (output_of out)) }
     {
-        match &mut self.kept {
-            Kept::Own(items) => push_own(items, out),
-            Kept::Shared(items) => push_shared(items, alloc, out),
+        match &mut self.storage {
+            Storage::Own(items) => push_own(items, out),
+            Storage::Shared(items) => push_shared(items, alloc, out),
         }
     }
 }
@@ -113,9 +113,9 @@ fn push_shared(shared: &mut Arc<Vec<Out>>, alloc: Global, out: Out) -> Result<()
 }
 
 impl Out {
-    /// An output of the same value. Its lists may lie in the same memory; nothing else of it does.
+    // An output of the same value. Its lists may lie in the same memory; nothing else of it does.
     #[cycle(copy)]
-    pub fn copy(&self, alloc: Global) -> Result<Out, AllocError>
+    pub(crate) fn copy(&self, alloc: Global) -> Result<Out, AllocError>
         ensures ok { IfOk result (λ r. output_of r ≡ output_of self.now) }
     {
         match self {
@@ -197,10 +197,10 @@ impl Outs {
     fn copy(&self, alloc: Global) -> Result<Outs, AllocError>
         ensures ok { IfOk result (λ r. outputs_of (outs_list r) ≡ outputs_of (outs_list self.now)) }
     {
-        match &self.kept {
-            Kept::Own(items) => Ok(Outs::new(copy_all(alloc, items)?)),
-            Kept::Shared(items) => Ok(Outs {
-                kept: Kept::Shared(Arc::try_clone(items)?),
+        match &self.storage {
+            Storage::Own(items) => Ok(Outs::new(copy_all(alloc, items)?)),
+            Storage::Shared(items) => Ok(Outs {
+                storage: Storage::Shared(Arc::try_clone(items)?),
             }),
         }
     }
