@@ -1,12 +1,14 @@
+-- What the clauses of callers name, and so what has to be believed.
 pub mod Clocks
 pub mod Values
 pub mod Endings
 pub mod PollMoments
 pub mod Timeline
 pub mod Tasks
+pub mod DriverRules
+pub mod DriverLaws
+-- What the bodies keep: private contracts, and the views and invariants of models, alone name these.
 pub mod Recorded
 pub mod Progress
 pub mod Turns
 pub mod Fields
-pub mod DriverRules
-pub mod DriverLaws

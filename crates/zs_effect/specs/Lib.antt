@@ -1,2 +1,3 @@
+-- What the clauses of callers name, and so what has to be believed.
 pub mod Scripts
 pub mod Attempts

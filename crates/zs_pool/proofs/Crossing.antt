@@ -26,7 +26,7 @@ use Rattle.zs_pool.specs.contracts.shelf.rule.EachOnce as each_once
 use Rattle.zs_pool.specs.contracts.shelf.rule.EachOnceProtocolHands.TheImpl as each_once_rule
 use Rattle.zs_term.proofs.term.Term.TheLaws.TheKnot as term_knot
 use Rattle.zs_term.proofs.kind.Kind.TheLaws.TheKnot as kind_knot
-use Rattle.zs_term.proofs.outputs.Kept.TheLaws.TheKnot as out_knot
+use Rattle.zs_term.proofs.outputs.Out.TheLaws.TheKnot as out_knot
 use Rattle.zs_step.proofs.leaf_state.LeafState.TheSendSync as leaf_state
 use Rattle.zs_step.proofs.state.State.TheLaws.TheKnot as state_knot
 use Rattle.zs_term.specs.contracts.term.Term as term

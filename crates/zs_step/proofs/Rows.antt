@@ -113,7 +113,7 @@ added_is_cut = refl
 multiplied_is_cut : answers (over (leaf (linear 2)) (mapped (Mul 9223372036854775808))) two_steps ≡ num 18446744073709551615 3 ∷ num 18446744073709551615 6 ∷ []
 multiplied_is_cut = refl
 
--- ---- two_steps schedules side by side
+-- ---- two schedules side by side
 
 exponential_and_recurs : answers (two both (leaf (exponential 10 2)) (leaf (recurs 3))) ((1, 1) ∷ (12, 1) ∷ (33, 1) ∷ (74, 1) ∷ [])
     ≡ answer (nums 10 0) (Next 11) ∷ answer (nums 20 1) (Next 32) ∷ answer (nums 40 2) (Next 73) ∷ answer (nums 80 3) Stop ∷ []

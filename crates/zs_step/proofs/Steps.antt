@@ -5,7 +5,7 @@ use Rattle.zs_term.specs.declared.outputs.Outs.{Outs}
 use Rattle.zs_term.specs.Output.{output_of, outputs_of, outs_list, listed}
 use Rattle.zs_term.specs.Schedule.{weight}
 use Rattle.zs_term.proofs.Sizes.{weight-positive}
-use Rattle.zs_term.proofs.Values.{kept_outputs_are}
+use Rattle.zs_term.proofs.Values.{stored_outputs_are}
 use Rattle.zs_step.specs.declared.leaf_state.LeafState.{LeafState}
 use Rattle.zs_step.specs.declared.leaf_state.LeafState.TheVariants.{Exponential}
 use Rattle.zs_step.specs.declared.state.State.{State}
@@ -21,7 +21,7 @@ exponential-stands s b f x y now input s_is y_is h stood = power-turn b f (lengt
 
 -- the value of a list
 pub output_of_items : (o : Outs) → output_of (Items o) ≡ listed (outputs_of (outs_list o))
-output_of_items o = ap listed (kept_outputs_are o.kept)
+output_of_items o = ap listed (stored_outputs_are o.storage)
 
 -- a node is one visit at least
 pub node-fits : (s : State) (v : ℕ) → v + weight (state_schedule s) < 2 ^ 64 → Fits w64 (v + 1)

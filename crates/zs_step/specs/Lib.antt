@@ -1,3 +1,4 @@
+-- What the clauses of callers name, and so what has to be believed.
 pub mod History
 pub mod Answer
 pub mod Visits
@@ -5,8 +6,9 @@ pub mod Intervals
 pub mod LeafState
 pub mod Collected
 pub mod State
-pub mod Turn
 pub mod Compiled
-pub mod Laws
 pub mod Memory
 pub mod Words
+pub mod Laws
+-- What the bodies keep: private contracts alone name these.
+pub mod Turn

@@ -13,8 +13,9 @@ use zs_term::Checked;
 
 /// A schedule with a state in place of its history.
 ///
-/// The nodes that a step asks, and the memory of the state, are bounded by the size of the schedule, however many steps
-/// there were. Only `collectAll` keeps a list; a step copies it where an earlier output still lies in its memory.
+/// The nodes that a step asks, and the memory of the state but for the lists of `collectAll`, are bounded by the size of
+/// the schedule, however many steps there were. Such a list grows with the steps; one copies it where an earlier output
+/// still lies in its memory.
 #[derive(Drop)]
 pub struct Compiled {
     checked: Checked,

@@ -3,7 +3,7 @@
 
 ghost use Rattle.std.specs.Prelude.{◌≡◌, ◌<◌, ◌+◌, ◌*◌, ◌^◌, true, IfOk, IsOk, IfSome, IsSome};
 ghost use Rattle.zs_term.specs.Schedule.{weight};
-ghost use Rattle.zs_term.specs.Output.{output_of, number, applied};
+ghost use Rattle.zs_term.specs.Output.{output_of};
 ghost use Rattle.zs_step.specs.Answer.{answer};
 ghost use Rattle.zs_step.specs.LeafState.{state_leaf};
 ghost use Rattle.zs_step.specs.Memory.{is_bare};
@@ -85,17 +85,6 @@ fn put(out: &mut Out, value: Out)
     *out = value;
 }
 
-// Puts a number in place of an output.
-#[inline(always)]
-fn put_number(out: &mut Out, n: u64)
-    ensures value { output_of out.new ≡ number n }
-{
-    match out {
-        Out::Num(old) => *old = n,
-        Out::Pair(_, _) | Out::Left(_) | Out::Right(_) | Out::Items(_) => put(out, Out::Num(n)),
-    }
-}
-
 // One step of a schedule without parts.
 fn step_leaf(leaf: &mut LeafState, step: &Step, out: &mut Out) -> Turn
     ensures answers { IfSome (decided result) (λ d. Answers (Leaf leaf.old) step.now.moment step.now.input (answer (output_of out.new) d)) }
@@ -104,7 +93,7 @@ fn step_leaf(leaf: &mut LeafState, step: &Step, out: &mut Out) -> Turn
     ensures succeeds { IsSome (decided result) }
 {
     let (n, decision) = leaf.step(step.moment, step.input);
-    put_number(out, n);
+    out.put_number(n);
     Turn::of(decision)
 }
 
@@ -284,34 +273,12 @@ fn step_map(part: &mut State, func: Func, step: &Step, visits: &mut u64, out: &m
 {
     if let Func::Const(n) = func {
         let turn = step_unread(part, step, visits);
-        put_number(out, n);
+        out.put_number(n);
         return turn;
     }
     let turn = step_into(part, step, visits, out);
-    apply_in(func, out);
+    func.apply_in(out);
     turn
-}
-
-// Applies a function to an output in its place.
-fn apply_in(func: Func, out: &mut Out)
-    ensures value { output_of out.new ≡ applied func (output_of out.old) }
-{
-    match func {
-        Func::Const(n) => put_number(out, n),
-        Func::Size => put_number(out, Pick::Size.read(out)),
-        Func::Add(n) => put_number(out, Pick::Whole.read(out).saturating_add(n)),
-        Func::Mul(n) => put_number(out, Pick::Whole.read(out).saturating_mul(n)),
-        Func::First | Func::Second | Func::Merge => apply_whole(func, out),
-    }
-}
-
-// The same, by taking the output out of its place.
-#[inline(never)]
-fn apply_whole(func: Func, out: &mut Out)
-    ensures value { output_of out.new ≡ applied func (output_of out.old) }
-{
-    let whole = std::mem::replace(out, Out::Num(0));
-    *out = func.apply(whole);
 }
 
 // One step of a part, which begins anew and is stepped again where its output passes.

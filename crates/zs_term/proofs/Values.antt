@@ -2,16 +2,16 @@
 use Rattle.std.proofs.Common.{◌≡◌, ℕ, List, [], ◌∷◌, ◌++◌, refl, ap, ◌∙◌, take, get_or, ◌<◌, ◌+◌, length, arith}
 use Rattle.std.proofs.lemmas.List.{take_more}
 use Rattle.zs_term.specs.declared.outputs.Out.{Out}
-use Rattle.zs_term.specs.declared.outputs.Kept.{Kept, Own', Shared', Row_of-Out, end_of-Out, more_of-Out, items-the_row-Out}
-use Rattle.zs_term.specs.Output.{more, output_of, outputs_of, kept_outputs, kept_list, row_outputs, with_last, count}
+use Rattle.zs_term.specs.declared.outputs.Storage.{Storage, Own', Shared', Row_of-Out, end_of-Out, more_of-Out, items-the_row-Out}
+use Rattle.zs_term.specs.Output.{more, output_of, outputs_of, stored_outputs, stored_list, row_outputs, with_last, count}
 
 pub row_outputs_are : {m : _} (k : Row_of-Out m) → row_outputs k ≡ outputs_of (items-the_row-Out m k)
 row_outputs_are end_of-Out = refl
 row_outputs_are (more_of-Out x rest) = ap (λ v. more (output_of x) v) (row_outputs_are rest)
 
-pub kept_outputs_are : (k : Kept) → kept_outputs k ≡ outputs_of (kept_list k)
-kept_outputs_are (Own' shape all) = row_outputs_are all
-kept_outputs_are (Shared' p shape all) = row_outputs_are all
+pub stored_outputs_are : (k : Storage) → stored_outputs k ≡ outputs_of (stored_list k)
+stored_outputs_are (Own' shape all) = row_outputs_are all
+stored_outputs_are (Shared' p shape all) = row_outputs_are all
 
 pub outputs_of_push : (xs : List Out) (x : Out) → outputs_of (xs ++ x ∷ []) ≡ with_last (outputs_of xs) (output_of x)
 outputs_of_push [] x = refl

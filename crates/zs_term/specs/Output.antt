@@ -2,7 +2,7 @@
 use Rattle.std.specs.Prelude.{ℕ, ◌+◌, ◌*◌, Bool, not, List, [], ◌∷◌, nat_lt, nat_le, nat_eq}
 use Rattle.zs_term.specs.Saturating.{saturated}
 use Rattle.zs_term.specs.declared.outputs.Out.{Out, Num, Pair', Left', Right', Items'}
-use Rattle.zs_term.specs.declared.outputs.Kept.{Kept, Own', Shared', Row_of-Out, end_of-Out, more_of-Out, items-the_row-Out}
+use Rattle.zs_term.specs.declared.outputs.Storage.{Storage, Own', Shared', Row_of-Out, end_of-Out, more_of-Out, items-the_row-Out}
 use Rattle.zs_term.specs.declared.outputs.Outs.{Outs}
 use Rattle.zs_term.specs.declared.term.Test.{Test}
 use Rattle.zs_term.specs.declared.term.Cmp.{Cmp}
@@ -32,11 +32,11 @@ abbrev mutual
   output_of (Pair' p a q b) = pair (output_of a) (output_of b)
   output_of (Left' p a) = left (output_of a)
   output_of (Right' p a) = right (output_of a)
-  output_of (Items' k) = listed (kept_outputs k)
+  output_of (Items' k) = listed (stored_outputs k)
 
-  pub kept_outputs : Kept → Outputs
-  kept_outputs (Own' shape all) = row_outputs all
-  kept_outputs (Shared' p shape all) = row_outputs all
+  pub stored_outputs : Storage → Outputs
+  stored_outputs (Own' shape all) = row_outputs all
+  stored_outputs (Shared' p shape all) = row_outputs all
 
   pub row_outputs : {m : _} → Row_of-Out m → Outputs
   row_outputs end_of-Out = none
@@ -48,13 +48,13 @@ outputs_of [] = none
 outputs_of (x ∷ xs) = more (output_of x) (outputs_of xs)
 
 -- the outputs in a list's memory
-abbrev pub kept_list : Kept → List Out
-kept_list (Own' shape all) = items-the_row-Out _ all
-kept_list (Shared' p shape all) = items-the_row-Out _ all
+abbrev pub stored_list : Storage → List Out
+stored_list (Own' shape all) = items-the_row-Out _ all
+stored_list (Shared' p shape all) = items-the_row-Out _ all
 
 -- the list of outputs that an `Outs` keeps
 abbrev pub outs_list : Outs → List Out
-outs_list o = kept_list o.kept
+outs_list o = stored_list o.storage
 
 -- one more value at the end
 abbrev pub with_last : Outputs → Output → Outputs

@@ -101,7 +101,7 @@ pub enum Scale {
     Times,
 }
 
-/// What a term is made of. Here alone all its forms are told apart.
+/// What a term is made of. In this crate its forms are all told apart here alone.
 #[derive(Clone, Copy, Drop)]
 pub enum Shape<'t> {
     /// A leaf without numbers.

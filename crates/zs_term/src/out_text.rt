@@ -5,7 +5,7 @@ ghost use Rattle.std.specs.Fmt.{decimal};
 ghost use Rattle.zs_term.specs.Output.{output_of, outputs_of, outs_list};
 ghost use Rattle.zs_term.specs.OutputText.{output_text, outputs_text, comma_before};
 
-use crate::outputs::{Kept, Out, Outs};
+use crate::outputs::{Out, Outs, Storage};
 use itoa::Buffer;
 use std::alloc::{AllocError, Global};
 
@@ -66,9 +66,9 @@ fn append_number(text: &mut String, n: u64) -> Result<(), NoMemory>
 fn append_list(text: &mut String, outs: &Outs) -> Result<(), NoMemory>
     ensures ok { OnOk result (string_bytes text.new ≡ string_bytes text.old ++ outputs_text (outputs_of (outs_list outs.now))) }
 {
-    match &outs.kept {
-        Kept::Own(items) => append_items(text, items),
-        Kept::Shared(items) => append_items(text, items),
+    match &outs.storage {
+        Storage::Own(items) => append_items(text, items),
+        Storage::Shared(items) => append_items(text, items),
     }
 }
 

@@ -2,10 +2,11 @@
 
 ghost use Rattle.std.specs.Prelude.{◌≡◌, IfOk, OnOk};
 ghost use Rattle.std.specs.Arc.{arc_value};
-ghost use Rattle.zs_term.specs.Output.{output_of, outputs_of, outs_list, pair, listed, left, right, passes, picked, applied, number_in, size_in, first_in, second_in, merge_in, with_last};
+ghost use Rattle.zs_term.specs.Output.{output_of, outputs_of, outs_list, number, pair, listed, left, right, passes, picked, applied, number_in, size_in, first_in, second_in, merge_in, with_last};
 
 use crate::term::{Cmp, Func, Pick, Test};
 use std::alloc::{AllocError, Global};
+use std::mem::replace;
 use std::sync::Arc;
 
 /// An output of a schedule.
@@ -28,13 +29,13 @@ pub enum Out {
 #[derive(Drop)]
 #[cycle(out)]
 pub struct Outs {
-    pub(crate) kept: Kept,
+    pub(crate) storage: Storage,
 }
 
 // The memory of a list: its own, or one that other lists may lie in too.
 #[derive(Drop)]
 #[cycle(out)]
-pub(crate) enum Kept {
+pub(crate) enum Storage {
     Own(Vec<Out>),
     Shared(Arc<Vec<Out>>),
 }
@@ -45,7 +46,7 @@ impl Outs {
         ensures value { outs_list result ≡ items.items }
     {
         Outs {
-            kept: Kept::Own(items),
+            storage: Storage::Own(items),
         }
     }
 
@@ -53,9 +54,9 @@ impl Outs {
     pub fn items(&self) -> &[Out]
         ensures value { result.now ≡ outs_list self.now }
     {
-        match &self.kept {
-            Kept::Own(items) => items,
-            Kept::Shared(items) => items,
+        match &self.storage {
+            Storage::Own(items) => items,
+            Storage::Shared(items) => items,
         }
     }
 
@@ -64,16 +65,16 @@ impl Outs {
         ensures ok { IfOk result (λ r. outs_list r ≡ outs_list self.old) }
         ensures same { OnOk result (outs_list self.new ≡ outs_list self.old) }
     {
-        match &mut self.kept {
-            Kept::Shared(items) => Ok(Outs {
-                kept: Kept::Shared(Arc::try_clone(items)?),
+        match &mut self.storage {
+            Storage::Shared(items) => Ok(Outs {
+                storage: Storage::Shared(Arc::try_clone(items)?),
             }),
-            Kept::Own(items) => {
-                let items = Arc::new(alloc, std::mem::replace(items, Vec::new(alloc)))?;
+            Storage::Own(items) => {
+                let items = Arc::new(alloc, replace(items, Vec::new(alloc)))?;
                 let other = Arc::try_clone(&items)?;
-                self.kept = Kept::Shared(items);
+                self.storage = Storage::Shared(items);
                 Ok(Outs {
-                    kept: Kept::Shared(other),
+                    storage: Storage::Shared(other),
                 })
             }
         }
@@ -83,9 +84,9 @@ impl Outs {
     pub fn push(&mut self, alloc: Global, out: Out) -> Result<(), AllocError>
         ensures pushed { OnOk result (outputs_of (outs_list self.new) ≡ with_last (outputs_of (outs_list self.old)) (output_of out)) }
     {
-        match &mut self.kept {
-            Kept::Own(items) => push_own(items, out),
-            Kept::Shared(items) => push_shared(items, alloc, out),
+        match &mut self.storage {
+            Storage::Own(items) => push_own(items, out),
+            Storage::Shared(items) => push_shared(items, alloc, out),
         }
     }
 }
@@ -113,9 +114,9 @@ fn push_shared(shared: &mut Arc<Vec<Out>>, alloc: Global, out: Out) -> Result<()
 }
 
 impl Out {
-    /// An output of the same value. Its lists may lie in the same memory; nothing else of it does.
+    // An output of the same value. Its lists may lie in the same memory; nothing else of it does.
     #[cycle(copy)]
-    pub fn copy(&self, alloc: Global) -> Result<Out, AllocError>
+    pub(crate) fn copy(&self, alloc: Global) -> Result<Out, AllocError>
         ensures ok { IfOk result (λ r. output_of r ≡ output_of self.now) }
     {
         match self {
@@ -128,6 +129,17 @@ impl Out {
             Out::Left(a) => Ok(Out::Left(Box::new(alloc, a.copy(alloc)?)?)),
             Out::Right(a) => Ok(Out::Right(Box::new(alloc, a.copy(alloc)?)?)),
             Out::Items(outs) => Ok(Out::Items(outs.copy(alloc)?)),
+        }
+    }
+
+    /// Puts a number in the output's place.
+    #[inline(always)]
+    pub fn put_number(&mut self, n: u64)
+        ensures value { output_of self.new ≡ number n }
+    {
+        match self {
+            Out::Num(old) => *old = n,
+            Out::Pair(_, _) | Out::Left(_) | Out::Right(_) | Out::Items(_) => put(self, Out::Num(n)),
         }
     }
 
@@ -197,13 +209,21 @@ impl Outs {
     fn copy(&self, alloc: Global) -> Result<Outs, AllocError>
         ensures ok { IfOk result (λ r. outputs_of (outs_list r) ≡ outputs_of (outs_list self.now)) }
     {
-        match &self.kept {
-            Kept::Own(items) => Ok(Outs::new(copy_all(alloc, items)?)),
-            Kept::Shared(items) => Ok(Outs {
-                kept: Kept::Shared(Arc::try_clone(items)?),
+        match &self.storage {
+            Storage::Own(items) => Ok(Outs::new(copy_all(alloc, items)?)),
+            Storage::Shared(items) => Ok(Outs {
+                storage: Storage::Shared(Arc::try_clone(items)?),
             }),
         }
     }
+}
+
+// Puts an output in place of another one, which is dropped here, and not where each caller would make room for it.
+#[inline(never)]
+fn put(out: &mut Out, value: Out)
+    ensures value { out.new ≡ value }
+{
+    *out = value;
 }
 
 // Outputs of the same values. Their lists may lie in the same memory; nothing else of them does.
@@ -288,17 +308,52 @@ impl Pick {
 impl Func {
     /// The function's answer. Where it doesn't fit: `_1`, `_2` and `merge` give the output itself, `size` gives 0, and `+` and `*`
     /// take 0 for what is no number.
-    pub fn apply(self, out: Out) -> Out
+    pub fn apply(self, mut out: Out) -> Out
         ensures value { output_of result ≡ applied self (output_of out) }
     {
+        self.apply_in(&mut out);
+        out
+    }
+
+    /// The same, in the output's place.
+    pub fn apply_in(self, out: &mut Out)
+        ensures value { output_of out.new ≡ applied self (output_of out.old) }
+    {
         match self {
-            Func::First => out.into_first(),
-            Func::Second => out.into_second(),
-            Func::Merge => out.into_merged(),
-            Func::Size => Out::Num(out.size()),
-            Func::Const(n) => Out::Num(n),
-            Func::Add(n) => Out::Num(out.number().saturating_add(n)),
-            Func::Mul(n) => Out::Num(out.number().saturating_mul(n)),
+            Func::First => keep_first(out),
+            Func::Second => keep_second(out),
+            Func::Merge => keep_merged(out),
+            Func::Size => out.put_number(out.size()),
+            Func::Const(n) => out.put_number(n),
+            Func::Add(n) => out.put_number(out.number().saturating_add(n)),
+            Func::Mul(n) => out.put_number(out.number().saturating_mul(n)),
         }
     }
+}
+
+// The first part of a pair in the pair's place.
+#[inline(never)]
+fn keep_first(out: &mut Out)
+    ensures value { output_of out.new ≡ first_in (output_of out.old) }
+{
+    let whole = replace(out, Out::Num(0));
+    *out = whole.into_first();
+}
+
+// The second part of a pair in the pair's place.
+#[inline(never)]
+fn keep_second(out: &mut Out)
+    ensures value { output_of out.new ≡ second_in (output_of out.old) }
+{
+    let whole = replace(out, Out::Num(0));
+    *out = whole.into_second();
+}
+
+// What stands in a side of a choice in the side's place.
+#[inline(never)]
+fn keep_merged(out: &mut Out)
+    ensures value { output_of out.new ≡ merge_in (output_of out.old) }
+{
+    let whole = replace(out, Out::Num(0));
+    *out = whole.into_merged();
 }

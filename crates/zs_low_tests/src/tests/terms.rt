@@ -226,13 +226,10 @@ fn of_two_faults_the_first_is_answered(rt: HostRuntime) {
     expect_readings(&rt, &rows);
 }
 
-// The text of an output, and that of its copy.
+// The text of an output.
 fn expect_out<R: Abort + Alloc<A = Global>>(rt: &R, out: &Out, wanted: &str) {
     let text = write_out(rt.alloc(), out).expect(rt, "memory");
     expect_text(rt, &text, wanted, "the output");
-    let copy = out.copy(rt.alloc()).expect(rt, "memory");
-    let again = write_out(rt.alloc(), &copy).expect(rt, "memory");
-    expect_text(rt, &again, wanted, "its copy");
 }
 
 // The pair of a left side and a list of two numbers.

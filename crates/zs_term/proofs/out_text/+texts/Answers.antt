@@ -2,7 +2,7 @@ use Rattle.std.proofs.Common.{rules, ◌≡◌, ◌++◌, ap, sym, subst, OnOk, 
 use Rattle.zs_term.specs.Output.{output_of, outputs_of, outs_list, listed}
 use Rattle.zs_term.specs.OutputText.{output_text}
 use Rattle.zs_term.specs.declared.outputs.Out.{the_lemmas}
-use Rattle.zs_term.proofs.Values.{kept_outputs_are}
+use Rattle.zs_term.proofs.Values.{stored_outputs_are}
 use Rattle.zs_term.proofs.Texts.{text_grown, text_enclosed}
 use Rattle.zs_term.proofs.out_text.+texts.Goals as goal
 
@@ -10,7 +10,7 @@ use Rattle.zs_term.proofs.out_text.+texts.Goals as goal
 pub append_out-returns-in_ok-append_list-in-Items :
     goal.append_out-returns-in_ok-append_list-in-Items
 append_out-returns-in_ok-append_list-in-Items t c =
-    let same : output_of c.args.out.now ≡ listed (outputs_of (outs_list c.in-Items.outs)) = search (rules, the_lemmas, kept_outputs_are) in
+    let same : output_of c.args.out.now ≡ listed (outputs_of (outs_list c.in-Items.outs)) = search (rules, the_lemmas, stored_outputs_are) in
     let text = text_enclosed c.push_str-in-Items-2.result _ _ _ _ _ c.in_ok-push_str-in-Items.ensures.bytes c.in_ok-append_list-in-Items.ensures.ok c.push_str-in-Items-2.ensures.bytes in
     record { ok = subst (λ w. OnOk c.push_str-in-Items-2.result (string_bytes c.push_str-in-Items-2.new.self ≡ string_bytes c.args.text.now ++ w)) (sym (ap output_text same)) text }
 
