@@ -11,11 +11,11 @@ use Rattle.crossbeam_queue.proofs.Lists.{set_else}
 use Rattle.zs_pool.specs.declared.board.counter_rule.Count.{Count}
 use Rattle.zs_pool.specs.Runs.{Every}
 use Rattle.zs_term.specs.Saturating.{max_moment}
-use Rattle.zs_pool.specs.Counter.{counted, Sound, Lawful, Added, Looked, Learned}
+use Rattle.zs_pool.specs.Counter.{counted, Sound, KeepsCount, Added, Looked, Learned}
 use Rattle.zs_pool.proofs.Views.{total_set, total_new, total_alone, every_get, every_set, every_new, every_map}
 
 abbrev Rule : State (Unit {0}) Count → Type 0
-Rule = Lawful tt
+Rule = KeepsCount tt
 
 abbrev total : List Count → ℕ
 total views = sum_by (λ u. u.count) views

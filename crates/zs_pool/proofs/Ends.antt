@@ -1,6 +1,6 @@
 -- How a round ends.
-use Rattle.std.proofs.Common.{◌≡◌, ◌+◌, ◌≤◌, ℕ, true, Vec, Ok, Err, IfOk, List, [], ◌∷◌, ◌++◌, length, sym, ap, ◌∙◌, subst, length-append, arith}
-use Rattle.std.specs.Prelude.{All, Result}
+use Rattle.std.proofs.Common.{◌≡◌, ◌+◌, ◌≤◌, ℕ, true, Vec, Ok, IfOk, List, [], ◌∷◌, ◌++◌, length, ap, ◌∙◌, subst, length-append, arith}
+use Rattle.std.specs.Prelude.{All}
 use Rattle.std.specs.Global.{Global}
 use Rattle.std.specs.List.{range_with_len}
 use Rattle.std.specs.List.Sorted.{IsPermutation}

@@ -12,12 +12,12 @@ use Rattle.atomic_table.specs.Table.Act.{keeps}
 use Rattle.atomic_table.proofs.Lists.{set_else}
 use Rattle.zs_pool.specs.declared.tally.rule.Tallied.{Tallied}
 use Rattle.zs_pool.specs.Runs.{Every}
-use Rattle.zs_pool.specs.Tally.{tallied, Lawful, Counted, Noted, Fitting, Loaded}
+use Rattle.zs_pool.specs.Tally.{tallied, KeepsTally, Counted, Noted, Fitting, Loaded}
 use Rattle.zs_term.specs.Saturating.{max_moment}
 use Rattle.zs_pool.proofs.Views.{total_set, total_has, total_new, every_get, every_set, every_new, every_map}
 
 abbrev Rule : State (Unit {0}) Tallied → Type 0
-Rule = Lawful tt
+Rule = KeepsTally tt
 
 pub begins : Rule (opening (0 ∷ []) [] (tallied 0 max_moment 0 0))
 begins = record { word = refl; whole = refl; each = (omega arith, tt) }

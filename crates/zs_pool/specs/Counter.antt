@@ -18,8 +18,8 @@ pub record CountRun (words : List ℕ) (views : List Count) : Type 0 where
   pub shares : sum_by (λ v. v.share) views ≡ max_moment
   pub each : Every (Sound (sum_by (λ v. v.count) views)) views
 
-abbrev pub Lawful : Unit {0} → State (Unit {0}) Count → Type 0
-Lawful key s = CountRun s.words s.views
+abbrev pub KeepsCount : Unit {0} → State (Unit {0}) Count → Type 0
+KeepsCount key s = CountRun s.words s.views
 
 -- one more was counted
 abbrev pub Added : Step (Unit {0}) → Me (Unit {0}) Count → ℕ → Me (Unit {0}) Count → Type 0

@@ -1,4 +1,4 @@
--- What the collecting thread has, while it joins the workers.
+-- What the calling thread has, while it joins the workers.
 use Rattle.std.specs.Prelude.{◌≡◌, ℕ, ◌+◌, true, List, [], ◌++◌, Ok, IfOk, Vec}
 use Rattle.std.specs.Global.{Global}
 use Rattle.std.specs.List.{sum_by}

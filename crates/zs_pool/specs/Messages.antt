@@ -19,7 +19,7 @@ Saw now task = (task.seen ≡ now) × ((task.broken ≡ true) ⊎ ((ms : List �
 abbrev pub AllSaw : ℕ → List TaskValue → Type 0
 AllSaw now tasks = All (Saw now) tasks
 
--- the message is the poll of the batch: the same number, and the same tasks in order, each polled once
+-- the message is the poll of the batch: the same number, and the same tasks in order, each polled
 pub record IsPollOf (now : ℕ) (b : BatchValue) (p : PolledValue) : Type 0 where
   pub number : p.number ≡ b.number
   pub at : p.now ≡ now

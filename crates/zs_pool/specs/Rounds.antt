@@ -1,4 +1,4 @@
--- What a round makes of tasks: each is polled once, at the moment of the round.
+-- What a round makes of tasks: each is polled at the moment of the round.
 use Rattle.std.specs.Prelude.{◌≡◌, ℕ, ◌≤◌, true, false, [], ◌∷◌, ◌++◌, ◌⊎◌, IsSomeAnd}
 use Rattle.zs_drive.specs.Clocks.{max_tick}
 use Rattle.zs_drive.specs.Tasks.{TaskValue, current_timeline}

@@ -18,8 +18,8 @@ pub record TallyRun (words : List ℕ) (views : List Tallied) : Type 0 where
   -- no value seen exceeds the word
   pub each : Every (λ v. v.seen ≤ sum_by (λ v. v.count) views) views
 
-abbrev pub Lawful : Unit {0} → State (Unit {0}) Tallied → Type 0
-Lawful key s = TallyRun s.words s.views
+abbrev pub KeepsTally : Unit {0} → State (Unit {0}) Tallied → Type 0
+KeepsTally key s = TallyRun s.words s.views
 
 -- a seat adds one
 abbrev pub Counted : Step (Unit {0}) → Me (Unit {0}) Tallied → ℕ → Me (Unit {0}) Tallied → Type 0

@@ -1,4 +1,4 @@
-//! One moment's due polls, shared among workers: the due tasks come back, each polled once.
+//! One moment's due polls, shared among workers: the due tasks come back, each polled at the moment and counted once.
 //!
 //! `round` gives the same answer for every number of workers, every cutting into batches, every order of the threads'
 //! steps and every gate. Its parts stand alone too: a `Board` of batches, a `Shelf` of polled batches, and a `Tally`

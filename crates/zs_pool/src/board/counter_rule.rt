@@ -17,9 +17,9 @@ pub struct Summed;
 
 impl TableRule<(), Count, ()> for Summed {
     ghost use Rattle.zs_term.specs.Saturating.{max_moment};
-    ghost use Rattle.zs_pool.specs.Counter.{Lawful, counted};
+    ghost use Rattle.zs_pool.specs.Counter.{KeepsCount, counted};
 
-    ghost holds = { Lawful };
+    ghost holds = { KeepsCount };
 
     ghost first = { λ _. counted max_moment 0 0 };
 }

@@ -89,6 +89,10 @@ pub fn poll_shared<'s, G: Gate, R: Threads + Wait + Sync>(
     requires room { work.tasks + rooms work.helpers work.tasks ≤ seat.old.allowance }
     requires tasks { length (tasks_of work.batches.items) ≤ work.tasks }
     requires helpers { work.helpers ≤ max_workers }
+
+    // No thread is started without a batch for it.
+    requires few { work.helpers + 1 ≤ length work.batches.items }
+
     requires size { (1 ≤ length work.batches.items) × (length work.batches.items ≤ max_tasks) }
     requires numbered { AreNumbered work.batches.items }
     requires pollable { AllPollable now work.batches.items }

@@ -18,10 +18,10 @@ pub struct Tallied {
 pub struct Exact;
 
 impl TableRule<(), Tallied, ()> for Exact {
-    ghost use Rattle.zs_pool.specs.Tally.{Lawful, tallied};
+    ghost use Rattle.zs_pool.specs.Tally.{KeepsTally, tallied};
     ghost use Rattle.zs_term.specs.Saturating.{max_moment};
 
-    ghost holds = { Lawful };
+    ghost holds = { KeepsTally };
 
     ghost first = { λ _. tallied 0 max_moment 0 0 };
 }

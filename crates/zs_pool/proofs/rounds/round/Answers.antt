@@ -17,6 +17,12 @@ poll_shared-requires-clause-room g c κs within =
     let P : ℕ → Type 0 = λ n. c.args.cut.workers * n ≤ c.args.seat.now.allowance in
     rooms_within (c.min.result - 1) c.args.cut.workers c.len-due.result c.args.seat.now.allowance (omega (arith, some, c.min.ensures, c.args.cut.within)) (subst P same c.requires.allowance)
 
+pub poll_shared-requires-clause-few : goal.poll_shared-requires-clause-few
+poll_shared-requires-clause-few g c κs within =
+    let bs = c.in_ok-batches.batches.items in let size = ap length c.in_ok-batches.ensures.cutting in
+    let some = some_batches bs (omega (arith, size, c.len-due.ensures)) in
+    omega (arith, some, c.min.ensures)
+
 pub poll_shared-requires-clause-size : goal.poll_shared-requires-clause-size
 poll_shared-requires-clause-size g c κs within =
     let bs = c.in_ok-batches.batches.items in let size = ap length c.in_ok-batches.ensures.cutting in

@@ -1,4 +1,4 @@
-use Rattle.std.proofs.Common.{◌≡◌, ◌∙◌, ◌∷◌, [], refl, sym, ap, arith}
+use Rattle.std.proofs.Common.{◌≡◌, ◌∙◌, [], refl, sym, ap, arith}
 use Rattle.std.specs.Vec.Iter.{into_iter_items}
 use Rattle.std.proofs.lemmas.List.{nil_from_length}
 use Rattle.zs_pool.specs.Tally.{Seating}
@@ -6,6 +6,8 @@ use Rattle.zs_engine.specs.Times.{ticks_of}
 use Rattle.zs_engine.specs.Rounds.{jobs_in}
 use Rattle.zs_engine.proofs.EngineLemmas.{due-filled, due-distinct, due-rising, due-pollable, due-few, due-room, due-polled, due-settled}
 use Rattle.zs_engine.proofs.Settling.{Next, settling-at}
+use Rattle.zs_engine.proofs.engine.Engine.share_round.Given.{Over}
+use Rattle.zs_engine.proofs.engine.Engine.share_round.Goals.{In-Some}
 use Rattle.zs_engine.proofs.engine.Engine.share_round.Goals as goal
 
 pub take_tasks-requires-clause-filled : goal.take_tasks-requires-clause-filled
@@ -39,32 +41,29 @@ loop-task-init g c =
       sum = omega (arith, c.in-Ok.ensures.count, c.in-Ok.ensures.allowance, c.requires.due.runs.sum);
     }
 
+-- the task that is put back next
+next_task : (g : Over) (c : In-Some g)
+    → Next (ticks_of c.args.self.now.clock) c.args.now (jobs_in c.args.self.now.slots.items) c.loop-task.self.slots.items c.loop-task.self.agenda c.in-Some.task (into_iter_items c.next.new.self) c.loop-task.self.seat.count
+next_task g c = settling-at _ _ _ _ _ _ _ _ _ c.in-Some.ensures.steps.0 c.loop-task.invariant.settling
+
 pub put_back-requires-clause-slot : goal.put_back-requires-clause-slot
 put_back-requires-clause-slot g c =
-    let step : into_iter_items c.loop-task.task-iterator ≡ c.in-Some.task ∷ into_iter_items c.next.new.self = c.in-Some.ensures.steps.0 in
-    let next : Next (ticks_of c.args.self.now.clock) c.args.now (jobs_in c.args.self.now.slots.items) c.loop-task.self.slots.items c.loop-task.self.agenda c.in-Some.task (into_iter_items c.next.new.self) c.loop-task.self.seat.count =
-    settling-at _ _ _ _ _ _ _ _ _ step c.loop-task.invariant.settling in
+    let next = next_task g (goal.at.put_back-requires-clause-slot g c).In-Some in
     next.in_range
 
 pub put_back-requires-clause-unset : goal.put_back-requires-clause-unset
 put_back-requires-clause-unset g c =
-    let step : into_iter_items c.loop-task.task-iterator ≡ c.in-Some.task ∷ into_iter_items c.next.new.self = c.in-Some.ensures.steps.0 in
-    let next : Next (ticks_of c.args.self.now.clock) c.args.now (jobs_in c.args.self.now.slots.items) c.loop-task.self.slots.items c.loop-task.self.agenda c.in-Some.task (into_iter_items c.next.new.self) c.loop-task.self.seat.count =
-    settling-at _ _ _ _ _ _ _ _ _ step c.loop-task.invariant.settling in
+    let next = next_task g (goal.at.put_back-requires-clause-unset g c).In-Some in
     next.unset
 
 pub put_back-requires-clause-later : goal.put_back-requires-clause-later
 put_back-requires-clause-later g c =
-    let step : into_iter_items c.loop-task.task-iterator ≡ c.in-Some.task ∷ into_iter_items c.next.new.self = c.in-Some.ensures.steps.0 in
-    let next : Next (ticks_of c.args.self.now.clock) c.args.now (jobs_in c.args.self.now.slots.items) c.loop-task.self.slots.items c.loop-task.self.agenda c.in-Some.task (into_iter_items c.next.new.self) c.loop-task.self.seat.count =
-    settling-at _ _ _ _ _ _ _ _ _ step c.loop-task.invariant.settling in
+    let next = next_task g (goal.at.put_back-requires-clause-later g c).In-Some in
     rw c.loop-task.invariant.keeps.clock next.later
 
 pub loop-task-preserved : goal.loop-task-preserved
 loop-task-preserved g c =
-    let step : into_iter_items c.loop-task.task-iterator ≡ c.in-Some.task ∷ into_iter_items c.next.new.self = c.in-Some.ensures.steps.0 in
-    let next : Next (ticks_of c.args.self.now.clock) c.args.now (jobs_in c.args.self.now.slots.items) c.loop-task.self.slots.items c.loop-task.self.agenda c.in-Some.task (into_iter_items c.next.new.self) c.loop-task.self.seat.count =
-    settling-at _ _ _ _ _ _ _ _ _ step c.loop-task.invariant.settling in
+    let next = next_task g (goal.at.loop-task-preserved g c).In-Some in
     let seat = c.in_ok-put_back.ensures.tally.1 in
     let keeps = c.loop-task.invariant.keeps in
     record {
