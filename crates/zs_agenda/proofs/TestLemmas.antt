@@ -5,7 +5,7 @@ use Rattle.std.specs.List.Sorted.{IsStrictlySortedBy, IsStrictlyIncreasing}
 use Rattle.std.specs.declared.cmp.Ordering.TheVariants.{Less}
 use Rattle.std.proofs.lemmas.Bool.Decides.{nat_tests}
 use Rattle.std.proofs.lemmas.Map.Keys.{sorted_from_strictly_increasing, IsStrictlyIncreasing-from_sorted}
-use Rattle.zs_agenda.specs.Ticks.{Ticks, every_ms, listed, max_horizon, IsTickList, IsClock}
+use Rattle.zs_agenda.specs.Ticks.{Ticks, every_ms, listed, max_horizon, max_ticks, IsTickList, IsClock}
 use Rattle.zs_agenda.specs.Tests.{rises, is_tick_list, is_clock}
 
 and_left : (a b : Bool) → (a && b) ≡ true → a ≡ true
@@ -45,7 +45,7 @@ pub tick_list_passes : (ticks : List ℕ) → IsTickList ticks → is_tick_list 
 unfolding is_tick_list
 tick_list_passes ticks h =
     let some : nat_lt 0 (length ticks) ≡ true = grind (arith, nat_tests, h.some) in
-    let few : nat_le (length ticks) 1000000 ≡ true = grind (arith, nat_tests, h.few) in
+    let few : nat_le (length ticks) max_ticks ≡ true = grind (arith, nat_tests, h.few) in
     let rise : rises ticks ≡ true = sorted_rises ticks (sorted_from_strictly_increasing ticks h.rising) in
     let last : nat_le (slice_index ticks (length ticks - 1)) max_horizon ≡ true = grind (arith, nat_tests, h.limit) in
     rw (some, few, rise, last) refl
@@ -55,9 +55,9 @@ pub tick_list_passed : (ticks : List ℕ) → is_tick_list ticks ≡ true → Is
 unfolding is_tick_list
 tick_list_passed ticks h =
     let s : nat_lt 0 (length ticks) ≡ true = and_left _ _ (and_left _ _ (and_left _ _ h)) in
-    let f : nat_le (length ticks) 1000000 ≡ true = and_right (nat_lt 0 (length ticks)) _ (and_left _ _ (and_left _ _ h)) in
-    let r : rises ticks ≡ true = and_right (nat_lt 0 (length ticks) && nat_le (length ticks) 1000000) _ (and_left _ _ h) in
-    let l : nat_le (slice_index ticks (length ticks - 1)) max_horizon ≡ true = and_right (nat_lt 0 (length ticks) && nat_le (length ticks) 1000000 && rises ticks) _ h in
+    let f : nat_le (length ticks) max_ticks ≡ true = and_right (nat_lt 0 (length ticks)) _ (and_left _ _ (and_left _ _ h)) in
+    let r : rises ticks ≡ true = and_right (nat_lt 0 (length ticks) && nat_le (length ticks) max_ticks) _ (and_left _ _ h) in
+    let l : nat_le (slice_index ticks (length ticks - 1)) max_horizon ≡ true = and_right (nat_lt 0 (length ticks) && nat_le (length ticks) max_ticks && rises ticks) _ h in
     record {
       some = grind (arith, nat_tests, s);
       few = grind (arith, nat_tests, f);

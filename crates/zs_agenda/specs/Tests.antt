@@ -2,7 +2,7 @@
 -- they pass just where `IsTickList` and `IsClock` hold.
 use Rattle.std.specs.Prelude.{◌&&◌, ◌-◌, length, slice_index, ℕ, List, [], ◌∷◌, Bool, true, nat_lt, nat_le}
 use Rattle.std.specs.List.{list_all}
-use Rattle.zs_agenda.specs.Ticks.{Ticks, every_ms, listed, max_horizon}
+use Rattle.zs_agenda.specs.Ticks.{Ticks, every_ms, listed, max_horizon, max_ticks}
 
 -- each number is less than all those behind it
 unfoldable pub rises : List ℕ → Bool
@@ -11,7 +11,7 @@ rises (t ∷ ticks) = list_all (nat_lt t) ticks && rises ticks
 
 -- the list may be a clock's
 unfoldable pub is_tick_list : List ℕ → Bool
-is_tick_list ticks = nat_lt 0 (length ticks) && nat_le (length ticks) 1000000 && rises ticks
+is_tick_list ticks = nat_lt 0 (length ticks) && nat_le (length ticks) max_ticks && rises ticks
     && nat_le (slice_index ticks (length ticks - 1)) max_horizon
 
 -- the ticks may be a clock's

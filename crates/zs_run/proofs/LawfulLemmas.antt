@@ -19,10 +19,10 @@ use Rattle.zs_term.specs.declared.fault.TermFault.{TermFault}
 use Rattle.zs_term.specs.declared.fault.TermFault.TheVariants as terms
 use Rattle.zs_term.proofs.Computed.{verdict_is_the_one}
 use Rattle.zs_effect.specs.declared.script.Beat.{Beat}
-use Rattle.zs_effect.specs.declared.script.ScriptFault.TheVariants.{Empty, TooLong, ZeroMs}
 use Rattle.zs_effect.specs.Scripts.{IsScript}
 use Rattle.zs_drive.specs.Values.{JobRecord}
 use Rattle.zs_drive.specs.declared.job.Mode.{Mode}
+use Rattle.zs_pool.specs.Limits.{max_workers, max_tasks}
 use Rattle.zs_pool.specs.Batches.{IsCut}
 use Rattle.zs_run.specs.declared.plan_fault.PlanFault.{PlanFault}
 use Rattle.zs_run.specs.declared.plan_fault.PlanFault.TheVariants as faults
@@ -32,6 +32,7 @@ use Rattle.zs_run.specs.Shapes.{JobParts, DocumentParts, beat_of, entry_keys, jo
 use Rattle.zs_run.specs.Jobs.{mode_of, is_name, script_of, job_of, jobs_of}
 use Rattle.zs_run.specs.Plan.{PlanRecord, is_cut, max_bytes, max_jobs, plan_of_tree, plan_of}
 use Rattle.zs_run.specs.Lawful.{IsLawfulJob, IsLawful}
+use Rattle.zs_run.proofs.ScriptLemmas.{script_given}
 
 -- ---- what a passed step tells
 
@@ -83,42 +84,9 @@ all_at P (x ∷ xs) h = at P x xs h.0 (all_at P xs h.1)
     at P x xs here rest zero d inside = here
     at P x xs here rest (suc k) d inside = rest k d (omega arith)
 
-some_ms : (n : ℕ) → (n == 0) ≡ false → 1 ≤ n
-some_ms n h = grind (arith, nat_tests, h)
-
-no_zero : (beats : List Beat) → list_any (λ b. b.ms == 0) beats ≡ false → AllByRecursion (λ beat. 1 ≤ beat.ms) beats
-no_zero [] h = tt
-no_zero (beat ∷ beats) h =
-    let others : Bool = list_any (λ b. b.ms == 0) beats in
-    (some_ms beat.ms (or_left (beat.ms == 0) others h), no_zero beats (or_right (beat.ms == 0) others h))
-
 -- what passes each test is a script
 script_is : (beats script : List Beat) → script_of beats ≡ Ok script → IsScript script
-unfolding script_of
-script_is beats script h = by_empty (length beats == 0) refl h
-  where
-    by_zero : (c : Bool) → list_any (λ b. b.ms == 0) beats ≡ c → (length beats == 0) ≡ false → nat_lt 1000 (length beats) ≡ false
-        → (if c then Err ZeroMs else Ok beats) ≡ Ok script → IsScript script
-    by_zero true is some few h = absurd (let e : Err ZeroMs ≡ Ok script = h in cc)
-    by_zero false is some few h =
-        let e : Ok beats ≡ Ok script = h in
-        let same : beats ≡ script = cc in
-        subst IsScript same (record {
-          some = some_ms (length beats) some;
-          few = grind (arith, nat_tests, few);
-          timed = all_at (λ beat. 1 ≤ beat.ms) beats (no_zero beats is);
-        })
-
-    by_length : (c : Bool) → nat_lt 1000 (length beats) ≡ c → (length beats == 0) ≡ false
-        → (if c then Err TooLong else (if list_any (λ b. b.ms == 0) beats then Err ZeroMs else Ok beats)) ≡ Ok script → IsScript script
-    by_length true is some h = absurd (let e : Err TooLong ≡ Ok script = h in cc)
-    by_length false is some h = by_zero (list_any (λ b. b.ms == 0) beats) refl some is h
-
-    by_empty : (c : Bool) → (length beats == 0) ≡ c
-        → (if c then Err Empty else (if nat_lt 1000 (length beats) then Err TooLong else (if list_any (λ b. b.ms == 0) beats then Err ZeroMs else Ok beats))) ≡ Ok script
-        → IsScript script
-    by_empty true is h = absurd (let e : Err Empty ≡ Ok script = h in cc)
-    by_empty false is h = by_length (nat_lt 1000 (length beats)) refl is h
+script_is beats script h = let is : (script ≡ beats) × IsScript beats = (script_given beats script).0 h in subst IsScript (sym is.0) is.1
 
 -- what a text is read as is a schedule
 schedule_is : (text : List ℕ) (t : Schedule) → verdict_of text ≡ Ok t → IsSchedule t
@@ -260,9 +228,9 @@ cut_is : (workers grain : ℕ) → is_cut workers grain ≡ true → IsCut worke
 unfolding is_cut
 cut_is workers grain h =
     let a : nat_le 1 workers ≡ true = and_left _ _ (and_left _ _ (and_left _ _ h)) in
-    let b : nat_le workers 64 ≡ true = and_right (nat_le 1 workers) _ (and_left _ _ (and_left _ _ h)) in
-    let c : nat_le 1 grain ≡ true = and_right (nat_le 1 workers && nat_le workers 64) _ (and_left _ _ h) in
-    let e : nat_le grain 10000 ≡ true = and_right (nat_le 1 workers && nat_le workers 64 && nat_le 1 grain) _ h in
+    let b : nat_le workers max_workers ≡ true = and_right (nat_le 1 workers) _ (and_left _ _ (and_left _ _ h)) in
+    let c : nat_le 1 grain ≡ true = and_right (nat_le 1 workers && nat_le workers max_workers) _ (and_left _ _ h) in
+    let e : nat_le grain max_tasks ≡ true = and_right (nat_le 1 workers && nat_le workers max_workers && nat_le 1 grain) _ h in
     (grind (arith, nat_tests, a), grind (arith, nat_tests, b), grind (arith, nat_tests, c), grind (arith, nat_tests, e))
 
 tree_is : (d : Data) (plan : PlanRecord) → plan_of_tree d ≡ Ok plan → IsLawful plan

@@ -9,6 +9,7 @@ pub mod LawfulLemmas
 pub mod AnswerLemmas
 pub mod Whole
 pub mod Endings
+pub mod EndsTold
 pub mod OnLiterals
 pub mod Rows
 pub mod Parts

@@ -9,6 +9,7 @@ use Rattle.zs_term.specs.Verdict.{verdict_of}
 use Rattle.zs_effect.specs.declared.script.Beat.{Beat}
 use Rattle.zs_effect.specs.declared.script.ScriptFault.{ScriptFault}
 use Rattle.zs_effect.specs.declared.script.ScriptFault.TheVariants.{Empty, TooLong, ZeroMs}
+use Rattle.zs_effect.specs.Scripts.{max_beats}
 use Rattle.zs_drive.specs.Values.{JobRecord}
 use Rattle.zs_drive.specs.declared.job.Mode.{Mode}
 use Rattle.zs_drive.specs.declared.job.Mode.TheVariants as modes
@@ -33,7 +34,7 @@ is_name text = nat_lt 0 (length text) && nat_le (length text) 64 && list_all is_
 -- the entries as a script, or the first cause to refuse them
 unfoldable pub script_of : List Beat → Result (List Beat) ScriptFault
 script_of beats = if length beats == 0 then Err Empty
-    else (if nat_lt 1000 (length beats) then Err TooLong else (if list_any (λ b. b.ms == 0) beats then Err ZeroMs else Ok beats))
+    else (if nat_lt max_beats (length beats) then Err TooLong else (if list_any (λ b. b.ms == 0) beats then Err ZeroMs else Ok beats))
 
 -- the job with this number, after jobs of these names
 unfoldable pub job_of : ℕ → List (List ℕ) → Data → Result JobRecord PlanFault

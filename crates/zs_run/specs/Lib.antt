@@ -17,4 +17,4 @@ pub mod Headline
 pub mod ShapeViews
 pub mod Names
 pub mod Streams
-pub mod Reading
+pub mod PlanReads

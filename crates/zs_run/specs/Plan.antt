@@ -6,6 +6,7 @@ use Rattle.serde_json.specs.Find.{get}
 use Rattle.zs_agenda.specs.Ticks.{Ticks}
 use Rattle.zs_agenda.specs.Tests.{is_clock}
 use Rattle.zs_drive.specs.Values.{JobRecord}
+use Rattle.zs_pool.specs.Limits.{max_workers, max_tasks}
 use Rattle.zs_run.specs.declared.plan_fault.PlanFault.{PlanFault}
 use Rattle.zs_run.specs.declared.plan_fault.PlanFault.TheVariants as faults
 use Rattle.zs_run.specs.Refusals.{◌>>=◌, demand, demand_some}
@@ -24,13 +25,13 @@ pub record PlanRecord : Type 0 where
 abbrev pub max_bytes : ℕ
 max_bytes = 16777216
 
--- the most jobs of a plan
+-- the most jobs of a plan: as many as a round may poll
 abbrev pub max_jobs : ℕ
-max_jobs = 10000
+max_jobs = max_tasks
 
 -- 1 to 64 workers, 1 to 10,000 tasks in a batch
 unfoldable pub is_cut : ℕ → ℕ → Bool
-is_cut workers grain = nat_le 1 workers && nat_le workers 64 && nat_le 1 grain && nat_le grain 10000
+is_cut workers grain = nat_le 1 workers && nat_le workers max_workers && nat_le 1 grain && nat_le grain max_tasks
 
 -- the plan of a document
 unfoldable pub plan_of_tree : Data → Result PlanRecord PlanFault

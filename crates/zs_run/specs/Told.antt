@@ -1,6 +1,6 @@
 -- What can be told of a job so that no other job has the same lines: a name, and numbers of 64 bits. Each number of the program
 -- is one of 64 bits. In a definition a number may be of any size, and from 10^64 on its text is cut.
-use Rattle.std.specs.Prelude.{◌≡◌, ◌<◌, ◌^◌, ⊤, ℕ, List, Option, Some, None, map, true}
+use Rattle.std.specs.Prelude.{◌≡◌, ◌<◌, ◌^◌, ⊤, ℕ, List, Option, Some, None, IfSome, map, true}
 use Rattle.std.specs.List.{All}
 use Rattle.zs_term.specs.Output.{Output, Outputs, number, pair, left, right, listed, none, more}
 use Rattle.zs_effect.specs.declared.script.Outcome.{Outcome}
@@ -14,7 +14,7 @@ use Rattle.zs_drive.specs.Values.{AttemptedValue, EndedValue}
 use Rattle.zs_run.specs.Jobs.{is_name}
 use Rattle.zs_engine.specs.Times.{ticks_of}
 use Rattle.zs_run.specs.Plan.{PlanRecord}
-use Rattle.zs_run.specs.Report.{JobReport}
+use Rattle.zs_run.specs.Report.{JobReport, last_ended}
 use Rattle.zs_run.specs.PlanReport.{job_report}
 
 -- a number of 64 bits
@@ -76,3 +76,9 @@ pub record CanBeTold (job : JobReport) : Type 0 where
 -- what the report of a plan tells of its jobs
 abbrev pub reported : PlanRecord → List JobReport
 reported plan = map (job_report (ticks_of plan.clock)) plan.jobs
+
+-- Where a job has an ending, its last attempt has ended, and where it is `Finished`, the schedule was asked at that end: what the job's
+-- last line tells of that end is there.
+abbrev pub HasItsEnd : List AttemptedValue → Option Ending → Type 0
+HasItsEnd attempts ending =
+    IfSome ending (λ e. (end : EndedValue) × (last_ended attempts ≡ Some end) × (e ≡ Finished → (step : Answer) × (end.step ≡ Some step)))

@@ -1,14 +1,19 @@
 // Laws of plans and reports, above their definitions.
 
-ghost use Rattle.std.specs.Prelude.{◌≡◌, ◌++◌, ◌+◌, ℕ, List, None, Ok, sum_by};
+ghost use Rattle.std.specs.Prelude.{◌≡◌, ◌↔◌, ◌++◌, ◌+◌, ℕ, List, None, Ok, Err, sum_by};
 ghost use Rattle.std.specs.List.{All, Any, flat_map};
-ghost use Rattle.zs_agenda.specs.Ticks.{IsClock};
+ghost use Rattle.zs_agenda.specs.Ticks.{IsClock, Ticks};
+ghost use Rattle.zs_effect.specs.declared.script.Beat.{Beat};
+ghost use Rattle.zs_effect.specs.declared.script.ScriptFault.{ScriptFault};
+ghost use Rattle.zs_effect.specs.Scripts.{IsFirstFault, IsScript};
 ghost use Rattle.zs_drive.specs.Values.{JobRecord};
+ghost use Rattle.zs_engine.specs.Times.{ticks_of};
+ghost use Rattle.zs_run.specs.Jobs.{script_of};
 ghost use Rattle.zs_run.specs.Lawful.{IsLawful};
 ghost use Rattle.zs_run.specs.Plan.{PlanRecord, plan_of};
-ghost use Rattle.zs_run.specs.PlanReport.{jobs_text, polls_of, report_of, with_total};
+ghost use Rattle.zs_run.specs.PlanReport.{job_report, jobs_text, polls_of, report_of, with_total};
 ghost use Rattle.zs_run.specs.Report.{JobReport, report_text};
-ghost use Rattle.zs_run.specs.Told.{CanBeTold, Fits, reported};
+ghost use Rattle.zs_run.specs.Told.{CanBeTold, Fits, HasItsEnd, reported};
 
 /// A plan's report is that of its parts put together: the jobs' lines of each part in order, and one last line with the sum of their polls.
 /// Neither a part's workers nor its grain matter.
@@ -27,6 +32,20 @@ pub fn the_cut_changes_nothing()
 /// has a lawful name, a schedule and a script.
 pub fn accepted_plans_are_lawful()
     ensures lawful { (bytes : List ℕ) (plan : PlanRecord) → plan_of bytes ≡ Ok plan → IsLawful plan }
+{}
+
+/// The tests of entries give a script just where the entries are one, and a fault just where it is their first, so that a reader of
+/// either may believe both.
+pub fn scripts_are_tested()
+    ensures scripts { (beats script : List Beat) → (script_of beats ≡ Ok script) ↔ ((script ≡ beats) × IsScript beats) }
+    ensures faults { (beats : List Beat) (fault : ScriptFault) → (script_of beats ≡ Err fault) ↔ IsFirstFault beats fault }
+{}
+
+/// No report of a plan tells a default: where a job has an ending, its last attempt has ended, and where it finished, its schedule was
+/// asked at that end.
+pub fn no_default_is_told()
+    ensures ends { (clock : Ticks) (job : JobRecord) → IsClock clock → IsScript job.script
+        → HasItsEnd (job_report (ticks_of clock) job).attempts (job_report (ticks_of clock) job).ending }
 {}
 
 /// Reports tell apart: lists of jobs with the same text are the same, with the same names, modes, attempts, outputs, endings and polls,

@@ -28,7 +28,8 @@ mod transfer;
 mod tree;
 
 pub use laws::{
-    accepted_plans_are_lawful, reports_join, reports_tell_apart, the_cut_changes_nothing,
+    accepted_plans_are_lawful, no_default_is_told, reports_join, reports_tell_apart,
+    scripts_are_tested, the_cut_changes_nothing,
 };
 pub use marked::Marked;
 pub use plan::Plan;

@@ -14,13 +14,13 @@ use crate::shapes::{AskedTicks, DocumentParts};
 use crate::tree::has_only_keys;
 use serde_json::Value;
 use std::alloc::Global;
-use zs_pool::Cut;
+use zs_pool::{Cut, MAX_TASKS};
 
 // The most bytes of a plan.
 const MAX_BYTES: usize = 16_777_216;
 
-// The most jobs of a plan.
-const MAX_JOBS: usize = 10_000;
+// The most jobs of a plan: as many as a round may poll.
+const MAX_JOBS: usize = MAX_TASKS as usize;
 
 // The document that the bytes are.
 #[tactic(auto, using(crate::proofs::Trees::tree_of_text, crate::proofs::Trees::tree_of_none))]

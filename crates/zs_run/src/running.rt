@@ -4,7 +4,7 @@ ghost use Rattle.zs_run.specs.Plan.{max_jobs};
 ghost use Rattle.zs_run.specs.PlanView.{plan_record};
 ghost use Rattle.zs_run.specs.PlanReport.{report_of};
 ghost use Rattle.zs_run.specs.Headline.{Ends, max_read};
-ghost use Rattle.zs_run.specs.Reading.{Reads};
+ghost use Rattle.zs_run.specs.PlanReads.{Reads};
 
 use crate::plan::Plan;
 use crate::plan_fault::PlanFault;

@@ -1,18 +1,9 @@
 //! What a `Marked` answers of the reader or writer inside, and when its mark is set.
 ghost use Rattle.std.specs.Prelude.{◌<◌};
 
-use super::support::streams::Answers;
-use std::io;
+use super::support::streams::{Answers, KINDS};
 use std::process::Abort;
 use zs_run::{Drain, Failed, Marked, Source};
-
-// Errors of a reader or a writer, those among them after which others would try again.
-const KINDS: [io::ErrorKind; 4] = [
-    io::ErrorKind::Interrupted,
-    io::ErrorKind::WouldBlock,
-    io::ErrorKind::BrokenPipe,
-    io::ErrorKind::Other,
-];
 
 // A pull answers so many bytes of `plan`, in pieces of three, and no mark is set.
 fn expect_pull(rt: &impl Abort, reader: &mut Marked<&[u8]>, wanted: &str) {

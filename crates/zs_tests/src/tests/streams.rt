@@ -1,6 +1,6 @@
 //! Readers and writers of `std`'s that fail, give little, or never end.
 use super::support::plans::{PLAN, REPORT};
-use super::support::streams::{Counted, Halting, Limited, Spaces, Stumbling};
+use super::support::streams::{Counted, Halting, KINDS, Limited, Spaces, Stumbling};
 use std::alloc::{Alloc, Global};
 use std::io;
 use std::io::Read;
@@ -45,19 +45,25 @@ fn an_interrupted_read_is_a_failed_read(rt: HostRuntime) {
     expect_refusal(&rt, rt.alloc(), reader, RunFault::Read, 60);
 }
 
+// After so many good reads one fails by an error of this kind, and no other follows.
+fn expect_last_read<R: Abort + Threads + Wait + Sync>(
+    rt: &R,
+    alloc: Global,
+    kind: io::ErrorKind,
+    before: u64,
+) {
+    let mut reader = Stumbling::of(Halting::of(PLAN, 50, 1000), kind, before);
+    expect_refusal(rt, alloc, &mut reader, RunFault::Read, before as usize);
+    assert!(rt; reader.after == 0, "after {before}");
+}
+
 // The plan comes in three pieces, and the fourth call finds the end.
 #[test]
 fn a_failed_read_is_not_tried_again(rt: HostRuntime) {
-    for before in 0..4u64 {
-        let mut reader = Stumbling::of(Halting::of(PLAN, 50, 1000), before);
-        expect_refusal(
-            &rt,
-            rt.alloc(),
-            &mut reader,
-            RunFault::Read,
-            before as usize,
-        );
-        assert!(rt; reader.after == 0, "after {before}");
+    for kind in KINDS {
+        for before in 0..4u64 {
+            expect_last_read(&rt, rt.alloc(), kind, before);
+        }
     }
 }
 
@@ -114,25 +120,38 @@ fn a_flush_fails(rt: HostRuntime) {
     expect_written(&rt, rt.alloc(), 1000, &mut writer, wanted, 112);
 }
 
+// After so many good calls one fails by an error of this kind, so many bytes have gone out, and no other call follows.
+fn expect_last_write<R: Abort + Threads + Wait + Sync>(
+    rt: &R,
+    alloc: Global,
+    kind: io::ErrorKind,
+    before: u64,
+    sent: usize,
+) {
+    let mut reader = Marked::new(PLAN.as_bytes());
+    let mut stumbling = Stumbling::of(Limited::of(alloc, 50, 1000, true), kind, before);
+    let mut writer = Marked::new(&mut stumbling);
+    let ended = run(rt, alloc, &OpenGate, &mut reader, &mut writer);
+    assert!(rt;
+        ended == Err(RunFault::Write { sent: sent as u64 }),
+        "{sent}: {ended:?}"
+    );
+    assert!(rt; Drain::failed(&writer), "{sent}");
+    assert!(rt; stumbling.after == 0, "{sent}");
+    assert!(rt; stumbling.inner.taken.len() == sent, "{sent}");
+    assert!(rt;
+        REPORT.as_bytes().starts_with(&stumbling.inner.taken),
+        "{sent}"
+    );
+}
+
 // The report goes out in three pieces, and the fourth call is the flush.
 #[test]
 fn a_failed_write_or_flush_is_not_tried_again(rt: HostRuntime) {
-    for (before, sent) in [(0u64, 0usize), (1, 50), (2, 100), (3, 112)] {
-        let mut reader = Marked::new(PLAN.as_bytes());
-        let mut stumbling = Stumbling::of(Limited::of(rt.alloc(), 50, 1000, true), before);
-        let mut writer = Marked::new(&mut stumbling);
-        let ended = run(&rt, rt.alloc(), &OpenGate, &mut reader, &mut writer);
-        assert!(rt;
-            ended == Err(RunFault::Write { sent: sent as u64 }),
-            "{sent}: {ended:?}"
-        );
-        assert!(rt; Drain::failed(&writer), "{sent}");
-        assert!(rt; stumbling.after == 0, "{sent}");
-        assert!(rt; stumbling.inner.taken.len() == sent, "{sent}");
-        assert!(rt;
-            REPORT.as_bytes().starts_with(&stumbling.inner.taken),
-            "{sent}"
-        );
+    for kind in KINDS {
+        for (before, sent) in [(0u64, 0usize), (1, 50), (2, 100), (3, 112)] {
+            expect_last_write(&rt, rt.alloc(), kind, before, sent);
+        }
     }
 }
 

@@ -14,6 +14,7 @@ returns-in-Ok-write_all g c =
         (plan_record c.in_ok-plan.plan, c.in_ok-plan.ensures.reads.1, rw told at c.in-Ok-write_all.ensures.ok),
         c.in-Ok-write_all.ensures.flushed,
       );
+      pulls = c.in_ok-plan.ensures.pulls;
     }
 
 -- a part of it was written
@@ -26,4 +27,5 @@ returns g c =
         c.in-Err-write_all.ensures.marks,
         (plan_record c.in_ok-plan.plan, c.in_ok-plan.ensures.reads.1, (rw told at c.in-Err-write_all.ensures.within, rw told at c.in-Err-write_all.ensures.err)),
       );
+      pulls = c.in_ok-plan.ensures.pulls;
     }

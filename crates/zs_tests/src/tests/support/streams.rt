@@ -174,10 +174,20 @@ impl Drain for Limited {
     }
 }
 
+/// Errors of a reader or a writer, those among them after which others would try again.
+pub const KINDS: [io::ErrorKind; 4] = [
+    io::ErrorKind::Interrupted,
+    io::ErrorKind::WouldBlock,
+    io::ErrorKind::BrokenPipe,
+    io::ErrorKind::Other,
+];
+
 /// A reader or a writer that fails at one call, and at the next goes on as if nothing had been.
 #[derive(Drop)]
 pub struct Stumbling<T> {
     pub inner: T,
+    /// Of which kind its one error is.
+    pub kind: io::ErrorKind,
     /// How many calls are good before the one that fails.
     pub before: u64,
     /// How many calls came after it.
@@ -186,10 +196,11 @@ pub struct Stumbling<T> {
 }
 
 impl<T> Stumbling<T> {
-    /// The reader or writer fails after so many good calls.
-    pub fn of(inner: T, before: u64) -> Stumbling<T> {
+    /// The reader or writer fails after so many good calls, by an error of this kind.
+    pub fn of(inner: T, kind: io::ErrorKind, before: u64) -> Stumbling<T> {
         Stumbling {
             inner,
+            kind,
             before,
             after: 0,
             has_failed: false,
@@ -211,7 +222,7 @@ impl<T> Stumbling<T> {
 impl<R: Read> Read for Stumbling<R> {
     fn read(&mut self, buf: &mut [u8]) -> io::Result<usize> {
         if self.fails_now() {
-            return Err(io::Error::from(io::ErrorKind::Interrupted));
+            return Err(io::Error::from(self.kind));
         }
         self.inner.read(buf)
     }
@@ -220,14 +231,14 @@ impl<R: Read> Read for Stumbling<R> {
 impl<W: Write> Write for Stumbling<W> {
     fn write(&mut self, buf: &[u8]) -> io::Result<usize> {
         if self.fails_now() {
-            return Err(io::Error::from(io::ErrorKind::Interrupted));
+            return Err(io::Error::from(self.kind));
         }
         self.inner.write(buf)
     }
 
     fn flush(&mut self) -> io::Result<()> {
         if self.fails_now() {
-            return Err(io::Error::from(io::ErrorKind::Interrupted));
+            return Err(io::Error::from(self.kind));
         }
         self.inner.flush()
     }
