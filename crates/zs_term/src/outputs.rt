@@ -139,7 +139,10 @@ impl Out {
     {
         match self {
             Out::Num(old) => *old = n,
-            Out::Pair(_, _) | Out::Left(_) | Out::Right(_) | Out::Items(_) => put(self, Out::Num(n)),
+            Out::Pair(_, _) | Out::Left(_) | Out::Right(_) | Out::Items(_) => put(
+                self,
+                Out::Num(n),
+            ),
         }
     }
 
