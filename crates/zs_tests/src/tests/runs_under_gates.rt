@@ -70,7 +70,11 @@ fn a_slow_job_changes_nothing(rt: HostRuntime) -> Result<(), Fail> {
     Ok(())
 }
 
-// While the first job of a batch is held, the other thread takes all batches but this one: those of three of ten jobs.
+// As many names as the most workers.
+const NAMES: &str = "abcdefghijklmnopqrstuvwxyzABCDEFGHIJKLMNOPQRSTUVWXYZ0123456789-_";
+
+// While the first job of a batch is held, the other thread takes all batches but this one: those of three of ten jobs, and of
+// twenty of 64.
 #[test]
 fn a_thread_takes_the_plans_grain_of_jobs(rt: HostRuntime) -> Result<(), Fail> {
     for (job, others) in [(0u64, 0x3f9u64), (3, 0x3cf), (6, 0x27f), (9, 0x3ff)] {
@@ -78,14 +82,19 @@ fn a_thread_takes_the_plans_grain_of_jobs(rt: HostRuntime) -> Result<(), Fail> {
         expect_report_of(&rt, rt.alloc(), &gate, "abcdefghij", 2, 3)?;
         assert!(rt; gate.by_then() == others, "job {job}");
     }
+    for (job, others) in [(0u64, 0xfffffffffff00001u64), (20, 0xffffff00001fffff)] {
+        let gate = Apart::of(job, others);
+        expect_report_of(&rt, rt.alloc(), &gate, NAMES, 2, 20)?;
+        assert!(rt; gate.by_then() == others, "job {job} of 64");
+    }
     Ok(())
 }
 
 #[test]
 fn as_many_threads_poll_at_once_as_the_plan_has_workers(rt: HostRuntime) -> Result<(), Fail> {
-    for workers in [1u64, 3, 8] {
+    for workers in [1u64, 3, 8, 64] {
         let gate = Crowd::of(workers);
-        expect_report(&rt, rt.alloc(), &gate, "abcdefghijklmnop", workers)?;
+        expect_report(&rt, rt.alloc(), &gate, NAMES, workers)?;
         assert!(rt; gate.alone() == 0 && gate.most() == workers, "{workers}");
     }
     Ok(())

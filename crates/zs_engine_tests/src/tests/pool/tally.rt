@@ -65,6 +65,23 @@ fn a_seat_whose_allowance_is_used_up_may_not_count(rt: HostRuntime) -> Result<()
     Ok(())
 }
 
+// The other seat, with what it may still count, is given up.
+#[test]
+fn a_tally_closed_by_one_of_two_seats_has_the_counts_of_both(rt: HostRuntime) -> Result<(), Fail> {
+    let (tally, seat) = Tally::new(rt.alloc())?;
+    let (first, mut second) = tally.split(seat, 5);
+    expect_count(&rt, &tally, &mut second, 5);
+    assert_eq!(rt; Tally::left(&first), u64::MAX - 5);
+    assert_eq!(rt; tally.close(first), 1);
+    let (tally, seat) = Tally::new(rt.alloc())?;
+    let (mut first, mut second) = tally.split(seat, 5);
+    expect_count(&rt, &tally, &mut first, u64::MAX - 5);
+    expect_count(&rt, &tally, &mut first, u64::MAX - 6);
+    expect_count(&rt, &tally, &mut second, 5);
+    assert_eq!(rt; tally.close(second), 3);
+    Ok(())
+}
+
 #[test]
 fn two_threads_count_together(rt: HostRuntime) -> Result<(), Fail> {
     let (tally, seat) = Tally::new(rt.alloc())?;
