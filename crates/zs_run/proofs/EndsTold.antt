@@ -1,6 +1,5 @@
 -- The last line of a job tells of an end that is there.
 use Rattle.std.proofs.Common.{◌≡◌, ◌+◌, ◌-◌, ℕ, List, [], ◌∷◌, ◌++◌, length, slice_get, Option, Some, None, option_and_then, subst, refl, sym, ap, ◌∙◌, arith}
-use Rattle.std.specs.Prelude.{IfSome}
 use Rattle.std.proofs.lemmas.List.{length-append}
 use Rattle.zs_agenda.specs.Ticks.{Ticks, IsClock}
 use Rattle.zs_effect.specs.Scripts.{IsScript}

@@ -1,8 +1,8 @@
 -- A plan that is accepted passed each demand.
-use Rattle.std.proofs.Common.{◌≡◌, ◌≤◌, ◌+◌, ◌&&◌, ◌||◌, ◌==◌, ℕ, suc, zero, List, [], ◌∷◌, ◌++◌, length, map, Bool, true, false, not, nat_lt}
-use Rattle.std.proofs.Common.{nat_le, Option, Some, None, Result, Ok, Err, if◌then◌else◌, codes, subst, refl, sym, ap, ◌∙◌, arith}
+use Rattle.std.proofs.Common.{◌≡◌, ◌≤◌, ◌+◌, ◌&&◌, ◌||◌, ℕ, suc, zero, List, [], ◌∷◌, ◌++◌, length, map, Bool, true, false, not}
+use Rattle.std.proofs.Common.{nat_le, Option, Some, None, Result, Ok, Err, codes, subst, refl, sym, ap, ◌∙◌, arith}
 use Rattle.std.specs.Prelude.{⊤, MatchResult}
-use Rattle.std.specs.List.{All, AllByRecursion, IsDistinct, list_all, list_any}
+use Rattle.std.specs.List.{All, AllByRecursion, IsDistinct, list_all}
 use Rattle.std.specs.Str.{bytes_eq}
 use Rattle.std.proofs.lemmas.Bool.Decides.{nat_tests}
 use Rattle.std.proofs.lemmas.List.Folds.{list_any-append}
