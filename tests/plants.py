@@ -119,6 +119,8 @@ PLANTS = [
           "        push_job(text, horizon, task)?;"),
     Plant("a_round_ignores_the_grain", "zs_pool/src/rounds.rt", "cut_into(alloc, cut.grain(), tasks)?",
           "cut_into(alloc, 1, tasks)?", "a_thread_takes_the_plans_grain_of_jobs"),
+    Plant("a_thread_takes_eight_jobs_at_most", "zs_pool/src/rounds.rt", "cut_into(alloc, cut.grain(), tasks)?",
+          "cut_into(alloc, cut.grain().min(8), tasks)?", "a_thread_takes_the_plans_grain_of_jobs"),
     Plant("a_run_of_jobs_ignores_the_grain", "zs_engine/src/jobs.rt", "    engine.run_rounds(rt, cut, gate)?;",
           "    let cut = match Cut::new(cut.workers(), 1) {\n        Some(one) => one,\n        None => cut,\n    };\n"
           "    engine.run_rounds(rt, cut, gate)?;", "a_thread_takes_the_plans_grain_of_jobs"),
@@ -129,6 +131,16 @@ PLANTS = [
           "        helpers: size.min(cut.workers() as usize) - 1,",
           "        helpers: (size.min(cut.workers() as usize) - 1).min(3),",
           "as_many_threads_poll_at_once_as_the_plan_has_workers"),
+    Plant("never_more_than_half_of_the_most_threads_poll", "zs_pool/src/rounds.rt",
+          "        helpers: size.min(cut.workers() as usize) - 1,",
+          "        helpers: (size.min(cut.workers() as usize) - 1).min(31),",
+          "as_many_threads_poll_at_once_as_the_plan_has_workers"),
+    Plant("a_closed_tally_is_what_its_seat_leaves_to_others", "zs_pool/src/tally.rt",
+          "        let TallySeat { seat, left: _ } = seat;\n        let closed = self.table.close_with(seat);\n"
+          "        let all = closed.word(0);\n        closed.free();\n        all\n",
+          "        let TallySeat { seat, left } = seat;\n        let closed = self.table.close_with(seat);\n"
+          "        let _all = closed.word(0);\n        closed.free();\n        u64::MAX - left\n",
+          "a_tally_closed_by_one_of_two_seats_has_the_counts_of_both"),
     Plant("a_large_round_is_polled_alone", "zs_pool/src/rounds.rt",
           "    if cut.workers() == 1 || due <= cut.grain() {",
           "    if cut.workers() == 1 || due <= cut.grain() || due > 1000 {",

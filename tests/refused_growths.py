@@ -176,6 +176,9 @@ def program_with_few_threads(count, refuser):
         ended, _ = refuser.run(program.ZSCHED, text, refuse_threads=number)
         wanted = NO_THREAD if number <= 4 else (0, report, b"")
         count.test(f"start {number} of a thread and all later ones refused", ended, wanted)
+    text, report = program.heavy_jobs(4, 60)
+    ended, _ = refuser.run(program.ZSCHED, text, refuse_threads=3)
+    count.test("two batches need one start of a thread at each of two moments, whatever the workers", ended, (0, report, b""))
 
 
 def two_causes_are_told_apart(count, refuser):
