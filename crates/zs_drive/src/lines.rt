@@ -1,0 +1,101 @@
+//! Attempts as lines of text.
+ghost use Rattle.std.specs.Prelude.{◌≡◌, ◌++◌, OnOk, string_bytes};
+ghost use Rattle.std.specs.Fmt.{decimal};
+ghost use Rattle.zs_drive.specs.Values.{attempted_of, ended_of, step_of};
+ghost use Rattle.zs_drive.specs.Lines.{attempt_lines, decision_text, ended_lines, outcome_text, step_lines};
+
+use crate::record::{Attempted, Ended};
+use itoa::Buffer;
+use std::alloc::AllocError;
+use zs_effect::Outcome;
+use zs_step::Decision;
+use zs_term::{Out, append_out};
+
+// Adds the digits of a number.
+fn append_number(text: &mut String, n: u64) -> Result<(), AllocError>
+    ensures text { OnOk result (string_bytes text.new ≡ string_bytes text.old ++ decimal n) }
+{
+    let mut buffer = Buffer::new();
+    text.push_str(buffer.format(n))
+}
+
+// Adds how an attempt ended.
+fn append_outcome(text: &mut String, outcome: Outcome) -> Result<(), AllocError>
+    ensures text { OnOk result (string_bytes text.new ≡ string_bytes text.old ++ outcome_text outcome) }
+{
+    match outcome {
+        Outcome::Good(value) => {
+            text.push_str("ok ")?;
+            append_number(text, value)
+        }
+        Outcome::Bad(code) => {
+            text.push_str("err ")?;
+            append_number(text, code)
+        }
+    }
+}
+
+// Adds what a schedule decided.
+fn append_decision(text: &mut String, decision: Decision) -> Result<(), AllocError>
+    ensures text { OnOk result (string_bytes text.new ≡ string_bytes text.old ++ decision_text decision) }
+{
+    match decision {
+        Decision::Stop => text.push_str("done"),
+        Decision::Next(at) => {
+            text.push_str("next ")?;
+            append_number(text, at)
+        }
+    }
+}
+
+// Adds the line of a step, where the schedule was stepped.
+fn append_step(
+    text: &mut String,
+    number: u64,
+    step: &Option<(Out, Decision)>,
+) -> Result<(), AllocError>
+    ensures text { OnOk result (string_bytes text.new ≡ string_bytes text.old ++ step_lines number (step_of step.now)) }
+{
+    match step {
+        None => Ok(()),
+        Some((out, decision)) => {
+            text.push_str("step ")?;
+            append_number(text, number)?;
+            text.push_str(" out ")?;
+            append_out(text, out)?;
+            text.push_str(" ")?;
+            append_decision(text, *decision)?;
+            text.push_str("\n")
+        }
+    }
+}
+
+// Adds what follows the moment at which an attempt began.
+fn append_ended(text: &mut String, number: u64, ended: &Option<Ended>) -> Result<(), AllocError>
+    ensures text { OnOk result (string_bytes text.new ≡ string_bytes text.old ++ ended_lines number (ended_of ended.now)) }
+{
+    match ended {
+        None => text.push_str(" running\n"),
+        Some(ended) => {
+            let at = ended.at;
+            append_number(text, at)?;
+            text.push_str(" ")?;
+            append_outcome(text, ended.outcome)?;
+            text.push_str("\n")?;
+            append_step(text, number, &ended.step)
+        }
+    }
+}
+
+/// Adds the lines of the attempt with this number, counted from 1. After a refusal some of them may stand there.
+pub fn append_attempt(text: &mut String, number: u64, attempt: &Attempted) -> Result<(), AllocError>
+    ensures text { OnOk result (string_bytes text.new ≡ string_bytes text.old ++ attempt_lines number (attempted_of attempt.now)) }
+{
+    let begun = attempt.begun;
+    text.push_str("attempt ")?;
+    append_number(text, number)?;
+    text.push_str(" ")?;
+    append_number(text, begun)?;
+    text.push_str("..")?;
+    append_ended(text, number, &attempt.ended)
+}
