@@ -63,11 +63,8 @@ PLANTS = [
     Plant("a_step_gives_up_on_the_ninth_item", "zs_step/src/collected.rt", "        self.join(alloc)?;\n",
           "        self.join(alloc)?;\n"
           "        if self.list.items().len() >= 8 {\n            return Err(AllocError);\n        }\n"),
-    Plant("the_ninth_record_finds_no_memory", "zs_drive/src/log.rt", "    list.push(item)?;\n",
-          "    if list.len() >= 8 {\n        return Err(AllocError);\n    }\n    list.push(item)?;\n",
-          "a_job_may_make_1002_attempts"),
-    Plant("the_ninth_told_attempt_finds_no_memory", "zs_drive/src/log.rt", "        self.line.clear();\n",
-          "        if self.told >= 8 {\n            return Err(AllocError);\n        }\n        self.line.clear();\n"),
+    Plant("the_ninth_record_finds_no_memory", "zs_drive/src/progress.rt", "    match list.push(item) {",
+          "    if list.len() >= 8 {\n        return Err(DriveFault::Memory);\n    }\n    match list.push(item) {"),
     Plant("a_task_gives_up_before_the_greatest_moment", "zs_drive/src/progress.rt",
           "            Ok(stepped) => Ok((stepped.out, stepped.decision)),",
           "            Ok(stepped) => match stepped.decision {\n"
@@ -82,9 +79,9 @@ PLANTS = [
           "        if numbers.len() >= 100_000 {\n            return Err(PlanFault::Memory);\n        }\n"
           "        numbers.push(number)?;\n"),
     Plant("a_report_tells_1000_attempts", "zs_run/src/reporting.rt",
-          "        append_attempt(text, number, attempt)?;\n        number += 1;",
+          "        push_attempt(text, number, attempt)?;\n        number += 1;",
           "        if number > 1000 {\n            return Err(AllocError);\n        }\n"
-          "        append_attempt(text, number, attempt)?;\n        number += 1;"),
+          "        push_attempt(text, number, attempt)?;\n        number += 1;"),
     Plant("thirteen_jobs_find_no_memory", "zs_run/src/running.rt", "    let text = match report_plan(",
           "    if plan.jobs.len() == 13 {\n        return Err(RunFault::Engine(EngineFault::Memory));\n    }\n"
           "    let text = match report_plan("),
@@ -127,9 +124,9 @@ PLANTS = [
     Plant("a_run_of_jobs_ignores_the_grain", "zs_engine/src/jobs.rt", "    engine.run_rounds(rt, cut, gate)?;",
           "    let cut = match Cut::new(cut.workers(), 1) {\n        Some(one) => one,\n        None => cut,\n    };\n"
           "    engine.run_rounds(rt, cut, gate)?;", "a_thread_takes_the_plans_grain_of_jobs"),
-    Plant("a_run_ignores_the_plans_grain", "zs_run/src/running.rt", "    let answer = run_to_lines(",
+    Plant("a_run_ignores_the_plans_grain", "zs_run/src/running.rt", "    let answer = run_jobs(",
           "    let cut = match zs_pool::Cut::new(cut.workers(), 1) {\n        Some(one) => one,\n        None => cut,\n"
-          "    };\n    let answer = run_to_lines(", "a_thread_takes_the_plans_grain_of_jobs"),
+          "    };\n    let answer = run_jobs(", "a_thread_takes_the_plans_grain_of_jobs"),
     Plant("never_more_than_four_threads_poll", "zs_pool/src/rounds.rt",
           "        helpers: size.min(cut.workers() as usize) - 1,",
           "        helpers: (size.min(cut.workers() as usize) - 1).min(3),",

@@ -17,8 +17,6 @@
 mod fault;
 mod job;
 mod laws;
-mod lines;
-mod log;
 mod progress;
 mod record;
 mod task;
@@ -26,6 +24,5 @@ mod task;
 pub use fault::DriveFault;
 pub use job::{Job, Mode};
 pub use laws::{due_polls_suffice, moments_rise, one_timeline, timelines_are_whole};
-pub use lines::append_attempt;
-pub use record::{Attempted, Ended, Ending, Keeping};
+pub use record::{Attempted, Ended, Ending};
 pub use task::Task;
