@@ -63,8 +63,11 @@ PLANTS = [
     Plant("a_step_gives_up_on_the_ninth_item", "zs_step/src/collected.rt", "        self.join(alloc)?;\n",
           "        self.join(alloc)?;\n"
           "        if self.list.items().len() >= 8 {\n            return Err(AllocError);\n        }\n"),
-    Plant("the_ninth_record_finds_no_memory", "zs_drive/src/progress.rt", "    match list.push(item) {",
-          "    if list.len() >= 8 {\n        return Err(DriveFault::Memory);\n    }\n    match list.push(item) {"),
+    Plant("the_ninth_record_finds_no_memory", "zs_drive/src/log.rt", "    list.push(item)?;\n",
+          "    if list.len() >= 8 {\n        return Err(AllocError);\n    }\n    list.push(item)?;\n",
+          "a_job_may_make_1002_attempts"),
+    Plant("the_ninth_told_attempt_finds_no_memory", "zs_drive/src/log.rt", "        let last = &mut self.records[0];\n",
+          "        if self.told >= 8 {\n            return Err(AllocError);\n        }\n        let last = &mut self.records[0];\n"),
     Plant("a_task_gives_up_before_the_greatest_moment", "zs_drive/src/progress.rt",
           "            Ok(stepped) => Ok((stepped.out, stepped.decision)),",
           "            Ok(stepped) => match stepped.decision {\n"
@@ -79,9 +82,9 @@ PLANTS = [
           "        if numbers.len() >= 100_000 {\n            return Err(PlanFault::Memory);\n        }\n"
           "        numbers.push(number)?;\n"),
     Plant("a_report_tells_1000_attempts", "zs_run/src/reporting.rt",
-          "        push_attempt(text, number, attempt)?;\n        number += 1;",
+          "        append_attempt(text, number, attempt)?;\n        number += 1;",
           "        if number > 1000 {\n            return Err(AllocError);\n        }\n"
-          "        push_attempt(text, number, attempt)?;\n        number += 1;"),
+          "        append_attempt(text, number, attempt)?;\n        number += 1;"),
     Plant("thirteen_jobs_find_no_memory", "zs_run/src/running.rt", "    let text = match report_plan(",
           "    if plan.jobs.len() == 13 {\n        return Err(RunFault::Engine(EngineFault::Memory));\n    }\n"
           "    let text = match report_plan("),
@@ -111,12 +114,12 @@ PLANTS = [
     Plant("thirteen_jobs_never_end", "zs_run/src/running.rt", "    let text = match report_plan(",
           "    if plan.jobs.len() == 13 {\n        for _ in rt.forever() {\n            std::thread::yield_now();\n"
           "        }\n    }\n    let text = match report_plan("),
-    Plant("a_report_tells_half_a_megabyte", "zs_run/src/reporting.rt", '    writeln!(text, "polls {polls}")?;\n',
-          '    writeln!(text, "polls {polls}")?;\n'
-          "    if text.len() > 500_000 {\n        return Err(AllocError);\n    }\n"),
-    Plant("no_job_is_told_past_100000_bytes", "zs_run/src/reporting.rt", "        push_job(text, horizon, task)?;",
-          "        if text.len() > 100_000 {\n            return Err(AllocError);\n        }\n"
-          "        push_job(text, horizon, task)?;"),
+    Plant("a_report_tells_half_a_megabyte", "zs_run/src/reporting.rt", '    writeln!(text, "polls {polls}")\n',
+          "    if text.len() > 500_000 {\n        return Err(AllocError);\n    }\n"
+          '    writeln!(text, "polls {polls}")\n'),
+    Plant("no_job_is_told_past_100000_bytes", "zs_run/src/reporting.rt", "            push_job(&mut text, horizon, &task)?;",
+          "            if text.len() > 100_000 {\n                return Err(AllocError);\n            }\n"
+          "            push_job(&mut text, horizon, &task)?;"),
     Plant("a_round_ignores_the_grain", "zs_pool/src/rounds.rt", "cut_into(alloc, cut.grain(), tasks)?",
           "cut_into(alloc, 1, tasks)?", "a_thread_takes_the_plans_grain_of_jobs"),
     Plant("a_thread_takes_eight_jobs_at_most", "zs_pool/src/rounds.rt", "cut_into(alloc, cut.grain(), tasks)?",
@@ -124,9 +127,9 @@ PLANTS = [
     Plant("a_run_of_jobs_ignores_the_grain", "zs_engine/src/jobs.rt", "    engine.run_rounds(rt, cut, gate)?;",
           "    let cut = match Cut::new(cut.workers(), 1) {\n        Some(one) => one,\n        None => cut,\n    };\n"
           "    engine.run_rounds(rt, cut, gate)?;", "a_thread_takes_the_plans_grain_of_jobs"),
-    Plant("a_run_ignores_the_plans_grain", "zs_run/src/running.rt", "    let answer = run_jobs(",
+    Plant("a_run_ignores_the_plans_grain", "zs_run/src/running.rt", "    let answer = run_to_lines(",
           "    let cut = match zs_pool::Cut::new(cut.workers(), 1) {\n        Some(one) => one,\n        None => cut,\n"
-          "    };\n    let answer = run_jobs(", "a_thread_takes_the_plans_grain_of_jobs"),
+          "    };\n    let answer = run_to_lines(", "a_thread_takes_the_plans_grain_of_jobs"),
     Plant("never_more_than_four_threads_poll", "zs_pool/src/rounds.rt",
           "        helpers: size.min(cut.workers() as usize) - 1,",
           "        helpers: (size.min(cut.workers() as usize) - 1).min(3),",

@@ -66,6 +66,7 @@ CASES = [
     Case("follow", GROWING, THIRD, ["follow: Memory"]),
     Case("steps", GROWING, THIRD, ["Compiled::new: Memory", "step: Memory"]),
     Case("task", REPEATED, "", ["Task::new: Memory", "poll: Memory"]),
+    Case("lines", REPEATED, "", ["Task::keeping: Memory", "poll: Memory"]),
     # `Agenda::new`, `take` and `split` make no request.
     Case("agenda", "", "", ["set: Memory"]),
     Case("board", "", "", ["Board::new: Memory", "close of a board: Memory"]),

@@ -1,10 +1,10 @@
--- Lemmas on the two maps of an agenda.
-use Rattle.std.proofs.Common.{◌≡◌, ◌≢◌, ◌<◌, ◌≤◌, ◌+◌, ◌-◌, ◌==◌, ◌↔◌, ◌||◌, ℕ, suc, Bool, true, false, cond, List, [], ◌∷◌, ◌++◌, length, Option, Some, None, IsSome, Contains, refl, sym, ap, subst, ◌∙◌, arith, nat_eq, nat_lt, nat_le, nat_cmp, insert, get_or, take, length-take, unwrap_or}
+-- Lemmas on how an agenda is stored: by moment and by job.
+use Rattle.std.proofs.Common.{◌≡◌, ◌≢◌, ◌<◌, ◌≤◌, ◌+◌, ◌-◌, ◌==◌, ◌↔◌, ◌||◌, ℕ, suc, Bool, true, false, cond, List, [], ◌∷◌, ◌++◌, length, Option, Some, None, IsNone, IfSome, Contains, refl, sym, ap, subst, ◌∙◌, arith, nat_eq, nat_lt, nat_le, nat_cmp, insert, get_or, take, length-take, unwrap_or}
 use Rattle.std.proofs.lemmas.Bool.Decides.{nat_tests, Decides-eqb}
 use Rattle.std.proofs.lemmas.Grind.{get_or_head, get_or_tail}
 use Rattle.std.proofs.lemmas.List.{get_or-take, get_or_past}
 use Rattle.std.proofs.lemmas.List.Elements.{All-from_recursion, All-contains, Contains-append_right}
-use Rattle.std.proofs.lemmas.Map.Keys.{IsStrictlyIncreasing-from_sorted, le_from_not_gt}
+use Rattle.std.proofs.lemmas.Map.Keys.{IsStrictlyIncreasing-from_sorted}
 use Rattle.std.specs.List.{AllByRecursion, list_any, prefix_len}
 use Rattle.std.specs.List.Sorted.{IsStrictlySortedBy, IsStrictlyIncreasing}
 use Rattle.std.specs.Cmp.{nat_cmp_total, unsigned_tied}
@@ -12,11 +12,11 @@ use Rattle.std.specs.Ordering.{eq_by_cmp}
 use Rattle.std.specs.FinMap as map_of
 use Rattle.std.specs.BTreeMap as tree
 use Rattle.std.specs.Map.{lookup}
-use Rattle.std.specs.Global.{Vec}
 use Rattle.std.specs.declared.cmp.Ordering.TheVariants.{Less}
 use Rattle.zs_agenda.specs.declared.by_job.ByJob.{ByJob}
+use Rattle.zs_agenda.specs.declared.by_moment.ByMoment.{ByMoment}
 use Rattle.zs_agenda.specs.Timers.{Moments, IsAfter, IsLeastMoment, Takes}
-use Rattle.zs_agenda.specs.Indexes.{ByMoment, Clears, Puts, Forgets, HasSameMoments, IsAgenda, items_of, jobs_at, moment_in, is_among, IsRising, placed, moments_of, table_size, with_places, Agrees}
+use Rattle.zs_agenda.specs.Indexes.{Loses, IsFirst, IsInOrder, Clears, Puts, Forgets, HasSameMoments, IsAgenda, jobs_at, moment_in, is_among, IsRising, placed, moments_of, table_size, with_places, Agrees}
 
 -- ---- lists of jobs
 -- what holds of each element still holds in a weaker form
@@ -365,11 +365,6 @@ module _ (jobs_of jobs_of' : ℕ → Option (List ℕ)) (moment_of moment_of' : 
     }
 
 -- ---- the least moment
--- what the jobs at a first moment say of the moments of all jobs
-pub record IsFirst (jobs_of : ℕ → Option (List ℕ)) (t : ℕ) (js : List ℕ) : Type 0 where
-  pub here : jobs_of t ≡ Some js
-  pub least : (s : ℕ) (ks : List ℕ) → jobs_of s ≡ Some ks → t ≤ s
-
 -- a job among some jobs has a list
 list_of : (q : ℕ) (o : Option (List ℕ)) → is_among q o ≡ true → (ks : List ℕ) × (o ≡ Some ks)
 list_of q None h = let no : false ≡ true = h in cc
@@ -458,36 +453,19 @@ pub forget_more : (x q : ℕ) (b : Bool) (new old first : Option ℕ) → new �
 forget_more x q b new old first n o =
     n ∙ ap (λ (p : Option ℕ). cond (x == q) None p) o ∙ cond-or b (x == q) first
 
--- ---- the first entry of the map by moment
--- a list comes from a vector
-some_items : (o : Option (Vec ℕ)) (ks : List ℕ) → items_of o ≡ Some ks → IsSome o
-some_items None ks e = let no : None ≡ Some ks = e in cc
-some_items (Some v) ks e = refl
-
--- the first entry of the map by moment
-pub first-of : (m : ByMoment) (t : ℕ) (v : Vec ℕ) → tree.get nat_cmp m t ≡ Some v → tree.IsLowerBound nat_cmp m t → IsFirst (jobs_at m) t v.items
-first-of m t v here least = record {
-  here = ap items_of here;
-  least = λ s ks e. le_from_not_gt t s (least s (some_items (tree.get nat_cmp m s) ks e));
-}
-
--- nothing is found in an empty map
-no_entry : (es : List (ℕ × Vec ℕ)) → (0 < length es → ⊥) → (t : ℕ) → lookup (tree.is_at (nat_cmp t)) es ≡ None
-no_entry [] h t = refl
-no_entry (e ∷ es) h t = absurd (h (omega arith))
-
+-- ---- the first moment, as callers see it
 module _ (m : ByMoment) (n : ByJob) (taken : Option ℕ) (h : IsAgenda m n taken) where
   -- the first moment is the least, as callers see it
   pub least-moment : (t : ℕ) (js : List ℕ) → IsFirst (jobs_at m) t js → IsLeastMoment (moments_of n) t
   least-moment t js i = record {
-    some_job = let set : (q : ℕ) × (moment_in n q ≡ Some t) = first-set _ _ taken t js h i in (set.0, get-moments_of n set.0 ∙ set.1);
-    least = λ q s e. first-least (jobs_at m) (moment_in n) taken t js h i q s (sym (get-moments_of n q) ∙ e);
+    some_job = let set : (q : ℕ) × (moment_in n q ≡ Some t) = first-set _ _ taken t js h.agrees i in (set.0, get-moments_of n set.0 ∙ set.1);
+    least = λ q s e. first-least (jobs_at m) (moment_in n) taken t js h.agrees i q s (sym (get-moments_of n q) ∙ e);
   }
 
   -- with a first list, callers see no empty queue
   pub some-moment : (t : ℕ) (js : List ℕ) → IsFirst (jobs_at m) t js → moments_of n ≡ map_of.empty → ⊥
   some-moment t js i e =
-      let set : (q : ℕ) × (moment_in n q ≡ Some t) = first-set _ _ taken t js h i in
+      let set : (q : ℕ) × (moment_in n q ≡ Some t) = first-set _ _ taken t js h.agrees i in
       let none : map_of.get (moments_of n) set.0 ≡ None = ap (λ (k : Moments). map_of.get k set.0) e ∙ map_of.get-empty nat_cmp set.0 in
       let some : None ≡ Some t = sym none ∙ get-moments_of n set.0 ∙ set.1 in
       cc
@@ -496,12 +474,25 @@ module _ (m : ByMoment) (n : ByJob) (taken : Option ℕ) (h : IsAgenda m n taken
   no_job : ((t : ℕ) → jobs_at m t ≡ None) → (q : ℕ) (o : Option ℕ) → moment_in n q ≡ o → o ≡ None
   no_job none q None e = refl
   no_job none q (Some t) e =
-      let among : is_among q (jobs_at m t) ≡ true = (h.agree q t).0 e in
+      let among : is_among q (jobs_at m t) ≡ true = (h.agrees.agree q t).0 e in
       let clash : false ≡ true = sym (ap (is_among q) (none t)) ∙ among in cc
 
-  -- without an entry, callers see an empty queue
-  pub no-moment : (0 < length m.entries → ⊥) → moments_of n ≡ map_of.empty
-  no-moment e = no_moments n (λ q. no_job (λ t. ap items_of (no_entry m.entries e t)) q (moment_in n q) refl)
+  -- without a list, callers see an empty queue
+  pub no-moment : ((t : ℕ) → jobs_at m t ≡ None) → moments_of n ≡ map_of.empty
+  no-moment none = no_moments n (λ q. no_job none q (moment_in n q) refl)
+
+  -- what is told of the first moment, if there is one, is true of callers' view
+  pub next-none : (o : Option ℕ) → (IsNone o → (t : ℕ) → jobs_at m t ≡ None) → IfSome o (λ t. (js : List ℕ) × IsFirst (jobs_at m) t js) → IsNone o ↔ (moments_of n ≡ map_of.empty)
+  next-none None none first = ((λ _. no-moment (none refl)), (λ _. refl))
+  next-none (Some t) none first = ((λ no. let clash : true ≡ false = no in cc), (λ e. absurd (some-moment t first.0 first.1 e)))
+
+  pub next-least : (o : Option ℕ) → IfSome o (λ t. (js : List ℕ) × IsFirst (jobs_at m) t js) → IfSome o (IsLeastMoment (moments_of n))
+  next-least None first = tt
+  next-least (Some t) first = least-moment t first.0 first.1
+
+  pub next-later : (o : Option ℕ) → IfSome o (λ t. (js : List ℕ) × IsFirst (jobs_at m) t js) → IfSome o (IsAfter taken)
+  next-later None first = tt
+  next-later (Some t) first = first-after (jobs_at m) (moment_in n) taken t first.0 h.agrees first.1
 
 -- equality either way round
 eqb-swap : (a b : ℕ) → (a == b) ≡ (b == a)
@@ -526,40 +517,30 @@ put_and_forgotten m n k job moment none p f q =
     ] refl
 
 -- ---- what the take of the first moment leaves
--- the lists once the first entry is gone
-pub popped : (m n : ByMoment) (t : ℕ) → ((s : ℕ) → tree.get nat_cmp n s ≡ cond (tree.is_at (nat_cmp t) s) None (tree.get nat_cmp m s)) → (s : ℕ) → jobs_at n s ≡ cond (t == s) None (jobs_at m s)
-popped m n t u s =
-    ap items_of (u s) ∙ outer (tree.is_at (nat_cmp t) s) (tree.get nat_cmp m s) ∙ ap (λ (b : Bool). cond b None (jobs_at m s)) (tied t s)
-  where
-    outer : (b : Bool) (o : Option (Vec ℕ)) → items_of (cond b None o) ≡ cond b None (items_of o)
-    outer true o = refl
-    outer false o = refl
-
-module _ (m m' : ByMoment) (n n' : ByJob) (taken : Option ℕ) (t : ℕ) (v : Vec ℕ) (js : List ℕ) (h : IsAgenda m n taken) (here : tree.get nat_cmp m t ≡ Some v) (least : tree.IsLowerBound nat_cmp m t) (u : (s : ℕ) → tree.get nat_cmp m' s ≡ cond (tree.is_at (nat_cmp t) s) None (tree.get nat_cmp m s)) (same : js ≡ v.items) (f : Forgets n n' js) where
-  -- the first list
-  first : IsFirst (jobs_at m) t v.items
-  first = first-of m t v here least
-
+module _ (m m' : ByMoment) (n n' : ByJob) (taken : Option ℕ) (t : ℕ) (v js : List ℕ) (h : IsAgenda m n taken) (first : IsFirst (jobs_at m) t v) (l : Loses m m' t) (same : js ≡ v) (f : Forgets n n' js) where
   -- the moments once its jobs are gone
-  out : (q : ℕ) → moment_in n' q ≡ cond (has q v.items) None (moment_in n q)
+  out : (q : ℕ) → moment_in n' q ≡ cond (has q v) None (moment_in n q)
   out q = f q ∙ ap (λ (l : List ℕ). cond (has q l) None (moment_in n q)) same
 
   -- the invariant stands after a take
-  pub take-IsAgenda : IsAgenda m' n' (Some t)
-  take-IsAgenda = taken-Agrees (jobs_at m) (moment_in n) taken t v.items (jobs_at m') (moment_in n') (popped m m' t u) out h first
+  pub take-IsAgenda : IsInOrder m' → IsAgenda m' n' (Some t)
+  take-IsAgenda order = record {
+    agrees = taken-Agrees (jobs_at m) (moment_in n) taken t v (jobs_at m') (moment_in n') l out h.agrees first;
+    in_order = order;
+  }
 
   -- a take, as callers see it
-  pub take-Takes : Takes (record { moments = moments_of n; last_taken = taken }) (record { moments = moments_of n'; last_taken = Some t }) t v.items
+  pub take-Takes : Takes (record { moments = moments_of n; last_taken = taken }) (record { moments = moments_of n'; last_taken = Some t }) t v
   take-Takes = record {
-    is_least = least-moment m n taken h t v.items first;
-    is_after = first-after (jobs_at m) (moment_in n) taken t v.items h first;
+    is_least = least-moment m n taken h t v first;
+    is_after = first-after (jobs_at m) (moment_in n) taken t v h.agrees first;
     all_jobs = λ q.
-        let one : (moment_in n q ≡ Some t) ↔ (has q v.items ≡ true) = first-jobs (jobs_at m) (moment_in n) taken t v.items h first q in
-        let two : Contains v.items q ↔ (has q v.items ≡ true) = Contains-has-iff q v.items in
+        let one : (moment_in n q ≡ Some t) ↔ (has q v ≡ true) = first-jobs (jobs_at m) (moment_in n) taken t v h.agrees first q in
+        let two : Contains v q ↔ (has q v ≡ true) = Contains-has-iff q v in
         ((λ e. get-moments_of n q ∙ one.1 (two.0 e)), (λ e. two.1 (one.0 (sym (get-moments_of n q) ∙ e))));
-    in_order = IsStrictlyIncreasing-rising v.items (h.rising t v.items first.here);
+    in_order = IsStrictlyIncreasing-rising v (h.agrees.rising t v first.here);
     others_stay = λ q s.
-        let one : (moment_in n' q ≡ Some s) ↔ ((moment_in n q ≡ Some s) × (s ≢ t)) = taken-others (jobs_at m) (moment_in n) taken t v.items (jobs_at m') (moment_in n') (popped m m' t u) out h first q s in
+        let one : (moment_in n' q ≡ Some s) ↔ ((moment_in n q ≡ Some s) × (s ≢ t)) = taken-others (jobs_at m) (moment_in n) taken t v (jobs_at m') (moment_in n') l out h.agrees first q s in
         rw (get-moments_of n' q, get-moments_of n q) one;
     is_last = refl;
   }

@@ -1,6 +1,7 @@
--- How an agenda is stored: an ordered map from each moment to its jobs, and from each job to its moment a table with places
--- for the jobs of small number and a hash map for the others.
--- `IsAgenda` is its invariant: the two agree, each list rises, none is empty, and each moment is later than the last one taken.
+-- How an agenda is stored: the first moment with its jobs, an ordered map from each later moment to its jobs, and from each job to
+-- its moment a table with places for the jobs of small number and a hash map for the others.
+-- `IsAgenda` is its invariant: the two ways agree, each list rises, none is empty, each moment is later than the last one taken, and
+-- the first one is earlier than those of the map.
 -- Callers never meet these words; `proofs/IndexLemmas.antt` shows that each step keeps the invariant.
 use Rattle.std.specs.Prelude.{◌≡◌, ◌≢◌, ◌<◌, ◌≤◌, ◌↔◌, ◌==◌, ◌+◌, ℕ, Bool, true, false, nat_eq, nat_lt, nat_le, slice_index_or, take, List, [], ◌∷◌, Option, Some, None, if◌then◌else◌, unwrap_or, vec_len, ⊤}
 use Rattle.std.specs.Global.{Vec}
@@ -11,11 +12,12 @@ use Rattle.std.specs.BTreeMap.{BTreeMap, get}
 use Rattle.std.specs.HashMap as hash
 use Rattle.std.specs.FinMap.{from_entries, insert, retain_keys}
 use Rattle.zs_agenda.specs.declared.by_job.ByJob.{ByJob}
+use Rattle.zs_agenda.specs.declared.by_moment.ByMoment.{ByMoment}
 use Rattle.zs_agenda.specs.Timers.{Moments, IsAfter}
 
--- the map by moment, as the code has it
-abbrev pub ByMoment : Type 0
-ByMoment = BTreeMap ℕ (Vec ℕ)
+-- the moments after the first, as the code has them
+abbrev pub Later : Type 0
+Later = BTreeMap ℕ (Vec ℕ)
 
 -- the jobs below this number have places in the table
 abbrev pub table_size : ℕ
@@ -26,9 +28,36 @@ abbrev pub items_of : Option (Vec ℕ) → Option (List ℕ)
 items_of None = None
 items_of (Some v) = Some v.items
 
+-- the jobs at a moment of the map, where there are some
+abbrev pub later_at : Later → ℕ → Option (List ℕ)
+later_at later t = items_of (get nat_cmp later t)
+
+-- the jobs that stand first, where they are the moment's, and else others
+abbrev pub first_or : Option (ℕ × Vec ℕ) → ℕ → Option (List ℕ) → Option (List ℕ)
+first_or None t others = others
+first_or (Some first) t others = if first.0 == t then Some first.1.items else others
+
 -- the jobs at a moment, where there are some
 abbrev pub jobs_at : ByMoment → ℕ → Option (List ℕ)
-jobs_at m t = items_of (get nat_cmp m t)
+jobs_at m t = first_or m.first t (later_at m.later t)
+
+-- the list that stands first, where it is the moment's, and else another
+abbrev pub list_or : Option (ℕ × Vec ℕ) → ℕ → Option (Vec ℕ) → Option (Vec ℕ)
+list_or None t other = other
+list_or (Some first) t other = if first.0 == t then Some first.1 else other
+
+-- the list of a moment, where there is one
+abbrev pub list_at : ByMoment → ℕ → Option (Vec ℕ)
+list_at m t = list_or m.first t (get nat_cmp m.later t)
+
+-- the moments of the map are after the first, and where there is none the map has none
+abbrev pub IsBehind : Option (ℕ × Vec ℕ) → Later → Type 0
+IsBehind None later = (t : ℕ) → later_at later t ≡ None
+IsBehind (Some first) later = (t : ℕ) (jobs : List ℕ) → later_at later t ≡ Some jobs → first.0 < t
+
+-- the first moment stands first
+abbrev pub IsInOrder : ByMoment → Type 0
+IsInOrder m = IsBehind m.first m.later
 
 -- whether the job is in the list, where there is one
 abbrev pub is_among : ℕ → Option (List ℕ) → Bool
@@ -53,6 +82,14 @@ HasNoRoom (Some jobs) = vec_capacity jobs ≤ vec_len jobs
 -- new is old with one more job at the moment
 abbrev pub Adds : ByMoment → ByMoment → ℕ → ℕ → Type 0
 Adds old new moment job = (t : ℕ) → jobs_at new t ≡ (if t == moment then Some (placed job (unwrap_or (jobs_at old moment) [])) else jobs_at old t)
+
+-- the same in the map
+abbrev pub AddsLater : Later → Later → ℕ → ℕ → Type 0
+AddsLater old new moment job = (t : ℕ) → later_at new t ≡ (if t == moment then Some (placed job (unwrap_or (later_at old moment) [])) else later_at old t)
+
+-- new is old without the jobs at the moment
+abbrev pub Loses : ByMoment → ByMoment → ℕ → Type 0
+Loses old new moment = (t : ℕ) → jobs_at new t ≡ (if moment == t then None else jobs_at old t)
 
 -- the same jobs at each moment
 abbrev pub HasSameJobs : ByMoment → ByMoment → Type 0
@@ -104,6 +141,12 @@ pub record Agrees (jobs_of : ℕ → Option (List ℕ)) (moment_of : ℕ → Opt
   pub not_empty : (t : ℕ) (jobs : List ℕ) → jobs_of t ≡ Some jobs → jobs ≢ []
   pub later : (job t : ℕ) → moment_of job ≡ Some t → IsAfter taken t
 
+-- what the jobs at a first moment say of the moments of all jobs
+pub record IsFirst (jobs_of : ℕ → Option (List ℕ)) (t : ℕ) (jobs : List ℕ) : Type 0 where
+  pub here : jobs_of t ≡ Some jobs
+  pub least : (s : ℕ) (others : List ℕ) → jobs_of s ≡ Some others → t ≤ s
+
 -- the invariant of an agenda
-abbrev pub IsAgenda : ByMoment → ByJob → Option ℕ → Type 0
-IsAgenda m n taken = Agrees (jobs_at m) (moment_in n) taken
+pub record IsAgenda (m : ByMoment) (n : ByJob) (taken : Option ℕ) : Type 0 where
+  pub agrees : Agrees (jobs_at m) (moment_in n) taken
+  pub in_order : IsInOrder m

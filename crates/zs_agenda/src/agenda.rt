@@ -3,17 +3,16 @@ ghost use Rattle.std.specs.FinMap as map;
 ghost use Rattle.zs_agenda.specs.declared.fault.AgendaFault.TheVariants.{Memory};
 
 use crate::by_job::ByJob;
+use crate::by_moment::ByMoment;
 use crate::fault::AgendaFault;
-use crate::index::add;
 use std::alloc::Global;
-use std::collections::BTreeMap;
 use std::marker::Model;
 
 /// A timer queue: one moment, in milliseconds, for each job that waits. Jobs are told apart by their numbers.
 #[derive(Drop)]
 pub struct Agenda {
     alloc: Global,
-    by_moment: BTreeMap<u64, Vec<u64>>,
+    by_moment: ByMoment,
     by_job: ByJob,
     last_taken: Option<u64>,
 }
@@ -43,7 +42,7 @@ impl Agenda {
     {
         Ok(Agenda {
             alloc,
-            by_moment: BTreeMap::new(alloc),
+            by_moment: ByMoment::new(alloc),
             by_job: ByJob::new(alloc),
             last_taken: None,
         })
@@ -60,7 +59,7 @@ impl Agenda {
         ensures memory { IfErr result (λ fault. fault ≡ Memory) }
     {
         self.by_job.put(job, moment)?;
-        match add(self.alloc, &mut self.by_moment, moment, job) {
+        match self.by_moment.add(self.alloc, moment, job) {
             Ok(()) => Ok(()),
             Err(_) => {
                 self.by_job.remove(job);
@@ -90,10 +89,7 @@ impl Agenda {
         ensures least { IfSome result (IsLeastMoment self.now.moments) }
         ensures later { IfSome result (IsAfter self.now.last_taken) }
     {
-        match self.by_moment.first_key_value() {
-            Some((moment, _)) => Some(*moment),
-            None => None,
-        }
+        self.by_moment.first()
     }
 
     /// Fires the timers of the least moment, and answers it, in milliseconds, with all its jobs in rising number, or `None` where no
@@ -108,11 +104,18 @@ impl Agenda {
         ensures err { OnErr result (self.new ≡ self.old) }
         ensures memory { IfErr result (λ fault. fault ≡ Memory) }
     {
-        let Some((moment, jobs)) = self.by_moment.pop_first() else {
+        let Some((moment, jobs)) = self.by_moment.take_first() else {
             return Ok(None);
         };
         self.by_job.forget(&jobs);
         self.last_taken = Some(moment);
         Ok(Some((moment, jobs)))
+    }
+
+    /// Takes back a list that `take` answered. Its memory serves the jobs of another moment.
+    pub fn reuse(&mut self, jobs: Vec<u64>)
+        ensures same { self.new ≡ self.old }
+    {
+        self.by_moment.reuse(jobs);
     }
 }

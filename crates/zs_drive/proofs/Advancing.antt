@@ -1,30 +1,31 @@
 -- The steps of a task keep what its fields keep.
-use Rattle.std.proofs.Common.{◌≡◌, ℕ, ◌+◌, ◌≤◌, List, [], ◌∷◌, ◌++◌, length, Option, inl, inr, refl, sym, ◌∙◌, ap, subst, arith, append_assoc, Fits, w64}
-use Rattle.std.specs.Prelude.{Some, None, map}
-use Rattle.std.specs.Global.{Vec as GlobalVec}
-use Rattle.std.proofs.lemmas.List.{map-append, length-append}
-use Rattle.std.proofs.Math.ListN.{length-map}
+use Rattle.std.proofs.Common.{◌≡◌, ℕ, ◌+◌, ◌^◌, ◌≤◌, ◌<◌, List, [], ◌∷◌, ◌++◌, length, Option, inl, inr, refl, sym, ◌∙◌, ap, subst, arith, append_assoc, Fits, w64}
+use Rattle.std.specs.Prelude.{Some, None}
+use Rattle.std.proofs.lemmas.List.{length-append}
 use Rattle.zs_term.specs.Saturating.{saturated}
 use Rattle.zs_effect.specs.Scripts.{IsScript, entry_at}
 use Rattle.zs_effect.specs.Attempts.{AttemptValue}
 use Rattle.zs_effect.specs.declared.script.Beat.{Beat}
-use Rattle.zs_drive.specs.declared.record.Attempted.{Attempted}
+use Rattle.zs_term.specs.declared.outputs.Out.{Out}
+use Rattle.zs_drive.specs.declared.log.Log.{Log}
+use Rattle.zs_drive.specs.Log.{IsLog, log_count, log_moments}
 use Rattle.zs_drive.specs.declared.progress.Phase.{Phase}
 use Rattle.zs_drive.specs.declared.progress.Phase.TheVariants.{Waiting, Running, Over}
 use Rattle.zs_drive.specs.declared.progress.Progress.{Progress}
-use Rattle.zs_drive.specs.Values.{JobRecord, record_of, AttemptedValue, attempted_of}
+use Rattle.zs_drive.specs.Values.{JobRecord, record_of, AttemptedValue}
 use Rattle.zs_effect.specs.declared.script.Outcome.{Outcome}
 use Rattle.zs_step.specs.History.{History}
 use Rattle.zs_step.specs.Answer.{Answer}
 use Rattle.zs_step.specs.Compiled.{StandsFor}
-use Rattle.zs_drive.specs.Timeline.{Timeline, poll_moments, number_of, beat_after, ended_attempt}
+use Rattle.zs_drive.specs.Timeline.{Timeline, timeline_of, poll_moments, number_of, beat_after, ended_attempt}
 use Rattle.zs_drive.specs.Recorded.{AllEnded, IsOnTimeline, IsStepped}
 use Rattle.zs_drive.specs.DriverRules.{history_after}
-use Rattle.zs_drive.specs.Progress.{IsProgress, IsPhase, IsSteppedIn, HasState, job_in, attempts_of, timeline_in, due_of, ending_of}
+use Rattle.zs_drive.specs.Progress.{IsProgress, IsPhase, IsSteppedIn, HasState, job_in, moments_in, attempts_of, timeline_in, due_of, ending_of}
 use Rattle.zs_drive.specs.Turns.{Advances, Stays, StandsStill, IsWaitingTo, HasRunTo, WasAsked}
 use Rattle.zs_drive.proofs.Moments.{length-clock}
 use Rattle.zs_drive.proofs.Extending.{extended}
 use Rattle.zs_drive.proofs.Records.{advance, history_after-running}
+use Rattle.zs_drive.proofs.Logging.{log-moments, log-count}
 use Rattle.zs_drive.proofs.Steps.{runs, begins, length-history_after, history_after-ended, AllEnded-append, moments-begun, moments-ended, moments-restarted}
 
 -- one more poll can be counted
@@ -34,18 +35,38 @@ polls-fit p progress =
     let counted = progress.on_timeline.counted in omega arith
 
 -- and one more attempt
-pub attempts-fit : (p : Progress) → IsProgress p → Fits w64 (length p.records.items + 1)
+pub attempts-fit : (p : Progress) → IsProgress p → log_count p.log + 1 < 2 ^ 64
 attempts-fit p progress =
     let fits : Fits w64 (p.polls + 1) = polls-fit p progress in
     let few = progress.on_timeline.few in
-    let same : length (attempts_of p) ≡ length p.records.items = length-map p.records.items attempted_of in omega arith
+    omega (arith, log-count p.log (attempts_of p) progress.log)
 
-pub begin-advances : (p : Progress) (records : GlobalVec Attempted) (beat : Beat) (attempt : AttemptValue) (phase : Phase) → p.phase ≡ phase
-    → IsProgress p → HasState p → IsWaitingTo p.seen p.phase → beat ≡ entry_at p.script (length p.records.items + 1) → IsScript p.script
-    → records.items ≡ p.records.items ++ record { begun = p.seen; ended = None } ∷ []
+-- a log has the attempts of a timeline, where it has those of the clock of their moments
+from-log : (job : JobRecord) (log : Log) (timeline : Timeline) (polls : ℕ) → IsLog log timeline.attempts → IsOnTimeline job timeline polls
+    → timeline_of job (log_moments log) ≡ timeline
+from-log job log timeline polls is stands = ap (timeline_of job) (log-moments log timeline.attempts is) ∙ sym stands.same
+
+-- one due poll adds the moment seen
+moments-more : (old new : Log) (attempts more : List AttemptedValue) (seen : ℕ) → IsLog old attempts → IsLog new more
+    → poll_moments more ≡ poll_moments attempts ++ seen ∷ [] → log_moments new ≡ log_moments old ++ seen ∷ []
+moments-more old new attempts more seen was is grown =
+    log-moments new more is ∙ grown ∙ ap (λ (ms : List ℕ). ms ++ seen ∷ []) (sym (log-moments old attempts was))
+
+-- where a task stands, by its fields
+pub stands-at : (p : Progress) → IsProgress p → timeline_of (job_in p) (moments_in p) ≡ timeline_in p
+stands-at p progress = from-log (job_in p) p.log (timeline_in p) p.polls progress.log progress.on_timeline
+
+-- its moments are those of its attempts
+pub moments-in : (p : Progress) → IsProgress p → moments_in p ≡ poll_moments (attempts_of p)
+moments-in p progress = log-moments p.log (attempts_of p) progress.log
+
+pub begin-advances : (p : Progress) (log : Log) (spare : Out) (beat : Beat) (attempt : AttemptValue) (phase : Phase) → p.phase ≡ phase
+    → IsProgress p → HasState p → IsWaitingTo p.seen p.phase → beat ≡ entry_at p.script (log_count p.log + 1) → IsScript p.script
+    → log.keeps ≡ p.log.keeps
+    → ((attempts : List AttemptedValue) → IsLog p.log attempts → IsLog log (attempts ++ runs p.seen ∷ []))
     → attempt ≡ record { outcome = beat.outcome; end = saturated (p.seen + beat.ms); seen = p.seen }
-    → Advances p (record p { records = records; phase = Running attempt; polls = p.polls + 1 })
-begin-advances p records beat attempt (Waiting x) is progress state waits next script added started =
+    → Advances p (record p { log = log; spare = spare; phase = Running attempt; polls = p.polls + 1 })
+begin-advances p log spare beat attempt (Waiting x) is progress state waits next script keeps begun started =
     let attempts = attempts_of p in
     let job = job_in p in
     let all : AllEnded attempts = rw is at progress.phase in
@@ -53,11 +74,12 @@ begin-advances p records beat attempt (Waiting x) is progress state waits next s
     let stands : IsOnTimeline job (record { attempts = attempts; due = Some x; ending = None }) p.polls = rw is at progress.on_timeline in
     let kept : IsStepped attempts p.compiled p.seen = rw is at state in
     let new : Timeline = record { attempts = attempts ++ runs p.seen ∷ []; due = Some (saturated (p.seen + (entry_at job.script (length attempts + 1)).ms)); ending = None } in
-    let grown : map attempted_of records.items ≡ attempts ++ runs p.seen ∷ [] =
-    ap (map attempted_of) added ∙ map-append attempted_of p.records.items (record { begun = p.seen; ended = None } ∷ []) in
-    let count : length attempts ≡ length p.records.items = length-map p.records.items attempted_of in
+    let count : length attempts ≡ log_count p.log = sym (log-count p.log attempts progress.log) in
     let steps = advance job script attempts x p.seen p.polls new stands due progress.bounded (begins job p.seen attempts x all due)
     (omega (arith, length-append attempts (runs p.seen ∷ []))) (inl (moments-begun attempts p.seen)) in
+    let logged : IsLog log (attempts ++ runs p.seen ∷ []) = begun attempts progress.log in
+    let at : timeline_of job (log_moments log) ≡ new = from-log job log new (p.polls + 1) logged steps.0 in
+    let grown : (timeline_of job (log_moments log)).attempts ≡ attempts ++ runs p.seen ∷ [] = ap (λ (t : Timeline). t.attempts) at in
     let entry : beat ≡ entry_at job.script (length attempts + 1) = rw count next in
     let end : attempt.end ≡ saturated (p.seen + (entry_at job.script (length attempts + 1)).ms) =
     ap (λ (a : AttemptValue). a.end) started ∙ ap (λ (b : Beat). saturated (p.seen + b.ms)) entry in
@@ -66,17 +88,20 @@ begin-advances p records beat attempt (Waiting x) is progress state waits next s
     let saw : attempt.seen ≤ p.seen = rw started (omega arith) in
     record {
       progress = record {
+        log = rw grown logged;
         on_timeline = rw (grown, end) steps.0;
+        waits = rw end (ap (λ (t : Timeline). t.due) at);
+        ended = ap (λ (t : Timeline). t.ending) at;
         phase = (attempts, p.seen, record { last = grown; ended = all; outcome = outcome; saw = saw });
         bounded = progress.bounded;
       };
       state = record { stands = rw (grown, history_after-running attempts p.seen) kept.stands; past = kept.past };
-      moments = rw grown steps.1;
-      job = refl;
+      moments = moments-more p.log log attempts (attempts ++ runs p.seen ∷ []) p.seen progress.log logged steps.1;
+      job = rw keeps refl;
       seen = refl;
     }
-begin-advances p records beat attempt (Running other) is progress state waits next script added started = absurd (rw is at waits)
-begin-advances p records beat attempt (Over ending) is progress state waits next script added started = absurd (rw is at waits)
+begin-advances p log spare beat attempt (Running other) is progress state waits next script keeps begun started = absurd (rw is at waits)
+begin-advances p log spare beat attempt (Over ending) is progress state waits next script keeps begun started = absurd (rw is at waits)
 
 -- the history that the schedule was asked about
 pub asked-history : (p : Progress) (outcome : Outcome) (others : List AttemptedValue) (s : ℕ) → attempts_of p ≡ others ++ runs s ∷ []
@@ -86,8 +111,8 @@ asked-history p outcome others s last = ap (λ (h : History). (p.seen, number_of
 -- the attempt that ran ends, and none begins
 pub end_attempt-advances : (p q : Progress) (outcome : Outcome) (step : Option Answer) (now later : Phase) → p.phase ≡ now
     → IsProgress p → HasRunTo p.seen outcome p.phase → IsScript p.script
-    → q ≡ record p { records = q.records; phase = later; polls = p.polls + 1 }
-    → ((others : List AttemptedValue) (s : ℕ) → attempts_of p ≡ others ++ runs s ∷ [] → attempts_of q ≡ others ++ ended_attempt s p.seen outcome step ∷ [])
+    → q ≡ record p { log = q.log; phase = later; polls = p.polls + 1 } → q.log.keeps ≡ p.log.keeps
+    → ((others : List AttemptedValue) (s : ℕ) → IsLog p.log (others ++ runs s ∷ []) → IsLog q.log (others ++ ended_attempt s p.seen outcome step ∷ []))
     → ((others : List AttemptedValue) (s w : ℕ) → attempts_of p ≡ others ++ runs s ∷ [] → AllEnded others → w ≤ p.seen → outcome ≡ (beat_after (job_in p) (history_after others)).outcome
     → record { attempts = others ++ ended_attempt s p.seen outcome step ∷ []; due = due_of later; ending = ending_of later }
     ≡ extended (job_in p) p.seen [] (record { attempts = others ++ runs s ∷ []; due = Some w; ending = None }))
@@ -95,7 +120,7 @@ pub end_attempt-advances : (p q : Progress) (outcome : Outcome) (step : Option A
     → IsPhase (job_in p) (others ++ ended_attempt s p.seen outcome step ∷ []) p.seen later
     × IsSteppedIn (others ++ ended_attempt s p.seen outcome step ∷ []) p.compiled p.seen later)
     → Advances p q
-end_attempt-advances p q outcome step (Running attempt) later is progress run script rest closed made kept =
+end_attempt-advances p q outcome step (Running attempt) later is progress run script rest keeps closed made kept =
     let job = job_in p in
     let run_to = rw is at run in
     let phase = rw is at progress.phase in
@@ -110,32 +135,42 @@ end_attempt-advances p q outcome step (Running attempt) later is progress run sc
     (made others s attempt.end last.last last.ended run_to.0 own)
     (omega (arith, length-append others (runs s ∷ []), length-append others (ended_attempt s p.seen outcome step ∷ [])))
     (inl (moments-ended others s p.seen outcome step)) in
-    let grown : attempts_of q ≡ others ++ ended_attempt s p.seen outcome step ∷ [] = closed others s last.last in
+    let logs : IsLog p.log (others ++ runs s ∷ []) = subst (IsLog p.log) last.last progress.log in
+    let logged : IsLog q.log (others ++ ended_attempt s p.seen outcome step ∷ []) = closed others s logs in
+    let at : timeline_of job (log_moments q.log) ≡ new = from-log job q.log new (p.polls + 1) logged steps.0 in
+    let grown : (timeline_of job (log_moments q.log)).attempts ≡ others ++ ended_attempt s p.seen outcome step ∷ [] = ap (λ (t : Timeline). t.attempts) at in
     let keep = kept others s last.last last.ended in
-    let whole : Advances p (record p { records = q.records; phase = later; polls = p.polls + 1 }) = record {
-      progress = record { on_timeline = rw grown steps.0; phase = rw grown keep.0; bounded = progress.bounded };
+    let whole : Advances p (record p { log = q.log; phase = later; polls = p.polls + 1 }) = record {
+      progress = record {
+        log = rw grown logged;
+        on_timeline = rw grown steps.0;
+        waits = ap (λ (t : Timeline). t.due) at;
+        ended = ap (λ (t : Timeline). t.ending) at;
+        phase = rw grown keep.0;
+        bounded = progress.bounded;
+      };
       state = rw grown keep.1;
-      moments = rw (grown, last.last) steps.1;
-      job = refl;
+      moments = moments-more p.log q.log (others ++ runs s ∷ []) (others ++ ended_attempt s p.seen outcome step ∷ []) p.seen logs logged steps.1;
+      job = rw keeps refl;
       seen = refl;
     } in
     subst (Advances p) (sym rest) whole
-end_attempt-advances p q outcome step (Waiting x) later is progress run script rest closed made kept = absurd (rw is at run)
-end_attempt-advances p q outcome step (Over ending) later is progress run script rest closed made kept = absurd (rw is at run)
+end_attempt-advances p q outcome step (Waiting x) later is progress run script rest keeps closed made kept = absurd (rw is at run)
+end_attempt-advances p q outcome step (Over ending) later is progress run script rest keeps closed made kept = absurd (rw is at run)
 
 -- the attempt that ran ends, and the next begins
 pub restart-advances : (p q : Progress) (outcome : Outcome) (step : Option Answer) (beat : Beat) (attempt : AttemptValue) (now : Phase) → p.phase ≡ now
     → IsProgress p → HasRunTo p.seen outcome p.phase → IsScript p.script → WasAsked p outcome
-    → beat ≡ entry_at p.script (length p.records.items + 1)
-    → q ≡ record p { records = q.records; phase = Running attempt; polls = p.polls + 1 }
+    → beat ≡ entry_at p.script (log_count p.log + 1)
+    → q ≡ record p { log = q.log; spare = q.spare; phase = Running attempt; polls = p.polls + 1 } → q.log.keeps ≡ p.log.keeps
     → attempt ≡ record { outcome = beat.outcome; end = saturated (p.seen + beat.ms); seen = p.seen }
-    → ((others : List AttemptedValue) (s : ℕ) → attempts_of p ≡ others ++ runs s ∷ [] → attempts_of q ≡ others ++ ended_attempt s p.seen outcome step ∷ runs p.seen ∷ [])
+    → ((others : List AttemptedValue) (s : ℕ) → IsLog p.log (others ++ runs s ∷ []) → IsLog q.log (others ++ ended_attempt s p.seen outcome step ∷ runs p.seen ∷ []))
     → ((others : List AttemptedValue) (s w : ℕ) → AllEnded others → w ≤ p.seen → outcome ≡ (beat_after (job_in p) (history_after others)).outcome
     → attempts_of p ≡ others ++ runs s ∷ []
     → record { attempts = others ++ ended_attempt s p.seen outcome step ∷ runs p.seen ∷ []; due = Some (saturated (p.seen + (entry_at p.script (length (others ++ runs s ∷ []) + 1)).ms)); ending = None }
     ≡ extended (job_in p) p.seen [] (record { attempts = others ++ runs s ∷ []; due = Some w; ending = None }))
     → Advances p q
-restart-advances p q outcome step beat attempt (Running old) is progress run script asked next rest started closed made =
+restart-advances p q outcome step beat attempt (Running old) is progress run script asked next rest keeps started closed made =
     let job = job_in p in
     let run_to = rw is at run in
     let phase = rw is at progress.phase in
@@ -149,8 +184,11 @@ restart-advances p q outcome step beat attempt (Running old) is progress run scr
     (made others s old.end last.ended run_to.0 own last.last)
     (omega (arith, length-append others (runs s ∷ []), length-append others (ended_attempt s p.seen outcome step ∷ runs p.seen ∷ [])))
     (inr (moments-restarted others s p.seen outcome step)) in
-    let grown : attempts_of q ≡ others ++ ended_attempt s p.seen outcome step ∷ runs p.seen ∷ [] = closed others s last.last in
-    let count : length (others ++ runs s ∷ []) ≡ length p.records.items = ap (λ (xs : List AttemptedValue). length xs) (sym last.last) ∙ length-map p.records.items attempted_of in
+    let logs : IsLog p.log (others ++ runs s ∷ []) = subst (IsLog p.log) last.last progress.log in
+    let logged : IsLog q.log (others ++ ended_attempt s p.seen outcome step ∷ runs p.seen ∷ []) = closed others s logs in
+    let at : timeline_of job (log_moments q.log) ≡ new = from-log job q.log new (p.polls + 1) logged steps.0 in
+    let grown : (timeline_of job (log_moments q.log)).attempts ≡ others ++ ended_attempt s p.seen outcome step ∷ runs p.seen ∷ [] = ap (λ (t : Timeline). t.attempts) at in
+    let count : length (others ++ runs s ∷ []) ≡ log_count p.log = sym (log-count p.log (others ++ runs s ∷ []) logs) in
     let entry : beat ≡ entry_at job.script (length (others ++ runs s ∷ []) + 1) = rw count next in
     let end : attempt.end ≡ saturated (p.seen + (entry_at job.script (length (others ++ runs s ∷ []) + 1)).ms) =
     ap (λ (a : AttemptValue). a.end) started ∙ ap (λ (b : Beat). saturated (p.seen + b.ms)) entry in
@@ -162,9 +200,12 @@ restart-advances p q outcome step beat attempt (Running old) is progress run scr
     let result : attempt.outcome ≡ (entry_at job.script (length (history_after ended) + 1)).outcome =
     rw (← numbered) (ap (λ (a : AttemptValue). a.outcome) started ∙ ap (λ (b : Beat). b.outcome) entry) in
     let saw : attempt.seen ≤ p.seen = rw started (omega arith) in
-    let whole : Advances p (record p { records = q.records; phase = Running attempt; polls = p.polls + 1 }) = record {
+    let whole : Advances p (record p { log = q.log; spare = q.spare; phase = Running attempt; polls = p.polls + 1 }) = record {
       progress = record {
+        log = rw grown logged;
         on_timeline = rw (grown, end) steps.0;
+        waits = rw end (ap (λ (t : Timeline). t.due) at);
+        ended = ap (λ (t : Timeline). t.ending) at;
         phase = (ended, p.seen, record { last = grown ∙ split; ended = all; outcome = result; saw = saw });
         bounded = progress.bounded;
       };
@@ -174,13 +215,13 @@ restart-advances p q outcome step beat attempt (Running old) is progress run scr
             asked;
         past = let seen = asked.last in omega arith;
       };
-      moments = rw (grown, last.last) steps.1;
-      job = refl;
+      moments = moments-more p.log q.log (others ++ runs s ∷ []) (others ++ ended_attempt s p.seen outcome step ∷ runs p.seen ∷ []) p.seen logs logged steps.1;
+      job = rw keeps refl;
       seen = refl;
     } in
     subst (Advances p) (sym rest) whole
-restart-advances p q outcome step beat attempt (Waiting x) is progress run script asked next rest started closed made = absurd (rw is at run)
-restart-advances p q outcome step beat attempt (Over ending) is progress run script asked next rest started closed made = absurd (rw is at run)
+restart-advances p q outcome step beat attempt (Waiting x) is progress run script asked next rest keeps started closed made = absurd (rw is at run)
+restart-advances p q outcome step beat attempt (Over ending) is progress run script asked next rest keeps started closed made = absurd (rw is at run)
 
 -- the schedule's state stands for the records, once the attempt has ended
 pub IsStepped-asked : (p : Progress) (outcome : Outcome) (others : List AttemptedValue) (s : ℕ) (step : Option Answer) → WasAsked p outcome → attempts_of p ≡ others ++ runs s ∷ []
@@ -192,15 +233,24 @@ IsStepped-asked p outcome others s step asked last = record {
 
 -- after a refusal
 pub StandsStill-stays : (p q : Progress) → IsProgress p → Stays p q → StandsStill p q
-StandsStill-stays p q progress stays = record {
-  progress = record {
-    on_timeline = subst (λ (job : JobRecord). IsOnTimeline job (timeline_in q) q.polls) (sym (ap record_of stays.job)) (rw (stays.records, stays.phase, stays.polls) progress.on_timeline);
-    phase = subst (λ (job : JobRecord). IsPhase job (attempts_of q) q.seen q.phase) (sym (ap record_of stays.job)) (rw (stays.records, stays.phase, stays.seen) progress.phase);
-    bounded = rw stays.seen progress.bounded;
-  };
-  records = stays.records;
-  job = stays.job;
-  seen = stays.seen;
-  due = ap due_of stays.phase;
-  ending = ap ending_of stays.phase;
-}
+StandsStill-stays p q progress stays =
+    let logged : IsLog q.log (attempts_of p) = stays.log progress.log in
+    let moments : moments_in q ≡ moments_in p = log-moments q.log (attempts_of p) logged ∙ sym (log-moments p.log (attempts_of p) progress.log) in
+    let at : timeline_of (job_in q) (moments_in q) ≡ timeline_of (job_in p) (moments_in p) =
+    ap (λ (job : JobRecord). timeline_of job (moments_in q)) (ap record_of stays.job) ∙ ap (timeline_of (job_in p)) moments in
+    let same : attempts_of q ≡ attempts_of p = ap (λ (t : Timeline). t.attempts) at in
+    record {
+      progress = record {
+        log = rw same logged;
+        on_timeline = subst (λ (job : JobRecord). IsOnTimeline job (timeline_in q) q.polls) (sym (ap record_of stays.job)) (rw (same, stays.phase, stays.polls) progress.on_timeline);
+        waits = ap (λ (t : Timeline). t.due) at ∙ progress.waits ∙ ap due_of (sym stays.phase);
+        ended = ap (λ (t : Timeline). t.ending) at ∙ progress.ended ∙ ap ending_of (sym stays.phase);
+        phase = subst (λ (job : JobRecord). IsPhase job (attempts_of q) q.seen q.phase) (sym (ap record_of stays.job)) (rw (same, stays.phase, stays.seen) progress.phase);
+        bounded = rw stays.seen progress.bounded;
+      };
+      moments = moments;
+      job = stays.job;
+      seen = stays.seen;
+      due = ap due_of stays.phase;
+      ending = ap ending_of stays.phase;
+    }

@@ -4,6 +4,7 @@ pub mod Extending
 pub mod Moments
 pub mod Records
 pub mod Steps
+pub mod Logging
 pub mod Advancing
 pub mod Refusing
 pub mod Beginning
@@ -15,3 +16,4 @@ pub mod Follows
 pub mod Polling
 pub mod Pending
 pub mod Rising
+pub mod Standing

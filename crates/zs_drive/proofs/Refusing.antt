@@ -32,6 +32,7 @@ use Rattle.zs_drive.proofs.Ticks.{lt_cases}
 use Rattle.zs_drive.proofs.Extending.{resume}
 use Rattle.zs_drive.proofs.Records.{polled-extended}
 use Rattle.zs_drive.proofs.Steps.{runs, begins, closes}
+use Rattle.zs_drive.proofs.Advancing.{stands-at, moments-in}
 
 -- an outcome itself gives no ending that the schedule gives after an outcome which does not itself end the job
 unlike-endings : (mode : Mode) (asked outcome : Outcome) (ending : Ending) → ending_by_outcome mode asked ≡ None → ending_by_outcome mode outcome ≡ Some ending
@@ -79,7 +80,8 @@ asked-unlike p (Waiting x) is progress script due takes outcome ending gives end
     let all : AllEnded attempts = rw is at progress.phase in
     let soon : x ≤ p.seen = rw is at due in
     let stands : IsOnTimeline job (record { attempts = attempts; due = Some x; ending = None }) p.polls = rw is at progress.on_timeline in
-    let made = polled-extended job script attempts x p.seen p.polls stands soon progress.bounded ∙ sym (begins job p.seen attempts x all soon) in
+    let made = ap (λ (ms : List ℕ). timeline_of job (ms ++ p.seen ∷ [])) (moments-in p progress)
+    ∙ polled-extended job script attempts x p.seen p.polls stands soon progress.bounded ∙ sym (begins job p.seen attempts x all soon) in
     let clash : None ≡ Some ending = sym (ap (λ (timeline : Timeline). timeline.ending) made) ∙ ends in cc
 asked-unlike p (Running attempt) is progress script due takes outcome ending gives ends =
     let job = job_in p in
@@ -94,7 +96,7 @@ asked-unlike p (Running attempt) is progress script due takes outcome ending giv
     let stands : IsOnTimeline job (record { attempts = others ++ runs s ∷ []; due = Some attempt.end; ending = None }) p.polls = rw (is, last.last) at progress.on_timeline in
     let made = polled-extended job script (others ++ runs s ∷ []) attempt.end p.seen p.polls stands soon progress.bounded ∙ closes job p.seen others s attempt.end last.ended soon in
     let moved : timeline_of job (moments_in p ++ p.seen ∷ []) ≡ timeline_of job (poll_moments (others ++ runs s ∷ []) ++ p.seen ∷ []) =
-    ap (λ (attempts : List AttemptedValue). timeline_of job (poll_moments attempts ++ p.seen ∷ [])) last.last in
+    ap (λ (ms : List ℕ). timeline_of job (ms ++ p.seen ∷ [])) (moments-in p progress) ∙ ap (λ (attempts : List AttemptedValue). timeline_of job (poll_moments attempts ++ p.seen ∷ [])) last.last in
     let by = ap (λ (timeline : Timeline). timeline.ending) (moved ∙ made) in
     let ends_so : (by_outcome job (resume job p.seen) (history_after others) s p.seen asked (ending_by_outcome job.mode asked)).ending ≡ Some ending = sym by ∙ ends in
     outcome-unlike job p.seen (history_after others) s asked outcome ending none_asked gives (rw none_asked at ends_so)
@@ -118,8 +120,8 @@ polled-at t x soon waits =
 -- where a poll of a task that is due brings it
 polled-ending : (t : Inside) (phase : Phase) → t.progress.value.phase ≡ phase → IsProgress t.progress.value → IsDuePhase t.progress.value.seen t.progress.value.phase
     → (current_timeline (polled (task_of t))).ending ≡ (timeline_of (job_in t.progress.value) (moments_in t.progress.value ++ t.progress.value.seen ∷ [])).ending
-polled-ending t (Waiting x) is progress due = polled-at t x (rw is at due) (ap (λ (timeline : Timeline). timeline.due) (sym progress.on_timeline.same) ∙ ap due_of is)
-polled-ending t (Running attempt) is progress due = polled-at t attempt.end (rw is at due) (ap (λ (timeline : Timeline). timeline.due) (sym progress.on_timeline.same) ∙ ap due_of is)
+polled-ending t (Waiting x) is progress due = polled-at t x (rw is at due) (ap (λ (timeline : Timeline). timeline.due) (stands-at t.progress.value progress) ∙ ap due_of is)
+polled-ending t (Running attempt) is progress due = polled-at t attempt.end (rw is at due) (ap (λ (timeline : Timeline). timeline.due) (stands-at t.progress.value progress) ∙ ap due_of is)
 polled-ending t (Over ending) is progress due = absurd (rw is at due)
 
 -- a refused turn of a task is due, takes memory, and comes to no ending that an outcome itself gives

@@ -1,11 +1,6 @@
 -- What a due poll makes of the records, by what was waited for and by what the schedule answers.
 use Rattle.std.proofs.Common.{◌≡◌, ℕ, suc, ◌+◌, ◌≤◌, ◌<◌, max, List, [], ◌∷◌, ◌++◌, length, length-append, append_assoc, append-nil, Option, if◌then◌else◌, refl, sym, ◌∙◌, ap, arith}
-use Rattle.std.specs.Prelude.{Some, None, IsSome, map, flat_map, slice_set, slice_index_or}
-use Rattle.std.proofs.lemmas.List.{map-set}
-use Rattle.std.proofs.Math.Seq.{get_or-append_seam}
-use Rattle.std.proofs.Math.ListN.{get_or-map}
-use Rattle.zs_drive.specs.declared.record.Attempted.{Attempted}
-use Rattle.zs_drive.specs.declared.record.Ended.{Ended}
+use Rattle.std.specs.Prelude.{Some, None, IsSome, flat_map, slice_set}
 use Rattle.zs_term.specs.Saturating.{saturated}
 use Rattle.zs_effect.specs.Scripts.{entry_at}
 use Rattle.zs_effect.specs.declared.script.Outcome.{Outcome}
@@ -15,7 +10,7 @@ use Rattle.zs_step.specs.Answer.{Answer, answer, answer_of}
 use Rattle.zs_step.specs.declared.decision.Decision.{Decision}
 use Rattle.zs_step.specs.declared.decision.Decision.TheVariants.{Stop, Next}
 use Rattle.zs_drive.specs.declared.record.Ending.{Ending}
-use Rattle.zs_drive.specs.Values.{JobRecord, AttemptedValue, attempted_of, ended_of}
+use Rattle.zs_drive.specs.Values.{JobRecord, AttemptedValue}
 use Rattle.zs_drive.specs.Timeline.{Timeline, before, waiting, running, number_of, ended_attempt, ending_by_outcome, ending_by_schedule, beat_after, by_answer, by_outcome, moments_of}
 use Rattle.zs_drive.specs.Recorded.{AllEnded}
 use Rattle.zs_drive.specs.DriverRules.{pair_of, longer_by, history_from, history_after}
@@ -159,17 +154,3 @@ moments-restarted others s c outcome step =
     flat_map-append moments_of others (ended_attempt s c outcome step ∷ runs c ∷ [])
     ∙ sym (append_assoc (flat_map moments_of others) (s ∷ []) (c ∷ c ∷ []))
     ∙ ap (λ (xs : List ℕ). xs ++ c ∷ c ∷ []) (sym (flat_map-append moments_of others (runs s ∷ [])))
-
--- the attempt in the middle of the records ends
-pub close-middle : (items : List Attempted) (i : ℕ) (old : Attempted) (ended : Ended) → old ≡ slice_index_or items i old
-    → (others rest : List AttemptedValue) (s : ℕ) → length others ≡ i → map attempted_of items ≡ others ++ runs s ∷ rest
-    → map attempted_of (slice_set items i (record { begun = old.begun; ended = Some ended })) ≡ others ++ record { begun = s; ended = ended_of (Some ended) } ∷ rest
-close-middle items i old ended is others rest s index same =
-    let new : Attempted = record { begun = old.begun; ended = Some ended } in
-    let there : attempted_of old ≡ runs s =
-    ap attempted_of is ∙ sym (get_or-map attempted_of items i old) ∙ ap (λ (xs : List AttemptedValue). slice_index_or xs i (attempted_of old)) same
-    ∙ ap (λ (k : ℕ). slice_index_or (others ++ runs s ∷ rest) k (attempted_of old)) (sym index) ∙ get_or-append_seam others (runs s) rest (attempted_of old) in
-    let begun : old.begun ≡ s = ap (λ (a : AttemptedValue). a.begun) there in
-    map-set attempted_of items i new ∙ ap (λ (xs : List AttemptedValue). slice_set xs i (attempted_of new)) same
-    ∙ ap (λ (k : ℕ). slice_set (others ++ runs s ∷ rest) k (attempted_of new)) (sym index) ∙ set-middle others (runs s) (attempted_of new) rest
-    ∙ ap (λ (k : ℕ). others ++ record { begun = k; ended = ended_of (Some ended) } ∷ rest) begun

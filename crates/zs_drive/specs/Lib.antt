@@ -4,11 +4,13 @@ pub mod Values
 pub mod Endings
 pub mod PollMoments
 pub mod Timeline
+pub mod Lines
 pub mod Tasks
 pub mod DriverRules
 pub mod DriverLaws
 -- What the bodies keep: private contracts, and the views and invariants of models, alone name these.
 pub mod Recorded
+pub mod Log
 pub mod Progress
 pub mod Turns
 pub mod Fields

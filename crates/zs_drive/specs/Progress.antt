@@ -1,5 +1,5 @@
 -- What the fields of a task stand for, and what they keep.
-use Rattle.std.specs.Prelude.{ℕ, ◌≤◌, List, map, Option, Some, None, ⊤, string_bytes}
+use Rattle.std.specs.Prelude.{◌≡◌, ℕ, ◌≤◌, List, Option, Some, None, ⊤, string_bytes}
 use Rattle.zs_step.specs.declared.compiled.Compiled.{Compiled}
 use Rattle.zs_step.specs.Compiled.{compiled_term}
 use Rattle.zs_drive.specs.declared.record.Ending.{Ending}
@@ -7,8 +7,9 @@ use Rattle.zs_drive.specs.declared.progress.Phase.{Phase}
 use Rattle.zs_drive.specs.declared.progress.Phase.TheVariants.{Waiting, Running, Over}
 use Rattle.zs_drive.specs.declared.progress.Progress.{Progress}
 use Rattle.zs_drive.specs.Clocks.{max_tick}
-use Rattle.zs_drive.specs.Values.{JobValue, JobRecord, record_of, AttemptedValue, attempted_of}
-use Rattle.zs_drive.specs.Timeline.{Timeline, poll_moments}
+use Rattle.zs_drive.specs.Values.{JobValue, JobRecord, record_of, AttemptedValue}
+use Rattle.zs_drive.specs.Timeline.{Timeline, timeline_of}
+use Rattle.zs_drive.specs.Log.{IsLog, log_moments}
 use Rattle.zs_drive.specs.Recorded.{AllEnded, IsOnTimeline, IsStepped, IsRunning}
 
 -- the moment that is waited for
@@ -25,23 +26,23 @@ ending_of (Over ending) = Some ending
 
 -- the job that it is about, by what its fields stand for
 abbrev pub job_value_in : Progress → JobValue
-job_value_in p = record { name = string_bytes p.name; mode = p.mode; schedule = compiled_term p.compiled; start = p.start; script = p.script }
+job_value_in p = record { name = string_bytes p.name; mode = p.mode; schedule = compiled_term p.compiled; start = p.start; script = p.script; keeps = p.log.keeps }
 
 -- the same as plain mathematics
 abbrev pub job_in : Progress → JobRecord
 job_in p = record_of (job_value_in p)
 
--- its attempts so far
+-- when it was polled while it was due
+abbrev pub moments_in : Progress → List ℕ
+moments_in p = log_moments p.log
+
+-- its attempts so far: those of the job on the clock of these moments
 abbrev pub attempts_of : Progress → List AttemptedValue
-attempts_of p = map attempted_of p.records.items
+attempts_of p = (timeline_of (job_in p) (moments_in p)).attempts
 
 -- where it stands
 abbrev pub timeline_in : Progress → Timeline
 timeline_in p = record { attempts = attempts_of p; due = due_of p.phase; ending = ending_of p.phase }
-
--- when it was polled while it was due
-abbrev pub moments_in : Progress → List ℕ
-moments_in p = poll_moments (attempts_of p)
 
 -- While it waits all attempts have ended, and while it runs all but the last.
 abbrev pub IsPhase : JobRecord → List AttemptedValue → ℕ → Phase → Type 0
@@ -55,9 +56,12 @@ IsSteppedIn attempts compiled seen (Waiting due) = IsStepped attempts compiled s
 IsSteppedIn attempts compiled seen (Running attempt) = IsStepped attempts compiled seen
 IsSteppedIn attempts compiled seen (Over ending) = ⊤
 
--- the records are those of the job on the clock of its own moments
+-- the log has the attempts of the job on the clock of its own moments
 pub record IsProgress (p : Progress) : Type 0 where
+  pub log : IsLog p.log (attempts_of p)
   pub on_timeline : IsOnTimeline (job_in p) (timeline_in p) p.polls
+  pub waits : (timeline_of (job_in p) (moments_in p)).due ≡ due_of p.phase
+  pub ended : (timeline_of (job_in p) (moments_in p)).ending ≡ ending_of p.phase
   pub phase : IsPhase (job_in p) (attempts_of p) p.seen p.phase
   pub bounded : p.seen ≤ max_tick
 

@@ -8,6 +8,7 @@ use Rattle.zs_drive.specs.declared.progress.Phase.TheVariants.{Waiting, Running,
 use Rattle.zs_drive.specs.declared.progress.Progress.{Progress}
 use Rattle.zs_drive.specs.Timeline.{number_of, ending_by_outcome}
 use Rattle.zs_drive.specs.DriverRules.{history_after}
+use Rattle.zs_drive.specs.Log.{IsLog}
 use Rattle.zs_drive.specs.Progress.{due_of, ending_of, job_value_in, attempts_of, moments_in, IsProgress, HasState}
 
 -- one due poll was done at the moment seen
@@ -26,7 +27,7 @@ IsWaitingTo seen (Over ending) = ⊥
 
 -- nothing was done, but the schedule may have been stepped
 pub record Stays (old new : Progress) : Type 0 where
-  pub records : new.records.items ≡ old.records.items
+  pub log : IsLog old.log (attempts_of old) → IsLog new.log (attempts_of old)
   pub phase : new.phase ≡ old.phase
   pub job : job_value_in new ≡ job_value_in old
   pub seen : new.seen ≡ old.seen
@@ -69,7 +70,7 @@ TakesMemory mode (Over ending) = ⊥
 -- nothing was done, but a running attempt may have seen a later moment, and the schedule may have been stepped
 pub record StandsStill (old new : Progress) : Type 0 where
   pub progress : IsProgress new
-  pub records : new.records.items ≡ old.records.items
+  pub moments : moments_in new ≡ moments_in old
   pub job : job_value_in new ≡ job_value_in old
   pub seen : new.seen ≡ old.seen
   pub due : due_of new.phase ≡ due_of old.phase

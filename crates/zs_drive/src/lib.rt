@@ -17,6 +17,8 @@
 mod fault;
 mod job;
 mod laws;
+mod lines;
+mod log;
 mod progress;
 mod record;
 mod task;
@@ -24,5 +26,6 @@ mod task;
 pub use fault::DriveFault;
 pub use job::{Job, Mode};
 pub use laws::{due_polls_suffice, moments_rise, one_timeline, timelines_are_whole};
-pub use record::{Attempted, Ended, Ending};
+pub use lines::append_attempt;
+pub use record::{Attempted, Ended, Ending, Keeping};
 pub use task::Task;

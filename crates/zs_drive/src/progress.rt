@@ -1,5 +1,5 @@
 //! The steps of a task, over its fields.
-ghost use Rattle.std.specs.Prelude.{◌≡◌, ℕ, ◌+◌, ◌≤◌, ◌<◌, List, [], ◌∷◌, ◌++◌, map, length, None, OnOk, OnErr, IfOk, vec_len};
+ghost use Rattle.std.specs.Prelude.{◌≡◌, ℕ, ◌+◌, ◌≤◌, List, [], ◌∷◌, ◌++◌, None, OnOk, OnErr, IfOk, vec_len};
 ghost use Rattle.std.specs.Vec.{vec_capacity};
 ghost use Rattle.futures.specs.Poll.{IfReady, OnPending};
 ghost use Rattle.futures.specs.Task.{IsArmed, Keeps};
@@ -10,22 +10,22 @@ ghost use Rattle.zs_term.specs.Output.{output_of};
 ghost use Rattle.zs_step.specs.History.{History};
 ghost use Rattle.zs_step.specs.Answer.{answer, answer_of};
 ghost use Rattle.zs_step.specs.Compiled.{StandsFor, last_seen, compiled_term, compiled_schedule};
-ghost use Rattle.zs_drive.specs.Values.{AttemptedValue, attempted_of, ended_of, step_of};
+ghost use Rattle.zs_drive.specs.Log.{IsLog, log_count};
+ghost use Rattle.zs_drive.specs.Values.{AttemptedValue, step_of};
 ghost use Rattle.zs_drive.specs.DriverRules.{history_after};
 ghost use Rattle.zs_drive.specs.Progress.{IsProgress, HasState, attempts_of, due_of, ending_of};
 ghost use Rattle.zs_drive.specs.Turns.{Advances, Stays, IsWaitingTo, HasRunTo, WasAsked, IsOver, IsEarly, IsDuePhase, StandsStill, IsSame, TakesMemory};
 
 use crate::fault::DriveFault;
 use crate::job::Mode;
-use crate::record::{Attempted, Ended, Ending};
+use crate::log::Log;
+use crate::record::{Ended, Ending, Keeping};
 use futures::task::{Context, Poll};
 use futures::{Future, ready};
+use std::mem::replace;
 use zs_effect::{Attempt, Beat, Outcome, Script};
 use zs_step::{Compiled, Decision, StepFault};
 use zs_term::Out;
-
-// How many items a full list has room for next, at least.
-const LEAST_ROOM: usize = 4;
 
 /// What a task waits for.
 #[derive(Drop)]
@@ -52,7 +52,9 @@ pub struct Progress {
     /// The state of its schedule.
     pub compiled: Compiled,
     /// The attempts so far.
-    pub records: Vec<Attempted>,
+    pub log: Log,
+    /// An output that was told, whose memory serves the next one.
+    pub spare: Out,
     /// What is waited for.
     pub phase: Phase,
     /// The number of polls that were due.
@@ -115,60 +117,28 @@ fn end_by_schedule(mode: Mode, outcome: Outcome) -> Ending
     }
 }
 
-// Makes room for one more item. A full list grows by a quarter, since many tasks keep theirs at once.
-fn make_room<T: Drop>(list: &mut Vec<T>) -> Result<(), DriveFault>
-    ensures items { list.new.items ≡ list.old.items }
-    ensures room { OnOk result (vec_len list.new < vec_capacity list.new) }
-    ensures full { OnErr result (vec_capacity list.old ≤ vec_len list.old) }
-{
-    if list.len() < list.capacity() {
-        return Ok(());
-    }
-    match list.reserve_exact(LEAST_ROOM.max(list.len() / 4)) {
-        Ok(()) => Ok(()),
-        Err(_) => Err(DriveFault::Memory),
-    }
-}
-
-// Of a refusal the list is as it was. Only a full one is refused.
-fn add<T: Drop>(list: &mut Vec<T>, item: T) -> Result<(), DriveFault>
-    ensures ok { OnOk result (list.new.items ≡ list.old.items ++ item ∷ []) }
-    ensures err { OnErr result (list.new.items ≡ list.old.items) }
-    ensures full { OnErr result (vec_capacity list.old ≤ vec_len list.old) }
-{
-    make_room(list)?;
-    match list.push(item) {
-        Ok(()) => Ok(()),
-        Err(_) => Err(DriveFault::Memory),
-    }
-}
-
-// The attempt at `index` ended.
-fn close_at(records: &mut Vec<Attempted>, index: usize, ended: Ended)
-    requires within { index < vec_len records.old }
-    ensures value { (others rest : List AttemptedValue) (s : ℕ) → length others ≡ index
-        → map attempted_of records.old.items ≡ others ++ record { begun = s; ended = None } ∷ rest
-        → map attempted_of records.new.items ≡ others ++ record { begun = s; ended = ended_of (Some ended) } ∷ rest }
-{
-    let attempted = &mut records[index];
-    attempted.ended = Some(ended);
-}
-
 impl Progress {
+    // The entry of the script that the next attempt follows.
+    fn next_beat(&self) -> Beat
+        requires progress { IsProgress self.now }
+        ensures value { result ≡ entry_at self.now.script (log_count self.now.log + 1) }
+    {
+        self.script.beat(self.log.count() + 1)
+    }
+
     // Begins the attempt that was waited for.
-    fn begin(&mut self, beat: Beat) -> Result<(), DriveFault>
+    fn begin(&mut self) -> Result<(), DriveFault>
         requires progress { IsProgress self.old }
         requires state { HasState self.old }
         requires waits { IsWaitingTo self.old.seen self.old.phase }
-        requires beat { beat ≡ entry_at self.old.script (length self.old.records.items + 1) }
         requires script { IsScript self.old.script }
         ensures ok { OnOk result (Advances self.old self.new) }
         ensures err { OnErr result (Stays self.old self.new) }
-        ensures full { OnErr result (vec_capacity self.old.records ≤ vec_len self.old.records) }
+        ensures full { self.old.log.keeps ≡ Keeping.Records → OnErr result (vec_capacity self.old.log.records ≤ vec_len self.old.log.records) }
     {
         let begun = self.seen;
-        let attempted = Attempted { begun, ended: None };
-        add(&mut self.records, attempted)?;
+        let beat = self.next_beat();
+        self.log.begin(begun, &mut self.spare)?;
         self.phase = Phase::Running(Attempt::start(beat, begun));
         self.polls += 1;
         Ok(())
@@ -177,24 +147,24 @@ impl Progress {
     // Asks the schedule after an outcome. Of a refusal only the schedule's state may be lost.
     fn ask(&mut self, outcome: Outcome) -> Result<(Out, Decision), DriveFault>
         requires past { last_seen self.old.compiled ≤ self.old.seen }
-        ensures rest { self.new ≡ record self.old { compiled = self.new.compiled } }
+        ensures rest { self.new ≡ record self.old { compiled = self.new.compiled; spare = self.new.spare } }
         ensures term { compiled_term self.new.compiled ≡ compiled_term self.old.compiled }
         ensures stands { OnOk result ((h : History) → StandsFor self.old.compiled h → StandsFor self.new.compiled ((self.old.seen, number_of outcome) ∷ h)) }
         ensures answered { IfOk result (λ step. (h : History) → StandsFor self.old.compiled h
             → answer (output_of step.0) step.1 ≡ answer_of (compiled_schedule self.old.compiled) ((self.old.seen, number_of outcome) ∷ h)) }
     {
-        match self.compiled.step(self.seen, number(outcome)) {
+        let spare = replace(&mut self.spare, Out::Num(0));
+        match self.compiled.step_over(self.seen, number(outcome), spare) {
             Ok(stepped) => Ok((stepped.out, stepped.decision)),
             Err(StepFault::Memory) => Err(DriveFault::Memory),
         }
     }
 
     // The attempt that ran has ended, with this outcome.
-    fn finish(&mut self, outcome: Outcome, next: Beat) -> Result<(), DriveFault>
+    fn finish(&mut self, outcome: Outcome) -> Result<(), DriveFault>
         requires progress { IsProgress self.old }
         requires state { HasState self.old }
         requires running { HasRunTo self.old.seen outcome self.old.phase }
-        requires beat { next ≡ entry_at self.old.script (length self.old.records.items + 1) }
         requires script { IsScript self.old.script }
         ensures ok { OnOk result (Advances self.old self.new) }
         ensures err { OnErr result (Stays self.old self.new) }
@@ -207,7 +177,7 @@ impl Progress {
             }
             None => {
                 let (out, decision) = self.ask(outcome)?;
-                self.follow(outcome, out, decision, next)
+                self.follow(outcome, out, decision)
             }
         }
     }
@@ -224,23 +194,16 @@ impl Progress {
     }
 
     // The schedule has answered this.
-    fn follow(
-        &mut self,
-        outcome: Outcome,
-        out: Out,
-        decision: Decision,
-        next: Beat,
-    ) -> Result<(), DriveFault>
+    fn follow(&mut self, outcome: Outcome, out: Out, decision: Decision) -> Result<(), DriveFault>
         requires progress { IsProgress self.old }
         requires state { WasAsked self.old outcome }
         requires running { HasRunTo self.old.seen outcome self.old.phase }
         requires goes_on { ending_by_outcome self.old.mode outcome ≡ None }
         requires answer { answer (output_of out) decision ≡ answer_of (compiled_schedule self.old.compiled) ((self.old.seen, number_of outcome) ∷ history_after (attempts_of self.old)) }
-        requires beat { next ≡ entry_at self.old.script (length self.old.records.items + 1) }
         requires script { IsScript self.old.script }
         ensures ok { OnOk result (Advances self.old self.new) }
         ensures err { OnErr result (Stays self.old self.new) }
-        ensures full { OnErr result (vec_capacity self.old.records ≤ vec_len self.old.records) }
+        ensures full { self.old.log.keeps ≡ Keeping.Records → OnErr result (vec_capacity self.old.log.records ≤ vec_len self.old.log.records) }
     {
         match decision {
             Decision::Stop => {
@@ -252,7 +215,10 @@ impl Progress {
                 self.end_attempt(outcome, Some((out, decision)), Phase::Waiting(due));
                 Ok(())
             }
-            Decision::Next(_) => self.restart(outcome, (out, decision), next),
+            Decision::Next(_) => {
+                let next = self.next_beat();
+                self.restart(outcome, (out, decision), next)
+            }
         }
     }
 
@@ -260,14 +226,14 @@ impl Progress {
     fn end_attempt(&mut self, outcome: Outcome, step: Option<(Out, Decision)>, phase: Phase)
         requires progress { IsProgress self.old }
         requires running { HasRunTo self.old.seen outcome self.old.phase }
-        ensures rest { self.new ≡ record self.old { records = self.new.records; phase = phase; polls = self.old.polls + 1 } }
+        ensures rest { self.new ≡ record self.old { log = self.new.log; phase = phase; polls = self.old.polls + 1 } }
+        ensures keeps { self.new.log.keeps ≡ self.old.log.keeps }
         ensures ended { (others : List AttemptedValue) (s : ℕ)
-            → attempts_of self.old ≡ others ++ record { begun = s; ended = None } ∷ []
-            → attempts_of self.new ≡ others ++ ended_attempt s self.old.seen outcome (step_of step) ∷ [] }
+            → IsLog self.old.log (others ++ record { begun = s; ended = None } ∷ [])
+            → IsLog self.new.log (others ++ ended_attempt s self.old.seen outcome (step_of step) ∷ []) }
     {
         let at = self.seen;
-        let index = self.records.len() - 1;
-        close_at(&mut self.records, index, Ended { at, outcome, step });
+        self.log.end(Ended { at, outcome, step });
         self.phase = phase;
         self.polls += 1;
     }
@@ -282,25 +248,22 @@ impl Progress {
         requires progress { IsProgress self.old }
         requires running { HasRunTo self.old.seen outcome self.old.phase }
         ensures rest { OnOk result (self.new ≡ record self.old {
-          records = self.new.records;
+          log = self.new.log;
+          spare = self.new.spare;
           phase = Phase.Running (record { outcome = next.outcome; end = saturated (self.old.seen + next.ms); seen = self.old.seen });
           polls = self.old.polls + 1;
         }) }
+        ensures keeps { self.new.log.keeps ≡ self.old.log.keeps }
         ensures ended { OnOk result ((others : List AttemptedValue) (s : ℕ)
-            → attempts_of self.old ≡ others ++ record { begun = s; ended = None } ∷ []
-            → attempts_of self.new ≡ others ++ ended_attempt s self.old.seen outcome (step_of (Some step)) ∷ record { begun = self.old.seen; ended = None } ∷ []) }
+            → IsLog self.old.log (others ++ record { begun = s; ended = None } ∷ [])
+            → IsLog self.new.log (others ++ ended_attempt s self.old.seen outcome (step_of (Some step)) ∷ record { begun = self.old.seen; ended = None } ∷ [])) }
         ensures err { OnErr result (Stays self.old self.new) }
-        ensures full { OnErr result (vec_capacity self.old.records ≤ vec_len self.old.records) }
+        ensures full { self.old.log.keeps ≡ Keeping.Records → OnErr result (vec_capacity self.old.log.records ≤ vec_len self.old.log.records) }
     {
         let at = self.seen;
-        let index = self.records.len() - 1;
-        let attempted = Attempted {
-            begun: at,
-            ended: None,
-        };
-        add(&mut self.records, attempted)?;
         let step = Some(step);
-        close_at(&mut self.records, index, Ended { at, outcome, step });
+        self.log
+            .restart(Ended { at, outcome, step }, &mut self.spare)?;
         self.phase = Phase::Running(Attempt::start(next, at));
         self.polls += 1;
         Ok(())
@@ -310,6 +273,7 @@ impl Progress {
     pub fn advance(&mut self, cx: &mut Context<'_>) -> Poll<Result<(), DriveFault>>
         requires progress { IsProgress self.old }
         requires state { HasState self.old }
+        requires script { IsScript self.old.script }
         ensures over { IsOver self.old.phase → (result ≡ Poll.Ready (Ok tt)) × IsSame self.old self.new }
         ensures early { IsEarly self.old.seen self.old.phase → (result ≡ Poll.Pending) × IsSame self.old self.new }
         ensures due { IsDuePhase self.old.seen self.old.phase
@@ -320,15 +284,14 @@ impl Progress {
         ensures kept { Keeps cx.old cx.new }
     {
         let seen = self.seen;
-        let next = self.script.beat(self.records.len() as u64 + 1);
         match &mut self.phase {
             Phase::Over(_) => Poll::Ready(Ok(())),
             Phase::Waiting(due) if seen < *due => cx.yield_now(),
-            Phase::Waiting(_) => Poll::Ready(self.begin(next)),
+            Phase::Waiting(_) => Poll::Ready(self.begin()),
             Phase::Running(attempt) => {
                 attempt.see(seen);
                 let outcome = ready!(attempt.poll(cx));
-                Poll::Ready(self.finish(outcome, next))
+                Poll::Ready(self.finish(outcome))
             }
         }
     }

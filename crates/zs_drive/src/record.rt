@@ -3,6 +3,15 @@ use zs_effect::Outcome;
 use zs_step::Decision;
 use zs_term::Out;
 
+/// What a task keeps of its attempts.
+#[derive(Clone, Copy, Debug, PartialEq, Eq)]
+pub enum Keeping {
+    /// The record of each.
+    Records,
+    /// The record of the last one, and lines of text that tell the others.
+    Lines,
+}
+
 /// An attempt, which runs while it has no end.
 #[derive(Drop)]
 pub struct Attempted {

@@ -4,19 +4,22 @@ ghost use Rattle.futures.specs.Poll.{OnPending};
 ghost use Rattle.futures.specs.Task.{IsArmed, Keeps};
 ghost use Rattle.zs_effect.specs.Scripts.{IsScript};
 ghost use Rattle.zs_drive.specs.Clocks.{AreTicks, max_tick};
-ghost use Rattle.zs_drive.specs.Values.{job_value, attempted_of};
+ghost use Rattle.zs_drive.specs.Lines.{attempts_lines, told_of, recorded_of};
+ghost use Rattle.zs_drive.specs.Values.{job_value, job_kept, attempted_of};
 ghost use Rattle.zs_drive.specs.Timeline.{poll_moments};
 ghost use Rattle.zs_drive.specs.Tasks.{current_timeline, timeline_at, polled, reply_of, MatchMemory, IsDue, EndsByOutcome};
 
 use crate::fault::DriveFault;
 use crate::job::{Job, Mode};
+use crate::log::Log;
 use crate::progress::{Phase, Progress};
-use crate::record::{Attempted, Ending};
+use crate::record::{Attempted, Ending, Keeping};
 use futures::task::{Context, Poll};
 use futures::{Future, ready};
 use std::alloc::Global;
 use std::marker::Model;
 use zs_step::{Compiled, StepFault};
+use zs_term::Out;
 
 /// A numbered job with the attempts that were made so far. A poll that found no memory breaks it.
 #[derive(Drop)]
@@ -54,9 +57,19 @@ impl Model for Task {
 }
 
 impl Task {
-    /// The task of a job, which has seen moment 0. For want of memory it answers `Memory`, and the job is given up.
+    /// The task of a job, which has seen moment 0 and keeps the record of each attempt. For want of memory it answers `Memory`, and
+    /// the job is given up.
     pub fn new(alloc: Global, number: u64, job: Job) -> Result<Task, DriveFault>
         ensures made { IfOk result (λ task. task ≡ record { number = number; job = job_value job; moments = []; seen = 0; broken = false }) }
+        ensures script { IfOk result (λ task. IsScript task.job.script) }
+        ensures memory { IfErr result (λ fault. fault ≡ DriveFault.Memory) }
+    {
+        Task::keeping(alloc, number, job, Keeping::Records)
+    }
+
+    /// The same, of a task that keeps its attempts so.
+    pub fn keeping(alloc: Global, number: u64, job: Job, keeps: Keeping) -> Result<Task, DriveFault>
+        ensures made { IfOk result (λ task. task ≡ record { number = number; job = job_kept keeps job; moments = []; seen = 0; broken = false }) }
         ensures script { IfOk result (λ task. IsScript task.job.script) }
         ensures memory { IfErr result (λ fault. fault ≡ DriveFault.Memory) }
     {
@@ -77,7 +90,8 @@ impl Task {
             start,
             script,
             compiled,
-            records: Vec::new(alloc),
+            log: Log::new(alloc, keeps),
+            spare: Out::Num(0),
             phase: Phase::Waiting(start),
             polls: 0,
             seen: 0,
@@ -119,14 +133,52 @@ impl Task {
         self.progress.polls
     }
 
-    /// Its attempts so far, in order.
+    /// What it keeps of its attempts.
+    pub fn keeps(&self) -> Keeping
+        ensures value { result ≡ self.now.job.keeps }
+    {
+        self.progress.log.keeps
+    }
+
+    /// The records of its attempts so far, in order: of all, or of the last one where the others are kept as lines.
     pub fn records(&self) -> &[Attempted]
-        ensures attempts { map attempted_of result.now ≡ (current_timeline self.now).attempts }
+        ensures attempts { self.now.job.keeps ≡ Keeping.Records → map attempted_of result.now ≡ (current_timeline self.now).attempts }
+        ensures recorded { map attempted_of result.now ≡ recorded_of self.now.job.keeps (current_timeline self.now).attempts }
         ensures moments { self.now.moments ≡ poll_moments (current_timeline self.now).attempts }
         ensures clock { AreTicks self.now.moments }
         ensures script { IsScript self.now.job.script }
     {
-        self.progress.records.as_slice()
+        self.progress.log.records.as_slice()
+    }
+
+    /// The lines that tell the attempts of which it keeps no records.
+    pub fn lines(&self) -> &str
+        ensures told { result.now ≡ attempts_lines 1 (told_of self.now.job.keeps (current_timeline self.now).attempts) }
+    {
+        self.progress.log.lines.as_str()
+    }
+
+    /// The same lines, in the memory in which they lie. The task is given up.
+    pub fn into_lines(self) -> String
+        ensures told { string_bytes result ≡ attempts_lines 1 (told_of self.job.keeps (current_timeline self).attempts) }
+    {
+        let Task {
+            number: _,
+            progress,
+            broken: _,
+        } = self;
+        let Progress { log, .. } = Box::into_inner(progress);
+        let Log { lines, .. } = log;
+        lines
+    }
+
+    /// How many attempts these lines tell.
+    pub fn told(&self) -> u64
+        ensures value { result ≡ length (told_of self.now.job.keeps (current_timeline self.now).attempts) }
+        // At each tick at most one attempt begins.
+        ensures few { length (current_timeline self.now).attempts ≤ max_tick + 1 }
+    {
+        self.progress.log.told
     }
 
     /// How the job ended, if it has. A broken task has not.

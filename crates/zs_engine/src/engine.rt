@@ -2,7 +2,7 @@ ghost use Rattle.std.specs.Prelude.{◌≡◌, ℕ, ◌≤◌, ◌<◌, List, []
 ghost use Rattle.std.specs.FinMap.{empty, get};
 ghost use Rattle.zs_term.specs.Saturating.{max_moment};
 ghost use Rattle.zs_drive.specs.Tasks.{current_timeline};
-ghost use Rattle.zs_drive.specs.Values.{job_value};
+ghost use Rattle.zs_drive.specs.Values.{job_kept};
 ghost use Rattle.zs_pool.specs.Limits.{max_tasks};
 ghost use Rattle.zs_engine.specs.Times.{ticks_of, next_of, IsLater};
 ghost use Rattle.zs_engine.specs.Rounds.{jobs_in, set_next};
@@ -19,7 +19,7 @@ use std::mem::drop;
 use std::sync::Wait;
 use std::thread::Threads;
 use zs_agenda::{Agenda, Clock};
-use zs_drive::{Job, Task};
+use zs_drive::{Job, Keeping, Task};
 use zs_pool::{Cut, Gate, Poller, Tally, TallySeat, poll_one, round};
 
 // A run of jobs: each job's task in a slot of its own, with the weight of its schedule, a timer for each task that waits for
@@ -68,13 +68,13 @@ impl Engine {
         })
     }
 
-    // Takes in one more job.
-    pub fn add(&mut self, job: Job) -> Result<(), EngineFault>
+    // Takes in one more job, whose task keeps its attempts so.
+    pub fn add(&mut self, job: Job, keeps: Keeping) -> Result<(), EngineFault>
         requires new { IsNew self.old.clock (jobs_in self.old.slots.items) self.old }
-        ensures new { OnOk result (IsNew self.old.clock (jobs_in self.old.slots.items ++ job_value job ∷ []) self.new) }
+        ensures new { OnOk result (IsNew self.old.clock (jobs_in self.old.slots.items ++ job_kept keeps job ∷ []) self.new) }
     {
         let nodes = job.schedule.weight();
-        let task = Task::new(self.alloc, self.slots.len() as u64, job)?;
+        let task = Task::keeping(self.alloc, self.slots.len() as u64, job, keeps)?;
         match set_timer(&self.clock, &mut self.agenda, &task) {
             Ok(()) => {}
             Err(refused) => {
@@ -249,6 +249,7 @@ impl Engine {
     {
         while let Some((now, numbers)) = self.agenda.take()? {
             self.run_round(rt, cut, gate, now, &numbers, cx)?;
+            self.agenda.reuse(numbers);
         }
         Ok(())
     }

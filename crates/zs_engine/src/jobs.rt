@@ -1,5 +1,5 @@
 ghost use Rattle.std.specs.Prelude.{◌≤◌, length, map, IfOk};
-ghost use Rattle.zs_drive.specs.Values.{job_value};
+ghost use Rattle.zs_drive.specs.Values.{job_kept, job_value};
 ghost use Rattle.zs_pool.specs.Limits.{max_tasks};
 ghost use Rattle.zs_engine.specs.Answers.{IsAnswer};
 
@@ -10,10 +10,31 @@ use std::alloc::Global;
 use std::sync::Wait;
 use std::thread::Threads;
 use zs_agenda::Clock;
-use zs_drive::Job;
+use zs_drive::{Job, Keeping};
 use zs_pool::{Cut, Gate};
 
-/// Runs the jobs up to the clock's horizon. A job's number is its place in the list, from 0.
+// Runs the jobs, whose tasks keep their attempts so.
+fn run_keeping<G: Gate, R: Threads + Wait + Sync>(
+    rt: &R,
+    alloc: Global,
+    cut: Cut,
+    gate: &G,
+    clock: Clock,
+    jobs: Vec<Job>,
+    keeps: Keeping,
+) -> Result<Answer, EngineFault>
+    requires few { length jobs.items ≤ max_tasks }
+    ensures answer { IfOk result (IsAnswer clock (map (job_kept keeps) jobs.items)) }
+{
+    let mut engine = Engine::new(alloc, clock)?;
+    for job in jobs {
+        engine.add(job, keeps)?;
+    }
+    engine.run_rounds(rt, cut, gate)?;
+    engine.finish()
+}
+
+/// Runs the jobs up to the clock's horizon. A job's number is its place in the list, from 0. Each task keeps all its records.
 pub fn run_jobs<G: Gate, R: Threads + Wait + Sync>(
     rt: &R,
     alloc: Global,
@@ -25,10 +46,20 @@ pub fn run_jobs<G: Gate, R: Threads + Wait + Sync>(
     requires few { length jobs.items ≤ max_tasks }
     ensures answer { IfOk result (IsAnswer clock (map job_value jobs.items)) }
 {
-    let mut engine = Engine::new(alloc, clock)?;
-    for job in jobs {
-        engine.add(job)?;
-    }
-    engine.run_rounds(rt, cut, gate)?;
-    engine.finish()
+    run_keeping(rt, alloc, cut, gate, clock, jobs, Keeping::Records)
+}
+
+/// The same, with tasks that keep lines in place of all records but the last, which takes less memory.
+pub fn run_to_lines<G: Gate, R: Threads + Wait + Sync>(
+    rt: &R,
+    alloc: Global,
+    cut: Cut,
+    gate: &G,
+    clock: Clock,
+    jobs: Vec<Job>,
+) -> Result<Answer, EngineFault>
+    requires few { length jobs.items ≤ max_tasks }
+    ensures answer { IfOk result (IsAnswer clock (map (job_kept Keeping.Lines) jobs.items)) }
+{
+    run_keeping(rt, alloc, cut, gate, clock, jobs, Keeping::Lines)
 }

@@ -40,6 +40,7 @@ use Rattle.zs_step.specs.contracts.state.State as state
 use Rattle.zs_step.specs.contracts.compiled.Compiled as compiled
 use Rattle.zs_drive.specs.contracts.record.Ended as ended
 use Rattle.zs_drive.specs.contracts.record.Attempted as attempted
+use Rattle.zs_drive.specs.contracts.log.Log as log
 use Rattle.zs_drive.specs.contracts.progress.Progress as progress
 use Rattle.zs_drive.specs.contracts.task.Task as task
 use Rattle.zs_drive.specs.contracts.task.Task.TheInside as task_inside
@@ -99,8 +100,11 @@ ended_sent o = declared_send ended.the_type (search sendable, (search (rules, se
 attempted_sent : IsSend ended.the_row → IsSend attempted.the_row
 attempted_sent e = declared_send attempted.the_type (search sendable, (option.the_send ended.the_row e, tt))
 
-progress_sent : IsSend compiled.the_row → IsSend attempted.the_row → IsSend progress.the_row
-progress_sent c a = declared_send progress.the_type (search (rules, sendable, crosses) depth 20, (search (rules, sendable), (search sendable, (search (rules, sendable, crosses) depth 20, (c, (Vec-send attempted.the_row a, (search (rules, sendable), (search sendable, (search sendable, tt)))))))))
+log_sent : IsSend attempted.the_row → IsSend log.the_row
+log_sent a = declared_send log.the_type (search (rules, sendable), (search (rules, sendable, crosses) depth 20, (search sendable, (search (rules, sendable, crosses) depth 20, (Vec-send attempted.the_row a, tt)))))
+
+progress_sent : IsSend compiled.the_row → IsSend log.the_row → IsSend out.the_row → IsSend progress.the_row
+progress_sent c l o = declared_send progress.the_type (search (rules, sendable, crosses) depth 20, (search (rules, sendable), (search sendable, (search (rules, sendable, crosses) depth 20, (c, (l, (o, (search (rules, sendable), (search sendable, (search sendable, tt))))))))))
 
 task_fields : IsSend progress.the_row → IsSend task_inside.the_row
 task_fields p = declared_send task_inside.the_type (search sendable, (Box-send progress.the_row p, (search sendable, tt)))
@@ -151,7 +155,7 @@ shelf_shared : IsSync shelf_inside.the_row → IsSync shelf.the_row
 shelf_shared f = view_sync shelf_inside.the_row _ _ _ _ f
 
 task_send : IsSend task.the_row
-task_send = task_sent (task_fields (progress_sent (compiled_sent (checked_sent (checked_fields term_send kind_send)) state_send) (attempted_sent (ended_sent out_send))))
+task_send = task_sent (task_fields (progress_sent (compiled_sent (checked_sent (checked_fields term_send kind_send)) state_send) (log_sent (attempted_sent (ended_sent out_send))) out_send))
 
 batch_send : IsSend batch.the_row
 batch_send = batch_sent (batch_fields task_send)

@@ -7,8 +7,13 @@ use futures::Future;
 use futures::task::{Doorbell, Poll, Solo};
 use std::alloc::{Alloc, Global};
 use std::random::RandomSource;
-use zs_drive::{Attempted, DriveFault, Job, Task};
+use zs_drive::{Attempted, DriveFault, Job, Keeping, Task};
 use zs_run::read_plan;
+
+// The lines of the first two attempts of the job that is polled, where they are told.
+const FIRST: &str = "attempt 1 0..5 ok 7\nstep 1 out ([],Left(0)) next 5\n";
+
+const SECOND: &str = "attempt 2 5..10 ok 8\nstep 2 out ([7],Right(0)) next 15\n";
 
 /// The first job of a plan.
 pub fn job_of(alloc: Global, plan: &str) -> Result<Job, Ended> {
@@ -21,11 +26,29 @@ pub fn poll_in_turn<R: Alloc<A = Global> + RandomSource>(rt: &R, case: &mut Case
     let solo = Solo::new(rt, Doorbell::spinning())?;
     let job = job_of(case.alloc, case.input)?;
     case.call = "Task::new";
-    let mut task = Task::new(case.alloc, 4, job)?;
+    let task = Task::new(case.alloc, 4, job)?;
+    poll_new(&solo, case, task, 0)
+}
+
+/// The same, of a task that keeps lines.
+pub fn tell_in_turn<R: Alloc<A = Global> + RandomSource>(rt: &R, case: &mut Case<'_>) -> Answer {
+    let solo = Solo::new(rt, Doorbell::spinning())?;
+    let job = job_of(case.alloc, case.input)?;
+    case.call = "Task::keeping";
+    let task = Task::keeping(case.alloc, 4, job, Keeping::Lines)?;
+    poll_new(&solo, case, task, 2)
+}
+
+// Polls a new task, which tells so many attempts in the end.
+fn poll_new(solo: &Solo, case: &mut Case<'_>, mut task: Task, told: u64) -> Answer
+    requires seen { task.seen ≡ 0 }
+{
     case.call = "poll";
-    let polled = poll_five_times(&solo, &mut task);
+    let polled = poll_five_times(solo, &mut task);
+    let is_told = task.told() == told;
     drop(task);
     polled?;
+    right_if(is_told, "told as lines")?;
     Ok(String::new(case.alloc))
 }
 
@@ -37,17 +60,17 @@ fn poll_five_times(solo: &Solo, task: &mut Task) -> Result<(), Ended>
     poll_well(solo, task, 10)?;
     poll_well(solo, task, 15)?;
     poll_well(solo, task, 20)?;
-    let is_right = task.polls() == 5 && task.number() == 4 && are_first(task.records());
+    let is_right = task.polls() == 5 && task.number() == 4 && has_first(task);
     right_if(is_right, "other records")
 }
 
-// One due poll. A refused one breaks the task for good, and its records stand.
+// One due poll. A refused one breaks the task for good, and its records and lines stand.
 fn poll_well(solo: &Solo, task: &mut Task, now: u64) -> Result<(), Ended>
     requires seen { task.old.seen ≤ now }
     requires bounded { now ≤ max_tick }
     ensures seen { OnOk result (task.new.seen ≡ now) }
 {
-    let (polls, records) = (task.polls(), task.records().len());
+    let (polls, told, records) = (task.polls(), task.told(), task.records().len());
     if task.due() != Some(now) {
         return Err(Ended::Wrong("due at another moment"));
     }
@@ -55,17 +78,17 @@ fn poll_well(solo: &Solo, task: &mut Task, now: u64) -> Result<(), Ended>
     let Some(fault) = poll(solo, task) else {
         return right_if(task.polls() > polls, "a due poll that isn't counted");
     };
-    is_as_before(task, polls, records, now)?;
+    is_as_before(task, polls, told, records, now)?;
     let is_refused = poll(solo, task).is_some();
     right_if(is_refused, "another answer of a broken task")?;
-    is_as_before(task, polls, records, now)?;
+    is_as_before(task, polls, told, records, now)?;
     Err(Ended::from(fault))
 }
 
-// A refused poll left the records and the due moment of before, and a broken task.
-fn is_as_before(task: &Task, polls: u64, records: usize, now: u64) -> Result<(), Ended> {
-    let stands = task.polls() == polls && task.records().len() == records;
-    let is_right = stands && are_first(task.records()) && task.due() == Some(now);
+// A refused poll left the lines, the records and the due moment of before, and a broken task.
+fn is_as_before(task: &Task, polls: u64, told: u64, records: usize, now: u64) -> Result<(), Ended> {
+    let stands = task.polls() == polls && task.told() == told && task.records().len() == records;
+    let is_right = stands && has_first(task) && task.due() == Some(now);
     right_if(task.broken() && is_right, "not broken, or changed")
 }
 
@@ -82,12 +105,23 @@ fn poll(solo: &Solo, task: &mut Task) -> Option<DriveFault>
     }
 }
 
-// Whether attempts begin as the first of these: at 0, 5 and 15.
-fn are_first(records: &[Attempted]) -> bool {
-    for (record, begun) in records.iter().zip([0u64, 5, 15]) {
-        if record.begun != begun {
+// Whether the lines of a task tell the first attempts, and its records are of those that follow.
+fn has_first(task: &Task) -> bool {
+    let (lines, records) = (task.lines(), task.records());
+    match task.told() {
+        0 => lines.is_empty() && are_first(records, &[0, 5, 15]),
+        1 => lines == FIRST && are_first(records, &[5, 15]),
+        2 => lines.strip_prefix(FIRST) == Some(SECOND) && are_first(records, &[15]),
+        _ => false,
+    }
+}
+
+// Whether attempts begin as the first of these.
+fn are_first(records: &[Attempted], wanted: &[u64]) -> bool {
+    for (record, begun) in records.iter().zip(wanted) {
+        if record.begun != *begun {
             return false;
         }
     }
-    records.len() <= 3
+    records.len() <= wanted.len()
 }

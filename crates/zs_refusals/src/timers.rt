@@ -4,9 +4,9 @@ use zs_agenda::{Agenda, AgendaFault};
 
 const JOBS: u64 = 40;
 
-// The moment of a job: four jobs wait for each of ten moments.
+// The moment of a job: four jobs wait for each of ten moments, and the jobs 1, 2 and 3 each for one before all others.
 fn moment_of(job: u64) -> u64 {
-    1 + job.wrapping_mul(7) % 10
+    1 + job.wrapping_mul(7).wrapping_add(9) % 10
 }
 
 /// Many timers, and all of them fire. A refused one is armed again.

@@ -1,50 +1,14 @@
 -- The text of a report: for each job a line of its name, the lines of its attempts, and how it ended; last the total of due polls.
-use Rattle.std.specs.Prelude.{ℕ, ◌+◌, ◌-◌, List, [], ◌∷◌, ◌++◌, length, slice_get, Option, Some, None, option_map, option_and_then, unwrap_or, codes, decimal}
+use Rattle.std.specs.Prelude.{ℕ, ◌-◌, List, [], ◌++◌, length, slice_get, Option, Some, None, option_map, option_and_then, unwrap_or, codes, decimal}
 use Rattle.std.specs.List.{flat_map}
 use Rattle.zs_term.specs.OutputText.{output_text}
-use Rattle.zs_effect.specs.declared.script.Outcome.{Outcome}
-use Rattle.zs_effect.specs.declared.script.Outcome.TheVariants.{Good, Bad}
-use Rattle.zs_step.specs.declared.decision.Decision.{Decision}
-use Rattle.zs_step.specs.declared.decision.Decision.TheVariants.{Stop, Next}
 use Rattle.zs_step.specs.Answer.{Answer}
 use Rattle.zs_drive.specs.declared.job.Mode.{Mode}
 use Rattle.zs_drive.specs.declared.job.Mode.TheVariants.{Retry, Repeat}
 use Rattle.zs_drive.specs.declared.record.Ending.{Ending}
 use Rattle.zs_drive.specs.declared.record.Ending.TheVariants.{Succeeded, Failed, Finished}
 use Rattle.zs_drive.specs.Values.{AttemptedValue, EndedValue}
-
--- how an attempt ended
-abbrev pub outcome_text : Outcome → List ℕ
-outcome_text (Good value) = codes "ok " ++ decimal value
-outcome_text (Bad code) = codes "err " ++ decimal code
-
--- what a schedule decided
-abbrev pub decision_text : Decision → List ℕ
-decision_text Stop = codes "done"
-decision_text (Next at) = codes "next " ++ decimal at
-
--- the line of a step of the schedule after the attempt with this number
-abbrev pub step_line : ℕ → Answer → List ℕ
-step_line number step = codes "step " ++ decimal number ++ codes " out " ++ output_text step.output ++ codes " " ++ decision_text step.decision ++ codes "\n"
-
--- that line, where the schedule was stepped
-abbrev pub step_lines : ℕ → Option Answer → List ℕ
-step_lines number None = []
-step_lines number (Some step) = step_line number step
-
--- what follows the moment at which the attempt with this number began
-abbrev pub ended_lines : ℕ → Option EndedValue → List ℕ
-ended_lines number None = codes " running\n"
-ended_lines number (Some ended) = decimal ended.at ++ codes " " ++ outcome_text ended.outcome ++ codes "\n" ++ step_lines number ended.step
-
--- the lines of the attempt with this number
-abbrev pub attempt_lines : ℕ → AttemptedValue → List ℕ
-attempt_lines number attempt = codes "attempt " ++ decimal number ++ codes " " ++ decimal attempt.begun ++ codes ".." ++ ended_lines number attempt.ended
-
--- the lines of the attempts from this number on
-abbrev pub attempts_lines : ℕ → List AttemptedValue → List ℕ
-attempts_lines number [] = []
-attempts_lines number (attempt ∷ attempts) = attempt_lines number attempt ++ attempts_lines (number + 1) attempts
+use Rattle.zs_drive.specs.Lines.{attempts_lines}
 
 -- the name of a mode
 abbrev pub mode_text : Mode → List ℕ
@@ -88,10 +52,13 @@ pub record JobReport : Type 0 where
   pub ending : Option Ending
   pub polls : ℕ
 
+-- the first line of a job
+abbrev pub head_line : List ℕ → Mode → List ℕ
+head_line name mode = codes "job " ++ name ++ codes " " ++ mode_text mode ++ codes "\n"
+
 -- the lines of a job
 abbrev pub job_lines : ℕ → JobReport → List ℕ
-job_lines horizon job = codes "job " ++ job.name ++ codes " " ++ mode_text job.mode ++ codes "\n"
-    ++ attempts_lines 1 job.attempts ++ end_line horizon job.attempts job.ending job.polls
+job_lines horizon job = head_line job.name job.mode ++ attempts_lines 1 job.attempts ++ end_line horizon job.attempts job.ending job.polls
 
 -- the whole report up to a horizon, with the total of due polls
 abbrev pub report_text : ℕ → List JobReport → ℕ → List ℕ

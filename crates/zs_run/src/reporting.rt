@@ -1,130 +1,57 @@
 //! Reports.
-ghost use Rattle.std.specs.Prelude.{◌≡◌, ◌++◌, ◌+◌, ◌≤◌, ◌<◌, ◌^◌, ℕ, length, codes, [], OnOk, IfOk, None, Some, map, option_map, string_bytes};
+ghost use Rattle.std.specs.Prelude.{◌≡◌, ◌++◌, ◌+◌, ◌≤◌, ◌<◌, ◌^◌, ℕ, length, codes, [], OnOk, IfOk, None, Some, map, option_copied, string_bytes};
 ghost use Rattle.std.specs.Fmt.{decimal};
 ghost use Rattle.std.specs.List.{flat_map};
 ghost use Rattle.zs_drive.specs.Values.{attempted_of, ended_of, step_of};
+ghost use Rattle.zs_drive.specs.Lines.{attempts_lines};
 ghost use Rattle.zs_drive.specs.Tasks.{current_timeline};
-ghost use Rattle.zs_run.specs.Report.{attempt_lines, attempts_lines, decision_text, end_line, ended_lines, ending_text, job_lines, last_moment, last_output, mode_text, outcome_text, report_text, step_lines, step_output};
+ghost use Rattle.zs_run.specs.Report.{end_line, ending_text, head_line, job_lines, last_ended, last_moment, last_output, mode_text, report_text, step_output};
+ghost use Rattle.zs_run.specs.PlanReport.{with_total};
 ghost use Rattle.zs_run.specs.ReportView.{task_report};
 
-use itoa::Buffer;
 use std::alloc::{AllocError, Global};
-use zs_drive::{Attempted, Ended, Ending, Mode, Task};
-use zs_effect::Outcome;
+use zs_drive::{Attempted, Ended, Ending, Mode, Task, append_attempt};
 use zs_engine::Answer;
 use zs_step::Decision;
 use zs_term::{Out, append_out};
 
-// Adds the digits of a number.
-fn push_number(text: &mut String, n: u64) -> Result<(), AllocError>
-    ensures text { OnOk result (string_bytes text.new ≡ string_bytes text.old ++ decimal n) }
+// Adds the lines of attempts, of which the first has this number.
+fn push_attempts(text: &mut String, from: u64, attempts: &[Attempted]) -> Result<(), AllocError>
+    requires few { from + length attempts.now < 2 ^ 64 }
+    ensures text { OnOk result (string_bytes text.new ≡ string_bytes text.old ++ attempts_lines from (map attempted_of attempts.now)) }
 {
-    let mut buffer = Buffer::new();
-    text.push_str(buffer.format(n))
-}
-
-// Adds how an attempt ended.
-fn push_outcome(text: &mut String, outcome: Outcome) -> Result<(), AllocError>
-    ensures text { OnOk result (string_bytes text.new ≡ string_bytes text.old ++ outcome_text outcome) }
-{
-    match outcome {
-        Outcome::Good(value) => {
-            text.push_str("ok ")?;
-            push_number(text, value)
-        }
-        Outcome::Bad(code) => {
-            text.push_str("err ")?;
-            push_number(text, code)
-        }
-    }
-}
-
-// Adds what a schedule decided.
-fn push_decision(text: &mut String, decision: Decision) -> Result<(), AllocError>
-    ensures text { OnOk result (string_bytes text.new ≡ string_bytes text.old ++ decision_text decision) }
-{
-    match decision {
-        Decision::Stop => text.push_str("done"),
-        Decision::Next(at) => {
-            text.push_str("next ")?;
-            push_number(text, at)
-        }
-    }
-}
-
-// Adds the line of a step, where the schedule was stepped.
-fn push_step(
-    text: &mut String,
-    number: u64,
-    step: &Option<(Out, Decision)>,
-) -> Result<(), AllocError>
-    ensures text { OnOk result (string_bytes text.new ≡ string_bytes text.old ++ step_lines number (step_of step.now)) }
-{
-    match step {
-        None => Ok(()),
-        Some((out, decision)) => {
-            text.push_str("step ")?;
-            push_number(text, number)?;
-            text.push_str(" out ")?;
-            append_out(text, out)?;
-            text.push_str(" ")?;
-            push_decision(text, *decision)?;
-            text.push_str("\n")
-        }
-    }
-}
-
-// Adds what follows the moment at which an attempt began.
-fn push_ended(text: &mut String, number: u64, ended: &Option<Ended>) -> Result<(), AllocError>
-    ensures text { OnOk result (string_bytes text.new ≡ string_bytes text.old ++ ended_lines number (ended_of ended.now)) }
-{
-    match ended {
-        None => text.push_str(" running\n"),
-        Some(ended) => {
-            let at = ended.at;
-            push_number(text, at)?;
-            text.push_str(" ")?;
-            push_outcome(text, ended.outcome)?;
-            text.push_str("\n")?;
-            push_step(text, number, &ended.step)
-        }
-    }
-}
-
-// Adds the lines of an attempt.
-fn push_attempt(text: &mut String, number: u64, attempt: &Attempted) -> Result<(), AllocError>
-    ensures text { OnOk result (string_bytes text.new ≡ string_bytes text.old ++ attempt_lines number (attempted_of attempt.now)) }
-{
-    let begun = attempt.begun;
-    text.push_str("attempt ")?;
-    push_number(text, number)?;
-    text.push_str(" ")?;
-    push_number(text, begun)?;
-    text.push_str("..")?;
-    push_ended(text, number, &attempt.ended)
-}
-
-// Adds the lines of attempts.
-fn push_attempts(text: &mut String, attempts: &[Attempted]) -> Result<(), AllocError>
-    ensures text { OnOk result (string_bytes text.new ≡ string_bytes text.old ++ attempts_lines 1 (map attempted_of attempts.now)) }
-{
-    let mut number = 1;
+    let mut number = from;
     for attempt in attempts {
-        push_attempt(text, number, attempt)?;
+        append_attempt(text, number, attempt)?;
         number += 1;
     }
     Ok(())
 }
 
-// The moment at which the last attempt ended.
-fn last_moment(attempts: &[Attempted]) -> u64
-    ensures value { result ≡ last_moment (map attempted_of attempts.now) }
+// Adds the lines of the attempts of a task.
+fn push_task(text: &mut String, task: &Task) -> Result<(), AllocError>
+    ensures text { OnOk result (string_bytes text.new ≡ string_bytes text.old ++ attempts_lines 1 (current_timeline task.now).attempts) }
 {
-    match attempts.last() {
-        Some(attempt) => match &attempt.ended {
-            Some(ended) => ended.at,
-            None => 0,
-        },
+    text.push_str(task.lines())?;
+    push_attempts(text, task.told() + 1, task.records())
+}
+
+// How the last attempt of a task ended, if it has.
+fn last_end(task: &Task) -> Option<&Ended>
+    ensures value { ended_of (option_copied result) ≡ last_ended (current_timeline task.now).attempts }
+{
+    match task.records().last() {
+        Some(attempt) => attempt.ended.as_ref(),
+        None => None,
+    }
+}
+
+// The moment at which the last attempt ended.
+fn last_moment(task: &Task) -> u64
+    ensures value { result ≡ last_moment (current_timeline task.now).attempts }
+{
+    match last_end(task) {
+        Some(ended) => ended.at,
         None => 0,
     }
 }
@@ -140,28 +67,25 @@ fn push_output(text: &mut String, step: &Option<(Out, Decision)>) -> Result<(), 
 }
 
 // Adds the output of the last step.
-fn push_last_output(text: &mut String, attempts: &[Attempted]) -> Result<(), AllocError>
-    ensures text { OnOk result (string_bytes text.new ≡ string_bytes text.old ++ last_output (map attempted_of attempts.now)) }
+fn push_last_output(text: &mut String, task: &Task) -> Result<(), AllocError>
+    ensures text { OnOk result (string_bytes text.new ≡ string_bytes text.old ++ last_output (current_timeline task.now).attempts) }
 {
-    match attempts.last() {
-        Some(attempt) => match &attempt.ended {
-            Some(ended) => push_output(text, &ended.step),
-            None => Ok(()),
-        },
+    match last_end(task) {
+        Some(ended) => push_output(text, &ended.step),
         None => Ok(()),
     }
 }
 
-// Adds how a job with these attempts ended.
-fn push_ending(text: &mut String, attempts: &[Attempted], ending: Ending) -> Result<(), AllocError>
-    ensures text { OnOk result (string_bytes text.new ≡ string_bytes text.old ++ ending_text (map attempted_of attempts.now) ending) }
+// Adds how a job ended.
+fn push_ending(text: &mut String, task: &Task, ending: Ending) -> Result<(), AllocError>
+    ensures text { OnOk result (string_bytes text.new ≡ string_bytes text.old ++ ending_text (current_timeline task.now).attempts ending) }
 {
     match ending {
         Ending::Succeeded(value) => write!(text, "succeeded {value}"),
         Ending::Failed(code) => write!(text, "failed {code}"),
         Ending::Finished => {
             write!(text, "finished ")?;
-            push_last_output(text, attempts)
+            push_last_output(text, task)
         }
     }
 }
@@ -179,13 +103,12 @@ fn push_end(text: &mut String, horizon: u64, task: &Task) -> Result<(), AllocErr
         ++ end_line horizon (current_timeline task.now).attempts (current_timeline task.now).ending (length task.now.moments)) }
 {
     let polls = task.polls();
-    let attempts = task.records();
     match task.ending() {
         None => push_unfinished(text, horizon, polls),
         Some(ending) => {
             write!(text, "end ")?;
-            push_ending(text, attempts, ending)?;
-            let moment = last_moment(attempts);
+            push_ending(text, task, ending)?;
+            let moment = last_moment(task);
             writeln!(text, " at {moment} polls {polls}")
         }
     }
@@ -201,15 +124,37 @@ fn mode_name(mode: Mode) -> &'static str
     }
 }
 
+// Adds the first line of a job.
+fn push_head(text: &mut String, task: &Task) -> Result<(), AllocError>
+    ensures text { OnOk result (string_bytes text.new ≡ string_bytes text.old ++ head_line task.now.job.name task.now.job.mode) }
+{
+    let name = task.name();
+    let mode = mode_name(task.mode());
+    writeln!(text, "job {name} {mode}")
+}
+
 // Adds the lines of a job.
 fn push_job(text: &mut String, horizon: u64, task: &Task) -> Result<(), AllocError>
     ensures text { OnOk result (string_bytes text.new ≡ string_bytes text.old ++ job_lines horizon (task_report task.now)) }
 {
-    let name = task.name();
-    let mode = mode_name(task.mode());
-    writeln!(text, "job {name} {mode}")?;
-    push_attempts(text, task.records())?;
+    push_head(text, task)?;
+    push_task(text, task)?;
     push_end(text, horizon, task)
+}
+
+// The lines of a job, in the memory of those that its task keeps.
+fn into_job(alloc: Global, horizon: u64, task: Task) -> Result<String, AllocError>
+    ensures text { IfOk result (λ text. string_bytes text ≡ job_lines horizon (task_report task)) }
+{
+    let mut head = String::new(alloc);
+    push_head(&mut head, &task)?;
+    let mut rest = String::new(alloc);
+    push_attempts(&mut rest, task.told() + 1, task.records())?;
+    push_end(&mut rest, horizon, &task)?;
+    let mut text = task.into_lines();
+    text.insert_str(0, &head)?;
+    text.push_str(&rest)?;
+    Ok(text)
 }
 
 // Adds the lines of jobs.
@@ -222,13 +167,40 @@ fn push_jobs(text: &mut String, horizon: u64, tasks: &[Task]) -> Result<(), Allo
     Ok(())
 }
 
+// Adds the last line of a report.
+fn push_total(text: &mut String, polls: u64) -> Result<(), AllocError>
+    ensures text { OnOk result (string_bytes text.new ≡ with_total (string_bytes text.old) polls) }
+{
+    writeln!(text, "polls {polls}")
+}
+
 /// The report of what jobs did up to the horizon.
 pub fn report(alloc: Global, answer: &Answer) -> Result<String, AllocError>
     ensures text { IfOk result (λ text. string_bytes text ≡ report_text answer.now.horizon (map task_report answer.now.tasks.items) answer.now.polls) }
 {
-    let polls = answer.polls;
     let mut text = String::new(alloc);
     push_jobs(&mut text, answer.horizon, answer.tasks.as_slice())?;
-    writeln!(text, "polls {polls}")?;
+    push_total(&mut text, answer.polls)?;
+    Ok(text)
+}
+
+/// The same of an answer that is given up, in the memory of the lines that the first task keeps.
+pub fn into_report(alloc: Global, answer: Answer) -> Result<String, AllocError>
+    ensures text { IfOk result (λ text. string_bytes text ≡ report_text answer.horizon (map task_report answer.tasks.items) answer.polls) }
+{
+    let Answer {
+        tasks,
+        polls,
+        horizon,
+    } = answer;
+    let mut text = String::new(alloc);
+    for task in tasks {
+        if text.is_empty() {
+            text = into_job(alloc, horizon, task)?;
+        } else {
+            push_job(&mut text, horizon, &task)?;
+        }
+    }
+    push_total(&mut text, polls)?;
     Ok(text)
 }

@@ -9,14 +9,14 @@ ghost use Rattle.zs_run.specs.PlanReads.{Reads};
 use crate::plan::Plan;
 use crate::plan_fault::PlanFault;
 use crate::reading::read_plan;
-use crate::reporting::report;
+use crate::reporting::into_report;
 use crate::run_fault::RunFault;
 use crate::streams::{Drain, Source};
 use crate::transfer::{InputFault, read_up_to, write_all};
 use std::alloc::Global;
 use std::sync::Wait;
 use std::thread::Threads;
-use zs_engine::{EngineFault, run_jobs};
+use zs_engine::{EngineFault, run_to_lines};
 use zs_pool::Gate;
 
 // One byte more than a plan may have, which is enough to tell that there are too many.
@@ -52,8 +52,8 @@ fn report_plan<T: Threads + Wait + Sync, G: Gate>(
     ensures text { IfOk result (λ text. string_bytes text ≡ report_of (plan_record plan)) }
 {
     let Plan { clock, cut, jobs } = plan;
-    let answer = run_jobs(rt, alloc, cut, gate, clock, jobs)?;
-    Ok(report(alloc, &answer)?)
+    let answer = run_to_lines(rt, alloc, cut, gate, clock, jobs)?;
+    Ok(into_report(alloc, answer)?)
 }
 
 /// Reads a plan to the end of input, runs its jobs, writes their report, and flushes.

@@ -9,7 +9,7 @@ use crate::state::{State, state_of};
 use crate::stepped::Stepped;
 use crate::stepping::{Step, step_node};
 use std::alloc::Global;
-use zs_term::Checked;
+use zs_term::{Checked, Out};
 
 /// A schedule with a state in place of its history.
 ///
@@ -75,6 +75,20 @@ impl Compiled {
         ensures breaks { is_broken self.new ≡ is_err result }
         ensures stays { IsTrue (is_broken self.old) → self.new ≡ self.old }
     {
+        self.step_over(now, input, Out::Num(0))
+    }
+
+    /// The same, with the output made in the memory of one that is given up, as far as it fits: the boxes of a pair serve the next pair.
+    pub fn step_over(&mut self, now: u64, input: u64, spare: Out) -> Result<Stepped, StepFault>
+        requires order { last_seen self.old ≤ now }
+        ensures term { compiled_term self.new ≡ compiled_term self.old }
+        ensures answered { IfOk result (λ r. (h : History) → StandsFor self.old h → IsAnswer (compiled_schedule self.old) ((now, input) ∷ h) r) }
+        ensures stands { OnOk result ((h : History) → StandsFor self.old h → StandsFor self.new ((now, input) ∷ h)) }
+        ensures succeeds { (h : History) → StandsFor self.old h → is_bare (compiled_schedule self.old) ≡ true → IsOk result }
+        ensures seen { last_seen self.new ≤ now }
+        ensures breaks { is_broken self.new ≡ is_err result }
+        ensures stays { IsTrue (is_broken self.old) → self.new ≡ self.old }
+    {
         if self.broken {
             return Err(StepFault::Memory);
         }
@@ -83,7 +97,7 @@ impl Compiled {
             moment: now,
             input,
         };
-        match step_node(&mut self.state, &step) {
+        match step_node(&mut self.state, &step, spare) {
             Ok(stepped) => {
                 self.last = now;
                 Ok(stepped)

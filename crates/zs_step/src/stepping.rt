@@ -17,6 +17,7 @@ use crate::state::{State, clear};
 use crate::stepped::Stepped;
 use crate::turn::Turn;
 use std::alloc::{AllocError, Global};
+use std::mem::{drop, replace};
 use zs_term::{Func, Out, Pick, Test};
 
 // What each node of a schedule is told of a step, and where it makes its output.
@@ -27,14 +28,14 @@ pub(crate) struct Step {
     pub(crate) input: u64,
 }
 
-// One step of a schedule, with its output and its visits.
-pub(crate) fn step_node(state: &mut State, step: &Step) -> Result<Stepped, AllocError>
+// One step of a schedule, with its visits and its output, which is made in the memory of a spare one as far as it fits.
+pub(crate) fn step_node(state: &mut State, step: &Step, spare: Out) -> Result<Stepped, AllocError>
     requires within { weight (state_schedule state.old) < 2 ^ 64 }
     ensures ok { IfOk result (λ r. StepsTo state.old state.new step.now.moment step.now.input (answer (output_of r.out) r.decision) r.visits) }
     ensures same { state_schedule state.new ≡ state_schedule state.old }
     ensures succeeds { is_bare (state_schedule state.old) ≡ true → IsOk result }
 {
-    let mut out = Out::Num(0);
+    let mut out = spare;
     let mut visits = 0;
     match step_into(state, step, &mut visits, &mut out).decision() {
         Some(decision) => Ok(Stepped {
@@ -85,6 +86,35 @@ fn put(out: &mut Out, value: Out)
     *out = value;
 }
 
+// A box with no output yet. Want of memory is all that can refuse it.
+fn new_box(alloc: Global) -> Option<Box<Out>> {
+    Box::new(alloc, Out::Num(0)).ok()
+}
+
+// The boxes of the pair in this place, or new ones where it has none.
+#[inline(never)]
+fn pair_boxes(alloc: Global, out: &mut Out) -> Option<(Box<Out>, Box<Out>)> {
+    match replace(out, Out::Num(0)) {
+        Out::Pair(first, second) => Some((first, second)),
+        other => {
+            drop(other);
+            Some((new_box(alloc)?, new_box(alloc)?))
+        }
+    }
+}
+
+// The box of the side in this place, or a new one where it has none.
+#[inline(never)]
+fn side_box(alloc: Global, out: &mut Out) -> Option<Box<Out>> {
+    match replace(out, Out::Num(0)) {
+        Out::Left(part) | Out::Right(part) => Some(part),
+        other => {
+            drop(other);
+            new_box(alloc)
+        }
+    }
+}
+
 // One step of a schedule without parts.
 fn step_leaf(leaf: &mut LeafState, step: &Step, out: &mut Out) -> Turn
     ensures answers { IfSome (decided result) (λ d. Answers (Leaf leaf.old) step.now.moment step.now.input (answer (output_of out.new) d)) }
@@ -112,10 +142,7 @@ fn step_both(
     ensures counts { (p q : _) → IfSome (decided result) (λ d. CountsOn (Both' p first.old q second.old) (Both' p first.new q second.new) step.now.moment step.now.input visits.old visits.new) }
     ensures same { (state_schedule first.new ≡ state_schedule first.old) × (state_schedule second.new ≡ state_schedule second.old) }
 {
-    let Ok(mut a) = Box::new(step.alloc, Out::Num(0)) else {
-        return Turn::Refused;
-    };
-    let Ok(mut b) = Box::new(step.alloc, Out::Num(0)) else {
+    let Some((mut a, mut b)) = pair_boxes(step.alloc, out) else {
         return Turn::Refused;
     };
     let Some(x) = step_into(first, step, visits, &mut a).decision() else {
@@ -143,10 +170,7 @@ fn step_either(
     ensures counts { (p q : _) → IfSome (decided result) (λ d. CountsOn (Either' p first.old q second.old) (Either' p first.new q second.new) step.now.moment step.now.input visits.old visits.new) }
     ensures same { (state_schedule first.new ≡ state_schedule first.old) × (state_schedule second.new ≡ state_schedule second.old) }
 {
-    let Ok(mut a) = Box::new(step.alloc, Out::Num(0)) else {
-        return Turn::Refused;
-    };
-    let Ok(mut b) = Box::new(step.alloc, Out::Num(0)) else {
+    let Some((mut a, mut b)) = pair_boxes(step.alloc, out) else {
         return Turn::Refused;
     };
     let Some(x) = step_into(first, step, visits, &mut a).decision() else {
@@ -175,7 +199,7 @@ fn step_and_then(
     ensures counts { (p q : _) → IfSome (decided result) (λ d. CountsOn (AndThen' done.old p first.old q second.old) (AndThen' done.new p first.new q second.new) step.now.moment step.now.input visits.old visits.new) }
     ensures same { (state_schedule first.new ≡ state_schedule first.old) × (state_schedule second.new ≡ state_schedule second.old) }
 {
-    let Ok(mut part) = Box::new(step.alloc, Out::Num(0)) else {
+    let Some(mut part) = side_box(step.alloc, out) else {
         return Turn::Refused;
     };
     if !*done {

@@ -13,7 +13,7 @@ use crate::state::{State, clear, state_of};
 use crate::stepped::Stepped;
 use crate::stepping::{Step, step_node};
 use std::alloc::{AllocError, Global};
-use zs_term::{Checked, Term};
+use zs_term::{Checked, Out, Term};
 
 /// Whether a schedule keeps no list, so that words tell its whole state.
 pub fn keeps_no_list(checked: &Checked) -> bool
@@ -53,7 +53,7 @@ pub fn step_words(
         moment: now,
         input,
     };
-    let stepped = step_node(&mut state, &step)?;
+    let stepped = step_node(&mut state, &step, Out::Num(0))?;
     let after = saved(alloc, now, &mut state)?;
     Ok((stepped, after))
 }

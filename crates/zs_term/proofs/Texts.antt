@@ -1,8 +1,10 @@
 -- The text of a list of outputs, one output after another.
-use Rattle.std.proofs.Common.{◌≡◌, ℕ, zero, suc, List, [], ◌∷◌, ◌++◌, ◌<◌, ◌+◌, sym, ap, ◌∙◌, append_assoc, take, get_or, length, arith, length-take-le}
+use Rattle.std.proofs.Common.{◌≡◌, ℕ, zero, suc, List, [], ◌∷◌, ◌++◌, ◌<◌, ◌+◌, sym, ap, ◌∙◌, append_assoc, subst, take, drop, get_or, length, arith, length-take-le}
 use Rattle.std.specs.Prelude.{codes, Result, Ok, Err, OnOk, is_ok, if◌then◌else◌}
+use Rattle.std.proofs.lemmas.List.{take-append-drop}
+use Rattle.std.proofs.Math.Seq.{take-length, take-append_seam}
 use Rattle.zs_term.specs.Output.{Output, Outputs, none, more, outputs_of, output_of, with_last}
-use Rattle.zs_term.specs.OutputText.{output_text, outputs_text, behind_text, comma_before}
+use Rattle.zs_term.specs.OutputText.{output_text, outputs_text, behind_text, comma_before, IsBeginning}
 use Rattle.zs_term.specs.declared.outputs.Out.{Out}
 use Rattle.zs_term.proofs.Completeness.{append_nil}
 use Rattle.zs_term.proofs.Values.{outputs_of-take}
@@ -38,3 +40,20 @@ pub text_enclosed : {T E : Type 0} (last : Result T E) (start one two three inne
 text_enclosed (Ok u) start one two three inner e f g =
     g ∙ ap (λ w. w ++ codes "]") (f ∙ ap (λ w. w ++ inner) e) ∙ append_assoc (start ++ codes "[") inner (codes "]") ∙ append_assoc start (codes "[") (inner ++ codes "]")
 text_enclosed (Err u) start one two three inner e f g = tt
+
+-- a text begins with itself
+pub begins_with_itself : (xs : List ℕ) → IsBeginning xs xs
+begins_with_itself xs = take-length xs
+
+-- a text begins with what it was before a call that may have added to it
+pub begins_pushed : {T E : Type 0} (pushed : Result T E) (old new added : List ℕ) → new ≡ (if is_ok pushed then old ++ added else old) → IsBeginning old new
+begins_pushed (Ok u) old new added is = subst (IsBeginning old) (sym is) (take-append_seam old added)
+begins_pushed (Err u) old new added is = subst (IsBeginning old) (sym is) (begins_with_itself old)
+
+-- the beginning of a beginning
+pub begins_both : (xs ys zs : List ℕ) → IsBeginning xs ys → IsBeginning ys zs → IsBeginning xs zs
+begins_both xs ys zs first second =
+    let middle : ys ≡ xs ++ drop (length xs) ys = sym (take-append-drop (length xs) ys) ∙ ap (λ w. w ++ drop (length xs) ys) first in
+    let whole : zs ≡ ys ++ drop (length ys) zs = sym (take-append-drop (length ys) zs) ∙ ap (λ w. w ++ drop (length ys) zs) second in
+    let grown = whole ∙ ap (λ w. w ++ drop (length ys) zs) middle ∙ append_assoc xs (drop (length xs) ys) (drop (length ys) zs) in
+    subst (IsBeginning xs) (sym grown) (take-append_seam xs (drop (length xs) ys ++ drop (length ys) zs))

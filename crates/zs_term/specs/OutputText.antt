@@ -1,5 +1,5 @@
 -- The text of outputs: numbers in decimal, pairs and lists with commas, and no spaces.
-use Rattle.std.specs.Prelude.{ℕ, zero, suc, List, ◌++◌, [], codes}
+use Rattle.std.specs.Prelude.{◌≡◌, ℕ, zero, suc, List, ◌++◌, [], codes, length, take}
 use Rattle.std.specs.Fmt.{decimal}
 use Rattle.zs_term.specs.Output.{Output, Outputs, number, pair, left, right, listed, none, more}
 
@@ -26,3 +26,7 @@ abbrev mutual
 abbrev pub comma_before : ℕ → List ℕ
 comma_before zero = []
 comma_before (suc place) = codes ","
+
+-- the second text begins with the first
+abbrev pub IsBeginning : List ℕ → List ℕ → Type 0
+IsBeginning text whole = take (length text) whole ≡ text

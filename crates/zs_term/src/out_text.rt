@@ -3,7 +3,7 @@
 ghost use Rattle.std.specs.Prelude.{◌≡◌, ◌++◌, IfOk, OnOk, string_bytes};
 ghost use Rattle.std.specs.Fmt.{decimal};
 ghost use Rattle.zs_term.specs.Output.{output_of, outputs_of, outs_list};
-ghost use Rattle.zs_term.specs.OutputText.{output_text, outputs_text, comma_before};
+ghost use Rattle.zs_term.specs.OutputText.{output_text, outputs_text, comma_before, IsBeginning};
 
 use crate::outputs::{Out, Outs, Storage};
 use itoa::Buffer;
@@ -21,10 +21,12 @@ pub fn write_out(alloc: Global, out: &Out) -> Result<String, NoMemory>
     Ok(text)
 }
 
-/// Adds the text of an output behind a text.
+/// Adds the text of an output behind a text. After a refusal a part of it may stand there.
+#[tactic(auto, using(crate::proofs::Texts::begins_with_itself, crate::proofs::Texts::begins_pushed, crate::proofs::Texts::begins_both))]
 #[cycle(texts)]
 pub fn append_out(text: &mut String, out: &Out) -> Result<(), NoMemory>
     ensures ok { OnOk result (string_bytes text.new ≡ string_bytes text.old ++ output_text (output_of out.now)) }
+    ensures kept { IsBeginning (string_bytes text.old) (string_bytes text.new) }
 {
     match out {
         Out::Num(n) => append_number(text, *n),
@@ -54,17 +56,21 @@ pub fn append_out(text: &mut String, out: &Out) -> Result<(), NoMemory>
 }
 
 // Adds the digits of a number behind a text.
+#[tactic(auto, using(crate::proofs::Texts::begins_with_itself, crate::proofs::Texts::begins_pushed, crate::proofs::Texts::begins_both))]
 fn append_number(text: &mut String, n: u64) -> Result<(), NoMemory>
     ensures ok { OnOk result (string_bytes text.new ≡ string_bytes text.old ++ decimal n) }
+    ensures kept { IsBeginning (string_bytes text.old) (string_bytes text.new) }
 {
     let mut buffer = Buffer::new();
     text.push_str(buffer.format(n))
 }
 
 // Adds the texts of a list's outputs.
+#[tactic(auto, using(crate::proofs::Texts::begins_with_itself, crate::proofs::Texts::begins_pushed, crate::proofs::Texts::begins_both))]
 #[cycle(texts)]
 fn append_list(text: &mut String, outs: &Outs) -> Result<(), NoMemory>
     ensures ok { OnOk result (string_bytes text.new ≡ string_bytes text.old ++ outputs_text (outputs_of (outs_list outs.now))) }
+    ensures kept { IsBeginning (string_bytes text.old) (string_bytes text.new) }
 {
     match &outs.storage {
         Storage::Own(items) => append_items(text, items),
@@ -73,9 +79,11 @@ fn append_list(text: &mut String, outs: &Outs) -> Result<(), NoMemory>
 }
 
 // Adds the texts of outputs, with a comma between two.
+#[tactic(auto, using(crate::proofs::Texts::begins_with_itself, crate::proofs::Texts::begins_pushed, crate::proofs::Texts::begins_both))]
 #[cycle(texts)]
 fn append_items(text: &mut String, items: &[Out]) -> Result<(), NoMemory>
     ensures ok { OnOk result (string_bytes text.new ≡ string_bytes text.old ++ outputs_text (outputs_of items.now)) }
+    ensures kept { IsBeginning (string_bytes text.old) (string_bytes text.new) }
 {
     for (i, item) in items.iter().enumerate() {
         append_comma(text, i)?;
@@ -85,8 +93,10 @@ fn append_items(text: &mut String, items: &[Out]) -> Result<(), NoMemory>
 }
 
 // Adds the comma before an output of a list, but for the first.
+#[tactic(auto, using(crate::proofs::Texts::begins_with_itself, crate::proofs::Texts::begins_pushed, crate::proofs::Texts::begins_both))]
 fn append_comma(text: &mut String, place: usize) -> Result<(), NoMemory>
     ensures ok { OnOk result (string_bytes text.new ≡ string_bytes text.old ++ comma_before place) }
+    ensures kept { IsBeginning (string_bytes text.old) (string_bytes text.new) }
 {
     if 0 < place {
         text.push_str(",")

@@ -10,7 +10,7 @@ use std::process::Abort;
 use std::random::RandomSource;
 use std::test::Fail;
 use zs_agenda::AgendaFault;
-use zs_drive::{DriveFault, Ending, Job, Mode, Task};
+use zs_drive::{DriveFault, Ending, Job, Keeping, Mode, Task, append_attempt};
 use zs_effect::{Beat, Script};
 use zs_term::read;
 
@@ -274,6 +274,25 @@ fn push_poll(
     write!(text, "{polled:?}, {polls} polls, due {due:?}\n")
 }
 
+// Polls at this moment, due or not.
+fn poll_next<R: Abort>(
+    rt: &R,
+    solo: &Solo,
+    task: &mut Task,
+    last: u64,
+    now: u64,
+) -> Poll<Result<Ending, DriveFault>>
+    requires seen { task.old.seen ≡ last }
+    ensures seen { task.new.seen ≡ now }
+{
+    assert!(rt;
+        last <= now && now <= 999_999_999_999_999,
+        "a moment before an earlier one, or past the last"
+    );
+    task.see(now);
+    poll(solo, task)
+}
+
 // Polls at these moments, due or not.
 fn poll_at_each<R: Abort + Alloc<A = Global>>(
     rt: &R,
@@ -287,13 +306,8 @@ fn poll_at_each<R: Abort + Alloc<A = Global>>(
     let mut last = 0;
     for moment in moments {
         let now = *moment;
-        assert!(rt;
-            last <= now && now <= 999_999_999_999_999,
-            "a moment before an earlier one, or past the last"
-        );
+        let polled = poll_next(rt, solo, task, last, now);
         last = now;
-        task.see(now);
-        let polled = poll(solo, task);
         push_poll(&mut text, task, polled)?;
     }
     Ok(text)
@@ -351,6 +365,216 @@ fn a_job_may_begin_at_the_last_moment_of_a_clock(rt: HostRuntime) -> Result<(), 
 Pending, 1 polls, due Some(1000000000000004)
 ";
     expect_polls(&rt, last, &[bad(5, 7)], &[last], wanted)
+}
+
+// Adds the lines of the attempts that a task keeps as records.
+fn push_records(text: &mut String, task: &Task) -> Result<(), AllocError> {
+    let mut number = task.told().saturating_add(1);
+    for record in task.records() {
+        append_attempt(text, number, record)?;
+        number = number.saturating_add(1);
+    }
+    Ok(())
+}
+
+// Adds the lines that a task keeps, between how many attempts they tell and how many records it has, and then those of
+// the records.
+fn push_told(text: &mut String, task: &Task) -> Result<(), AllocError> {
+    let (polls, ending) = (task.polls(), task.ending());
+    let (told, recorded) = (task.told(), task.records().len());
+    write!(text, "{polls} polls, ending {ending:?}, {told} told\n")?;
+    text.push_str(task.lines())?;
+    write!(text, "{recorded} recorded\n")?;
+    push_records(text, task)
+}
+
+// What a task tells before it is polled, and after each poll at these moments.
+fn told_at_each<R: Abort + Alloc<A = Global>>(
+    rt: &R,
+    solo: &Solo,
+    task: &mut Task,
+    moments: &[u64],
+) -> Result<String, AllocError>
+    requires seen { task.old.seen ≡ 0 }
+{
+    let mut text = String::new(rt.alloc());
+    push_told(&mut text, task)?;
+    let mut last = 0;
+    for moment in moments {
+        let now = *moment;
+        let _ = poll_next(rt, solo, task, last, now);
+        last = now;
+        push_told(&mut text, task)?;
+    }
+    Ok(text)
+}
+
+// What a task of a job that keeps its attempts so tells, before it is polled at these moments and after each poll.
+fn expect_told<R: Abort + Alloc<A = Global> + RandomSource>(
+    rt: &R,
+    keeps: Keeping,
+    job: Job,
+    moments: &[u64],
+    wanted: &str,
+) -> Result<(), Fail> {
+    let solo = Solo::new(rt, Doorbell::spinning())?;
+    let mut task = Task::keeping(rt.alloc(), 7, job, keeps)?;
+    let kept = task.keeps();
+    let found = told_at_each(rt, &solo, &mut task, moments);
+    drop(task);
+    drop(solo);
+    assert!(rt; kept == keeps);
+    expect_text(rt, &found?, wanted, "what is told");
+    Ok(())
+}
+
+#[test]
+fn a_task_that_keeps_lines_tells_all_attempts_but_the_last(rt: HostRuntime) -> Result<(), Fail> {
+    let beats = [bad(5, 7), bad(3, 8), good(4, 1)];
+    let job = job(rt.alloc(), Mode::Retry, "spaced(10)", 2, &beats)?;
+    let wanted = "0 polls, ending None, 0 told
+0 recorded
+1 polls, ending None, 0 told
+1 recorded
+attempt 1 2.. running
+2 polls, ending None, 0 told
+1 recorded
+attempt 1 2..7 err 7
+step 1 out 0 next 17
+3 polls, ending None, 1 told
+attempt 1 2..7 err 7
+step 1 out 0 next 17
+1 recorded
+attempt 2 17.. running
+4 polls, ending None, 1 told
+attempt 1 2..7 err 7
+step 1 out 0 next 17
+1 recorded
+attempt 2 17..20 err 8
+step 2 out 1 next 30
+5 polls, ending None, 2 told
+attempt 1 2..7 err 7
+step 1 out 0 next 17
+attempt 2 17..20 err 8
+step 2 out 1 next 30
+1 recorded
+attempt 3 30.. running
+6 polls, ending Some(Succeeded(1)), 2 told
+attempt 1 2..7 err 7
+step 1 out 0 next 17
+attempt 2 17..20 err 8
+step 2 out 1 next 30
+1 recorded
+attempt 3 30..34 ok 1
+";
+    let moments = [2, 7, 17, 20, 30, 34];
+    expect_told(&rt, Keeping::Lines, job, &moments, wanted)
+}
+
+#[test]
+fn an_attempt_is_told_in_the_poll_that_ends_it_where_the_next_begins(
+    rt: HostRuntime,
+) -> Result<(), Fail> {
+    let beats = [good(2, 1), bad(3, 4)];
+    let job = job(rt.alloc(), Mode::Repeat, "recurs(5)", 0, &beats)?;
+    let wanted = "0 polls, ending None, 0 told
+0 recorded
+1 polls, ending None, 0 told
+1 recorded
+attempt 1 0.. running
+2 polls, ending None, 1 told
+attempt 1 0..2 ok 1
+step 1 out 0 next 2
+1 recorded
+attempt 2 2.. running
+3 polls, ending Some(Failed(4)), 1 told
+attempt 1 0..2 ok 1
+step 1 out 0 next 2
+1 recorded
+attempt 2 2..5 err 4
+";
+    expect_told(&rt, Keeping::Lines, job, &[0, 2, 5], wanted)
+}
+
+#[test]
+fn the_step_that_is_done_is_told_of_the_last_record(rt: HostRuntime) -> Result<(), Fail> {
+    let job = job(rt.alloc(), Mode::Repeat, "recurs(1)", 0, &[good(3, 9)])?;
+    let wanted = "0 polls, ending None, 0 told
+0 recorded
+1 polls, ending None, 0 told
+1 recorded
+attempt 1 0.. running
+2 polls, ending None, 1 told
+attempt 1 0..3 ok 9
+step 1 out 0 next 3
+1 recorded
+attempt 2 3.. running
+3 polls, ending Some(Finished), 1 told
+attempt 1 0..3 ok 9
+step 1 out 0 next 3
+1 recorded
+attempt 2 3..6 ok 9
+step 2 out 1 done
+";
+    expect_told(&rt, Keeping::Lines, job, &[0, 3, 6], wanted)
+}
+
+#[test]
+fn an_early_poll_and_one_of_an_ended_task_tell_nothing_new(rt: HostRuntime) -> Result<(), Fail> {
+    let job = job(rt.alloc(), Mode::Retry, "recurs(0)", 1, &[bad(4, 7)])?;
+    let wanted = "0 polls, ending None, 0 told
+0 recorded
+0 polls, ending None, 0 told
+0 recorded
+1 polls, ending None, 0 told
+1 recorded
+attempt 1 2.. running
+1 polls, ending None, 0 told
+1 recorded
+attempt 1 2.. running
+2 polls, ending Some(Failed(7)), 0 told
+1 recorded
+attempt 1 2..8 err 7
+step 1 out 0 done
+2 polls, ending Some(Failed(7)), 0 told
+1 recorded
+attempt 1 2..8 err 7
+step 1 out 0 done
+";
+    expect_told(&rt, Keeping::Lines, job, &[0, 2, 5, 8, 9], wanted)
+}
+
+#[test]
+fn a_task_that_keeps_records_tells_no_lines(rt: HostRuntime) -> Result<(), Fail> {
+    let beats = [good(2, 1), bad(3, 4)];
+    let job = job(rt.alloc(), Mode::Repeat, "recurs(5)", 0, &beats)?;
+    let wanted = "0 polls, ending None, 0 told
+0 recorded
+1 polls, ending None, 0 told
+1 recorded
+attempt 1 0.. running
+2 polls, ending None, 0 told
+2 recorded
+attempt 1 0..2 ok 1
+step 1 out 0 next 2
+attempt 2 2.. running
+3 polls, ending Some(Failed(4)), 0 told
+2 recorded
+attempt 1 0..2 ok 1
+step 1 out 0 next 2
+attempt 2 2..5 err 4
+";
+    expect_told(&rt, Keeping::Records, job, &[0, 2, 5], wanted)
+}
+
+#[test]
+fn a_task_keeps_records_where_nothing_else_is_said(rt: HostRuntime) -> Result<(), Fail> {
+    let job = job(rt.alloc(), Mode::Retry, "recurs(3)", 0, &[bad(5, 7)])?;
+    let task = Task::new(rt.alloc(), 7, job)?;
+    let keeps = task.keeps();
+    drop(task);
+    assert!(rt; keeps == Keeping::Records);
+    Ok(())
 }
 
 #[test]

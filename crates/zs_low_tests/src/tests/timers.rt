@@ -50,6 +50,25 @@ fn jobs_of_one_moment_fire_together_in_rising_number(rt: HostRuntime) {
 }
 
 #[test]
+fn a_list_that_is_taken_back_serves_the_next_moment(rt: HostRuntime) {
+    let mut agenda = Agenda::new(rt.alloc()).expect(&rt, "memory");
+    set_all(&rt, &mut agenda, &[(3, 50), (1, 50), (2, 70)]);
+    let taken = agenda.take().expect(&rt, "memory");
+    let (moment, jobs) = taken.expect(&rt, "a moment");
+    assert_eq!(rt; moment, 50);
+    agenda.reuse(jobs);
+    expect_state(&rt, &agenda, "false false, Some(70), Some(50)");
+    set_all(&rt, &mut agenda, &[(4, 60), (3, 80)]);
+    let takes = [
+        "Ok(Some((60, [4])))",
+        "Ok(Some((70, [2])))",
+        "Ok(Some((80, [3])))",
+        "Ok(None)",
+    ];
+    expect_takes(&rt, &mut agenda, &takes);
+}
+
+#[test]
 fn far_moments_fire_in_order(rt: HostRuntime) {
     let mut agenda = Agenda::new(rt.alloc()).expect(&rt, "memory");
     let timers = [(0, u64::MAX), (1, 4096), (2, 4095), (3, 1), (4, 4096)];

@@ -1,6 +1,5 @@
 use Rattle.std.proofs.Common.{rules, append_assoc}
-use Rattle.std.proofs.lemmas.Result.{IfOk-equal}
 use Rattle.zs_run.proofs.reporting.push_unfinished.Goals as goal
 
 pub returns : goal.returns
-returns c = record { text = search (rules, IfOk-equal, append_assoc) }
+returns c = record { text = search (rules, append_assoc) }

@@ -11,8 +11,11 @@ invariant_of-self-in-Ok c =
     let n : ByJob = c.self.inside.by_job in
     let unset : moment_in n c.args.job ≡ None = sym (get-moments_of n c.args.job) ∙ ap (λ (t : Timers). map.get t.moments c.args.job) c.self.view_is ∙ c.requires.absent in
     let later : IsAfter c.self.inside.last_taken c.args.moment = subst (λ (t : Timers). IsAfter t.last_taken c.args.moment) (sym c.self.view_is) c.requires.ahead in
-    added-Agrees (jobs_at c.self.inside.by_moment) (jobs_at c.add.new.by_moment) (moment_in n) (moment_in c.put.new.self) c.self.inside.last_taken c.args.job c.args.moment
-    c.in-Ok.ensures.ok c.in_ok-put.ensures.ok c.self.invariant unset later
+    record {
+      agrees = added-Agrees (jobs_at c.self.inside.by_moment) (jobs_at c.add.new.self) (moment_in n) (moment_in c.put.new.self) c.self.inside.last_taken c.args.job c.args.moment
+          c.in-Ok.ensures.ok c.in_ok-put.ensures.ok c.self.invariant.agrees unset later;
+      in_order = c.add.ensures.order;
+    }
 
 pub returns-in-Ok-clause-ok : goal.returns-in-Ok-clause-ok
 returns-in-Ok-clause-ok c =
@@ -27,8 +30,11 @@ invariant_of-self-in-Err c =
     let n : ByJob = c.self.inside.by_job in
     let unset : moment_in n c.args.job ≡ None = sym (get-moments_of n c.args.job) ∙ ap (λ (t : Timers). map.get t.moments c.args.job) c.self.view_is ∙ c.requires.absent in
     let same : HasSameMoments n c.remove.new.self = put_and_forgotten n c.put.new.self c.remove.new.self c.args.job c.args.moment unset c.in_ok-put.ensures.ok c.remove.ensures.clears in
-    same-Agrees (jobs_at c.self.inside.by_moment) (jobs_at c.add.new.by_moment) (moment_in n) (moment_in c.remove.new.self) c.self.inside.last_taken
-    c.in-Err.ensures.err same c.self.invariant
+    record {
+      agrees = same-Agrees (jobs_at c.self.inside.by_moment) (jobs_at c.add.new.self) (moment_in n) (moment_in c.remove.new.self) c.self.inside.last_taken
+          c.in-Err.ensures.err same c.self.invariant.agrees;
+      in_order = c.add.ensures.order;
+    }
 
 pub returns-in-Err-clause-err : goal.returns-in-Err-clause-err
 returns-in-Err-clause-err c =

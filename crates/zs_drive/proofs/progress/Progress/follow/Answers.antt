@@ -17,7 +17,7 @@ returns-in-Stop-clause-ok c =
     let output = output_of c.args.out in
     let answered = rw c.in-Stop.is at c.requires.answer in
     end_attempt-advances p c.end_attempt.new.self c.args.outcome (Some (answer output c.args.decision)) p.phase (Over c.end_by_schedule-ending.result) refl
-    c.requires.progress c.requires.running c.requires.script c.end_attempt.ensures.rest c.end_attempt.ensures.ended
+    c.requires.progress c.requires.running c.requires.script c.end_attempt.ensures.rest c.end_attempt.ensures.keeps c.end_attempt.ensures.ended
     (λ others s w last all due own.
     rw (c.in-Stop.is, c.end_by_schedule-ending.ensures.value)
     (stops (job_in p) p.seen others s w c.args.outcome all due own c.requires.goes_on output
@@ -30,7 +30,7 @@ returns-in-Next-clause-ok c =
     let output = output_of c.args.out in
     let answered = rw c.in-Next.is at c.requires.answer in
     end_attempt-advances p c.end_attempt-in-Next.new.self c.args.outcome (Some (answer output (Next c.in-Next.due))) p.phase (Waiting c.in-Next.due) refl
-    c.requires.progress c.requires.running c.requires.script c.end_attempt-in-Next.ensures.rest c.end_attempt-in-Next.ensures.ended
+    c.requires.progress c.requires.running c.requires.script c.end_attempt-in-Next.ensures.rest c.end_attempt-in-Next.ensures.keeps c.end_attempt-in-Next.ensures.ended
     (λ others s w last all due own.
     waits (job_in p) p.seen others s w c.args.outcome all due own c.requires.goes_on output c.in-Next.due
     (answered ∙ ap (answer_of (compiled_schedule p.compiled)) (asked-history p c.args.outcome others s last)) c.if-due-self.true)
@@ -53,9 +53,9 @@ returns-in-Next-2-clause-ok c =
     let soon : due ≤ p.seen = omega arith in
     from_both c.restart.result c.restart.ensures.rest c.restart.ensures.ended
     (λ rest ended.
-    restart-advances p c.restart.new.self c.args.outcome (Some (answer output (Next due))) c.args.next
-    (record { outcome = c.args.next.outcome; end = saturated (p.seen + c.args.next.ms); seen = p.seen }) p.phase refl
-    c.requires.progress c.requires.running c.requires.script c.requires.state c.requires.beat rest refl ended
+    restart-advances p c.restart.new.self c.args.outcome (Some (answer output (Next due))) c.next_beat-next.result
+    (record { outcome = c.next_beat-next.result.outcome; end = saturated (p.seen + c.next_beat-next.result.ms); seen = p.seen }) p.phase refl
+    c.requires.progress c.requires.running c.requires.script c.requires.state c.next_beat-next.ensures.value rest c.restart.ensures.keeps refl ended
     (λ others s w all due own last.
     restarts (job_in p) p.seen others s w c.args.outcome all due own c.requires.goes_on output c.in-Next.due
     (answered ∙ ap (answer_of (compiled_schedule p.compiled)) (asked-history p c.args.outcome others s last)) soon))

@@ -11,7 +11,7 @@ returns c =
     let p = c.args.self.now in
     record {
       value = end_attempt-advances p c.end_attempt.new.self c.args.outcome None p.phase (Over c.args.ending) refl
-          c.requires.progress c.requires.running c.requires.script c.end_attempt.ensures.rest c.end_attempt.ensures.ended
+          c.requires.progress c.requires.running c.requires.script c.end_attempt.ensures.rest c.end_attempt.ensures.keeps c.end_attempt.ensures.ended
           (λ others s w last all due own. ends-by_outcome (job_in p) p.seen others s w c.args.outcome all due own c.args.ending c.requires.ending)
           (λ others s last all. (tt, tt));
     }

@@ -16,14 +16,14 @@ run_round-requires-clause-due g c = λ _ _.
 
 pub loop-now-preserved : goal.loop-now-preserved
 loop-now-preserved g c =
-    RestsWith-as c.loop-now.self.clock c.args.self.now.clock (jobs_in c.loop-now.self.slots.items) (jobs_in c.args.self.now.slots.items) _
-    c.loop-now.invariant.runs.same_clock c.loop-now.invariant.runs.same_jobs c.in_ok-run_round.ensures.rests
+    rw c.reuse.ensures.same (RestsWith-as c.loop-now.self.clock c.args.self.now.clock (jobs_in c.loop-now.self.slots.items) (jobs_in c.args.self.now.slots.items) _
+    c.loop-now.invariant.runs.same_clock c.loop-now.invariant.runs.same_jobs c.in_ok-run_round.ensures.rests)
 
 pub loop-now-smaller : goal.loop-now-smaller
 loop-now-smaller g c =
     let takes : Takes c.loop-now.self.agenda c.take.new.self c.in-Some.now c.in-Some.numbers.items = rw c.in-Some.is at c.in_ok-now.ensures.some in
     let within = taken-within c.args.self.now.clock (jobs_in c.args.self.now.slots.items) c.loop-now.self c.take.new.self c.in-Some.now c.in-Some.numbers.items c.loop-now.invariant takes in
-    rw c.in_ok-run_round.ensures.taken (rounds_left-falls _ c.loop-now.self.agenda.last_taken c.in-Some.now takes.is_after within)
+    rw (ap (λ (t : Timers). t.last_taken) c.reuse.ensures.same ∙ c.in_ok-run_round.ensures.taken) (rounds_left-falls _ c.loop-now.self.agenda.last_taken c.in-Some.now takes.is_after within)
 
 pub returns-clause-over : goal.returns-clause-over
 returns-clause-over g c =

@@ -1,0 +1,194 @@
+// The jobs of each moment, in rising number. The earliest moment stands before a map of the others, so that a queue whose
+// jobs wait for one moment needs no map. A step gives up only where a list is full or new (`full`), or where the map has to
+// take in the moment that was the earliest.
+ghost use Rattle.std.specs.Prelude.{◌≡◌, ◌≤◌, ◌<◌, ◌==◌, ◌++◌, ℕ, List, [], ◌∷◌, Some, None, if◌then◌else◌, nat_lt, vec_len, IsTrue, IsNone, IfSome, IfNone, OnOk, OnErr, IfOk};
+ghost use Rattle.std.specs.List.{prefix_len};
+ghost use Rattle.std.specs.Ordering.{nat_cmp};
+ghost use Rattle.std.specs.Vec.{vec_capacity};
+ghost use Rattle.std.specs.BTreeMap.{get};
+ghost use Rattle.zs_agenda.specs.Indexes.{Adds, AddsLater, HasNoRoom, HasSameJobs, IsFirst, IsInOrder, IsRising, Loses, jobs_at, later_at, list_at, placed};
+
+use std::alloc::{AllocError, Global};
+use std::collections::BTreeMap;
+use std::collections::btree_map::Entry;
+use std::mem::replace;
+
+// From each moment to its jobs.
+#[derive(Drop)]
+pub(crate) struct ByMoment {
+    // The earliest moment with its jobs, if a job waits.
+    pub(crate) first: Option<(u64, Vec<u64>)>,
+    // The moments after it.
+    pub(crate) later: BTreeMap<u64, Vec<u64>>,
+    // A list whose jobs are done with, so that the next moment's needs no new memory.
+    pub(crate) spare: Vec<u64>,
+}
+
+// How many jobs stand before a job that is to come in.
+fn place_of(jobs: &[u64], job: u64) -> usize
+    requires rising { IsRising jobs.now }
+    ensures value { result ≡ prefix_len (λ other. nat_lt other job) jobs.now }
+{
+    // It halves the list at each look.
+    jobs.partition_point(|other| *other < job)
+}
+
+// Whether a job goes behind all others, which one look tells: jobs mostly come in rising number.
+fn goes_last(jobs: &[u64], job: u64) -> bool
+    requires rising { IsRising jobs.now }
+    ensures behind { IsTrue result → placed job jobs.now ≡ jobs.now ++ job ∷ [] }
+{
+    jobs.is_empty() || jobs[jobs.len() - 1] < job
+}
+
+// Puts a job at its place in a rising list.
+fn put_in_order(jobs: &mut Vec<u64>, job: u64) -> Result<(), AllocError>
+    requires rising { IsRising jobs.old.items }
+    ensures ok { OnOk result (jobs.new.items ≡ placed job jobs.old.items) }
+    ensures err { OnErr result (jobs.new.items ≡ jobs.old.items) }
+    ensures full { OnErr result (vec_capacity jobs.old ≤ vec_len jobs.old) }
+{
+    if goes_last(jobs, job) {
+        jobs.push(job)?;
+    } else {
+        let place = place_of(jobs, job);
+        jobs.insert(place, job)?;
+    }
+    Ok(())
+}
+
+// A list of one job, in the memory of a spare list.
+fn list_of(alloc: Global, spare: &mut Vec<u64>, job: u64) -> Result<Vec<u64>, AllocError>
+    ensures jobs { IfOk result (λ jobs. jobs.items ≡ job ∷ []) }
+{
+    let mut jobs = replace(spare, Vec::new(alloc));
+    jobs.clear();
+    jobs.push(job)?;
+    Ok(jobs)
+}
+
+// Adds a job at a moment of the map, whose jobs so far rise.
+fn add_later(
+    alloc: Global,
+    later: &mut BTreeMap<u64, Vec<u64>>,
+    spare: &mut Vec<u64>,
+    moment: u64,
+    job: u64,
+) -> Result<(), AllocError>
+    requires rising { IfSome (later_at later.old moment) IsRising }
+    ensures ok { OnOk result (AddsLater later.old later.new moment job) }
+    ensures err { OnErr result ((t : ℕ) → later_at later.new t ≡ later_at later.old t) }
+    ensures full { OnErr result (HasNoRoom (get nat_cmp later.old moment)) }
+{
+    match later.entry(moment)? {
+        Entry::Occupied(entry) => put_in_order(entry.into_mut(), job),
+        Entry::Vacant(entry) => {
+            entry.insert(list_of(alloc, spare, job)?);
+            Ok(())
+        }
+    }
+}
+
+impl ByMoment {
+    // No job waits.
+    pub(crate) fn new(alloc: Global) -> ByMoment
+        ensures order { IsInOrder result }
+        ensures empty { (t : ℕ) → jobs_at result t ≡ None }
+    {
+        ByMoment {
+            first: None,
+            later: BTreeMap::new(alloc),
+            spare: Vec::new(alloc),
+        }
+    }
+
+    // The earliest moment, if a job waits.
+    pub(crate) fn first(&self) -> Option<u64>
+        requires order { IsInOrder self.now }
+        ensures none { IsNone result → (t : ℕ) → jobs_at self.now t ≡ None }
+        ensures first { IfSome result (λ t. (jobs : List ℕ) × IsFirst (jobs_at self.now) t jobs) }
+    {
+        match &self.first {
+            Some((moment, _)) => Some(*moment),
+            None => None,
+        }
+    }
+
+    // Moves the moment that stands first into the map, if there is one. Of a refusal it stays.
+    fn make_second(&mut self) -> Result<(), AllocError>
+        requires order { IsInOrder self.old }
+        ensures ok { OnOk result ((t : ℕ) → later_at self.new.later t ≡ jobs_at self.old t) }
+        ensures err { OnErr result (HasSameJobs self.old self.new) }
+        ensures order { OnErr result (IsInOrder self.new) }
+    {
+        let Some((moment, jobs)) = self.first.take() else {
+            return Ok(());
+        };
+        match self.later.insert(moment, jobs) {
+            Ok(_) => Ok(()),
+            Err(refused) => {
+                self.first = Some(refused.value);
+                Err(AllocError)
+            }
+        }
+    }
+
+    // Puts a moment with its jobs before all others.
+    fn put_first(&mut self, moment: u64, jobs: Vec<u64>) -> Result<(), AllocError>
+        requires order { IsInOrder self.old }
+        requires before { (t : ℕ) (others : List ℕ) → jobs_at self.old t ≡ Some others → moment < t }
+        ensures ok { OnOk result ((t : ℕ) → jobs_at self.new t ≡ (if moment == t then Some jobs.items else jobs_at self.old t)) }
+        ensures err { OnErr result (HasSameJobs self.old self.new) }
+        ensures order { IsInOrder self.new }
+    {
+        self.make_second()?;
+        self.first = Some((moment, jobs));
+        Ok(())
+    }
+
+    // Adds a job at a moment, whose jobs so far rise.
+    pub(crate) fn add(&mut self, alloc: Global, moment: u64, job: u64) -> Result<(), AllocError>
+        requires rising { IfSome (jobs_at self.old moment) IsRising }
+        requires order { IsInOrder self.old }
+        ensures ok { OnOk result (Adds self.old self.new moment job) }
+        ensures err { OnErr result (HasSameJobs self.old self.new) }
+        ensures full { OnErr result (HasNoRoom (list_at self.old moment)) }
+        ensures order { IsInOrder self.new }
+    {
+        match &mut self.first {
+            Some((first, jobs)) if *first == moment => put_in_order(jobs, job),
+            Some((first, _)) if *first < moment => add_later(
+                alloc,
+                &mut self.later,
+                &mut self.spare,
+                moment,
+                job,
+            ),
+            Some(_) | None => {
+                let jobs = list_of(alloc, &mut self.spare, job)?;
+                self.put_first(moment, jobs)
+            }
+        }
+    }
+
+    // Takes out the earliest moment with its jobs, if a job waits. It takes no memory.
+    pub(crate) fn take_first(&mut self) -> Option<(u64, Vec<u64>)>
+        requires order { IsInOrder self.old }
+        ensures order { IsInOrder self.new }
+        ensures none { IsNone result → (t : ℕ) → jobs_at self.old t ≡ None }
+        ensures same { IfNone result (HasSameJobs self.old self.new) }
+        ensures first { IfSome result (λ pair. IsFirst (jobs_at self.old) pair.0 pair.1.items) }
+        ensures rest { IfSome result (λ pair. Loses self.old self.new pair.0) }
+    {
+        let first = self.first.take()?;
+        self.first = self.later.pop_first();
+        Some(first)
+    }
+
+    // Keeps a list for the next moment.
+    pub(crate) fn reuse(&mut self, jobs: Vec<u64>)
+        ensures same { (self.new.first ≡ self.old.first) × (self.new.later ≡ self.old.later) }
+    {
+        self.spare = jobs;
+    }
+}

@@ -1,0 +1,111 @@
+//! Attempts as lines of text.
+ghost use Rattle.std.specs.Prelude.{◌≡◌, ◌++◌, codes, OnOk, string_bytes};
+ghost use Rattle.std.specs.Fmt.{decimal};
+ghost use Rattle.zs_term.specs.OutputText.{IsBeginning};
+ghost use Rattle.zs_drive.specs.Values.{attempted_of, ended_of, step_of};
+ghost use Rattle.zs_drive.specs.Lines.{attempt_lines, decision_text, ended_lines, outcome_text, step_lines};
+
+use crate::record::{Attempted, Ended};
+use itoa::Buffer;
+use std::alloc::AllocError;
+use zs_effect::Outcome;
+use zs_step::Decision;
+use zs_term::{Out, append_out};
+
+// Adds the digits of a number.
+#[tactic(auto, using(zs_term::proofs::Texts::begins_with_itself, zs_term::proofs::Texts::begins_pushed, zs_term::proofs::Texts::begins_both))]
+fn append_number(text: &mut String, n: u64) -> Result<(), AllocError>
+    ensures text { OnOk result (string_bytes text.new ≡ string_bytes text.old ++ decimal n) }
+    ensures kept { IsBeginning (string_bytes text.old) (string_bytes text.new) }
+{
+    let mut buffer = Buffer::new();
+    text.push_str(buffer.format(n))
+}
+
+// Adds a space, and how an attempt ended.
+#[tactic(auto, using(zs_term::proofs::Texts::begins_with_itself, zs_term::proofs::Texts::begins_pushed, zs_term::proofs::Texts::begins_both))]
+fn append_outcome(text: &mut String, outcome: Outcome) -> Result<(), AllocError>
+    ensures text { OnOk result (string_bytes text.new ≡ string_bytes text.old ++ codes " " ++ outcome_text outcome) }
+    ensures kept { IsBeginning (string_bytes text.old) (string_bytes text.new) }
+{
+    match outcome {
+        Outcome::Good(value) => {
+            text.push_str(" ok ")?;
+            append_number(text, value)
+        }
+        Outcome::Bad(code) => {
+            text.push_str(" err ")?;
+            append_number(text, code)
+        }
+    }
+}
+
+// Adds a space, and what a schedule decided.
+#[tactic(auto, using(zs_term::proofs::Texts::begins_with_itself, zs_term::proofs::Texts::begins_pushed, zs_term::proofs::Texts::begins_both))]
+fn append_decision(text: &mut String, decision: Decision) -> Result<(), AllocError>
+    ensures text { OnOk result (string_bytes text.new ≡ string_bytes text.old ++ codes " " ++ decision_text decision) }
+    ensures kept { IsBeginning (string_bytes text.old) (string_bytes text.new) }
+{
+    match decision {
+        Decision::Stop => text.push_str(" done"),
+        Decision::Next(at) => {
+            text.push_str(" next ")?;
+            append_number(text, at)
+        }
+    }
+}
+
+// Ends a line, and adds that of a step, where the schedule was stepped.
+#[tactic(auto, using(zs_term::proofs::Texts::begins_with_itself, zs_term::proofs::Texts::begins_pushed, zs_term::proofs::Texts::begins_both))]
+fn append_step(
+    text: &mut String,
+    number: u64,
+    step: &Option<(Out, Decision)>,
+) -> Result<(), AllocError>
+    ensures text { OnOk result (string_bytes text.new ≡ string_bytes text.old ++ codes "\n" ++ step_lines number (step_of step.now)) }
+    ensures kept { IsBeginning (string_bytes text.old) (string_bytes text.new) }
+{
+    match step {
+        None => text.push_str("\n"),
+        Some((out, decision)) => {
+            text.push_str("\nstep ")?;
+            append_number(text, number)?;
+            text.push_str(" out ")?;
+            append_out(text, out)?;
+            append_decision(text, *decision)?;
+            text.push_str("\n")
+        }
+    }
+}
+
+// Adds what follows the moment at which an attempt began.
+#[tactic(auto, using(zs_term::proofs::Texts::begins_with_itself, zs_term::proofs::Texts::begins_pushed, zs_term::proofs::Texts::begins_both))]
+fn append_ended(text: &mut String, number: u64, ended: &Option<Ended>) -> Result<(), AllocError>
+    ensures text { OnOk result (string_bytes text.new ≡ string_bytes text.old ++ ended_lines number (ended_of ended.now)) }
+    ensures kept { IsBeginning (string_bytes text.old) (string_bytes text.new) }
+{
+    match ended {
+        None => text.push_str(" running\n"),
+        Some(ended) => {
+            let at = ended.at;
+            append_number(text, at)?;
+            append_outcome(text, ended.outcome)?;
+            append_step(text, number, &ended.step)
+        }
+    }
+}
+
+/// Adds the lines of the attempt with this number, counted from 1. After a refusal some of them may stand there.
+#[tactic(auto, using(zs_term::proofs::Texts::begins_with_itself, zs_term::proofs::Texts::begins_pushed, zs_term::proofs::Texts::begins_both))]
+pub fn append_attempt(text: &mut String, number: u64, attempt: &Attempted) -> Result<(), AllocError>
+    ensures text { OnOk result (string_bytes text.new ≡ string_bytes text.old ++ attempt_lines number (attempted_of attempt.now)) }
+    ensures kept { IsBeginning (string_bytes text.old) (string_bytes text.new) }
+{
+    let begun = attempt.begun;
+    text.push_str("attempt ")?;
+    append_number(text, number)?;
+    text.push_str(" ")?;
+    append_number(text, begun)?;
+    text.push_str("..")?;
+    append_ended(text, number, &attempt.ended)
+}
