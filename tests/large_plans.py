@@ -70,10 +70,12 @@ def many_ticks():
     return plan(jobs, ticks=ticks)
 
 
-def many_rounds(workers):
-    """A job of 20,000 attempts, with two jobs beside it."""
-    jobs = [job(0, "forever"), job(1, "spaced(99)"), job(2, "(spaced(1) && recurs(5000))")]
-    return plan(jobs, horizon=20000, workers=workers)
+def many_polls(workers, modifiers=0):
+    """A job of 12,000 attempts, with two jobs beside it. With 61 modifiers they have 65 nodes each, and wait for rounds; with
+    none each is run alone."""
+    pairs = ["forever && forever", "spaced(99) && spaced(99)", "spaced(1) && recurs(5000)"]
+    jobs = [job(number, f"({pair}).map(_1)" + ".map(+ 1)" * modifiers) for number, pair in enumerate(pairs)]
+    return plan(jobs, horizon=12000, workers=workers)
 
 
 def many_jobs(count, workers, grain):
@@ -92,8 +94,9 @@ def plans():
         ("1,100 collected items", collected(1100, 7)),
         ("a report of 20 million bytes", collected(1400, M)),
         ("a million ticks", many_ticks()),
-        ("20,000 rounds on a thread", many_rounds(1)),
-        ("20,000 rounds on two threads", many_rounds(2)),
+        ("12,000 attempts of a job alone", many_polls(1)),
+        ("12,000 rounds on a thread", many_polls(1, 61)),
+        ("12,000 rounds on two threads", many_polls(2, 61)),
         ("9,999 jobs, each a batch", many_jobs(9999, 3, 1)),
         ("10,000 jobs in one batch", many_jobs(10000, 8, 10000)),
         ("a schedule with 1,000,000 spaces", plan([job(0, "recurs(" + " " * 1000000 + "3)")], horizon=9)),

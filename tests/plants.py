@@ -78,6 +78,10 @@ PLANTS = [
           "        let mut rounds = 0u64;\n        while let Some((now, numbers)) = self.agenda.take()? {\n"
           "            rounds = rounds.saturating_add(1);\n"
           "            if rounds > 10_000 {\n                return Err(EngineFault::Memory);\n            }\n"),
+    Plant("ten_thousand_polls_of_a_light_job_are_all", "zs_engine/src/alone.rt",
+          "    while let Some(now) = next_tick(clock, task) {\n",
+          "    while let Some(now) = next_tick(clock, task) {\n"
+          "        if task.polls() > 10_000 {\n            return Err(EngineFault::Memory);\n        }\n"),
     Plant("a_hundred_thousand_ticks_are_all", "zs_run/src/shapes.rt", "        numbers.push(number)?;\n",
           "        if numbers.len() >= 100_000 {\n            return Err(PlanFault::Memory);\n        }\n"
           "        numbers.push(number)?;\n"),
@@ -124,9 +128,9 @@ PLANTS = [
           "cut_into(alloc, 1, tasks)?", "a_thread_takes_the_plans_grain_of_jobs"),
     Plant("a_thread_takes_eight_jobs_at_most", "zs_pool/src/rounds.rt", "cut_into(alloc, cut.grain(), tasks)?",
           "cut_into(alloc, cut.grain().min(8), tasks)?", "a_thread_takes_the_plans_grain_of_jobs"),
-    Plant("a_run_of_jobs_ignores_the_grain", "zs_engine/src/jobs.rt", "    engine.run_rounds(rt, cut, gate)?;",
+    Plant("a_run_of_jobs_ignores_the_grain", "zs_engine/src/jobs.rt", "    engine.run(rt, cut, gate, jobs, keeps)?;",
           "    let cut = match Cut::new(cut.workers(), 1) {\n        Some(one) => one,\n        None => cut,\n    };\n"
-          "    engine.run_rounds(rt, cut, gate)?;", "a_thread_takes_the_plans_grain_of_jobs"),
+          "    engine.run(rt, cut, gate, jobs, keeps)?;", "a_thread_takes_the_plans_grain_of_jobs"),
     Plant("a_run_ignores_the_plans_grain", "zs_run/src/running.rt", "    let answer = run_to_lines(",
           "    let cut = match zs_pool::Cut::new(cut.workers(), 1) {\n        Some(one) => one,\n        None => cut,\n"
           "    };\n    let answer = run_to_lines(", "a_thread_takes_the_plans_grain_of_jobs"),
@@ -152,7 +156,16 @@ PLANTS = [
           "        if cut.workers() == 1 || numbers.len() as u64 <= cut.grain() {",
           "        if cut.workers() == 1 || numbers.len() as u64 <= cut.grain() || numbers.len() > 1000 {",
           "two_threads_meet_in_a_run_of_ten_thousand_jobs"),
-    Plant("light_rounds_start_threads", "zs_engine/src/engine.rt",
+    Plant("light_jobs_wait_for_rounds", "zs_engine/src/engine.rt",
+          "        if !gate.is_open() || !is_light(weight) {\n", "        if !gate.is_open() || !is_light(weight) || weight > 0 {\n",
+          "light_jobs_run_one_after_the_other_under_an_open_gate"),
+    Plant("light_jobs_of_a_gate_that_holds_are_run_alone", "zs_engine/src/engine.rt",
+          "        if !gate.is_open() || !is_light(weight) {\n", "        if gate.is_open() && false || !is_light(weight) {\n",
+          "two_threads_meet_in_a_run_of_ten_thousand_jobs"),
+    Plant("heavy_jobs_are_run_alone", "zs_engine/src/engine.rt",
+          "        if !gate.is_open() || !is_light(weight) {\n",
+          "        if !gate.is_open() || !is_light(weight) && weight == 0 {\n", "two_threads_meet_where_they_pay"),
+    Plant("rounds_that_pay_for_no_thread_start_some", "zs_engine/src/engine.rt",
           "        if cut.workers() == 1 || !gate.is_open() {\n", "        if cut.workers() > 0 {\n", "program_without_threads"),
     Plant("heavy_rounds_are_polled_alone", "zs_engine/src/effort.rt",
           "        Some(attempted) if attempted.ended.is_none() => weight,\n        Some(_) | None => 0,",

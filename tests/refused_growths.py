@@ -163,7 +163,8 @@ def program_without_threads(count, refuser):
     ended, _ = refuser.run(program.ZSCHED, text, refuse_threads=1)
     count.test("no thread can be started", ended, NO_THREAD)
     alone = [("one worker", program.heavy_jobs(1, 3)), ("one batch", program.heavy_jobs(4, 120)),
-             ("light jobs", program.equal_jobs([f"j{number}" for number in range(10000)], 4, 3))]
+             ("light jobs", program.equal_jobs([f"j{number}" for number in range(10000)], 4, 3)),
+             ("few heavy jobs", program.equal_jobs(["j0", "j1", "j2"], 4, 1, program.HEAVY))]
     for case, (text, report) in alone:
         ended, _ = refuser.run(program.ZSCHED, text, refuse_threads=1)
         count.test(f"no thread for {case}", ended, (0, report, b""))

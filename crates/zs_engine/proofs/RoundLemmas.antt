@@ -71,9 +71,9 @@ polls_of-set [] x now t e = let no : None ≡ Some t = e in cc
 polls_of-set (y ∷ ts) zero now t e = let same : y ≡ t = cc in rw same (omega (arith, length-append t.moments (now ∷ [])))
 polls_of-set (y ∷ ts) (suc x) now t e = let rest : polls_of (slice_set ts x (polled_at now t)) ≡ polls_of ts + 1 = polls_of-set ts x now t e in omega arith
 
-pub polls_of-push : (ts : List TaskValue) (t : TaskValue) → t.moments ≡ [] → polls_of (ts ++ t ∷ []) ≡ polls_of ts
-polls_of-push [] t e = rw e refl
-polls_of-push (y ∷ ts) t e = ap (λ (n : ℕ). length y.moments + n) (polls_of-push ts t e)
+pub polls_of-push : (ts : List TaskValue) (t : TaskValue) → polls_of (ts ++ t ∷ []) ≡ polls_of ts + length t.moments
+polls_of-push [] t = omega arith
+polls_of-push (y ∷ ts) t = let rest : polls_of (ts ++ t ∷ []) ≡ polls_of ts + length t.moments = polls_of-push ts t in omega arith
 
 -- what a task set again leaves
 pub get-set_next : (a : Timers) (x i : ℕ) (o : Option ℕ) → map_of.get a.moments x ≡ None → map_of.get (set_next a x o).moments i ≡ cond (i == x) o (map_of.get a.moments i)

@@ -1,7 +1,8 @@
--- When a round pays for threads. Nothing that a run answers depends on it. docs/DECISIONS.md says how these numbers were found.
+-- Which polls pay for threads. Nothing that a run answers depends on it. docs/DECISIONS.md says how these numbers were found.
 use Rattle.std.specs.Prelude.{ℕ, ◌-◌, ◌/◌, max}
 
--- a task costs about as much to be moved to another thread and back as so many nodes of schedules to be asked
+-- A task costs about as much to be moved to another thread and back as so many nodes of schedules to be asked. A job whose
+-- schedule has fewer is light.
 abbrev pub nodes_a_move : ℕ
 nodes_a_move = 64
 

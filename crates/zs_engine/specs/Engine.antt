@@ -24,11 +24,10 @@ pub record RestsWith (clock : Ticks) (jobs : List JobValue) (engine : Engine) : 
   pub runs : Runs clock jobs engine
   pub rests : Rests (ticks_of clock) engine.slots.items engine.agenda engine.seat.count
 
--- before the first round
+-- before the first round: the polls counted are those of light jobs
 pub record IsNew (clock : Ticks) (jobs : List JobValue) (engine : Engine) : Type 0 where
   pub rests : RestsWith clock jobs engine
   pub untaken : engine.agenda.last_taken ≡ None
-  pub uncounted : engine.seat.count ≡ 0
 
 -- as a round begins: these jobs are due at now
 pub record IsDueWith (clock : Ticks) (jobs : List JobValue) (now : ℕ) (numbers : List ℕ) (engine : Engine) : Type 0 where

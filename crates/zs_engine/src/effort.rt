@@ -1,6 +1,6 @@
-//! When a round pays for threads.
-ghost use Rattle.std.specs.Prelude.{◌≡◌};
-ghost use Rattle.zs_engine.specs.Effort.{threads_for};
+//! Which polls pay for threads.
+ghost use Rattle.std.specs.Prelude.{◌≡◌, nat_lt};
+ghost use Rattle.zs_engine.specs.Effort.{nodes_a_move, threads_for};
 
 use zs_drive::Task;
 
@@ -18,12 +18,15 @@ pub fn threads_for(tasks: u64, nodes: u64) -> u64
     (moves / MOVES_A_THREAD).max(1)
 }
 
-// How many nodes the poll of a due task asks, whose schedule has this weight: none where an attempt begins, and fewer than a
-// move is worth count as none.
+// Whether the polls of a job whose schedule has this weight aren't worth a move.
+pub fn is_light(weight: u64) -> bool
+    ensures value { result ≡ nat_lt weight nodes_a_move }
+{
+    weight < NODES_A_MOVE
+}
+
+// How many nodes the poll of a due task asks, whose schedule has this weight: none where an attempt begins.
 pub fn nodes_of(task: &Task, weight: u64) -> u64 {
-    if weight < NODES_A_MOVE {
-        return 0;
-    }
     match task.records().last() {
         Some(attempted) if attempted.ended.is_none() => weight,
         Some(_) | None => 0,

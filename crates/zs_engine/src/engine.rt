@@ -1,15 +1,17 @@
-ghost use Rattle.std.specs.Prelude.{◌≡◌, ℕ, ◌≤◌, ◌<◌, List, [], ◌∷◌, ◌++◌, length, Some, None, slice_set, OnOk, IfOk};
+ghost use Rattle.std.specs.Prelude.{◌≡◌, ℕ, ◌≤◌, ◌<◌, List, [], ◌∷◌, ◌++◌, length, map, Some, None, slice_set, OnOk, IfOk};
 ghost use Rattle.std.specs.FinMap.{empty, get};
 ghost use Rattle.zs_term.specs.Saturating.{max_moment};
 ghost use Rattle.zs_drive.specs.Tasks.{current_timeline};
 ghost use Rattle.zs_drive.specs.Values.{job_kept};
 ghost use Rattle.zs_pool.specs.Limits.{max_tasks};
 ghost use Rattle.zs_engine.specs.Times.{ticks_of, next_of, IsLater};
-ghost use Rattle.zs_engine.specs.Rounds.{jobs_in, set_next};
+ghost use Rattle.zs_pool.specs.Shares.{HasCounted};
+ghost use Rattle.zs_engine.specs.Rounds.{KeepsUp, jobs_in, set_next};
 ghost use Rattle.zs_engine.specs.Answers.{IsAnswer};
 
+use crate::alone::run_alone;
 use crate::answer::Answer;
-use crate::effort::{nodes_of, threads_for};
+use crate::effort::{is_light, nodes_of, threads_for};
 use crate::fault::{EngineFault, refused_round};
 use crate::slots::{into_tasks, take_tasks};
 use crate::timers::set_timer;
@@ -68,22 +70,47 @@ impl Engine {
         })
     }
 
-    // Takes in one more job, whose task keeps its attempts so.
-    pub fn add(&mut self, job: Job, keeps: Keeping) -> Result<(), EngineFault>
+    // Runs a new task to the horizon, if it is light and no gate holds a thread.
+    fn run_light<G: Gate>(
+        &mut self,
+        gate: &G,
+        weight: u64,
+        cx: &mut Context<'_>,
+        task: &mut Task,
+    ) -> Result<(), EngineFault>
+        requires few { length (jobs_in self.old.slots.items) < max_tasks }
+        requires new { IsNew self.old.clock (jobs_in self.old.slots.items) self.old }
+        requires fresh { task.old.moments ≡ [] }
+        requires keeps_up { KeepsUp (ticks_of self.old.clock) task.old }
+        ensures rest { self.new ≡ record self.old { seat = self.new.seat } }
+        ensures keeps_up { OnOk result (KeepsUp (ticks_of self.old.clock) task.new) }
+        ensures same { OnOk result ((task.new.number ≡ task.old.number) × (task.new.job ≡ task.old.job)) }
+        ensures counted { OnOk result (HasCounted self.old.seat (length task.new.moments) self.new.seat) }
+    {
+        if !gate.is_open() || !is_light(weight) {
+            return Ok(());
+        }
+        run_alone(&self.clock, gate, &self.tally, &mut self.seat, cx, task)
+    }
+
+    // Takes in one more job, whose task keeps its attempts so. Where it isn't run at once, it waits for the rounds.
+    fn add<G: Gate>(
+        &mut self,
+        gate: &G,
+        job: Job,
+        keeps: Keeping,
+        cx: &mut Context<'_>,
+    ) -> Result<(), EngineFault>
+        requires few { length (jobs_in self.old.slots.items) < max_tasks }
         requires new { IsNew self.old.clock (jobs_in self.old.slots.items) self.old }
         ensures new { OnOk result (IsNew self.old.clock (jobs_in self.old.slots.items ++ job_kept keeps job ∷ []) self.new) }
     {
-        let nodes = job.schedule.weight();
-        let task = Task::keeping(self.alloc, self.slots.len() as u64, job, keeps)?;
-        match set_timer(&self.clock, &mut self.agenda, &task) {
-            Ok(()) => {}
-            Err(refused) => {
-                drop(task);
-                return Err(refused);
-            }
-        }
+        let weight = job.schedule.weight();
+        let mut task = Task::keeping(self.alloc, self.slots.len() as u64, job, keeps)?;
+        self.run_light(gate, weight, cx, &mut task)?;
+        set_timer(&self.clock, &mut self.agenda, &task)?;
         self.slots.push(Some(task))?;
-        self.weights.push(nodes)?;
+        self.weights.push(weight)?;
         Ok(())
     }
 
@@ -254,21 +281,44 @@ impl Engine {
         Ok(())
     }
 
-    // The rounds, until no task waits for a tick.
-    pub fn run_rounds<G: Gate, R: Threads + Wait + Sync>(
+    // Takes in these jobs, in order, and runs those that wait for the rounds, under one context.
+    fn run_in<G: Gate, R: Threads + Wait + Sync>(
         &mut self,
         rt: &R,
         cut: Cut,
         gate: &G,
+        jobs: Vec<Job>,
+        keeps: Keeping,
+        cx: &mut Context<'_>,
     ) -> Result<(), EngineFault>
-        requires few { length (jobs_in self.old.slots.items) ≤ max_tasks }
-        requires rests { RestsWith self.old.clock (jobs_in self.old.slots.items) self.old }
-        ensures rests { OnOk result (RestsWith self.old.clock (jobs_in self.old.slots.items) self.new) }
+        requires few { length jobs.items ≤ max_tasks }
+        requires new { IsNew self.old.clock [] self.old }
+        ensures rests { OnOk result (RestsWith self.old.clock (map (job_kept keeps) jobs.items) self.new) }
+        ensures over { OnOk result (self.new.agenda.moments ≡ empty) }
+    {
+        for job in jobs {
+            self.add(gate, job, keeps, cx)?;
+        }
+        self.run_all(rt, cut, gate, cx)
+    }
+
+    // The jobs, until no task waits for a tick.
+    pub fn run<G: Gate, R: Threads + Wait + Sync>(
+        &mut self,
+        rt: &R,
+        cut: Cut,
+        gate: &G,
+        jobs: Vec<Job>,
+        keeps: Keeping,
+    ) -> Result<(), EngineFault>
+        requires few { length jobs.items ≤ max_tasks }
+        requires new { IsNew self.old.clock [] self.old }
+        ensures rests { OnOk result (RestsWith self.old.clock (map (job_kept keeps) jobs.items) self.new) }
         ensures over { OnOk result (self.new.agenda.moments ≡ empty) }
     {
         let poller = Poller::new(self.alloc)?;
         let mut cx = poller.solo().begin();
-        let done = self.run_all(rt, cut, gate, &mut cx);
+        let done = self.run_in(rt, cut, gate, jobs, keeps, &mut cx);
         cx.cancel();
         done
     }

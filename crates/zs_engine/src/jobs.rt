@@ -27,10 +27,7 @@ fn run_keeping<G: Gate, R: Threads + Wait + Sync>(
     ensures answer { IfOk result (IsAnswer clock (map (job_kept keeps) jobs.items)) }
 {
     let mut engine = Engine::new(alloc, clock)?;
-    for job in jobs {
-        engine.add(job, keeps)?;
-    }
-    engine.run_rounds(rt, cut, gate)?;
+    engine.run(rt, cut, gate, jobs, keeps)?;
     engine.finish()
 }
 

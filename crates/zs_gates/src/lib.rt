@@ -201,18 +201,26 @@ impl Gate for Slow {
     }
 }
 
-/// Counts its passes. Each has to be of the next of so many jobs in turn, and be told of as many polls as passes before.
+/// Counts its passes. Each has to be of the next of so many jobs in turn, or of the same job until its turn is over, and be
+/// told of as many polls as passes before.
 #[derive(Drop)]
 pub struct InTurn {
     jobs: u64,
+    turn: u64,
     passes: AtomicU64,
     wrong: AtomicU64,
 }
 
 impl InTurn {
     pub fn of(jobs: u64) -> InTurn {
+        InTurn::with_turns(jobs, 1)
+    }
+
+    /// A job's turn is so many passes.
+    pub fn with_turns(jobs: u64, turn: u64) -> InTurn {
         InTurn {
             jobs,
+            turn,
             passes: AtomicU64::new(0),
             wrong: AtomicU64::new(0),
         }
@@ -225,12 +233,17 @@ impl InTurn {
     pub fn wrong(&self) -> u64 {
         self.wrong.load(Ordering::SeqCst)
     }
+
+    // The job whose turn it is after so many passes.
+    fn job_after(&self, passes: u64) -> Option<u64> {
+        passes.checked_div(self.turn)?.checked_rem(self.jobs)
+    }
 }
 
 impl Gate for InTurn {
     fn pass(&self, job: u64, _now: u64, done: u64) {
         let before = self.passes.fetch_add(1, Ordering::SeqCst);
-        if Some(job) != before.checked_rem(self.jobs) || done != before {
+        if Some(job) != self.job_after(before) || done != before {
             self.wrong.fetch_add(1, Ordering::SeqCst);
         }
     }

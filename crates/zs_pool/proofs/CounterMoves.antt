@@ -11,7 +11,7 @@ use Rattle.crossbeam_queue.proofs.Lists.{set_else}
 use Rattle.zs_pool.specs.declared.board.counter_rule.Count.{Count}
 use Rattle.zs_pool.specs.Runs.{Every}
 use Rattle.zs_term.specs.Saturating.{max_moment}
-use Rattle.zs_pool.specs.Counter.{counted, Sound, KeepsCount, Added, Looked, Learned}
+use Rattle.zs_pool.specs.Counter.{counted, Sound, KeepsCount, Added, Looked}
 use Rattle.zs_pool.proofs.Views.{total_set, total_new, total_alone, every_get, every_set, every_new, every_map}
 
 abbrev Rule : State (Unit {0}) Count → Type 0
@@ -65,12 +65,8 @@ zero_more : (n : ℕ) → n % 2 ^ 64 ≡ (n + 0) % 2 ^ 64
 zero_more n = ap (λ t. t % 2 ^ 64) (omega arith)
 
 pub looks : (slots id : ℕ) (me : Me (Unit {0}) Count) → Allows Rule slots id me 0 (λ n. n) (Looked (step slots 0 0 0 none) me)
-looks slots id me = moves slots id me 0 (λ n. n) (λ n. counted me.0.share me.0.count n) (Looked (step slots 0 0 0 none) me)
-    zero_more (λ n. omega arith) (λ n. refl) (λ z. refl) (λ n t l h. l) (λ n h. refl)
-
-pub learns : (slots id : ℕ) (me : Me (Unit {0}) Count) → Allows Rule slots id me 0 (λ n. n) (Learned (step slots 0 0 0 none) me)
-learns slots id me = moves slots id me 0 (λ n. n) (λ n. me.0) (Learned (step slots 0 0 0 none) me)
-    zero_more (λ n. omega arith) (λ n. refl) (λ z. refl) (λ n t l h. h) (λ n h. (h, refl))
+looks slots id me = moves slots id me 0 (λ n. n) (λ n. counted me.0.share me.0.count (max me.0.seen n)) (Looked (step slots 0 0 0 none) me)
+    zero_more (λ n. omega arith) (λ n. refl) (λ z. refl) (λ n t l h. omega arith) (λ n h. (h, refl))
 
 pub splits : (id : ℕ) (v : Count) → 1 < v.share → Splits Rule id v (counted (v.share - 1) v.count v.seen) (counted 1 0 v.seen)
 splits id v two s run at =

@@ -1,39 +1,84 @@
 -- Cuttings of a list of tasks.
-use Rattle.std.proofs.Common.{◌≡◌, ◌-◌, ◌≤◌, ℕ, zero, suc, List, [], ◌∷◌, ◌++◌, length, take, sym, ap, ◌∙◌, subst, length-append, arith, refl}
-use Rattle.std.specs.Prelude.{All}
-use Rattle.std.proofs.lemmas.List.Elements.{All-push, All-head, All-tail, All-nil, All-cons}
+use Rattle.std.proofs.Common.{◌≡◌, ◌+◌, ◌-◌, ◌*◌, ◌≤◌, ◌<◌, ◌⊎◌, ℕ, zero, suc, List, [], ◌∷◌, ◌++◌, length, take, drop, Some, sym, ap, ◌∙◌, subst, ap₂, inl, inr, ⊎_elim, length-append, length-take, length-drop, append_assoc, arith, refl}
+use Rattle.std.specs.Prelude.{All, slice_get}
+use Rattle.std.specs.Int.{div_ceil}
+use Rattle.std.proofs.lemmas.Grind.{div_ceil_times}
+use Rattle.std.proofs.lemmas.List.{append-nil, nil_from_length, take-append-drop}
+use Rattle.std.proofs.lemmas.List.Elements.{All-head, All-tail, All-nil, All-cons}
+use Rattle.zs_drive.specs.Tasks.{TaskValue}
 use Rattle.zs_pool.specs.Batches.{BatchValue, IsFull, AreCut, tasks_of}
 
-abbrev Some : ℕ → BatchValue → Type 0
-Some grain b = (1 ≤ length b.tasks) × (length b.tasks ≤ grain)
+abbrev Within : ℕ → BatchValue → Type 0
+Within grain b = (1 ≤ length b.tasks) × (length b.tasks ≤ grain)
 
-full_some : (grain : ℕ) (bs : List BatchValue) → 1 ≤ grain → All (IsFull grain) bs → All (Some grain) bs
-full_some grain bs one full = λ k d lt. let f = full k d lt in (omega (arith, f, one), omega (arith, f))
+-- The batches from `number` on are cut off, and these tasks are left. What was cut off last but first is full.
+pub record Cutting (grain number : ℕ) (all left : List TaskValue) (bs : List BatchValue) : Type 0 where
+  pub whole : left ++ tasks_of bs ≡ all
+  pub numbered : (k : ℕ) (b : BatchValue) → slice_get bs k ≡ Some b → b.number ≡ number + k
+  pub cut : AreCut grain bs
+  pub enough : length left ≤ number * grain
+  pub short : number * grain < length left + grain
+  pub full : (bs ≡ []) ⊎ (length left ≡ number * grain)
 
-front : (bs : List BatchValue) (b : BatchValue) → take (length (bs ++ b ∷ []) - 1) (bs ++ b ∷ []) ≡ bs
-front [] b = refl
-front (x ∷ xs) b =
-    let e : length (x ∷ (xs ++ b ∷ [])) - 1 ≡ suc (length (xs ++ b ∷ []) - 1) = omega (arith, length-append xs (b ∷ [])) in
-    ap (λ n. take n (x ∷ (xs ++ b ∷ []))) e ∙ ap (λ l. x ∷ l) (front xs b)
+pub cut_none : (grain number : ℕ) (all left : List TaskValue) (bs : List BatchValue) → 1 ≤ grain → left ≡ all → bs ≡ [] → number ≡ div_ceil (length all) grain → Cutting grain number all left bs
+cut_none grain number all left bs one same none count =
+    let P : List BatchValue → Type 0 = λ l. Cutting grain number all left l in
+    let bounds = div_ceil_times (length all) grain one in
+    let size : number * grain ≡ div_ceil (length all) grain * grain = ap (λ n. n * grain) count in
+    let sizes : length left ≡ length all = ap (λ l. length l) same in
+    let empty : Cutting grain number all left [] = record {
+      whole = append-nil left ∙ same;
+      numbered = λ k b at. cc;
+      cut = (All-nil (Within grain), All-nil (IsFull grain));
+      enough = omega (arith, bounds.0, size, sizes);
+      short = omega (arith, bounds.1, size, sizes);
+      full = inl refl;
+    }
+    in
+    subst P (sym none) empty
 
-full_take : (grain : ℕ) (bs : List BatchValue) (n : ℕ) → All (IsFull grain) bs → All (IsFull grain) (take n bs)
-full_take grain bs zero full = All-nil (IsFull grain)
-full_take grain [] (suc n) full = All-nil (IsFull grain)
-full_take grain (x ∷ xs) (suc n) full = All-cons (IsFull grain) x (take n xs) (All-head (IsFull grain) x xs full) (full_take grain xs n (All-tail (IsFull grain) x xs full))
+suc_less : {X : Type 0} (xs : List X) → suc (length xs) ≡ suc (suc (length xs)) - 1
+suc_less xs = omega arith
 
--- all are full
-pub cut_whole : (grain : ℕ) (bs : List BatchValue) → 1 ≤ grain → All (IsFull grain) bs → AreCut grain bs
-cut_whole grain bs one full = (full_some grain bs one full, full_take grain bs (length bs - 1) full)
+cut_cons : (grain : ℕ) (b : BatchValue) (bs : List BatchValue) → Within grain b → (bs ≡ []) ⊎ IsFull grain b → AreCut grain bs → AreCut grain (b ∷ bs)
+cut_cons grain b [] within full cut = (All-cons (Within grain) b [] within (All-nil (Within grain)), All-nil (IsFull grain))
+cut_cons grain b (x ∷ xs) within full cut =
+    let F : ℕ → Type 0 = λ n. All (IsFull grain) (take n (x ∷ xs)) in let rest : F (length xs) = subst F (omega arith) cut.1 in
+    let G : ℕ → Type 0 = λ n. All (IsFull grain) (take n (b ∷ x ∷ xs)) in (
+      All-cons (Within grain) b (x ∷ xs) within cut.0,
+      subst G (suc_less xs) (All-cons (IsFull grain) b (take (length xs) (x ∷ xs)) (⊎_elim (λ (e : x ∷ xs ≡ []). absurd (omega (arith, ap (λ l. length l) e))) (λ (h : IsFull grain b). h) full) rest),
+    )
 
--- all but the last are full
-pub cut_last : (grain : ℕ) (bs new : List BatchValue) (b : BatchValue) → 1 ≤ grain → All (IsFull grain) bs → 1 ≤ length b.tasks → length b.tasks ≤ grain → new ≡ bs ++ b ∷ [] → AreCut grain new
-cut_last grain bs new b one full some few is =
-    let P : List BatchValue → Type 0 = λ l. All (IsFull grain) l in
-    let whole : AreCut grain (bs ++ b ∷ []) = (All-push (Some grain) bs b (full_some grain bs one full) (some, few), subst P (sym (front bs b)) full) in
-    let C : List BatchValue → Type 0 = λ l. AreCut grain l in
-    subst C (sym is) whole
+numbered_cons : (number : ℕ) (b : BatchValue) (bs : List BatchValue) → b.number ≡ number → ((k : ℕ) (x : BatchValue) → slice_get bs k ≡ Some x → x.number ≡ suc number + k) → (k : ℕ) (x : BatchValue) → slice_get (b ∷ bs) k ≡ Some x → x.number ≡ number + k
+numbered_cons number b bs mine others zero x at = let same : b ≡ x = cc in omega (arith, ap (λ y. y.number) same, mine)
+numbered_cons number b bs mine others (suc k) x at = omega (arith, others k x at)
+
+-- one more batch is cut off
+pub cut_more : (grain number : ℕ) (all left rest : List TaskValue) (bs : List BatchValue) (b : BatchValue) → rest ≡ take (number * grain) left → b.tasks ≡ drop (number * grain) left → b.number ≡ number → Cutting grain (suc number) all left bs → Cutting grain number all rest (b ∷ bs)
+cut_more grain number all left rest bs b kept own mine was =
+    let at = number * grain in
+    let step : suc number * grain ≡ grain + at = omega arith in
+    let within : at ≤ length left = omega (arith, was.short, step) in
+    let rest_size : length rest ≡ at = omega (arith, ap (λ l. length l) kept, length-take at left, within) in
+    let own_size : length b.tasks + at ≡ length left = omega (arith, ap (λ l. length l) own, length-drop at left, within) in
+    let full : (bs ≡ []) ⊎ IsFull grain b = ⊎_elim (λ (e : bs ≡ []). inl e) (λ (e : length left ≡ suc number * grain). inr (omega (arith, e, own_size, step))) was.full in
+    let both : rest ++ b.tasks ≡ left = ap₂ (λ x y. x ++ y) kept own ∙ take-append-drop at left in
+    record {
+      whole = sym (append_assoc rest b.tasks (tasks_of bs)) ∙ ap (λ l. l ++ tasks_of bs) both ∙ was.whole;
+      numbered = numbered_cons number b bs mine was.numbered;
+      cut = cut_cons grain b bs (omega (arith, own_size, was.short, step), omega (arith, own_size, was.enough, step)) full was.cut;
+      enough = omega (arith, rest_size);
+      short = omega (arith, rest_size, was.enough, was.short, step);
+      full = inr rest_size;
+    }
+
+-- all batches are cut off
+pub cut_all : (grain : ℕ) (all left : List TaskValue) (bs : List BatchValue) → Cutting grain 0 all left bs → tasks_of bs ≡ all
+cut_all grain all left bs was =
+    let none : left ≡ [] = nil_from_length left (omega (arith, was.enough)) in
+    ap (λ l. l ++ tasks_of bs) (sym none) ∙ was.whole
 
 -- there are no more batches than tasks
-pub few_batches : (grain : ℕ) (bs : List BatchValue) → All (Some grain) bs → length bs ≤ length (tasks_of bs)
+pub few_batches : (grain : ℕ) (bs : List BatchValue) → All (Within grain) bs → length bs ≤ length (tasks_of bs)
 few_batches grain [] all = omega arith
-few_batches grain (b ∷ bs) all = omega (arith, (All-head (Some grain) b bs all).0, few_batches grain bs (All-tail (Some grain) b bs all), length-append b.tasks (tasks_of bs))
+few_batches grain (b ∷ bs) all = omega (arith, (All-head (Within grain) b bs all).0, few_batches grain bs (All-tail (Within grain) b bs all), length-append b.tasks (tasks_of bs))

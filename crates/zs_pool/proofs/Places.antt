@@ -6,11 +6,10 @@ use Rattle.std.specs.List.Sorted.{IsPermutation}
 use Rattle.std.proofs.lemmas.Bool.Decides.{eqb_tells}
 use Rattle.std.proofs.lemmas.List.FromFn.{length-range_with_len, get_or-range_with_len}
 use Rattle.std.proofs.lemmas.List.Sorted.{Contains-permutation}
-use Rattle.std.proofs.lemmas.List.Concat.{flat_map-append}
 use Rattle.std.proofs.lemmas.List.{append-nil, nil_from_length, map-append}
 use Rattle.zs_drive.specs.Tasks.{TaskValue}
 use Rattle.zs_pool.specs.Rounds.{IsPolled, polled_at, broken_at}
-use Rattle.zs_pool.specs.Batches.{BatchValue, AreNumbered, tasks_of}
+use Rattle.zs_pool.specs.Batches.{BatchValue, tasks_of}
 use Rattle.zs_pool.specs.Messages.{PolledValue, IsPollAmong, IsPollOf, HasPoll, numbers_of}
 
 same_or_not : (a b : ℕ) → (a ≡ b) ⊎ (a ≢ b)
@@ -38,12 +37,6 @@ get_below [] k x e = cc
 get_below (y ∷ ys) zero x e = omega arith
 get_below (y ∷ ys) (suc k) x e = omega (arith, get_below ys k x e)
 
-pub get_push : {X : Type 0} (xs : List X) (y : X) (k : ℕ) (x : X) → slice_get (xs ++ y ∷ []) k ≡ Some x → (slice_get xs k ≡ Some x) ⊎ ((k ≡ length xs) × (y ≡ x))
-get_push [] y zero x e = inr (refl, (cc))
-get_push [] y (suc k) x e = cc
-get_push (z ∷ zs) y zero x e = inl e
-get_push (z ∷ zs) y (suc k) x e = ⊎_elim (λ h. inl h) (λ h. inr (omega (arith, h.0), h.1)) (get_push zs y k x e)
-
 pub get_set : {X : Type 0} (xs : List X) (k : ℕ) (x : X) → k < length xs → slice_get (set xs k x) k ≡ Some x
 get_set [] k x lt = absurd (omega arith)
 get_set (y ∷ ys) zero x lt = refl
@@ -55,13 +48,6 @@ get_else (y ∷ ys) zero zero x n = absurd (n refl)
 get_else (y ∷ ys) zero (suc k) x n = refl
 get_else (y ∷ ys) (suc i) zero x n = refl
 get_else (y ∷ ys) (suc i) (suc k) x n = get_else ys i k x (λ e. n (ap suc e))
-
-pub numbered_push : (bs : List BatchValue) (b : BatchValue) → b.number ≡ length bs → AreNumbered bs → AreNumbered (bs ++ b ∷ [])
-numbered_push bs b is before k x at =
-    ⊎_elim (λ (h : slice_get bs k ≡ Some x). before k x h) (λ (h : (k ≡ length bs) × (b ≡ x)). ap (λ y. y.number) (sym h.1) ∙ is ∙ sym h.0) (get_push bs b k x at)
-
-pub tasks_push : (bs : List BatchValue) (b : BatchValue) → tasks_of (bs ++ b ∷ []) ≡ tasks_of bs ++ b.tasks
-tasks_push bs b = flat_map-append (λ x. x.tasks) bs (b ∷ []) ∙ ap (λ l. tasks_of bs ++ l) (append-nil b.tasks)
 
 -- a list of slots, each of which has what belongs there
 module _ {X Y : Type 0} (R : X → Y → Type 0) where

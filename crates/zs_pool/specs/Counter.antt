@@ -1,5 +1,5 @@
 -- The rule of a counter beside a queue: its word is the sum of what all seats counted, taken around at 2 ^ 64, and no seat saw more than the sum.
-use Rattle.std.specs.Prelude.{◌≡◌, ℕ, ◌+◌, ◌%◌, ◌^◌, ◌≤◌, List, [], ◌∷◌}
+use Rattle.std.specs.Prelude.{◌≡◌, ℕ, ◌+◌, ◌%◌, ◌^◌, ◌≤◌, max, List, [], ◌∷◌}
 use Rattle.std.specs.List.{sum_by}
 use Rattle.atomic_table.specs.Seated.{TableId}
 use Rattle.atomic_table.specs.Table.{State, Step, Me}
@@ -25,13 +25,9 @@ KeepsCount key s = CountRun s.words s.views
 abbrev pub Added : Step (Unit {0}) → Me (Unit {0}) Count → ℕ → Me (Unit {0}) Count → Type 0
 Added st me n now = now ≡ (counted me.0.share (me.0.count + 1) me.0.seen, me.1)
 
--- at least n were counted
+-- at least n were counted, and a seat with the whole share counted all that it saw
 abbrev pub Looked : Step (Unit {0}) → Me (Unit {0}) Count → ℕ → Me (Unit {0}) Count → Type 0
-Looked st me n now = now ≡ (counted me.0.share me.0.count n, me.1)
-
--- a seat with the whole share counted all that it saw
-abbrev pub Learned : Step (Unit {0}) → Me (Unit {0}) Count → ℕ → Me (Unit {0}) Count → Type 0
-Learned st me n now = (me.0.share ≡ max_moment → me.0.seen ≤ me.0.count) × (now ≡ me)
+Looked st me n now = (me.0.share ≡ max_moment → me.0.seen ≤ me.0.count) × (now ≡ (counted me.0.share me.0.count (max me.0.seen n), me.1))
 
 -- a seat, as contracts see it
 pub record Counting : Type 0 where

@@ -1,10 +1,10 @@
 ghost use Rattle.std.specs.Prelude.{◌≡◌, ◌∷◌, [], ◌++◌, ◌+◌, ◌-◌, ◌≤◌, ◌<◌, ◌||◌, true, false, length, drop, All, IsOk, IfOk, IfErr, IfSome, IfNone, Some, slice_get};
 ghost use Rattle.std.specs.List.{range_with_len};
 ghost use Rattle.std.specs.List.Sorted.{IsPermutation};
-ghost use Rattle.crossbeam_queue.specs.Passes.{view, IsPassOf, ruled_capacity};
+ghost use Rattle.crossbeam_queue.specs.Passes.{view, IsPassOf};
 ghost use Rattle.zs_term.specs.Saturating.{max_moment};
 ghost use Rattle.zs_pool.specs.Batches.{AreNumbered};
-ghost use Rattle.zs_pool.specs.Board.{claims, claimer};
+ghost use Rattle.zs_pool.specs.Board.{claimer};
 ghost use Rattle.zs_pool.specs.declared.fault.PoolFault.TheVariants.{Memory};
 
 mod counter;
@@ -64,19 +64,6 @@ impl Model for BoardPass {
     ghost invariant = { λ p. (p.queue.me.1 ≡ []) × IsFit p.queue.me.0.client p.seat p.none };
 }
 
-// Puts all batches.
-fn fill<R: Wait>(rt: &R, queue: &Queue, pass: &mut QueuePass, batches: Vec<Batch>)
-    requires pass { IsPassOf queue.now pass.old × (view pass.old ≡ claims max_moment [] []) }
-    requires room { length batches.items ≤ ruled_capacity queue.now }
-    ensures pass { IsPassOf queue.now pass.new × (view pass.new ≡ claims max_moment batches.items []) }
-{
-    for batch in batches {
-        let Ok(()) = queue.push_as::<Puts, R>(rt, pass, batch) else {
-            unreachable!()
-        };
-    }
-}
-
 impl Board {
     /// A board of these batches, and its first pass. Want of memory is the only fault.
     pub fn new<R: Wait>(
@@ -91,7 +78,11 @@ impl Board {
         let size = batches.len();
         let (counter, seat) = Counter::new(alloc)?;
         let (queue, mut queue_pass) = Queue::ruled(alloc, size.max(1))?;
-        fill(rt, &queue, &mut queue_pass, batches);
+        for batch in batches {
+            let Ok(()) = queue.push_as::<Puts, R>(rt, &mut queue_pass, batch) else {
+                unreachable!()
+            };
+        }
         let board = Board {
             queue,
             counter,
@@ -127,7 +118,7 @@ impl Board {
         ensures whole { pass.old.share ≡ max_moment → pass.old.none ≡ true → IsPermutation (range_with_len 0 (length pass.old.batches)) pass.old.taken }
     {
         self.queue.learn_as::<Takes>(&mut pass.queue);
-        self.counter.learn_sum(&mut pass.seat);
+        self.counter.look(&mut pass.seat);
     }
 
     /// The front batch. `None` only where all batches were claimed, and from then on for good.
@@ -143,22 +134,16 @@ impl Board {
         ensures none { IfNone result (pass.new ≡ claimer self.now pass.old.share pass.old.batches pass.old.taken true) }
         ensures whole { IfNone result (pass.old.share ≡ max_moment → IsPermutation (range_with_len 0 (length pass.old.batches)) pass.old.taken) }
     {
-        if pass.none {
-            self.learn_all_taken(pass);
-            return None;
-        }
-        match self.queue.pop_as::<Takes, R>(rt, &mut pass.queue) {
-            Some(batch) => {
+        if !pass.none {
+            if let Some(batch) = self.queue.pop_as::<Takes, R>(rt, &mut pass.queue) {
                 self.counter.add(&mut pass.seat);
-                Some(batch)
+                return Some(batch);
             }
-            None => {
-                self.wait_for_all(rt, &mut pass.seat);
-                pass.none = true;
-                self.learn_all_taken(pass);
-                None
-            }
+            self.wait_for_all(rt, &mut pass.seat);
+            pass.none = true;
         }
+        self.learn_all_taken(pass);
+        None
     }
 
     /// Hands one of the share to a new pass. The first keeps the list, and both keep whether a claim answered `None`.
@@ -212,7 +197,7 @@ impl Board {
         ensures left { IfOk result (λ v. v.items ≡ drop (length pass.taken) pass.batches) }
         ensures memory { IfErr result (λ e. e ≡ Memory) }
     {
-        self.counter.learn_sum(&mut pass.seat);
+        self.counter.look(&mut pass.seat);
         self.queue.learn_as::<Takes>(&mut pass.queue);
         drain(rt, alloc, &self.queue, &mut pass.queue)
     }

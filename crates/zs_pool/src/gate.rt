@@ -3,7 +3,8 @@ pub trait Gate: Sync {
     /// The task with the number `job` is about to be polled at `now`, and at least `done` polls were counted so far.
     fn pass(&self, job: u64, now: u64, done: u64);
 
-    /// Whether it never holds a thread. Only then a run may poll a moment's tasks on fewer threads than its cut allows.
+    /// Whether it never holds a thread. Only then a run may poll a moment's tasks on fewer threads than its cut allows, and
+    /// a light job at later moments before others at earlier ones.
     fn is_open(&self) -> bool {
         false
     }

@@ -409,15 +409,27 @@ fn two_threads_meet_where_they_pay(rt: HostRuntime) -> Result<(), Fail> {
     Ok(())
 }
 
-// As many schedules of a node are asked in turn by one thread.
+// Schedules of 63 nodes each: a job has all its polls before the next one begins.
 #[test]
-fn light_jobs_are_polled_in_turn_under_an_open_gate(rt: HostRuntime) -> Result<(), Fail> {
-    let jobs = heavy(rt.alloc(), 80, 0)?;
+fn light_jobs_run_one_after_the_other_under_an_open_gate(rt: HostRuntime) -> Result<(), Fail> {
+    let jobs = heavy(rt.alloc(), 80, 5)?;
     let gate = Posing {
-        gate: InTurn::of(80),
+        gate: InTurn::with_turns(80, 2),
     };
     expect_posed(&rt, rt.alloc(), &gate, jobs)?;
     assert!(rt; (gate.gate.passes(), gate.gate.wrong()) == (160, 0));
+    Ok(())
+}
+
+// The same jobs, where the gate doesn't say that it holds no thread: all of a moment are polled before the next moment.
+#[test]
+fn light_jobs_are_polled_in_turn_under_a_gate_that_may_hold(rt: HostRuntime) -> Result<(), Fail> {
+    let jobs = heavy(rt.alloc(), 80, 5)?;
+    let clock = clock_of(&rt, rt.alloc(), Ticks::Every(5))?;
+    let cut = Cut::new(1, 1).expect(&rt, "within the limits");
+    let gate = InTurn::of(80);
+    expect_polls(&rt, rt.alloc(), cut, &gate, clock, jobs, 160)?;
+    assert!(rt; (gate.passes(), gate.wrong()) == (160, 0));
     Ok(())
 }
 
@@ -430,6 +442,31 @@ fn few_heavy_jobs_are_polled_in_turn_under_an_open_gate(rt: HostRuntime) -> Resu
     };
     expect_posed(&rt, rt.alloc(), &gate, jobs)?;
     assert!(rt; (gate.gate.passes(), gate.gate.wrong()) == (6, 0));
+    Ok(())
+}
+
+// A light job between two heavy ones comes to the same whether it is run alone or waits for the rounds.
+#[test]
+fn light_and_heavy_jobs_come_to_the_same_under_each_gate(rt: HostRuntime) -> Result<(), Fail> {
+    let wanted =
+        "0 j: 0..5 last, Some(Finished), 2 polls\n1 j: 0..5 last, Some(Finished), 2 polls\n2 j: 0..5 last, Some(Finished), 2 polls\nhorizon 5, 6 polls\n";
+    for held in [false, true] {
+        let mut jobs = heavy(rt.alloc(), 1, 6)?;
+        for others in [heavy(rt.alloc(), 1, 0)?, heavy(rt.alloc(), 1, 6)?] {
+            for job in others {
+                jobs.push(job)?;
+            }
+        }
+        let mut text = String::new(rt.alloc());
+        let cut = Cut::new(2, 1).expect(&rt, "within the limits");
+        let clock = clock_of(&rt, rt.alloc(), Ticks::Every(5))?;
+        if held {
+            push_run(&rt, &mut text, rt.alloc(), cut, &Silent, clock, jobs)?;
+        } else {
+            push_run(&rt, &mut text, rt.alloc(), cut, &OpenGate, clock, jobs)?;
+        }
+        expect_text(&rt, &text, wanted, "a run");
+    }
     Ok(())
 }
 

@@ -2,7 +2,7 @@
 ghost use Rattle.std.specs.Prelude.{◌≡◌, ◌+◌, ◌-◌, ◌≤◌, ◌<◌, max, IfOk};
 ghost use Rattle.zs_term.specs.Saturating.{max_moment};
 
-use crate::board::counter_rule::{Adds, Count, Learns, Looks, Sharing, Summed};
+use crate::board::counter_rule::{Adds, Count, Looks, Sharing, Summed};
 use atomic_table::{Seat, Table};
 use std::alloc::{AllocError, Global};
 use std::marker::Model;
@@ -59,21 +59,13 @@ impl Counter {
         self.table.shared.fetch_add::<Adds>(&mut seat.seat, 0, 1);
     }
 
-    /// How many were counted so far.
+    /// How many were counted so far. A seat with the whole share counted all that it saw.
     pub fn look(&self, seat: &mut CounterSeat) -> u64
         requires counter { seat.old.counter ≡ self.now }
-        ensures seen { seat.new ≡ record { counter = self.now; share = seat.old.share; count = seat.old.count; seen = result } }
-    {
-        self.table.shared.load::<Looks>(&mut seat.seat, 0)
-    }
-
-    /// A seat with the whole share counted all that it saw.
-    pub fn learn_sum(&self, seat: &mut CounterSeat)
-        requires counter { seat.old.counter ≡ self.now }
-        ensures same { seat.new ≡ seat.old }
+        ensures seen { seat.new ≡ record { counter = self.now; share = seat.old.share; count = seat.old.count; seen = max seat.old.seen result } }
         ensures settled { seat.old.share ≡ max_moment → seat.old.seen ≤ seat.old.count }
     {
-        self.table.shared.load::<Learns>(&mut seat.seat, 0);
+        self.table.shared.load::<Looks>(&mut seat.seat, 0)
     }
 
     /// Hands one of the share to a new seat.

@@ -8,7 +8,7 @@ pub struct Count {
     pub share: u64,
     /// How many the seat counted.
     pub count: u64,
-    /// The value of the word that the seat saw last.
+    /// The greatest value of the word that the seat saw.
     pub seen: u64,
 }
 
@@ -33,22 +33,13 @@ impl Play<(), Count> for Adds {
     ghost then = { Added };
 }
 
-/// Reads the word.
+/// Reads the word. A seat with the whole share learns that it counted all that it saw.
 pub struct Looks;
 
 impl Play<(), Count> for Looks {
     ghost use Rattle.zs_pool.specs.Counter.{Looked};
 
     ghost then = { Looked };
-}
-
-/// Reads the word, to learn that a seat with the whole share counted all that it saw.
-pub struct Learns;
-
-impl Play<(), Count> for Learns {
-    ghost use Rattle.zs_pool.specs.Counter.{Learned};
-
-    ghost then = { Learned };
 }
 
 /// Hands one of the share to a new seat, which counted nothing.

@@ -37,9 +37,9 @@ impl<'s, G: Gate> Shared<'s, G> {
         ensures whole { IfOk result (λ s. IsWhole self.entry.moment rights s.rights s.overflow) }
         ensures fault { IfErr result (λ e. e ≢ Full) }
     {
-        let (mut rights, workers) = self.start_all(rt, scope, alloc, helpers, rights)?;
-        let overflow = self.serve(rt, alloc, &mut rights);
-        Ok(self.join_all(rt, rights, overflow, workers))
+        let (rights, workers) = self.start_all(rt, scope, alloc, helpers, rights)?;
+        let served = self.serve(rt, alloc, rights);
+        Ok(self.join_all(rt, served, workers))
     }
 }
 

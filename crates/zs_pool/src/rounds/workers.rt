@@ -1,9 +1,9 @@
 //! What each thread of a round does: it claims, polls and hands in. Helpers are started and joined.
-ghost use Rattle.std.specs.Prelude.{ℕ, ◌≡◌, ◌≢◌, ◌+◌, ◌-◌, ◌≤◌, All, IfOk, IfErr, OnOk, [], false, length};
+ghost use Rattle.std.specs.Prelude.{ℕ, ◌≡◌, ◌≢◌, ◌+◌, ◌-◌, All, IfOk, IfErr, [], false, length};
 ghost use Rattle.zs_term.specs.Saturating.{max_moment};
 ghost use Rattle.zs_pool.specs.Board.{claimer};
 ghost use Rattle.zs_pool.specs.Shelf.{shelver};
-ghost use Rattle.zs_pool.specs.Shares.{HandsIn, IsOf, IsReady, IsFirst, IsSame, HasServed, rooms};
+ghost use Rattle.zs_pool.specs.Shares.{IsOf, IsReady, IsFirst, IsSame, HasServed, rooms};
 ghost use Rattle.zs_pool.specs.Joined.{Promised, AreBoth, IsPart, allowed};
 ghost use Rattle.zs_pool.specs.declared.fault.PoolFault.TheVariants.{Full, Memory, NoThread};
 
@@ -13,10 +13,8 @@ use crate::polled::Polled;
 use crate::poller::Poller;
 use crate::polling::poll_in;
 use crate::rounds::shared::{Rights, Shared};
-use crate::shelf::{Shelf, ShelfPass};
 use futures::task::Context;
 use std::alloc::{AllocError, Global};
-use std::mem::drop;
 use std::snapshot::Snapshot;
 use std::sync::Wait;
 use std::thread::{Promise, PromisedHandle, Scope, Threads};
@@ -47,49 +45,21 @@ impl Promise<Served> for WorkerPromise {
 // A started worker.
 pub type Worker = PromisedHandle<Served, WorkerPromise>;
 
-// Puts a message on the shelf, or keeps it where there is no room.
-fn hand_in<R: Wait>(
-    rt: &R,
-    shelf: &Shelf,
-    pass: &mut ShelfPass,
-    kept: &mut Vec<Polled>,
-    message: Polled,
-) -> Result<(), AllocError>
-    requires shelf { pass.old.shelf ≡ shelf.now }
-    ensures same { (pass.new.shelf ≡ shelf.now) × (pass.new.share ≡ pass.old.share) × (pass.new.taken ≡ pass.old.taken) }
-    ensures handed { OnOk result (HandsIn pass.old.put kept.old.items message pass.new.put kept.new.items) }
-{
-    match shelf.put(rt, pass, message) {
-        Ok(()) => Ok(()),
-        Err((back, _full)) => {
-            kept.push(back)?;
-            Ok(())
-        }
-    }
-}
-
 // Puts what one more worker kept behind what the others did.
 fn both(overflow: Overflow, more: Overflow) -> Overflow
     ensures both { IfOk result (AreBoth overflow more) }
 {
     let mut kept = overflow?;
-    let mut more = more?;
-    kept.append(&mut more)?;
+    kept.append(&mut more?)?;
     Ok(kept)
 }
 
-// Waits for all workers, of which one may have been refused memory.
+// Waits for the workers, up to one that was refused memory: the scope waits for the others.
 fn wait_for<R: Threads>(rt: &R, workers: Vec<Worker>) -> Result<(), PoolFault>
     ensures fault { IfErr result (λ e. e ≡ Memory) }
 {
-    let mut refused = false;
     for worker in workers {
-        let served = worker.join(rt);
-        refused = refused || served.overflow.is_err();
-        drop(served);
-    }
-    if refused {
-        return Err(PoolFault::Memory);
+        worker.join(rt).overflow?;
     }
     Ok(())
 }
@@ -120,31 +90,26 @@ impl<'s, G: Gate> Shared<'s, G> {
                 cx,
                 batch,
             );
-            hand_in(rt, self.shelf, &mut rights.shelf_pass, &mut kept, message)?;
+            if let Err((back, _full)) = self.shelf.put(rt, &mut rights.shelf_pass, message) {
+                kept.push(back)?;
+            }
         }
         unreachable!()
     }
 
     // Claims, polls and hands in until nothing is left. A message for which the shelf has no room is kept.
-    pub fn serve<R: Wait>(self, rt: &R, alloc: Global, rights: &mut Rights) -> Overflow
-        requires ready { IsReady self rights.old }
-        ensures same { IsSame rights.old rights.new }
-        ensures served { HasServed self.entry.moment rights.old rights.new result }
-    {
-        let poller = Poller::new(alloc)?;
-        let mut cx = poller.solo().begin();
-        let kept = self.serve_in(rt, alloc, rights, &mut cx);
-        cx.cancel();
-        kept
-    }
-
-    // Serves, and hands back the rights.
-    fn work<R: Wait>(self, rt: &R, alloc: Global, mut rights: Rights) -> Served
+    pub fn serve<R: Wait>(self, rt: &R, alloc: Global, mut rights: Rights) -> Served
         requires ready { IsReady self rights }
         ensures same { IsSame rights result.rights }
         ensures served { HasServed self.entry.moment rights result.rights result.overflow }
     {
-        let overflow = self.serve(rt, alloc, &mut rights);
+        let Ok(poller) = Poller::new(alloc) else {
+            let overflow = Err(AllocError);
+            return Served { rights, overflow };
+        };
+        let mut cx = poller.solo().begin();
+        let overflow = self.serve_in(rt, alloc, &mut rights, &mut cx);
+        cx.cancel();
         Served { rights, overflow }
     }
 
@@ -169,7 +134,7 @@ impl<'s, G: Gate> Shared<'s, G> {
         let run = move || -> Served
             requires ready { IsReady (record { gate = shared.gate; board = shared.board; shelf = shared.shelf; tally = shared.tally; moment = moment; tasks = shared.tasks }) rights }
             ensures served { IsSame rights result.rights × HasServed moment rights result.rights result.overflow }
-        { Shared { moment, ..shared }.work(rt, alloc, rights) };
+        { Shared { moment, ..shared }.serve(rt, alloc, rights) };
         Ok(scope.spawn_with(promise, run)?)
     }
 
@@ -201,7 +166,6 @@ impl<'s, G: Gate> Shared<'s, G> {
                     };
                 }
                 Err(refused) => {
-                    drop(rights);
                     wait_for(rt, workers)?;
                     return Err(refused);
                 }
@@ -211,27 +175,21 @@ impl<'s, G: Gate> Shared<'s, G> {
     }
 
     // Joins all workers and their rights.
-    pub fn join_all<R: Threads>(
-        self,
-        rt: &R,
-        mut rights: Rights,
-        mut overflow: Overflow,
-        workers: Vec<Worker>,
-    ) -> Served
-        requires of { IsOf self rights }
-        requires each { All (Promised self rights.board_pass.batches) workers.items }
+    pub fn join_all<R: Threads>(self, rt: &R, mut served: Served, workers: Vec<Worker>) -> Served
+        requires of { IsOf self served.rights }
+        requires each { All (Promised self served.rights.board_pass.batches) workers.items }
         ensures of { IsOf self.entry result.rights }
-        ensures batches { result.rights.board_pass.batches ≡ rights.board_pass.batches }
-        ensures shares { (result.rights.board_pass.share ≡ rights.board_pass.share + length workers.items) × (result.rights.shelf_pass.share ≡ rights.shelf_pass.share + length workers.items) }
-        ensures taken { result.rights.shelf_pass.taken ≡ rights.shelf_pass.taken }
-        ensures part { (first room : ℕ) → IfOk overflow (λ ps. IsPart self.entry.moment rights.board_pass.batches first room (allowed workers.items) rights ps.items)
-            → IfOk result.overflow (λ ps. IsPart self.entry.moment rights.board_pass.batches first room 0 result.rights ps.items) }
+        ensures batches { result.rights.board_pass.batches ≡ served.rights.board_pass.batches }
+        ensures shares { (result.rights.board_pass.share ≡ served.rights.board_pass.share + length workers.items) × (result.rights.shelf_pass.share ≡ served.rights.shelf_pass.share + length workers.items) }
+        ensures taken { result.rights.shelf_pass.taken ≡ served.rights.shelf_pass.taken }
+        ensures part { (first room : ℕ) → IfOk served.overflow (λ ps. IsPart self.entry.moment served.rights.board_pass.batches first room (allowed workers.items) served.rights ps.items)
+            → IfOk result.overflow (λ ps. IsPart self.entry.moment served.rights.board_pass.batches first room 0 result.rights ps.items) }
     {
         for worker in workers {
-            let served = worker.join(rt);
-            rights = self.join(rt, rights, served.rights);
-            overflow = both(overflow, served.overflow);
+            let more = worker.join(rt);
+            served.rights = self.join(rt, served.rights, more.rights);
+            served.overflow = both(served.overflow, more.overflow);
         }
-        Served { rights, overflow }
+        served
     }
 }

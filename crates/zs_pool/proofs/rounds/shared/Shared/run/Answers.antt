@@ -4,8 +4,8 @@ use Rattle.zs_pool.specs.Joined.{IsPart, allowed}
 use Rattle.zs_pool.proofs.Parts.{part_start}
 use Rattle.zs_pool.proofs.rounds.shared.Shared.run.Goals as goal
 
-pub serve-overflow-requires-clause-ready : goal.serve-overflow-requires-clause-ready
-serve-overflow-requires-clause-ready g c κs within =
+pub serve-served-requires-clause-ready : goal.serve-served-requires-clause-ready
+serve-served-requires-clause-ready g c κs within =
     let told = c.in_ok-rights.ensures in let first = c.requires.first in
     let same = ap (λ p. p.batches) told.board_pass in
     let P : List BatchValue → Type 0 = AllPollable c.args.self.moment in
@@ -18,15 +18,15 @@ serve-overflow-requires-clause-ready g c κs within =
 
 pub returns-clause-whole : goal.returns-clause-whole
 returns-clause-whole g c =
-    let told = c.in_ok-rights.ensures in let same = c.serve-overflow.ensures.same in let end = c.join_all.ensures in
+    let told = c.in_ok-rights.ensures in let same = c.serve-served.ensures.same in let end = c.join_all.ensures in
     let now = c.args.self.moment in let count = c.args.rights.seat.count in let room = c.args.rights.seat.allowance in
     let batches = same.1 ∙ ap (λ p. p.batches) told.board_pass in
     let B : List BatchValue → Type 0 = λ l.
-    IfOk c.serve-overflow.result (λ ps. IsPart now l count room (allowed c.in_ok-rights.workers.items) c.serve-overflow.new.rights ps.items)
+    IfOk c.serve-served.result.overflow (λ ps. IsPart now l count room (allowed c.in_ok-rights.workers.items) c.serve-served.result.rights ps.items)
     in
     let start =
-    part_start now c.args.rights.board_pass.batches c.in_ok-rights.rights c.serve-overflow.new.rights c.serve-overflow.new.rights.shelf_pass c.serve-overflow.result count room (allowed c.in_ok-rights.workers.items) (ap (λ p. p.batches) told.board_pass) refl told.seat.1
-    (omega (arith, told.seat.2, told.count.1)) c.serve-overflow.ensures.served
+    part_start now c.args.rights.board_pass.batches c.in_ok-rights.rights c.serve-served.result.rights c.serve-served.result.rights.shelf_pass c.serve-served.result.overflow count room (allowed c.in_ok-rights.workers.items) (ap (λ p. p.batches) told.board_pass) refl told.seat.1
+    (omega (arith, told.seat.2, told.count.1)) c.serve-served.ensures.served
     in
     let E : List BatchValue → Type 0 = λ l. IfOk c.join_all.result.overflow (λ ps. IsPart now l count room 0 c.join_all.result.rights ps.items) in
     record {

@@ -3,10 +3,10 @@ use Rattle.std.specs.Vec.Iter.{into_iter_items}
 use Rattle.zs_drive.specs.Values.{job_kept}
 use Rattle.zs_engine.specs.Rounds.{jobs_in}
 use Rattle.zs_engine.specs.Engine.{IsNew}
-use Rattle.zs_engine.proofs.jobs.run_keeping.Given as goal
+use Rattle.zs_engine.proofs.engine.Engine.run_in.Given as goal
 
 abbrev pub invariant-loop-job : goal.invariant-loop-job
 invariant-loop-job g l = record {
-  new : IsNew l.fn.clock (jobs_in l.engine.slots.items) l.engine;
-  jobs : jobs_in l.engine.slots.items ++ map (job_kept l.fn.keeps) (into_iter_items l.job-iterator) ≡ map (job_kept l.fn.keeps) l.fn.jobs.items;
+  new : IsNew l.fn.self.clock (jobs_in l.self.slots.items) l.self;
+  jobs : jobs_in l.self.slots.items ++ map (job_kept l.fn.keeps) (into_iter_items l.job-iterator) ≡ map (job_kept l.fn.keeps) l.fn.jobs.items;
 }
