@@ -66,13 +66,14 @@ def axes(divisor=1, attempts=ATTEMPTS):
 
 
 def exponent(values):
-    """The exponent of a line: the slope of its logarithms by least squares, over the upper decade of its sizes."""
+    """The exponent of a line to two places: the slope of its logarithms by least squares, over its sizes' upper decade."""
     last = max(size for size, _ in values)
     logs = [(math.log(size), math.log(value)) for size, value in values if size * 10 >= last]
     middle_x = sum(x for x, _ in logs) / len(logs)
     middle_y = sum(y for _, y in logs) / len(logs)
     spread = sum((x - middle_x) ** 2 for x, _ in logs)
-    return sum((x - middle_x) * (y - middle_y) for x, y in logs) / spread
+    slope = sum((x - middle_x) * (y - middle_y) for x, y in logs) / spread
+    return round(slope, 2) + 0.0  # The sum is never -0.0.
 
 
 # What is told of a run, and how it is written.
