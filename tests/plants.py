@@ -221,7 +221,8 @@ def write_cases(folder):
                 shutil.copy(file, folder)
     plans = [(f"seed_{seed}", plan_of(seed)) for seed in SEEDS]
     plans += [("500_attempts", large_plans.attempts_over_each_operator()),
-              ("10500_rounds", large_plans.plan([large_plans.job(0, "forever")], horizon=10500)),
+              ("10500_polls", large_plans.plan([large_plans.job(0, "forever")], horizon=10500)),
+              ("10500_rounds", large_plans.plan([large_plans.job(0, "forever" + ".map(+ 1)" * 63)], horizon=10500)),
               ("100001_ticks", large_plans.plan([large_plans.job(0, "spaced(9999)")], ticks=list(range(100001))))]
     for name, text in plans:
         status, report, _ = reference.answer(text)
