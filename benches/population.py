@@ -1,19 +1,23 @@
 #!/usr/bin/env python3
-"""Measures a population of many jobs on this machine: cut by zsched-plan, each part run by zsched, as many parts at a
-time as there are processors, and joined by zsched-report.
+"""Measures a population of many jobs on this machine: cut by zsched-plan, each part run by zsched and its digest made, as
+many parts at a time as there are processors, joined by zsched-report with the manifest and by lines; the pipe without parts
+by GNU parallel, if that is installed, whose report must have the same bytes; and the forms of the whole report.
 
     python3 benches/population.py [--jobs 1000000] [--part 10000] [--folder FOLDER]
 
 Prints a Markdown table with a row a step: wall time, the processor time of all its processes, the peak memory of the
-largest of them, and jobs a second. The jobs are those of the plan `jobs_1_1`: 20 attempts each. A million of them take
-some 2 GB of files, which are removed. Exit status: 0, 1 where a step failed or the joined report isn't that of all jobs, 2
-where the words or a program are wrong."""
+largest of them, jobs a second of wall time, and the megabytes that it read a second of wall and of processor time. The jobs
+are those of the plan `jobs_1_1`: 20 attempts each. A million of them take some 3.5 GB of files, which are removed. Exit
+status: 0, 1 where a step failed or a joined report isn't that of all jobs, 2 where the words or a program are wrong."""
 import argparse
 import concurrent.futures
+import filecmp
 import itertools
 import json
 import os
 import pathlib
+import re
+import shutil
 import subprocess
 import sys
 import tempfile
@@ -40,10 +44,11 @@ def write_population(path, count):
         file.writelines(json.dumps(line, separators=(",", ":")) + "\n" for line in itertools.chain([plan], jobs))
 
 
-def ran(words, output=os.devnull):
+def ran(words, output=os.devnull, environment=None):
     """One run of a tool, with its output in a file."""
     begun = time.perf_counter()
-    with open(output, "wb") as out, subprocess.Popen(words, stdin=subprocess.DEVNULL, stdout=out) as process:
+    with (open(output, "wb") as out,
+          subprocess.Popen(words, stdin=subprocess.DEVNULL, stdout=out, env=environment) as process):
         _, status, usage = os.wait4(process.pid, 0)
         process.returncode = os.waitstatus_to_exitcode(status)
     wall = time.perf_counter() - begun
@@ -59,16 +64,64 @@ def run_parts(zsched, parts):
                        next((run.status for run in runs if run.status), 0))
 
 
-def steps(zsched, folder, count, size):
-    """The steps, each with its name and its run. They end where one failed."""
+def make_digests(parts):
+    """Makes the digest of each part, as the recipes of docs/SCALE.md do."""
+    runs = [ran(["sha256sum", part, part.with_suffix(".report")], part.with_suffix(".sha256")) for part in parts]
+    return measure.Run(sum(run.wall for run in runs), sum(run.processor for run in runs), max(run.memory for run in runs),
+                       next((run.status for run in runs if run.status), 0))
+
+
+def has_parallel():
+    """Whether GNU parallel is installed. Another program has that name too."""
+    found = shutil.which("parallel")
+    return found is not None and subprocess.run([found, "--version"], capture_output=True, check=False).stdout.startswith(b"GNU")
+
+
+def scale_pipe():
+    """The script and the commands of the pipe in docs/SCALE.md."""
+    section = (TOP / "docs" / "SCALE.md").read_text(encoding="utf-8").partition("## The pipe, without parts")[2]
+    return re.findall(r"^```sh\n(.*?)^```", section, re.MULTILINE | re.DOTALL)[:2]
+
+
+def run_pipe(zsched, folder, most):
+    """Runs the pipe of docs/SCALE.md, with blocks of another length, in a folder with population.jsonl."""
+    script, commands = scale_pipe()
+    (folder / "run-block.sh").write_text(script)
+    (folder / "bin").mkdir()
+    (folder / "bin" / "zsched").symlink_to(pathlib.Path(zsched).resolve())
+    (folder / ".parallel").mkdir()
+    (folder / ".parallel" / "will-cite").touch()
+    commands = commands.replace("-N 10000", f"-N {most}").replace("whole.report", "piped.report")
+    environment = {**os.environ, "PATH": f"{folder / 'bin'}:{os.environ['PATH']}", "HOME": str(folder)}
+    return ran(["bash", "-c", f"cd '{folder}'\n{commands}"], environment=environment)
+
+
+def size(paths):
+    """How many bytes some files have together."""
+    return sum(path.stat().st_size for path in paths)
+
+
+def steps(zsched, folder, count, most):
+    """The steps, each with its name, its run and the bytes that it reads. They end where one failed."""
     population, parts, whole = folder / "population.jsonl", folder / "parts", folder / "whole.report"
+    report = TOP / "tools" / "zsched-report"
     write_population(population, count)
-    yield "cut", ran([TOP / "tools" / "zsched-plan", "split", "--lines", str(size), population, "-o", parts])
+    yield ("cut", ran([TOP / "tools" / "zsched-plan", "split", "--lines", str(most), population, "-o", parts]),
+           size([population]))
     cut = sorted(parts.glob("part-*.json"))
-    yield "run", run_parts(zsched, cut)
-    yield "join", ran([TOP / "tools" / "zsched-report", "join", *(part.with_suffix(".report") for part in cut)], whole)
-    if last_line(whole) != b"polls %d\n" % (count * POLLS):
-        raise measure.Failed(f"the joined report isn't that of {count} jobs: it ends with {last_line(whole)!r}")
+    reports = [part.with_suffix(".report") for part in cut]
+    yield "run", run_parts(zsched, cut), size(cut)
+    yield "digests", make_digests(cut), size(cut + reports)
+    for name, words in [("join by the manifest", [parts / "manifest"]), ("join by lines", reports)]:
+        yield name, ran([report, "join", *words], whole), size(reports + (cut if len(words) == 1 < len(cut) else []))
+        if last_line(whole) != b"polls %d\n" % (count * POLLS):
+            raise measure.Failed(f"the joined report isn't that of {count} jobs: it ends with {last_line(whole)!r}")
+    if has_parallel():
+        yield "the pipe", run_pipe(zsched, folder, most), size([population])
+        if not filecmp.cmp(whole, folder / "piped.report", shallow=False):
+            raise measure.Failed("the report of the pipe isn't the joined one")
+    for name, words in [("lines", ["lines"]), ("summary", ["summary", "--one-line"]), ("load", ["load"])]:
+        yield name, ran([report, *words, whole]), size([whole])
 
 
 def last_line(path):
@@ -78,17 +131,15 @@ def last_line(path):
         return file.read().splitlines(keepends=True)[-1]
 
 
-def table(zsched, folder, count, size):
+def table(zsched, folder, count, most):
     """The rows of the table, as they come."""
-    yield "| Step | Wall, s | Processor, s | Peak, MB | Jobs a second |"
-    yield "|---|---:|---:|---:|---:|"
-    walls = 0
-    for name, run in steps(zsched, folder, count, size):
+    yield "| Step | Wall, s | Processor, s | Peak, MB | Jobs a second | MB a second | MB a processor second |"
+    yield "|---|---:|---:|---:|---:|---:|---:|"
+    for name, run, read in steps(zsched, folder, count, most):
         if run.status != 0:
             raise measure.Failed(f"{name} ended with status {run.status}")
-        walls += run.wall
-        yield f"| {name} | {run.wall:,.1f} | {run.processor:,.1f} | {run.memory / 1e6:,.1f} | {count / run.wall:,.0f} |"
-    yield f"| all | {walls:,.1f} | | | {count / walls:,.0f} |"
+        yield (f"| {name} | {run.wall:,.1f} | {run.processor:,.1f} | {run.memory / 1e6:,.1f} | {count / run.wall:,.0f} "
+               f"| {read / 1e6 / run.wall:,.1f} | {read / 1e6 / max(run.processor, 1e-3):,.1f} |")
 
 
 def main(words):

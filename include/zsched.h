@@ -14,7 +14,8 @@
  *     aligns them. Where the number is 0 the pointer may be NULL. `reply`, `at` and `size` are never NULL;
  *   - `reply`, `at`, `size`, `state` and `out` overlap nothing else that the call is given, and nobody else writes to any
  *     of it meanwhile;
- *   - no call is made from a signal handler, nor in a forked child of a process with threads, and 64 KiB of stack are free.
+ *   - no call is made from a signal handler, nor in a forked child of a process with threads, and 64 KiB of stack are free
+ *     (the deepest schedule took 44).
  *
  * Calls may run at once on any number of threads: they share nothing but malloc, realloc and free. All that a call takes
  * of these it gives back. Moments are whole milliseconds from any start that suits the caller, in 64 bits without a sign.
@@ -24,6 +25,12 @@
 
 #include <stddef.h>
 #include <stdint.h>
+
+/* The version of this header; zs_version tells that of the library. */
+#define ZS_VERSION_MAJOR 0
+#define ZS_VERSION_MINOR 2
+#define ZS_VERSION_PATCH 0
+#define ZS_VERSION_NUMBER (1000000 * ZS_VERSION_MAJOR + 1000 * ZS_VERSION_MINOR + ZS_VERSION_PATCH)
 
 #ifdef __cplusplus
 extern "C" {
@@ -93,12 +100,21 @@ uint32_t zs_begin(const uint8_t *text, size_t text_len, uint64_t *state, size_t 
 
 /* One more step, at a moment in milliseconds and with any input, of the schedule of a text whose state zs_begin wrote and
  * zs_step went on with. ZS_NEXT or ZS_DONE, and all that zs_answer tells at the last of these pairs; the words are then the
- * state behind this step. Else ZS_FALLS, ZS_NO_ROOM, or what zs_state_size answers; words and room then stay.
+ * state behind this step. Else what zs_state_size answers, which goes before ZS_FALLS, and that before ZS_NO_ROOM; words and
+ * room then stay.
  *
  * Nobody can tell from words of which steps they came. Of words that were changed, or those of another text, nothing is
  * promised but that the call returns, and reads and writes nothing beside what it is given; words behind the state stay. */
 uint32_t zs_step(const uint8_t *text, size_t text_len, uint64_t *state, size_t state_len, uint64_t moment,
                  uint64_t input, zs_reply *reply, uint8_t *out, size_t out_len);
+
+/* The text of a number that a call answered, and of the place beside it, in English ("no term at byte 23"; ASCII, with no 0
+ * behind it): how many bytes it has, 0 where the number is no fault. It is written over the front of `out`, all of it where
+ * out_len is at least that, else its first out_len bytes; the rest of `out` stays. 80 bytes hold each of them. */
+uint64_t zs_fault_text(uint32_t number, uint64_t at, uint8_t *out, size_t out_len);
+
+/* The version of the library, as ZS_VERSION_NUMBER has that of the header. */
+uint32_t zs_version(void);
 
 #ifdef __cplusplus
 }

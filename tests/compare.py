@@ -23,7 +23,7 @@ HERE = pathlib.Path(__file__).resolve().parent
 sys.path.insert(0, str(HERE.parent / "tools"))
 
 from generator import json_text, plan_of
-from program import run, shown
+from support import run, shown
 from zsched_tools.program import NoProgram, find
 
 MOST_ATTEMPTS = 2100

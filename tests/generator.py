@@ -184,7 +184,7 @@ def made_job(chance, number, room, is_long):
             tokens = ["(", *tokens, "&&", "recurs", "(", str(chance.randrange(most // 2, most)), ")", ")"]
     name = f"j{number}" if chance.random() < 0.9 else f"{number}".ljust(64, chance.choice("._-AZaz09"))
     job = {"name": name, "mode": mode, "schedule": spelled(chance, tokens), "script": script}
-    if chance.random() < 0.4:
+    if chance.random() < 0.25:
         job["start"] = whole(chance)
     return job
 
@@ -193,14 +193,26 @@ def made_plan(chance):
     """The tree of a lawful plan, but for schedules at a limit, which a bound may carry past it."""
     is_long = chance.random() < 0.1
     key, value, room = made_clock(chance, is_long)
-    count = chance.choice([0, 1, 1, 1, 1, 2, 2, 3, 5]) if chance.random() < 0.95 else chance.randrange(6, 50)
+    count = chance.choice([1, 2, 2, 2, 3, 3, 4, 5, 6]) if chance.random() < 0.93 else chance.choice([0, chance.randrange(6, 50)])
     count = 1 if is_long else count
-    tree = {key: value, "jobs": [made_job(chance, number, room, is_long) for number in range(count)]}
-    if chance.random() < 0.6:
-        tree["workers"] = chance.choice([1, 2, 3, 4, 7, 8, 63, 64])
-    if chance.random() < 0.6:
-        tree["grain"] = chance.choice([1, 1, 2, 3, 7, 100, 9999, 10000])
+    jobs = [made_job(chance, number, room, is_long) for number in range(count)]
+    tree = {key: value, "jobs": start_together(chance, jobs)}
+    if chance.random() < 0.95:
+        tree["workers"] = chance.choice([1, 2, 2, 3, 3, 4, 4, 7, 8, 63, 64])
+    if chance.random() < 0.45:
+        tree["grain"] = chance.choice([1, 1, 1, 1, 1, 2, 7, 100, 10000])
     return tree
+
+
+def start_together(chance, jobs):
+    """The jobs of a plan. Most start together, so that polls of several are due at one moment and threads share them."""
+    together = jobs[0].get("start") if jobs else None
+    for job in jobs:
+        if chance.random() < 0.85:
+            job.pop("start", None)
+            if together is not None:
+                job["start"] = together
+    return jobs
 
 
 # ---- Faults, in the order of docs/FORMATS.md

@@ -13,7 +13,7 @@ import fuzz
 import hostile_plans
 import hostile_streams
 import refused_growths
-from program import REFUSALS, ZSCHED, Count
+from support import REFUSALS, ZSCHED, Count
 
 FUZZ_SECONDS = 20
 FUZZ_SEED = 1

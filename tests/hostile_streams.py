@@ -6,7 +6,7 @@ import subprocess
 import threading
 import time
 
-from program import ONE_JOB, ONE_REPORT, ZSCHED, equal_jobs
+from support import ONE_JOB, ONE_REPORT, ZSCHED, equal_jobs
 
 LONG_NAMES = [f"job{number}" for number in range(2000)]
 PATIENCE = 20

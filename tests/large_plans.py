@@ -3,24 +3,28 @@
 
     python3 tests/large_plans.py
 
-The plans have many attempts, items, ticks, rounds, jobs or bytes. A machine that runs this has the memory and the
-threads for them, so a status 4 fails. The last line is 'N passed, M failed'; the exit status is 0 where M is 0, 1 where
+The plans have many attempts, items, ticks, rounds, jobs or bytes. The reports of the largest are made by a loop here, and
+not by the reference. A machine that runs this has the memory and the threads for them, so a status 4 fails. The last line is 'N passed, M failed'; the exit status is 0 where M is 0, 1 where
 it isn't, and 2 where there is no program."""
 import argparse
 import json
 import pathlib
+import socket
+import subprocess
 import sys
 
 sys.dont_write_bytecode = True
 sys.path.insert(0, str(pathlib.Path(__file__).resolve().parent.parent / "tools"))
 
 import reference
-from program import Count, run
+from support import Count, run
 from zsched_tools.program import NoProgram, find
 
 M = 2 ** 64 - 1
 LAST_TICK = 999999999999999
 PATIENCE = 120
+LONGEST_PIECE = 1 << 20
+ONE_WRITE = "a report of 100,000 bytes goes out in one write"
 
 # A leaf of each form that goes on for long, and some that grow.
 LEAVES = ["forever", "recurs(600)", "spaced(3)", "fixed(7)", "windowed(7)", "exponential(1, 1)", "exponential(1)",
@@ -70,11 +74,10 @@ def many_ticks():
     return plan(jobs, ticks=ticks)
 
 
-def many_polls(workers, modifiers=0):
-    """A job of 12,000 attempts, with two jobs beside it. With 61 modifiers they have 65 nodes each, and wait for rounds; with
-    none each is run alone."""
+def many_polls(workers):
+    """A job of 12,000 attempts, with two jobs beside it."""
     pairs = ["forever && forever", "spaced(99) && spaced(99)", "spaced(1) && recurs(5000)"]
-    jobs = [job(number, f"({pair}).map(_1)" + ".map(+ 1)" * modifiers) for number, pair in enumerate(pairs)]
+    jobs = [job(number, f"({pair}).map(_1)") for number, pair in enumerate(pairs)]
     return plan(jobs, horizon=12000, workers=workers)
 
 
@@ -83,6 +86,94 @@ def many_jobs(count, workers, grain):
     jobs = [{**job(number, "(spaced(2) && recurs(1))", [number], 1 + number % 3), "start": number % 5}
             for number in range(count)]
     return plan(jobs, horizon=20, workers=workers, grain=grain)
+
+
+def ended(attempts, ending, polls):
+    """How a plan of one job ends, with these lines of its attempts: what `run` returns of it."""
+    report = "\n".join([*attempts, f"end {ending} polls {polls}", f"polls {polls}"]) + "\n"
+    return 0, report.encode(), b""
+
+
+def many_attempts(count):
+    """A job of so many attempts."""
+    lines = ["job j0 repeat"]
+    for n in range(count):
+        decision = "done" if n == count - 1 else f"next {n + 1}"
+        lines += [f"attempt {n + 1} {n}..{n + 1} ok 0", f"step {n + 1} out {n} {decision}"]
+    return plan([job(0, f"recurs({count - 1})")], horizon=LAST_TICK), ended(lines, f"finished {count - 1} at {count}", count + 1)
+
+
+def long_report(items):
+    """A list of so many greatest numbers, of which each step tells those before it."""
+    lines, out = ["job j0 repeat"], ""
+    for n in range(items + 1):
+        out = "[" + ",".join([str(M)] * n) + "]"
+        decision = "done" if n == items else f"next {n + 1}"
+        lines += [f"attempt {n + 1} {n}..{n + 1} ok {M}", f"step {n + 1} out {out} {decision}"]
+    schedule = f"(identity && recurs({items})).map(_1).collectAll"
+    return plan([job(0, schedule, [M])], horizon=LAST_TICK), ended(lines, f"finished {out} at {items + 1}", items + 2)
+
+
+def long_schedule(spaces):
+    """A schedule of so many bytes and some."""
+    lines = ["job j0 repeat", "attempt 1 0..1 ok 0", "step 1 out 0 done"]
+    return plan([job(0, "recurs(" + " " * spaces + "0)")], horizon=9), ended(lines, "finished 0 at 1", 2)
+
+
+def many_moments(count):
+    """So many jobs, of which the first one begins last."""
+    jobs = [{**job(n, "recurs(0)"), "start": 2 * (count - n)} for n in range(count)]
+    lines = []
+    for n in range(count):
+        start = 2 * (count - n)
+        lines += [f"job j{n} repeat", f"attempt 1 {start}..{start + 1} ok 0", "step 1 out 0 done",
+                  f"end finished 0 at {start + 1} polls 2"]
+    return plan(jobs, horizon=2 * count + 1), (0, "\n".join([*lines, f"polls {2 * count}", ""]).encode(), b"")
+
+
+def late_moments(names):
+    """Jobs of three attempts, of which the last ends at the last tick, each a batch of two threads."""
+    start = LAST_TICK - 6
+    lines = []
+    for name in names:
+        lines.append(f"job {name} repeat")
+        for n in range(3):
+            begun = start + 2 * n
+            decision = "done" if n == 2 else f"next {begun + 2}"
+            lines += [f"attempt {n + 1} {begun}..{begun + 2} ok 0", f"step {n + 1} out {n} {decision}"]
+        lines.append(f"end finished 2 at {LAST_TICK} polls 4")
+    jobs = [{**job(0, "recurs(2)", ms=2), "name": name, "start": start} for name in names]
+    report = "\n".join([*lines, f"polls {4 * len(names)}", ""])
+    return plan(jobs, horizon=LAST_TICK, workers=2), (0, report.encode(), b"")
+
+
+def sizes():
+    """A name, a plan and how its run ends, each past a size at which a body could give up."""
+    return [
+        ("70,000 attempts", many_attempts(70000)),
+        ("a report of 45 million bytes", long_report(2100)),
+        ("a schedule of 4,000,000 bytes", long_schedule(4000000)),
+        ("9,000 moments", many_moments(9000)),
+        ("attempts at the last ticks, and a name of 64 bytes", late_moments(["n" * 64, "second"])),
+    ]
+
+
+def writes_of(zsched, text):
+    """The lengths of the pieces in which the program writes to a socket that keeps them apart."""
+    ours, theirs = socket.socketpair(socket.AF_UNIX, socket.SOCK_SEQPACKET)
+    with ours, theirs, subprocess.Popen([zsched], stdin=subprocess.PIPE, stdout=theirs, stderr=subprocess.DEVNULL) as running:
+        theirs.close()
+        running.stdin.write(text)
+        running.stdin.close()
+        return list(iter(lambda: len(ours.recv(LONGEST_PIECE)), 0))
+
+
+def test_sizes(count, zsched):
+    """The plans past such sizes, and the number of writes of a report."""
+    for name, (text, wanted) in sizes():
+        count.test(name, run(zsched, text, seconds=PATIENCE), wanted)
+    text, (_, report, _) = many_attempts(2000)
+    count.test(ONE_WRITE, writes_of(zsched, text), [len(report)])
 
 
 def plans():
@@ -94,9 +185,8 @@ def plans():
         ("1,100 collected items", collected(1100, 7)),
         ("a report of 20 million bytes", collected(1400, M)),
         ("a million ticks", many_ticks()),
-        ("12,000 attempts of a job alone", many_polls(1)),
-        ("12,000 rounds on a thread", many_polls(1, 61)),
-        ("12,000 rounds on two threads", many_polls(2, 61)),
+        ("12,000 rounds on a thread", many_polls(1)),
+        ("12,000 rounds on two threads", many_polls(2)),
         ("9,999 jobs, each a batch", many_jobs(9999, 3, 1)),
         ("10,000 jobs in one batch", many_jobs(10000, 8, 10000)),
         ("a schedule with 1,000,000 spaces", plan([job(0, "recurs(" + " " * 1000000 + "3)")], horizon=9)),
@@ -117,6 +207,7 @@ def main():
     count = Count()
     for name, text in plans():
         count.test(name, run(zsched, text, seconds=PATIENCE), reference.answer(text))
+    test_sizes(count, zsched)
     return count.close()
 
 

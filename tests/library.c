@@ -23,7 +23,7 @@
 
 #define THREADS 4
 #define TIMES 3
-#define STACK (72 * 1024)
+#define STACK (64 * 1024)
 #define UNTOUCHED 0xAA
 
 typedef struct request {
@@ -155,6 +155,22 @@ static uint32_t stepped(const request *it, zs_reply *reply, uint8_t *out)
     return number;
 }
 
+/* Whether the text of a number and a place is there, and is cut where its room ends. */
+static int is_told(uint32_t number, uint64_t at)
+{
+    if (atomic_load(&refused_at) >= 0)
+        return 1;
+    uint8_t whole[80];
+    size_t size = zs_fault_text(number, at, whole, sizeof whole);
+    int is_well = (number > ZS_DONE) == (size > 0) && size <= sizeof whole;
+    for (size_t fitting = 0; fitting <= size; fitting += 1 + size / 3) {
+        uint8_t *out = block(fitting);
+        is_well &= zs_fault_text(number, at, out, fitting) == size && (!out || memcmp(out, whole, fitting) == 0);
+        __real_free(out);
+    }
+    return is_well;
+}
+
 /* Does a request: the line that tells of it, and the number that the call answered. */
 static char *done(const request *it, uint32_t *number)
 {
@@ -162,6 +178,8 @@ static char *done(const request *it, uint32_t *number)
     if (it->is_check) {
         uint64_t at = 77;
         *number = zs_check(it->text, it->text_len, &at);
+        if (!is_told(*number, at))
+            fail("a number has no text", (size_t)(it - requests));
         sprintf(line, "%u %llu", *number, (unsigned long long)at);
         return line;
     }
@@ -172,6 +190,8 @@ static char *done(const request *it, uint32_t *number)
     memset(reply, UNTOUCHED, sizeof *reply);
     *number = is_stepping ? stepped(it, reply, out)
                           : zs_answer(it->text, it->text_len, it->seen, it->seen_len, reply, out, it->room);
+    if (!is_told(*number, reply->at))
+        fail("a number has no text", (size_t)(it - requests));
     end += sprintf(end, "%u %llu %llu %llu %llu ", *number, (unsigned long long)reply->next,
                    (unsigned long long)reply->size, (unsigned long long)reply->visits, (unsigned long long)reply->at);
     print_bytes(&end, out, it->room);
@@ -253,9 +273,8 @@ static void read_text(request *it, const char *digits)
     it->text_len = strlen(digits) / 2;
     it->text = block(it->text_len);
     for (size_t i = 0; i < it->text_len; i++) {
-        unsigned byte;
-        sscanf(digits + 2 * i, "%2x", &byte);
-        it->text[i] = (uint8_t)byte;
+        char pair[3] = {digits[2 * i], digits[2 * i + 1], 0};
+        it->text[i] = (uint8_t)strtoul(pair, NULL, 16);
     }
 }
 

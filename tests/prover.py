@@ -16,6 +16,7 @@ GOAL_NOTE = re.compile(r"note: (?:\./)?src/\S+:\d+:\d+: .*\(`([^`]*)`\)")
 REFUSED_PROOF = re.compile(r"(?:\./)?proofs/(\S+)/\w+\.antt:\d+:\d+: error: (?:`([^`]*)`: )?(.*)")
 REFUSED_TEXT = re.compile(r"(?:\./)?((?:src|specs)/[^\s:]+):(\d+):\d+: (?:error|.*: error)\b.*")
 UNPROVED_GOALS = re.compile(r"`search` did not prove ((?:`[^`]*`(?:, | and )?)+)")
+PROVED = re.compile(r"logic=proved\b|only=(\d+) proved=\1$")
 QUOTED = re.compile(r"`([^`]*)`")
 # A proof file's error that says only that it names what the edit took away.
 WEAK = re.compile(r"has no field|is not in scope|has no `|was not admitted")
@@ -52,18 +53,14 @@ class Crate:
         """The files that a check of the crate reads."""
         return [path for part in PARTS for path in (self.folder / part).rglob("*") if path.is_file()]
 
+    def copy_library(self, folder):
+        """Copies the crate as a library into a folder, and has it named there."""
+        if self.rlib.is_dir():
+            self.rlib = shutil.copytree(self.rlib, folder / self.rlib.name)
+
     def size(self):
         """The bytes of those files, by which the crates are ordered."""
         return sum(path.stat().st_size for path in self.sources())
-
-    def is_built(self):
-        """Whether its library is there, and nothing that it is made from is newer."""
-        head = self.rlib / "format"
-        if not head.exists():
-            return False
-        made = head.stat().st_mtime_ns
-        older = self.sources() + [it.rlib / "format" for it in self.below]
-        return all(path.exists() and path.stat().st_mtime_ns <= made for path in older)
 
 
 def crates_of(top):
@@ -120,15 +117,15 @@ class Toolchain:
             raise Unusable("stopped")
         return ran.returncode, used.ru_utime + used.ru_stime
 
-    def build(self, crate, jobs, log):
-        """Builds a crate's library, and those below it, as far as they aren't built."""
-        status, _ = self.run(["rt", "lib", "--jobs", jobs], crate.folder, log)
-        if status:
-            raise Unusable(f"{crate.name} can't be built: {last_line(log)}")
+    def prove(self, crate, jobs, log):
+        """Proves a crate over what is kept, as 'rt check' does, which builds the libraries below it: whether it is proved."""
+        status, seconds = self.run(["rt", "check", "--jobs", jobs], crate.folder, log)
+        return status == 0, seconds
 
-    def check_words(self, crate, jobs):
-        """The words of a check of a copy of the crate, over the kept work beside it."""
-        return [self.kit / "bin" / "rattle", "check", *self.crate_words(crate), "--incremental", "kept", "--jobs", jobs]
+    def check_words(self, crate, functions, jobs):
+        """The words of a check of these functions in a copy of the crate, over the kept work beside it."""
+        only = [word for name in functions for word in ["--only", name]]
+        return [self.kit / "bin" / "rattle", "check", *self.crate_words(crate), *only, "--incremental", "kept", "--jobs", jobs]
 
     def crate_words(self, crate):
         """The words that name a crate in its folder, and the libraries below it as they are built."""
@@ -143,63 +140,33 @@ class Toolchain:
 
 
 class Room:
-    """A copy of a crate's texts and of its kept work, in which it is checked with wrong bodies."""
+    """A copy of a crate's texts and of its kept work, in which functions are checked with wrong bodies."""
 
     def __init__(self, toolchain, crate, folder, texts):
         self.toolchain, self.crate, self.folder, self.texts = toolchain, crate, folder, texts
-        self.kept = folder / "kept"
         self.checks, self.seconds, self.cost = 0, 0.0, ""
         for path, text in texts.items():
             (folder / path).parent.mkdir(parents=True, exist_ok=True)
             (folder / path).write_text(text, encoding="utf-8")
         if crate.kept.is_dir():
-            shutil.copytree(crate.kept, self.kept)
+            shutil.copytree(crate.kept, folder / "kept")
 
-    def check(self, changed, jobs):
-        """Checks the copy with these texts in place of its own, and puts the own ones back."""
+    def check(self, changed, functions, jobs):
+        """Checks functions of the copy with these texts in place of its own, and puts the own ones back."""
         begun = time.monotonic()
         log = self.folder / f"check_{self.checks}.log"
         for path, text in changed.items():
             (self.folder / path).write_text(text, encoding="utf-8")
-        status, seconds = self.toolchain.run(self.toolchain.check_words(self.crate, jobs), self.folder, log)
+        status, seconds = self.toolchain.run(self.toolchain.check_words(self.crate, functions, jobs), self.folder, log)
         if status == -signal.SIGKILL:
             # most likely for memory
-            status, seconds = self.toolchain.run(self.toolchain.check_words(self.crate, 1), self.folder, log)
+            status, seconds = self.toolchain.run(self.toolchain.check_words(self.crate, functions, 1), self.folder, log)
         for path in changed:
             (self.folder / path).write_text(self.texts[path], encoding="utf-8")
         self.checks += 1
         self.seconds += seconds
         self.cost = f"{seconds:.0f} processor seconds in {time.monotonic() - begun:.0f} s"
         return Said(log.read_text(encoding="utf-8", errors="replace"), self.crate.name, self.texts)
-
-    def keep(self):
-        """Gives the crate what a check of it as it stands kept."""
-        copy_changed(self.kept, self.crate.kept)
-
-    def restore(self):
-        """Takes the kept work as it was before a round: a round's own would hide what is right."""
-        copy_changed(self.crate.kept, self.kept)
-
-
-def copy_changed(source, target):
-    """Makes the target folder equal to the source, by the files whose time or size differ."""
-    wanted, found = files_in(source), files_in(target)
-    for path in found.keys() - wanted.keys():
-        (target / path).unlink()
-    for path, stamp in wanted.items():
-        if found.get(path) != stamp:
-            (target / path).parent.mkdir(parents=True, exist_ok=True)
-            shutil.copy2(source / path, target / path)
-
-
-def files_in(folder):
-    """The files below a folder, with their time and size."""
-    found = {}
-    for at, _, names in os.walk(folder):
-        for name in names:
-            stamp = os.stat(f"{at}/{name}")
-            found[os.path.relpath(f"{at}/{name}", folder)] = (stamp.st_mtime_ns, stamp.st_size)
-    return found
 
 
 class Said:
@@ -237,8 +204,8 @@ class Said:
         return bool(self.verdicts) and not self.refused_texts
 
     def is_proved(self):
-        """Whether the whole crate is proved."""
-        return self.lines[-1].startswith("logic=proved")
+        """Whether all that was asked for is proved: the whole crate, or the functions named."""
+        return bool(PROVED.match(self.lines[-1]))
 
     def is_open(self, name):
         """Whether a function has no proof."""

@@ -1,13 +1,13 @@
 #!/usr/bin/env python3
-"""The quick gate: proves what changed over kept proofs, and runs the plans on the program as it stands, unproved.
+"""The quick gate: proves what changed over kept proofs, and runs the plans on the program as it is, unproved.
 
-A crate whose files changed since it was last seen proved here is checked again; where more than bodies of functions
+A crate whose files changed since it was last seen proved here is checked again. If more than bodies of functions
 changed (a definition, a contract, a type), so are the crates above it. Beside that the program is run unproved, with
 checks, on the plans of examples/ and tests/plans/ and on one hostile plan for each fault. It shows no proof from nothing,
-no edit that must fail and no test of the crates: ./check does. The last line is 'N passed, M failed'.
+no wrong body and no test of the crates: ./check does. The last line is 'N passed, M failed'.
 
     python3 tests/quick.py             what ./check quick runs
-    python3 tests/quick.py --proved    takes the crates as they stand for proved: ./run --proved and ./check say so"""
+    python3 tests/quick.py --proved    takes the crates as they are for proved: ./run --proved says so"""
 import contextlib
 import hashlib
 import os
@@ -20,27 +20,45 @@ import tempfile
 sys.dont_write_bytecode = True
 
 import hostile_plans
-from program import TOP, Count
+from prover import crates_of
+from support import TOP, Count
 
 CRATES = TOP / "crates"
 # A plan of more bytes is left to the built program: the unproved run is slow.
 LARGE = 10000
 # How many unproved runs go side by side at most. Each builds the program once.
 LANES = 2
-# A line of a source that callers may lean on: an import, an item's head, a clause or an attribute.
-HEAD = re.compile(r"^\s*(pub\b|fn\b|requires\b|ensures\b|struct\b|enum\b|impl\b|trait\b|ghost\b|use\b|mod\b|const\b|#)")
+# The first line of what callers may use: an import, an item's head, a clause or an attribute.
+HEAD = re.compile(r"^\s*(pub\b|fn\b|requires\b|ensures\b|struct\b|enum\b|impl\b|trait\b|ghost\b|type\b|use\b|mod\b|const\b|#)")
+# The head of a function with no clauses: its body begins on the same line.
+BODY = re.compile(r"^[^=]*\bfn\b.*\{$")
 
 
 def crates():
-    """The crates of the program, lowest first, each with those that it stands on."""
-    lines = (TOP / "crates.txt").read_text().splitlines()
-    listed = {line.split(":")[0].split()[0]: line.split(":")[1].split() for line in lines if ":" in line and line[0] != "#"}
-    wanted = [*listed["zsched"], "zsched"]
-    return {name: [it for it in listed[name] if it in listed] for name in listed if name in wanted}
+    """The crates of the program, lowest first, each with those that it names."""
+    listed = crates_of(TOP)
+    wanted = [*listed["zsched"].libraries, "zsched"]
+    return {name: [it for it in listed[name].libraries if it in listed] for name in listed if name in wanted}
+
+
+def heads_of(text):
+    """The lines of a source that callers may use: each head up to the body, a clause with all its lines, an enum with its
+    variants, a struct with its fields."""
+    found, is_within = [], False
+    for line in text.splitlines():
+        if HEAD.match(line):
+            is_within = True
+        elif is_within and re.match(r"^\s*[{}]", line):
+            is_within = False
+        if is_within:
+            found.append(line)
+        if BODY.match(line):
+            is_within = False
+    return found
 
 
 def sums(name):
-    """A checksum of all files of a crate, and one of what the crates above it may lean on."""
+    """A checksum of all files of a crate, and one of what the crates above it may use."""
     whole, heads = hashlib.sha256(), hashlib.sha256()
     for part in ["src", "specs", "proofs"]:
         for file in sorted((CRATES / name / part).rglob("*")):
@@ -51,7 +69,7 @@ def sums(name):
             if part == "specs":
                 heads.update(text.encode())
             elif part == "src":
-                heads.update("\n".join(line for line in text.splitlines() if HEAD.match(line)).encode())
+                heads.update("\n".join(heads_of(text)).encode())
     return [whole.hexdigest(), heads.hexdigest()]
 
 
@@ -91,6 +109,12 @@ def prove(count, listed):
             print("\n".join(ended.stdout.splitlines()[-30:]))
             return
         keep(name, now)
+
+
+def take_as_proved():
+    """Takes the crates of the program as they are for proved."""
+    for name in crates():
+        keep(name, sums(name))
 
 
 def write_cases(folders):
@@ -134,8 +158,7 @@ def judge(count, wanted, said):
 def main(words):
     """Both halves side by side."""
     if words == ["--proved"]:
-        for name in crates():
-            keep(name, sums(name))
+        take_as_proved()
         return 0
     if words:
         print("quick: the only word is --proved", file=sys.stderr)

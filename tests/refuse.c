@@ -5,8 +5,9 @@
  * REFUSE_THREADS=N   the N-th start of a thread fails, and so do all later ones
  * REFUSE_WITHIN=N    each request for memory that the N-th started thread makes is answered with none
  * REFUSE_COUNT=FILE  the number of requests is written to FILE when the program ends
+ * COUNT_THREADS=FILE the number of threads that were started is written to FILE when the program ends
  *
- * It stands on the names by which the GNU C library passes its own allocator on.
+ * It uses the names by which the GNU C library passes its own allocator on.
  */
 #define _GNU_SOURCE
 #include <dlfcn.h>
@@ -46,6 +47,7 @@ static unsigned long refused_from = ULONG_MAX;
 static unsigned long refused_starts = ULONG_MAX;
 static unsigned long refused_within = ULONG_MAX;
 static const char *count_file;
+static const char *threads_file;
 
 static unsigned long number_in(const char *name)
 {
@@ -60,19 +62,26 @@ __attribute__((constructor)) static void begin(void)
     refused_starts = number_in("REFUSE_THREADS");
     refused_within = number_in("REFUSE_WITHIN");
     count_file = getenv("REFUSE_COUNT");
+    threads_file = getenv("COUNT_THREADS");
     atomic_store(&requests, 0);
+}
+
+static void write_number(const char *name, unsigned long number)
+{
+    char digits[32];
+    int length = snprintf(digits, sizeof digits, "%lu\n", number);
+    int file = name ? open(name, O_WRONLY | O_CREAT | O_TRUNC, 0600) : -1;
+    if (file >= 0) {
+        if (write(file, digits, (size_t)length) != length)
+            unlink(name);
+        close(file);
+    }
 }
 
 __attribute__((destructor)) static void end(void)
 {
-    char digits[32];
-    int length = snprintf(digits, sizeof digits, "%lu\n", atomic_load(&requests));
-    int file = count_file ? open(count_file, O_WRONLY | O_CREAT | O_TRUNC, 0600) : -1;
-    if (file >= 0) {
-        if (write(file, digits, (size_t)length) != length)
-            unlink(count_file);
-        close(file);
-    }
+    write_number(count_file, atomic_load(&requests));
+    write_number(threads_file, atomic_load(&started));
 }
 
 /* A program of several threads ends by this call, which runs no destructor. */

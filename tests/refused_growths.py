@@ -9,7 +9,7 @@ import pathlib
 import resource
 import subprocess
 
-import program
+import support as program
 
 MOST_REQUESTS = 5000
 
@@ -162,25 +162,27 @@ def program_without_threads(count, refuser):
     text, _ = program.heavy_jobs(2, 3)
     ended, _ = refuser.run(program.ZSCHED, text, refuse_threads=1)
     count.test("no thread can be started", ended, NO_THREAD)
+    many = [f"j{number}" for number in range(10000)]
     alone = [("one worker", program.heavy_jobs(1, 3)), ("one batch", program.heavy_jobs(4, 120)),
-             ("light jobs", program.equal_jobs([f"j{number}" for number in range(10000)], 4, 3)),
-             ("few heavy jobs", program.equal_jobs(["j0", "j1", "j2"], 4, 1, program.HEAVY))]
+             ("10,000 jobs in one batch", program.equal_jobs(many, 4, 10000))]
     for case, (text, report) in alone:
         ended, _ = refuser.run(program.ZSCHED, text, refuse_threads=1)
         count.test(f"no thread for {case}", ended, (0, report, b""))
 
 
 def program_with_few_threads(count, refuser):
-    """A machine on which some threads can be started: three workers need two more than there are at each of the two moments at
-    which attempts end, and none where they begin."""
-    text, report = program.heavy_jobs(3, 1)
-    for number in range(1, 6):
-        ended, _ = refuser.run(program.ZSCHED, text, refuse_threads=number)
-        wanted = NO_THREAD if number <= 4 else (0, report, b"")
-        count.test(f"start {number} of a thread and all later ones refused", ended, wanted)
-    text, report = program.heavy_jobs(4, 60)
-    ended, _ = refuser.run(program.ZSCHED, text, refuse_threads=3)
-    count.test("two batches need one start of a thread at each of two moments, whatever the workers", ended, (0, report, b""))
+    """A machine on which some threads can be started: three workers need two starts of a thread at each of three moments,
+    and two batches need one, whatever the number of workers."""
+    jobs = [("heavy jobs", program.heavy_jobs(3, 1), program.heavy_jobs(4, 60)),
+            ("seven jobs", program.equal_jobs("abcdefg", 3, 1), program.equal_jobs("abcdefg", 64, 4))]
+    for case, (text, report), (pair, its_report) in jobs:
+        for number in range(1, 8):
+            ended, _ = refuser.run(program.ZSCHED, text, refuse_threads=number)
+            wanted = NO_THREAD if number <= 6 else (0, report, b"")
+            count.test(f"{case}, start {number} of a thread and all later ones refused", ended, wanted)
+        for number, wanted in [(3, NO_THREAD), (4, (0, its_report, b""))]:
+            ended, _ = refuser.run(program.ZSCHED, pair, refuse_threads=number)
+            count.test(f"{case} in two batches, start {number} of a thread refused", ended, wanted)
 
 
 def two_causes_are_told_apart(count, refuser):

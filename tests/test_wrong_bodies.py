@@ -1,7 +1,6 @@
-#!/usr/bin/env python3
-"""Shows that tests/wrong_bodies.py can fail: a crate of four functions with wrong bodies that the prover refuses, and
-with edits that must be told by name, none of which hides another. It needs the toolchain, and takes about a minute. The
-last line is 'N passed, M failed'."""
+"""Tests of tests/wrong_bodies.py, which tests/test_gate.py runs: a crate of six functions with wrong bodies that the
+prover rejects, and with edits that must be reported by name, none of which hides another. They need the toolchain."""
+import datetime
 import os
 import pathlib
 import signal
@@ -12,8 +11,8 @@ import time
 
 sys.dont_write_bytecode = True
 
-from program import Count
-from prover import Said
+from prover import Crate, Said
+from wrong_bodies import Trial, give_turns
 from wrong_edits import BadEdit, Edit, edited
 
 RUNNER = pathlib.Path(__file__).resolve().parent / "wrong_bodies.py"
@@ -52,6 +51,20 @@ pub fn zero() -> u64
 {
     0
 }
+
+/// One.
+pub fn one() -> u64
+    ensures value { result ≡ 1 }
+{
+    1
+}
+
+/// Two.
+pub fn two() -> u64
+    ensures value { result ≡ 2 }
+{
+    2
+}
 """
 
 # What a check says of a function with a goal of its own, of some that only wait, of a closure, and of a cycle of calls.
@@ -77,23 +90,26 @@ logic=not-proved
 CYCLES = "".join(f"#[cycle({name})]\nfn {function}() {{}}\n" for name, function in [
     ("both", "one"), ("both", "two"), ("place", "far"), ("place", "near")])
 
-# Each edit: its name, its lines, and how it is told. Those that pass are told as refused.
+# Each edit: its name, its lines, and how it is reported. Those that pass are rejected.
 EDITS = [
-    ("the_lesser", ["function: greater", "old: if a < b { b }", "new: if b < a { b }"], "refused by greater"),
+    ("the_lesser", ["function: greater", "old: if a < b { b }", "new: if b < a { b }"], "rejected by greater"),
     ("no_limit", ["function: up_to_ten", "goal: returns-else..", "old: else { 10 }", "new: else { a }"],
-     "refused by up_to_ten: returns-else"),
+     "rejected by up_to_ten: returns-else"),
     ("nothing_below_ten", ["function: up_to_ten", "goal: returns-then..", "old: < 10 { a }", "new: < 10 { 0 }"],
-     "refused by up_to_ten: returns-then"),
+     "rejected by up_to_ten: returns-then"),
     ("no_limit_above", ["function: greater_up_to_ten", "old: up_to_ten(greater(a, b))", "new: greater(a, b)"],
-     "refused by greater_up_to_ten"),
-    ("a_right_body", ["function: zero", "old:     0", "new:     1 - 1"], "NOT REFUSED"),
+     "rejected by greater_up_to_ten"),
+    ("a_right_body", ["function: zero", "old:     0", "new:     1 - 1"], "NOT REJECTED"),
     ("does_not_apply", ["function: zero", "old: if a > b", "new: if true"], "src/lib.rt 0 times"),
-    ("does_not_compile", ["function: zero", "old:     0", "new:     nothing"], "it doesn't compile: src/lib.rt:"),
-    ("of_another_type", ["function: zero", "old:     0", "new:     true"], "it doesn't compile: src/lib.rt:"),
+    ("does_not_compile", ["function: one", "old:     1", "new:     nothing"], "can't be tried: src/lib.rt:"),
+    ("of_another_type", ["function: two", "old:     2", "new:     true"], "can't be tried: src/lib.rt:"),
+    ("one_round_more", ["function: zero", "old:     0", "new:     2 - 2"], "it needs a round after the 3"),
     ("elsewhere", ["function: zero", "old: if a < b { b } else { a }", "new: if a < b { a } else { b }"],
-     "refused elsewhere: greater is left open"),
+     "NOT REJECTED: zero is still proved"),
+    ("elsewhere_too", ["function: greater_up_to_ten", "old: if a < 10 { a }", "new: if a < 20 { a }"],
+     "rejected elsewhere: up_to_ten is left open"),
     ("another_goal", ["function: zero", "goal: requires", "old:     0", "new:     1"], "the goal requires is not open"),
-    ("no_such_function", ["function: one", "old:     0", "new:     1"], "names one"),
+    ("no_such_function", ["function: three", "old:     0", "new:     1"], "has no function `three`"),
     ("no_function", ["old:     0", "new:     1"], "it has no line 'function:'"),
 ]
 
@@ -114,26 +130,70 @@ def test_runner(count):
     """The whole runner on that crate."""
     with tempfile.TemporaryDirectory() as folder:
         make_crate(pathlib.Path(folder))
-        ended = subprocess.run([sys.executable, RUNNER, "--top", folder], capture_output=True, text=True, timeout=900)
-        test_proved(count, folder)
+        cache = {**os.environ, "XDG_CACHE_HOME": f"{folder}/cache"}
+        words = [sys.executable, RUNNER, "--top", folder]
+        ended = subprocess.run(words, capture_output=True, text=True, timeout=900, env=cache)
+        test_kept(count, folder, cache)
+        test_followed(count, folder, cache)
     lines = ended.stdout.split("\n")
     print(ended.stdout + ended.stderr, end="")
     for name, _, told in EDITS:
         of_it = [line for line in lines if f"/{name}.edit:" in line or f"/{name}:" in line]
-        count.test(f"{name} is told once", len(of_it), 1)
-        count.test(f"{name} is told as what it is", [told in line for line in of_it], [True])
-    passed = sum(told.startswith("refused by") for _, _, told in EDITS)
+        count.test(f"{name} is reported once", len(of_it), 1)
+        count.test(f"{name} is reported as what it is", [told in line for line in of_it], [True])
+    passed = sum(told.startswith("rejected by") for _, _, told in EDITS)
     count.test("last line", lines[-2:], [f"{passed} passed, {len(EDITS) - passed} failed", ""])
     count.test("status", ended.returncode, 1)
 
 
-def test_proved(count, folder):
-    """A crate that was seen proved isn't checked as it stands, and a name of no function fails all the same."""
-    words = ["--top", folder, "--proved", "--edit", "the_lesser", "--edit", "no_such_function"]
-    ended = subprocess.run([sys.executable, RUNNER, *words], capture_output=True, text=True, timeout=900)
-    for told, is_told in [("as it stands", False), ("the_lesser: refused by greater", True),
-                          ("no_such_function.edit: refused elsewhere: zero", True), ("1 passed, 1 failed", True)]:
-        count.test(f"--proved: {told}", told in ended.stdout, is_told)
+def test_kept(count, folder, cache):
+    """An edit that passed isn't tried again, but with --anew; one that failed is; a change of the crate has all tried."""
+    words = [sys.executable, RUNNER, "--top", folder, "--edit", "the_lesser", "--edit", "no_limit"]
+    source = pathlib.Path(folder) / "crates" / "two_numbers" / "src" / "lib.rt"
+    for name, more, text, told in [("again", [], SOURCE, "2 of 2 wrong bodies were rejected by an earlier run"),
+                                   ("anew", ["--anew"], SOURCE, "2 of 2 wrong bodies rejected"),
+                                   ("changed", [], SOURCE + "\n// Changed.\n", "2 of 2 wrong bodies rejected")]:
+        source.write_text(text, encoding="utf-8")
+        ended = subprocess.run([*words, *more], capture_output=True, text=True, timeout=900, env=cache)
+        count.test(f"edits that passed, {name}", told in ended.stdout or ended.stdout, True)
+        count.test(f"edits that passed, {name}: last line", ended.stdout.split("\n")[-2], "2 passed, 0 failed")
+
+
+def test_followed(count, folder, cache):
+    """A crate is tried once it is named as proved; one that never is has failed."""
+    words = [sys.executable, RUNNER, "--top", folder, "--edit", "the_lesser", "--edit", "a_right_body", "--follow"]
+    for text, last in [("two_numbers\n", "1 passed, 1 failed"), ("another\n", "0 passed, 2 failed")]:
+        ended = subprocess.run(words, input=text, capture_output=True, text=True, timeout=900, env=cache)
+        count.test(f"--follow with {text.strip()}", ended.stdout.split("\n")[-2], last)
+
+
+def test_turns(count):
+    """A crate over whose files all edits were rejected before is left out for two days of three, and no other."""
+    trials = [Trial(Crate(pathlib.Path(), name, []), [], None) for name in ["a", "b", "c", "d"]]
+    passed = Listed({"a": "a", "b": "b", "c": "older"})
+    for day in range(1, 7):
+        give_turns(trials, passed, datetime.date(2026, 1, day))
+        turns = [it.has_turn for it in trials]
+        count.test(f"turns of what is listed on day {day}", sum(turns[:2]) <= 1, True)
+        count.test(f"turns of what is not listed on day {day}", turns[2:], [True, True])
+        passed.days["a"] += turns[0]
+        passed.days["b"] += turns[1]
+    count.test("turns in six days", passed.days, {"a": 2, "b": 2})
+
+
+class Listed:
+    """What a file of rejected wrong bodies lists: the checksum of a crate is its name."""
+
+    def __init__(self, sums):
+        self.sums, self.days = sums, {"a": 0, "b": 0}
+
+    def listed(self):
+        """The listed checksums."""
+        return self.sums
+
+    def sum_of_all(self, crate, _):
+        """The checksum of a crate as it is."""
+        return crate.name
 
 
 def edit_of(folder, lines):
@@ -232,16 +292,11 @@ def test_end(count):
             count.test(f"folders after signal {number}", len(os.listdir(rooms)), left)
 
 
-def main():
+def test_all(count):
     """All tests."""
-    count = Count()
     test_places(count)
     test_said(count)
+    test_turns(count)
     test_words(count)
     test_end(count)
     test_runner(count)
-    return count.close()
-
-
-if __name__ == "__main__":
-    sys.exit(main())

@@ -16,7 +16,7 @@ import xml.etree.ElementTree
 
 sys.dont_write_bytecode = True
 
-from program import TOP, ZSCHED, Count, equal_jobs, heavy_jobs, job, plan, run
+from support import TOP, ZSCHED, Count, equal_jobs, heavy_jobs, job, plan, run
 
 PLANS = [
     "a_done_part_goes_on_again", "attempts_end_at_listed_ticks", "backoff_with_a_cap_on_tries", "collected_inputs",
@@ -28,7 +28,7 @@ PLANS = [
 CUTS = [(1, 1), (2, 1), (4, 100), (64, 10)]
 MANY = 250
 
-# The cuts of jobs whose rounds start threads.
+# The cuts of jobs with schedules of 998 nodes.
 HEAVY_CUTS = [(2, 1), (4, 3), (4, 20), (64, 10)]
 
 # The checkers with their words, and the cuts that tell them something: without a second worker no thread is started.
@@ -93,6 +93,9 @@ def errors_of(path):
 
 def main():
     """Each tool on each plan."""
+    if {"-h", "--help"} & set(sys.argv[1:]):
+        print(__doc__)
+        return 0
     if shutil.which("valgrind") is None or not ZSCHED.exists():
         print(f"valgrind: it needs the command 'valgrind', and {ZSCHED}, which 'rt ci' builds")
         return 1

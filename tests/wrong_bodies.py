@@ -1,16 +1,23 @@
 #!/usr/bin/env python3
-"""Tries the wrong bodies in crates/NAME/wrong-bodies/: the prover must refuse each, and in the function that it names.
+"""Tries the wrong bodies in crates/NAME/wrong-bodies/: the prover must reject each, in the function that it names.
 
-Many edits are tried in one check of a copy of their crate: at most one to a function, or several where each names a
-goal of its own. An edit passes where its function is left open by a goal of that function's own, and nothing is open
-beside the functions that the round's edits name and those that call them. A function that only waits for another's
-proof says nothing: its edit is tried again in a later round. What doesn't pass is tried alone before it is told.
+Many edits are tried in one check of a copy of their crate: at most one to a function, or several if each names a
+goal of its own. A check is one of the functions that the edits name and of those that they call. An edit passes if
+its function is left open by a goal of that function's own, and nothing is open beside the functions that the round's
+edits name and those that call them. A function that only waits for another's proof says nothing: its edit is tried
+again in a later round. An edit that doesn't pass is tried alone before it is reported. A crate's edits must fit into
+three rounds, so edits of one function name their goals; edits that wait for each other take more.
 
-The libraries below a crate are taken as they are built; where one isn't, 'rt lib' builds it. Work that checks of the
-crate kept is used: it can spare a proof, and can leave nothing open. Where there is none, the crate is proved first,
-and out/ keeps that. The last line is 'N passed, M failed', one for each edit."""
+The crate is proved as it is first, by 'rt check', or with --follow by whoever names it. Work that earlier checks kept
+is used: it can spare a proof, and can leave nothing open. Two kinds of edits aren't tried again: those that passed on
+this machine over the same toolchain, files and libraries, and those of a crate that tests/rejected.txt names with the
+checksum of all that, unless it is the crate's turn: each has its turn every third day. --anew tries all.
+
+The last line is 'N passed, M failed', one for each edit."""
 import argparse
 import concurrent.futures
+import contextlib
+import datetime
 import os
 import pathlib
 import signal
@@ -21,14 +28,17 @@ import time
 
 sys.dont_write_bytecode = True
 
-from prover import Room, Toolchain, Unusable, crates_of, lock
+from passed_edits import PassedEdits
+from prover import Room, Toolchain, Unusable, crates_of, last_line, lock
 from wrong_edits import BadEdit, Edit, edited, texts_of
 
 TOP = pathlib.Path(__file__).resolve().parent.parent
-EPILOG = """exit status: 0 where each edit passed; 1 where one failed, also since its crate isn't proved as it stands;
-2 where nothing could be tried (no toolchain, a library that can't be built, words that name no crate or edit)."""
-# What a check of a crate takes of the memory at most, but for rare ones.
+EPILOG = """exit status: 0 if each edit passed; 1 if one failed, also since its crate isn't proved as it stands;
+2 if nothing could be tried (no toolchain, a library that can't be built, words that name no crate or edit)."""
+# The memory that a check of a crate takes, but for rare ones.
 BYTES_OF_A_CHECK = 2_200_000_000
+# The rounds that a crate may need. More cost the gate minutes: name goals, or drop an edit that another covers.
+MOST_ROUNDS = 3
 
 printing = threading.Lock()
 
@@ -42,77 +52,118 @@ def say(text):
 class Lanes:
     """How many crates are tried side by side, and how many jobs the check of one may take."""
 
-    def __init__(self, number, crates):
-        self.number, self.crates = number, crates
+    def __init__(self, number):
+        self.number, self.waiting, self.running = number, 0, 0
+        self.change = threading.Condition()
 
-    def jobs(self):
-        """The processors that a check may use: all are shared out where fewer crates are left than lanes."""
-        return max(1, self.number // max(1, self.crates))
+    def add(self, crates):
+        """Some crates more are to be tried."""
+        with self.change:
+            self.waiting += crates
+
+    def begin(self):
+        """Waits for a lane, and takes it."""
+        with self.change:
+            self.change.wait_for(lambda: self.running < self.number)
+            self.waiting -= 1
+            self.running += 1
 
     def end(self):
-        """One crate fewer is left."""
-        with printing:
-            self.crates -= 1
+        """Frees a lane."""
+        with self.change:
+            self.running -= 1
+            self.change.notify_all()
+
+    def widen(self, number):
+        """Sets another number of lanes."""
+        with self.change:
+            self.number = number
+            self.change.notify_all()
+
+    def jobs(self):
+        """The processors that a check may use: if fewer crates are left than lanes, they share all lanes."""
+        with self.change:
+            return max(1, self.number // max(1, self.waiting + self.running))
 
 
 class Trial:
     """The trial of one crate's edits."""
 
-    def __init__(self, crate, edits, is_proved):
-        self.crate, self.edits, self.is_proved = crate, edits, is_proved
+    def __init__(self, crate, edits, passed):
+        self.crate, self.edits, self.passed = crate, edits, passed
         self.jobs = None
         self.found = {}
         self.clashes = set()
         self.rounds = 0
+        self.has_turn = True
 
     def fail(self, edit, why):
-        """Tells that an edit failed."""
+        """Reports that an edit failed."""
         self.found[edit] = False
         say(f"wrong_bodies: {edit.path.relative_to(self.crate.folder.parent.parent)}: {why}")
 
     def run(self, toolchain, folder, lanes):
-        """Tries all edits, in as many rounds as they need."""
-        begun, self.jobs = time.monotonic(), lanes.jobs
+        """Tries the edits that no earlier run saw pass."""
+        left = self.take_passed()
+        if not left:
+            return self.found
+        lanes.begin()
+        try:
+            self.jobs = lanes.jobs
+            folder.mkdir()
+            self.try_all(toolchain, folder, left)
+        finally:
+            lanes.end()
+        for edit, has_passed in self.found.items():
+            if has_passed:
+                self.passed.add(self.crate, edit)
+        return self.found
+
+    def is_known(self):
+        """Whether each edit was seen to pass, by an earlier run here or by tests/rejected.txt."""
+        return not self.has_turn or all(self.passed.has(self.crate, edit) for edit in self.edits)
+
+    def take_passed(self):
+        """Counts the edits that were seen to pass, and returns the others."""
+        known = [edit for edit in self.edits if not self.has_turn or self.passed.has(self.crate, edit)]
+        self.found.update(dict.fromkeys(known, True))
+        if known:
+            by = "an earlier run on this machine" if self.has_turn else "the run that tests/rejected.txt is of"
+            say(f"{self.crate.name}: {len(known)} of {len(self.edits)} wrong bodies were rejected by {by}, over the same files")
+        return [edit for edit in self.edits if edit not in self.found]
+
+    def try_all(self, toolchain, folder, edits):
+        """Tries edits, in as many rounds as they need."""
+        begun = time.monotonic()
         texts = texts_of(self.crate.folder)
         room = Room(toolchain, self.crate, folder, texts)
-        whole = None if self.is_proved else self.as_it_stands(room)
-        if whole and not whole.is_proved():
-            for edit in self.edits:
-                self.fail(edit, f"not tried: {self.crate.name} is not proved as it stands: {whole.lines[-1]}")
-            lanes.end()
-            return self.end(room, begun)
-        good = [edit for edit in self.edits if self.is_good(edit, texts, whole)]
+        good = [edit for edit in edits if self.is_good(edit, texts)]
         # those that name a goal can share a round
-        left = sorted(good, key=lambda it: not it.goal)
+        left = self.within_budget(sorted(good, key=lambda it: not it.goal))
         while left:
             some = self.pick(left)
             self.round(room, some)
             left = [edit for edit in left if edit not in self.found]
-        lanes.end()
-        return self.end(room, begun)
-
-    def as_it_stands(self, room):
-        """What a check of the crate with no edit says. Its work is kept."""
-        whole = room.check({}, self.jobs())
-        say(f"{self.crate.name}: as it stands: {room.cost}")
-        if whole.is_proved():
-            room.keep()
-        return whole
-
-    def end(self, room, begun):
-        """Tells the crate's sum."""
         passed = sum(self.found.values())
-        say(f"{self.crate.name}: {passed} of {len(self.found)} wrong bodies refused, {self.rounds} rounds, "
+        say(f"{self.crate.name}: {passed} of {len(self.found)} wrong bodies rejected, {self.rounds} rounds, "
             f"{room.seconds:.0f} processor seconds in {time.monotonic() - begun:.0f} s")
-        return self.found
 
-    def is_good(self, edit, texts, whole):
+    def within_budget(self, edits):
+        """The edits that fit into the rounds that a crate may have. The others have failed."""
+        left = edits
+        for _ in range(MOST_ROUNDS):
+            some = self.pick(left)
+            left = [edit for edit in left if edit not in some]
+        for edit in left:
+            self.fail(edit, f"not tried: it needs a round after the {MOST_ROUNDS} that a crate may have: name a 'goal:' that the "
+                      f"other edits of {edit.function} leave proved")
+        return [edit for edit in edits if edit not in left]
+
+    def is_good(self, edit, texts):
         """Whether an edit can be tried. If not, it has failed."""
         try:
             edit.read()
             edit.place(texts)
-            if whole and edit.function not in whole.verdicts:
-                raise BadEdit(f"'function:' names {edit.function}, and rt check names no such function of the crate")
         except BadEdit as fault:
             self.fail(edit, f"can't be tried: {fault}")
             return False
@@ -134,9 +185,9 @@ class Trial:
         """Tries some edits in one check, and judges those that can be judged by it."""
         self.rounds += 1
         changed, lines = edited(room.texts, some)
-        said = room.check(changed, self.jobs())
+        functions = dict.fromkeys(edit.function for edit in some)
+        said = room.check(changed, functions, self.jobs())
         say(f"{self.crate.name}: round {self.rounds}: {len(some)} edits, {room.cost}")
-        room.restore()
         if not said.is_read():
             return self.part(room, some, said, lines)
         named = {name for edit in some for name in said.parts_of(edit.function)}
@@ -161,7 +212,7 @@ class Trial:
         if len(some) == 1 and not told:
             told = {some[0]: said.refused_texts[0][2] if said.refused_texts else said.lines[-1]}
         for edit, text in told.items():
-            self.fail(edit, f"can't be tried: it doesn't compile: {text[:200]}")
+            self.fail(edit, f"can't be tried: {text[:200]}")
         rest = [edit for edit in some if edit not in told]
         if rest and told:
             self.round(room, rest)
@@ -177,7 +228,7 @@ class Trial:
         if strong and not strays:
             self.found[edit] = True
             names = dict.fromkeys(it.goal or it.line[:160] for it in strong)
-            say(f"{self.crate.name}/{edit.name}: refused by {edit.function}: {', '.join(names)}")
+            say(f"{self.crate.name}/{edit.name}: rejected by {edit.function}: {', '.join(names)}")
         elif waits & others:
             self.clashes |= {(edit.function, other) for other in waits & others}
         elif len(some) > 1:
@@ -189,13 +240,13 @@ class Trial:
 def why_not(edit, said, strays, goals):
     """Why an edit that was tried alone failed."""
     if said.is_proved():
-        return "NOT REFUSED: the crate is still proved with it"
+        return f"NOT REJECTED: {edit.function} is still proved with it"
     if said.unsure(edit.function):
         return f"not judged: the prover could not tell of {edit.function}"
     open_goals = ", ".join(dict.fromkeys(it.goal for it in said.own_goals(edit.function)))
     if strays:
         beside = f"{edit.function} is open too" if open_goals else f"{edit.function} is not open by a goal of its own"
-        return f"refused elsewhere: {', '.join(strays)} is left open, which it doesn't name ({beside})"
+        return f"rejected elsewhere: {', '.join(strays)} is left open, which it doesn't name ({beside})"
     if goals:
         return f"only a proof file names what it takes away (change a value, and keep the names): {goals[0].line[:200]}"
     if open_goals:
@@ -205,9 +256,8 @@ def why_not(edit, said, strays, goals):
 
 
 def edits_of(crate, options):
-    """A crate's edits, those in must-fail/ too where that is asked for."""
-    folders = ["wrong-bodies", "must-fail"] if options.must_fail else ["wrong-bodies"]
-    files = [path for folder in folders for path in sorted((crate.folder / folder).glob("*.edit"))]
+    """A crate's edits, as far as they are asked for."""
+    files = sorted((crate.folder / "wrong-bodies").glob("*.edit"))
     return [Edit(path) for path in files if not options.edit or path.stem in options.edit]
 
 
@@ -223,51 +273,115 @@ def lanes_of(options):
     return max(1, min(len(os.sched_getaffinity(0)), free // BYTES_OF_A_CHECK))
 
 
-def build(toolchain, crates, lanes, folder):
-    """Builds the libraries below the crates, as far as they aren't built."""
-    for crate in {it.name: it for crate in crates for it in crate.below}.values():
-        if not crate.is_built():
-            say(f"{crate.name}: rt lib builds what is not built of it, and of what is below it")
-            toolchain.build(crate, lanes, folder / f"{crate.name}.log")
-
-
-def trials_of(options, crates):
+def trials_of(options, crates, passed):
     """A trial for each crate that has edits, the largest crate first."""
     unknown = [name for name in options.crate or [] if name not in crates]
     if unknown:
         raise Unusable(f"crates.txt lists no crate {unknown[0]}")
     chosen = [it for it in crates.values() if not options.crate or it.name in options.crate]
-    trials = [Trial(it, edits_of(it, options), options.proved) for it in chosen]
+    trials = [Trial(it, edits_of(it, options), passed) for it in chosen]
     found = {edit.name for trial in trials for edit in trial.edits}
     lacking = [name for name in options.edit or [] if name not in found]
     if lacking:
         raise Unusable(f"there is no edit {lacking[0]}")
-    return sorted([it for it in trials if it.edits], key=lambda it: -it.crate.size())
+    trials = sorted([it for it in trials if it.edits], key=lambda it: -it.crate.size())
+    if not options.crate and not options.edit and not options.anew and not options.write:
+        give_turns(trials, passed, datetime.date.today())
+    return trials
+
+
+def give_turns(trials, passed, day):
+    """Leaves out the crates that tests/rejected.txt is of, but for every third, others on another day."""
+    listed = passed.listed()
+    for number, trial in enumerate(trials):
+        is_listed = listed.get(trial.crate.name) == passed.sum_of_all(trial.crate, trial.edits)
+        trial.has_turn = not is_listed or (number + day.toordinal()) % 3 == 0
+
+
+def write_listed(trials, passed):
+    """Writes tests/rejected.txt: the crates whose edits have all passed, over the files as they are."""
+    sums = {it.crate.name: passed.sum_of_all(it.crate, it.edits) for it in trials if it.found and all(it.found.values())}
+    passed.write_listed(sums)
 
 
 def run(options, toolchain, folder):
     """Tries the edits of all crates, side by side: how many passed and failed."""
     crates = crates_of(pathlib.Path(options.top).resolve())
-    for crate in crates.values() if options.kept else []:
-        crate.kept = options.kept / crate.name
-    trials = trials_of(options, crates)
+    passed = PassedEdits(toolchain, options.anew)
+    trials = trials_of(options, crates, passed)
     number = lanes_of(options)
-    build(toolchain, [it.crate for it in trials], number, folder)
-    held = [] if options.kept else lock([it.crate for it in trials], say)
-    lanes, found = Lanes(number, len(trials)), []
+    if options.follow:
+        return followed(trials, crates, toolchain, folder, number)
+    counts = at_once(trials, toolchain, folder, number)
+    if options.write:
+        write_listed(trials, passed)
+    return counts
+
+
+def at_once(trials, toolchain, folder, number):
+    """Proves the crates of the edits and tries the edits, under locks."""
+    for trial in trials:
+        if not trial.is_known():
+            prove(trial, toolchain, number, folder / f"{trial.crate.name}.log")
+    left = [it for it in trials if not it.found]
+    held = lock([it.crate for it in left if not it.is_known()], say)
+    lanes = Lanes(number)
+    lanes.add(sum(not it.is_known() for it in left))
+    with pool_of(toolchain, number) as pool:
+        passed, failed = results([pool.submit(it.run, toolchain, folder / it.crate.name, lanes) for it in left])
+    for it in held:
+        os.close(it)
+    return passed, failed + sum(len(it.found) for it in trials if it not in left)
+
+
+def prove(trial, toolchain, jobs, log):
+    """Proves a crate as it is. If it isn't proved, its edits have failed."""
+    begun = time.monotonic()
+    is_proved, seconds = toolchain.prove(trial.crate, jobs, log)
+    say(f"{trial.crate.name}: as it is: {seconds:.0f} processor seconds in {time.monotonic() - begun:.0f} s")
+    for edit in [] if is_proved else trial.edits:
+        trial.fail(edit, f"not tried: {trial.crate.name} is not proved as it is: {last_line(log)}")
+
+
+def followed(trials, crates, toolchain, folder, number):
+    """Tries the edits of each crate once a line on standard input names it as proved, from nothing: the 'rt ci' that proves
+    it has what the crate kept. Until the input ends, that takes half of the processors. The libraries are copied, since
+    others build in the crates' folders meanwhile."""
+    waiting = {it.crate.name: it for it in trials}
+    lanes, going = Lanes(max(1, number // 2)), []
+    with pool_of(toolchain, number) as pool:
+        for line in sys.stdin:
+            name = line.strip()
+            if name in crates:
+                crates[name].copy_library(folder / "libraries")
+            trial = waiting.pop(name, None)
+            if trial:
+                trial.crate.kept = folder / "none"
+                lanes.add(not trial.is_known())
+                going.append(pool.submit(trial.run, toolchain, folder / trial.crate.name, lanes))
+        lanes.widen(number)
+        passed, failed = results(going)
+    for trial in waiting.values():
+        for edit in trial.edits:
+            trial.fail(edit, f"not tried: {trial.crate.name} was not proved")
+    return passed, failed + sum(len(it.edits) for it in waiting.values())
+
+
+@contextlib.contextmanager
+def pool_of(toolchain, number):
+    """Threads that try crates. If one fails, all that was started ends."""
     with concurrent.futures.ThreadPoolExecutor(number) as pool:
         try:
-            for trial in trials:
-                (folder / trial.crate.name).mkdir()
-            going = [pool.submit(it.run, toolchain, folder / it.crate.name, lanes) for it in trials]
-            for done in concurrent.futures.as_completed(going):
-                found += done.result().values()
+            yield pool
         except BaseException:
             toolchain.stop()
             pool.shutdown(cancel_futures=True)
             raise
-    for number in held:
-        os.close(number)
+
+
+def results(going):
+    """How many edits passed and failed, once all trials have ended."""
+    found = [has_passed for done in concurrent.futures.as_completed(going) for has_passed in done.result().values()]
     return sum(found), len(found) - sum(found)
 
 
@@ -278,14 +392,16 @@ def options_of(words):
         formatter_class=argparse.RawDescriptionHelpFormatter)
     parser.add_argument("--crate", action="append", metavar="NAME", help="only this crate's edits (repeatable)")
     parser.add_argument("--edit", action="append", metavar="BELIEF", help="only this edit (repeatable)")
-    parser.add_argument("--must-fail", action="store_true", help="those in must-fail/ too, which 'rt ci' tries alone")
+    parser.add_argument("--anew", action="store_true", help="also those that passed before over the same files")
     parser.add_argument("--lanes", type=int, metavar="N", help="crates at once (default: processors, as memory holds)")
-    parser.add_argument("--kept", type=pathlib.Path, metavar="FOLDER", help="kept work is in FOLDER/NAME, and whoever gives "
-                        "it keeps others out of the crates (default: out/incremental, under a lock)")
-    parser.add_argument("--proved", action="store_true", help="each crate was seen proved as it stands by the run that kept "
-                        "the work, and isn't checked again before its edits are tried")
+    parser.add_argument("--follow", action="store_true", help="each crate once standard input names it as proved, a line each: "
+                        "the gate runs it so beside 'rt ci'")
+    parser.add_argument("--write", action="store_true", help="write tests/rejected.txt, if all edits are tried and pass")
     parser.add_argument("--top", default=TOP, metavar="FOLDER", help="the repository (default: the one of this file)")
-    return parser.parse_args(words)
+    options = parser.parse_args(words)
+    if options.write and (options.crate or options.edit or options.follow):
+        parser.error("--write is of all crates, and not with --follow")
+    return options
 
 
 def stop_at(number, _):
@@ -295,7 +411,7 @@ def stop_at(number, _):
 
 
 def main(words):
-    """Tries what the words ask for, and answers the exit status."""
+    """Tries what the words ask for, and returns the exit status."""
     options = options_of(words)
     for number in [signal.SIGINT, signal.SIGTERM, signal.SIGHUP]:
         signal.signal(number, stop_at)

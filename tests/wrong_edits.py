@@ -1,17 +1,23 @@
-"""Edits that make a wrong body: how their files are read, and where they stand in a crate's texts.
+"""Edits of a crate's texts: how their files are read, and which places they change.
 
-An edit is a file crates/NAME/wrong-bodies/BELIEF.edit. Its lines, each '`word: text`':
+Two folders of a crate have edits. The prover must reject each of wrong-bodies/BELIEF.edit. It lets each of
+survivors/BELIEF.edit through, and a test must fail. The lines of an edit, each '`word: text`':
 
-    function: PATH    the function that the prover must leave open, as rt check names it, without the crate's name
-    goal: NAME        optional: the goal that must be left open; NAME.. is any whose name begins so
-    file: PATH        a file of src/, specs/ or proofs/, for the pairs below it
-    old: TEXT         a text that stands once in that file, with the pairs above made
-    new: TEXT         what stands in its place"""
+    function: PATH     a wrong body's: the function that the prover must leave open, as rt check names it, without the
+                       crate's name
+    goal: NAME         optional: the goal that must be left open; NAME.. is any goal whose name begins so
+    caught-by: NAME    a survivor's: the part of the gate or the test that fails
+    differs: TEXT      optional: an example of how it differs, which tests/differences.py reads
+    file: PATH         a file of src/, specs/ or proofs/, for the pairs below it
+    old: TEXT          a text that is in that file exactly once, after the pairs above
+    new: TEXT          the text in its place"""
 import dataclasses
 import pathlib
 import re
 
-WORDS = ["function", "goal", "file", "old", "new"]
+WORDS = ["function", "goal", "caught-by", "differs", "file", "old", "new"]
+# The words that name something of the whole edit, once, and the attribute of an Edit that holds each.
+HEADS = {"function": "function", "goal": "goal", "caught-by": "caught_by", "differs": "differs"}
 PARTS = ["src", "specs", "proofs"]
 FUNCTION = re.compile(r'^[ \t]*(?:pub(?:\([^)]*\))? )?(?:const )?(?:unsafe )?(?:extern "C" )?fn (\w+)', re.M)
 
@@ -29,12 +35,12 @@ class Change:
 
 
 class Edit:
-    """A wrong body: the function that must be left open, and the changes by file."""
+    """An edit: what its head names, and the changes by file."""
 
     def __init__(self, path):
         self.path = pathlib.Path(path)
         self.name = self.path.stem
-        self.function = self.goal = ""
+        self.function = self.goal = self.caught_by = self.differs = ""
         self.pairs = []
         self.changes = {}
         self.touched = set()
@@ -54,23 +60,28 @@ class Edit:
             if word not in WORDS or not colon:
                 raise BadEdit(f"line {number} begins with none of {', '.join(WORDS)}")
             rest = rest.removeprefix(" ")
-            if word in ["function", "goal"]:
-                if getattr(self, word) or not rest.strip():
-                    raise BadEdit(f"line {number}: '{word}:' stands once, with a text")
-                setattr(self, word, rest.strip())
+            if word in HEADS:
+                if getattr(self, HEADS[word]) or not rest.strip():
+                    raise BadEdit(f"line {number}: '{word}:' is given once, with a text")
+                setattr(self, HEADS[word], rest.strip())
             elif word == "file":
                 file = rest.strip()
             elif word == "old":
                 old = rest
             elif not file or not old:
-                raise BadEdit(f"line {number}: 'new:' stands before any 'file:' or 'old:'")
+                raise BadEdit(f"line {number}: 'new:' comes before any 'file:' or 'old:'")
             else:
                 self.pairs.append((file, old, rest))
                 old = ""
-        if not self.function:
-            raise BadEdit("it has no line 'function:'")
+        needed = "caught-by" if self.is_survivor() else "function"
+        if not getattr(self, HEADS[needed]):
+            raise BadEdit(f"it has no line '{needed}:'")
         if not self.pairs:
             raise BadEdit("it has no pair of 'old:' and 'new:'")
+
+    def is_survivor(self):
+        """Whether the prover lets the edit through, by the folder that it is in."""
+        return self.path.parent.name == "survivors"
 
     def place(self, texts):
         """Finds the changes' places in the crate's texts (a text by its path), and the functions that they stand in."""

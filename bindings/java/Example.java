@@ -36,6 +36,7 @@ public final class Example {
     public static void main(String[] words) throws Exception {
         ServerSocket server = new ServerSocket(0, 50, InetAddress.getLoopbackAddress());
         Thread serving = new Thread(() -> serve(server));
+        serving.setDaemon(true);
         serving.start();
         long begun = System.nanoTime();
         int[] attempts = {0};

@@ -7,15 +7,16 @@ import pathlib
 import random
 import re
 import resource
+import signal
 import subprocess
 import sys
 import tempfile
 import unittest
 
-from changes import changed_plans
 from mistakes import MISTAKES
-from program import ONE_JOB, TOP, job, plan
-from zsched_tools import explain, hints, json_reading, positions, program
+from mutate import changed_plans
+from support import ONE_JOB, TOP, job, plan
+from zsched_tools import all_faults, explain, hints, json_reading, plan_size, positions, program
 
 COMMAND = TOP / "tools" / "zsched-explain"
 CHANGED = int(os.environ.get("CHANGED_PLANS", "2000"))
@@ -180,9 +181,9 @@ class Changes(unittest.TestCase):
 
     def test_each_refused_plan_gets_a_place(self):
         zsched = program.find()
-        texts = [path.read_text() for path in sorted((TOP / "examples").glob("*.json"))]
+        plans = [path.read_bytes() for path in sorted((TOP / "examples").glob("*.json"))]
         counts = {"accepted": 0, "refused": 0, "other": 0}
-        for number, data in enumerate(changed_plans(texts, CHANGED, seed=20)):
+        for number, data in enumerate(changed_plans(plans, CHANGED, seed=20)):
             look = explain.Look(data)
             try:
                 status, line = explain.refusal(zsched, look, SECONDS)
@@ -345,11 +346,163 @@ class Use(unittest.TestCase):
     def test_words_that_it_does_not_take(self):
         for arguments in [["--nothing"], ["plan.json", "good.json"], ["--zsched"]]:
             status, output, errors = self.run_command(*arguments)
-            self.assertEqual((status, output), (1, ""), errors)
+            self.assertEqual((status, output), (2, ""), errors)
             self.assertTrue(errors.startswith("zsched-explain: "), errors)
 
     def test_the_help_names_the_statuses(self):
         status, output, errors = self.run_command("--help")
         self.assertEqual((status, errors), (0, ""))
-        for word in ["PLAN.json", "--zsched", "FILE:LINE:COLUMN", "exit status", "no fault"]:
+        for word in ["PLAN.json", "--zsched", "--all", "--most", "--color", "--version", "FILE:LINE:COLUMN",
+                     "exit status", "no fault"]:
             self.assertIn(word, output)
+
+    def test_colours_are_those_that_were_asked_for(self):
+        _, _, plain = self.run_command("plan.json")
+        for words, environment, is_painted in [
+                (["--color", "always"], {}, True), (["--color=always"], {"NO_COLOR": "1"}, True),
+                (["--color", "never"], {}, False), ([], {}, False)]:
+            with self.subTest(words):
+                _, _, errors = self.run_command("plan.json", *words, environment=environment)
+                self.assertEqual("\x1b[" in errors, is_painted)
+                self.assertEqual(re.sub(r"\x1b\[[0-9;]*m", "", errors), plain)
+
+    def test_colours_on_a_terminal(self):
+        for environment, is_painted in [({"TERM": "xterm"}, True), ({"TERM": "xterm", "NO_COLOR": "1"}, False),
+                                        ({"TERM": "dumb"}, False)]:
+            with self.subTest(environment):
+                master, slave = os.openpty()
+                with os.fdopen(master, "rb", 0) as terminal:
+                    subprocess.run([sys.executable, COMMAND, "plan.json"], stderr=slave, cwd=self.folder, check=False,
+                                   env={"PATH": os.environ["PATH"], "ZSCHED": self.zsched, **environment})
+                    os.close(slave)
+                    said = terminal.read(4000)
+                self.assertEqual(b"\x1b[" in said, is_painted, said)
+
+    def test_a_reader_that_goes_away_ends_it_quietly(self):
+        for name, stream in [("good.json", "stdout"), ("plan.json", "stderr")]:
+            reader, writer = os.pipe()
+            os.close(reader)
+            other = "stderr" if stream == "stdout" else "stdout"
+            words = [sys.executable, COMMAND, name, "--zsched", self.zsched]
+            streams = {stream: writer, other: subprocess.PIPE}
+            ended = subprocess.run(words, cwd=self.folder, check=False, **streams)
+            os.close(writer)
+            self.assertEqual((ended.returncode, getattr(ended, other)), (-signal.SIGPIPE, b""), name)
+
+    def test_a_plan_of_many_attempts_gets_a_warning_before_it_is_run(self):
+        many = plan([job("a", "forever", script='"script":[{"ms":5,"err":7}]')], '"horizon":999999999999999')
+        (self.folder / "many.json").write_bytes(many)
+        other = self.folder / "other"
+        other.write_text("#!/bin/sh\nexit 0\n")
+        other.chmod(0o755)
+        status, output, errors = self.run_command("many.json", "--zsched", str(other))
+        self.assertEqual((status, output), (0, "many.json: no fault\n"))
+        self.assertIn("zsched-explain: warning: its attempts may be 2.0e+14, more than 100000000", errors)
+        self.assertEqual(self.run_command("good.json")[2], "")
+
+
+class All(unittest.TestCase):
+    """All faults of a plan in one run."""
+
+    def places(self, marked, most=100):
+        """Holds the faults of a plan to its signs, one for each, and answers the program's lines."""
+        parts = marked.split("»")
+        data, here, wanted = "".join(parts).encode(), 0, set()
+        for part in parts[:-1]:
+            here += len(part)
+            wanted.add(here)
+        found = list(all_faults.all_faults(lambda text: explain.outcome(program.find(), text), data, most))
+        self.assertEqual({it.cause.at for _, it in found}, wanted, [it.cause for _, it in found])
+        self.assertTrue(all(it.text == data.decode() for _, it in found))
+        return [line.strip().removeprefix("zsched: ") for line, _ in found]
+
+    def test_each_fault_has_its_place(self):
+        lines = self.places("""{
+  "horizon": 1000,
+  »"worker": 4,
+  "grain": »0,
+  »"more": {"a": [1,
+    2]},
+  "workers": »65,
+  "jobs": [
+    {"name": "a", "mode": "retry", "schedule": "recurs(3»s)", "script": [{"ms": 5, "err": 7}]},
+    {"name": "b", "mode": »"loop", "schedule": "recurs(5)", "script": [{"ms": 5, "err": 7}]},
+    »7,
+    {"name": "c",
+     "mode": "retry", "schedule": "recurs(5)",
+     "script": »[]}, {"name": "d»d d", "mode": "retry", "schedule": "recurs(5)", "script": [{"ms": 5, "err": 7}]},
+    {"name": "e", "mode": "retry", "schedule": "recurs(5)", "script": [{"ms": 5, "err": 7}]},
+    {"name": »"e", "mode": "retry", "schedule": "recurs(5)", "script": [{"ms": 5, "err": 7}]}
+  ],
+  »"last": 1
+}
+""".replace("d»d d", "d»\u00e9"))
+        self.assertEqual(lines[:4], ["plan: unknown key"] * 3 + ["plan: out of range"])
+        self.assertEqual(lines[-1], "job 6: name used before")
+
+    def test_a_fault_that_hides_others_is_the_last(self):
+        self.assertEqual(self.places('{"horizon": 9, »horizon: 8, "jobs": [7]}'), ["plan is not JSON"])
+        self.assertEqual(self.places('»{"horizon": 9}'), ["plan: wrong shape"])
+        self.assertEqual(self.places("»[]"), ["plan: wrong shape"])
+        self.assertEqual(self.places('{"horizon": »"x", "grain": 5, "jobs": [»7]}'),
+                         ["plan: wrong shape", "job 0: wrong shape"])
+
+    def test_each_mistake_of_the_table_is_found_first(self):
+        for name, marked, fault, _ in MISTAKES[::7]:
+            with self.subTest(name):
+                text, _, _ = split(marked)
+                data = text.encode(errors="surrogateescape")
+                faults = list(all_faults.all_faults(lambda text: explain.outcome(program.find(), text), data, 10))
+                self.assertEqual(faults[0][0], f"zsched: {fault}\n")
+                self.assertEqual(faults[0][1].cause.at, marked.index("»"))
+
+    def test_many_faults_end_at_the_number_that_was_given(self):
+        jobs = ", ".join(["7"] * 12)
+        with tempfile.TemporaryDirectory() as folder:
+            place = pathlib.Path(folder) / "plan.json"
+            place.write_text(f'{{"horizon": 9, "jobs": [{jobs}]}}')
+            for words, shown, last in [([], 1, "help: "), (["--all"], 10, "10 faults; there are more"),
+                                       (["--all", "--most", "3"], 3, "3 faults; there are more"),
+                                       (["--all", "--most", "12"], 12, "12 faults")]:
+                with self.subTest(words):
+                    ended = subprocess.run([sys.executable, COMMAND, place, *words], capture_output=True, text=True,
+                                           env={**os.environ, "ZSCHED": program.find()}, check=False)
+                    self.assertEqual((ended.returncode, ended.stdout, ended.stderr.count("--> ")), (2, "", shown))
+                    self.assertIn(last, ended.stderr.splitlines()[-1])
+
+
+class Sizes(unittest.TestCase):
+    """How many attempts a plan may have."""
+
+    def warned(self, schedule, horizon=10**15 - 1, script='"script":[{"ms":1,"err":7}]', more=""):
+        """What is said of a plan of one retry."""
+        return plan_size.warning(plan([job("a", schedule, script=script)], f'"horizon":{horizon}{more}'))
+
+    def test_schedules_that_go_on_for_long_are_told(self):
+        for schedule in ["forever", "spaced(1)", "(exponential(100) || spaced(2000))", "fixed(60000)",
+                         "forever.whileInput(= 7)", "(recurs(3) andThenEither spaced(9))", "recurs(3).resetWhen(= 2)",
+                         "exponential(5, 1)"]:
+            with self.subTest(schedule):
+                self.assertRegex(self.warned(schedule), r"^its attempts may be [0-9.]+e\+[0-9]+, more than 100000000: ")
+
+    def test_schedules_that_end_are_not(self):
+        for schedule in ["recurs(3)", "exponential(100)", "linear(1)", "fibonacci(7)", "(spaced(1) && recurs(5))",
+                         "((exponential(100) || spaced(2000)) && recurs(10)).map(_1)", "elapsed.whileOutput(< 500)",
+                         "(spaced(1) && elapsed).whileOutput(_2 < 30000)", "recurs(3).collectAll",
+                         "((recurs(3) && spaced(2)) andThenEither recurs(9))", "forever.whileOutput(< 100)",
+                         "forever.whileInput(!= 7)", "identity.whileOutput(< 7)"]:
+            with self.subTest(schedule):
+                self.assertIsNone(self.warned(schedule))
+
+    def test_a_bound_comes_from_the_clock_and_the_script_too(self):
+        self.assertIsNone(self.warned("forever", 10**8 - 2))
+        self.assertIsNotNone(self.warned("forever", 10**8 + 1))
+        self.assertIsNone(self.warned("forever", script='"script":[{"ms":1,"err":7},{"ms":1,"ok":7}]'))
+        self.assertIsNone(self.warned("forever", script='"script":[{"ms":100000000,"err":7}]'))
+        self.assertIsNone(plan_size.warning(plan([job("a", "forever")], '"ticks":[0,5,999999999999999]')))
+
+    def test_no_plan_of_the_repository_is_large_and_what_is_no_plan_has_no_size(self):
+        for file in [*TOP.glob("examples/*.json"), *TOP.glob("tests/plans/*.json")]:
+            self.assertIsNone(plan_size.warning(file.read_bytes()), file.name)
+        for name, marked, _, _ in MISTAKES:
+            self.assertIsNone(plan_size.warning(split(marked)[0].encode(errors="surrogateescape")), name)

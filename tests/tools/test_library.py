@@ -1,11 +1,18 @@
 """The library that services call: from C, also under tools that watch memory, and by the bindings for Python, Rust and Java.
 
-tools/make-library builds it first; ZSCHED_LIBRARY_DIR names a folder with a built one in its place. What it has to answer
-comes from tests/reference.py and from the program's own step lines."""
+tools/make-library builds it first, in a folder of this test: other parts of the gate read the crates' folders at the same
+time. ZSCHED_LIBRARY_DIR names a folder with a built one in its place. What it has to answer comes from tests/reference.py and
+from the program's own step lines."""
 import asyncio
+import atexit
+import concurrent.futures
+import ctypes
+import functools
 import http.server
+import multiprocessing
 import os
 import pathlib
+import pickle
 import random
 import re
 import shutil
@@ -18,7 +25,7 @@ import unittest
 
 import generator
 import reference
-from program import TOP
+from support import TOP
 from zsched_tools import program
 
 BINDINGS = TOP / "bindings"
@@ -32,6 +39,8 @@ UNDER_VALGRIND = 60
 UNTOUCHED = "aa"
 WRAPPED = ["-Wl,--wrap=malloc,--wrap=realloc,--wrap=free", "-lpthread"]
 STRICT = ["-std=gnu11", "-Wall", "-Wextra", "-Werror", "-pedantic"]
+# A short program of Java isn't worth much compiling.
+QUICK = ["-XX:TieredStopAtLevel=1", "-XX:+UseSerialGC"]
 JNA = pathlib.Path("/usr/share/java/jna.jar")
 NUMBERS = {"no term": 11, "too big": 12, "number too large": 13, "factor is 0": 14, "no kind": 15, "window is 0": 16}
 SPOILT = [generator.no_term, generator.too_big, generator.big_number, generator.zero_factor, generator.no_kind,
@@ -39,6 +48,7 @@ SPOILT = [generator.no_term, generator.too_big, generator.big_number, generator.
 # Steps of the binding for Java over a state.
 STEPS = '''
 import java.util.Arrays;
+import zsched.Schedule;
 import zsched.Stepper;
 
 public final class Steps {
@@ -52,7 +62,7 @@ public final class Steps {
         }
     }
 
-    public static void main(String[] words) {
+    public static void main(String[] words) throws Exception {
         Stepper stepper = new Stepper(TEXT);
         System.out.println(stepper.after(3, 0));
         refused(() -> stepper.after(2, 0));
@@ -62,26 +72,82 @@ public final class Steps {
         refused(() -> Stepper.resume(TEXT, new long[1]));
         refused(() -> new Stepper("forever.collectAll"));
         refused(() -> new Stepper("?"));
+        System.out.println(new Stepper("spaced(18446744073709551615)").after(1, 0).waitFrom(1));
+        System.out.println(Schedule.version());
+        hidden("recurs(2)");
+        hidden("recurs(2).collectAll");
+    }
+
+    private static void hidden(String text) throws Exception {
+        int[] attempts = {0};
+        try {
+            Schedule.retry(text, error -> 1 / (attempts[0] - 2), () -> {
+                attempts[0]++;
+                throw new java.io.IOException("attempt " + attempts[0]);
+            });
+        } catch (java.io.IOException error) {
+            System.out.println(error.getMessage() + ", and " + error.getSuppressed()[0].getMessage());
+        }
     }
 }
 '''
+# Retries of the binding for Node, and steps that are refused.
+NODE_RETRIES = """
+const { Fault, Stepper, check, retry } = require('./zsched.js');
+const failing = (times, text) => { let left = times; return () => { if (left-- > 0) throw new Error(text); return text; }; };
+const refused = (call) => { try { call(); } catch (fault) { console.log(`${fault.message}, ${fault.number} ${fault.at}`); } };
+(async () => {
+  let attempts = 0;
+  const third = failing(2, 'third');
+  const found = await retry('(linear(2) && recurs(5)).collectAll', async () => { attempts += 1; return third(); });
+  console.log(found, 'after', attempts);
+  await retry('(spaced(1) && recurs(3))', failing(9, '4th')).catch((error) => console.log(`${error.message}, given up`));
+  await retry('spaced(1)', failing(9, 'mine'), { inputOf: (error) => error.code })
+    .catch((error) => console.log(`${error.message}, ${error.notTriedAgain}`));
+  const control = new AbortController();
+  setTimeout(() => control.abort(new Error('stopped')), 20);
+  await retry('spaced(100000)', failing(9, 'mine'), { signal: control.signal }).catch((error) => console.log(error.message));
+  refused(() => check('?'));
+  const stepper = new Stepper('(exponential(10) && recurs(3))');
+  stepper.after(1, 2);
+  refused(() => stepper.after(0));
+  console.log(String(new Stepper('(exponential(10) && recurs(3))', stepper.state).state));
+})();
+"""
+# Schedules as deep as may be.
+DEEPEST = ["(forever && " * 63 + "forever" + ")" * 63, "(" * 63 + "forever" + " || elapsed)" * 63,
+           "(recurs(0) andThenEither " * 63 + "forever" + ")" * 63, "forever" + ".map(+ 1)" * 63, "forever" + ".collectAll" * 63,
+           "identity" + ".whileOutput(>= 0)" * 63, "forever" + ".map(+ 1)" * 55 + ".resetWhen(> 1)" * 3]
 NOT_UTF8 = [b"\xff", b"\xc3", b"\xed\xa0\x80", b"\xf0\x9f\x98"]
 
 room = tempfile.TemporaryDirectory(prefix="zsched-library-test-")
 folder = None
 
 
+@functools.cache
+def built_library():
+    """The folder in which the library is built, once for all files of tests."""
+    if not shutil.which("rt"):
+        raise unittest.SkipTest("the Rattle toolchain (the command 'rt') isn't on this machine, so nothing is built")
+    built = tempfile.TemporaryDirectory(prefix="zsched-library-built-")
+    atexit.register(built.cleanup)
+    subprocess.run([MAKE, "--out", built.name], check=True, stdout=subprocess.DEVNULL)
+    return pathlib.Path(built.name)
+
+
+def made_library():
+    """The folder of the library, which is built, and which the binding for Python takes from now on."""
+    named = os.environ.get("ZSCHED_LIBRARY_DIR")
+    made = pathlib.Path(named) if named else built_library()
+    os.environ["ZSCHED_LIBRARY"] = str(made / "libzsched.so")
+    sys.path.insert(0, str(BINDINGS / "python"))
+    return made
+
+
 def setUpModule():
     """Builds the library, and the program that calls it from C."""
     global folder
-    named = os.environ.get("ZSCHED_LIBRARY_DIR")
-    folder = pathlib.Path(named) if named else TOP / "crates" / "zs_c" / "out"
-    if not named:
-        if not shutil.which("rt"):
-            raise unittest.SkipTest("the Rattle toolchain (the command 'rt') isn't on this machine, so nothing is built")
-        subprocess.run([MAKE], check=True, stdout=subprocess.DEVNULL)
-    os.environ["ZSCHED_LIBRARY"] = str(folder / "libzsched.so")
-    sys.path.insert(0, str(BINDINGS / "python"))
+    folder = made_library()
     compile_caller("caller", "-O2")
 
 
@@ -101,9 +167,9 @@ def compile_caller(name, *more):
     subprocess.run([*words, folder / "libzsched.a", *WRAPPED], check=True)
 
 
-def called(words, requests):
+def called(words, asked):
     """The lines that the caller prints of these requests."""
-    ended = subprocess.run(words, input="".join(f"{it}\n" for it in requests), capture_output=True, text=True)
+    ended = subprocess.run(words, input="".join(f"{it}\n" for it in asked), capture_output=True, text=True)
     if ended.returncode:
         raise AssertionError(f"status {ended.returncode}: {ended.stdout[-500:]}{ended.stderr[-3000:]}")
     return ended.stdout.splitlines()
@@ -187,13 +253,28 @@ def made_request(seed):
     return Request(text, chance.choice([0, 1, 5, 30, 400]), made_pairs(chance, text.count(b"collectAll") > 1))
 
 
+@functools.cache
+def requests():
+    """All requests, each with what is wanted of it."""
+    made = [made_request(seed) for seed in range(REQUESTS)]
+    return [(it, it.wanted()) for it in made]
+
+
+def compare(test, line, wanted, weight, request):
+    """Compares a line with what is wanted of a request."""
+    words, visits = line.split(), wanted.split()
+    if "*" in visits:
+        test.assertIn(int(words[3]), range(1, weight + 1), request)
+        words[3] = "*"
+    test.assertEqual(words, visits, request)
+
+
 class FromC(unittest.TestCase):
     """A program in C that calls the library."""
 
     @classmethod
     def setUpClass(cls):
-        cls.requests = [made_request(seed) for seed in range(REQUESTS)]
-        cls.wanted = [it.wanted() for it in cls.requests]
+        cls.requests, cls.wanted = zip(*requests())
 
     def judge(self, lines, count=REQUESTS):
         """Compares lines with what is wanted of the first requests."""
@@ -203,11 +284,7 @@ class FromC(unittest.TestCase):
 
     def compare(self, line, wanted, weight, request):
         """Compares one line with what is wanted of a request."""
-        words, visits = line.split(), wanted.split()
-        if "*" in visits:
-            self.assertIn(int(words[3]), range(1, weight + 1), request)
-            words[3] = "*"
-        self.assertEqual(words, visits, request)
+        compare(self, line, wanted, weight, request)
 
     def test_two_thousand_requests_are_answered_as_the_reference_does(self):
         numbers = {wanted.split()[0] for wanted, _ in self.wanted}
@@ -230,7 +307,7 @@ class FromC(unittest.TestCase):
             self.compare(line, wanted, weight, request)
 
     def test_steps_over_a_state_answer_as_the_list_of_pairs_does(self):
-        self.judge_steps([path("caller"), "answer"])
+        # It prints what one thread answers, once four answered the same.
         self.judge_steps([path("caller"), "threads"])
 
     def test_each_request_for_memory_of_a_step_may_be_refused(self):
@@ -251,6 +328,17 @@ class FromC(unittest.TestCase):
 
     def test_four_threads_with_small_stacks_may_call_at_once(self):
         self.judge(called([path("caller"), "threads"], self.requests))
+
+    def test_the_deepest_schedules_need_no_more_stack_than_the_header_says(self):
+        header, caller = (TOP / "include" / "zsched.h").read_text(), (TOP / "tests" / "library.c").read_text()
+        stack = re.search(r"define STACK .(\d+) . 1024", caller)[1]
+        self.assertIn(f"and {stack} KiB of stack are free", header)
+        requests = [Request(text.encode(), 40, [(1, 5), (5, 7), (9, 9)]) for text in DEEPEST]
+        for request, line in zip(requests, called([path("caller"), "threads"], requests), strict=True):
+            self.compare(line, *request.wanted(), request)
+        flat = [request for request in requests if b"collectAll" not in request.text]
+        for request, line in zip(flat, called([path("caller"), "threads", "state"], flat), strict=True):
+            self.compare(line, *request.wanted(), request)
 
     def test_each_request_for_memory_may_be_refused(self):
         found = [int(line) for line in called([path("caller"), "refuse"], self.requests[:REFUSED])]
@@ -307,7 +395,7 @@ class FromPython(unittest.TestCase):
         except program.NoProgram as fault:
             self.skipTest(str(fault))
         done = seed = 0
-        while done < SCHEDULES:
+        while done < SCHEDULES and seed < 20 * SCHEDULES:
             chance = random.Random(seed)
             plan, seed = generator.made_plan(chance), seed + 1
             status, report, _ = program.run(zsched, generator.json_text(chance, plan).encode())
@@ -316,6 +404,7 @@ class FromPython(unittest.TestCase):
             for job, steps in zip(jobs, steps_of(report), strict=True):
                 self.replay(job["schedule"], steps)
                 done += bool(steps)
+        self.assertGreaterEqual(done, SCHEDULES)
 
     def test_a_text_that_is_no_schedule_is_told_with_its_place(self):
         faults = [("recurs(1) && recurs(2)", 11, 10, "no term at byte 10"), ("exponential(1, 0)", 14, 0, "factor is 0"),
@@ -366,6 +455,39 @@ class FromPython(unittest.TestCase):
                       '{"schedule":"recurs(1)","state":[1,-1]}', '{"schedule":"forever.collectAll","state":[1,1]}']:
             with self.assertRaises(ValueError, msg=saved):
                 self.zsched.Stepper.load(saved)
+
+    def test_faults_and_schedules_pass_between_processes(self):
+        with concurrent.futures.ProcessPoolExecutor(1, multiprocessing.get_context("spawn")) as pool:
+            with self.assertRaisesRegex(self.zsched.ScheduleFault, "^no term at byte 8$") as caught:
+                pool.submit(self.zsched.check, "forever.").result(60)
+        self.assertEqual((caught.exception.text, caught.exception.number, caught.exception.at), ("forever.", 11, 8))
+        for made in [self.zsched.Stepper("(exponential(10) && recurs(3))"), self.zsched.Schedule("fibonacci(5)")]:
+            made.after(1, 2)
+            again = pickle.loads(pickle.dumps(made))
+            self.assertEqual((again.text, again.save()), (made.text, made.save()))
+            self.assertEqual(again.after(12, 2), made.after(12, 2))
+            with self.assertRaises(self.zsched.Fault) as caught:
+                made.after(0)
+            again = pickle.loads(pickle.dumps(caught.exception))
+            self.assertEqual((again.number, str(again)), (3, "the moment is below that of the step before it"))
+
+    def test_each_number_of_the_header_has_a_text(self):
+        from zsched.faults import fault_text
+        numbers = re.findall(r"^    ZS_\w+ = (\d+)", (TOP / "include" / "zsched.h").read_text(), re.M)
+        texts = [fault_text(int(number), 23) for number in numbers if int(number) > 1]
+        self.assertEqual(len(set(texts)), len(numbers) - 2)
+        self.assertEqual([text for text in texts if not text or len(text) > 80], [])
+        self.assertEqual([text for text in texts if "23" in text],
+                         ["not UTF-8 at byte 23", "no term at byte 23", "number too large at byte 23"])
+        self.assertEqual([fault_text(number) for number in [0, 1, 8, 2 ** 32 - 1]], [""] * 4)
+        self.assertEqual(fault_text(11, 2 ** 64 - 1), "no term at byte 18446744073709551615")
+
+    def test_a_text_is_cut_where_its_room_ends(self):
+        text = b"number too large at byte 1234"
+        for size in range(len(text) + 3):
+            room = ctypes.create_string_buffer(b"-" * (len(text) + 3))
+            self.assertEqual(self.zsched.calls.library().zs_fault_text(13, 1234, room, size), len(text))
+            self.assertEqual(room.value, text[:size].ljust(len(text) + 3, b"-"))
 
     def test_a_long_output_of_a_state_is_whole(self):
         text = "recurs(18446744073709551615)"
@@ -438,11 +560,69 @@ class Refusing:
         return value
 
 
+def judge_answers(test, command, environment):
+    """Compares what a program answers to requests that have pairs, by the list and by a state, with what is wanted."""
+    for words in [[], ["state"]]:
+        chosen = [(request, wanted) for request, wanted in requests() if request.size is None or request.pairs]
+        chosen = [it for it in chosen if not words or b"collectAll" not in it[0].text]
+        test.assertGreater(len(chosen), REQUESTS // 2)
+        said = ran([*command, *words], TOP, "".join(f"{request}\n" for request, _ in chosen), **environment)
+        for (request, wanted), line in zip(chosen, said.splitlines(), strict=True):
+            compare(test, line, *wanted, request)
+
+
+class FromGo(unittest.TestCase):
+    """The binding for Go."""
+
+    def setUp(self):
+        if not shutil.which("go"):
+            self.skipTest("go (of the package golang-go) isn't on this machine")
+        self.environment = {"CGO_CFLAGS": f"-I{TOP / 'include'}", "CGO_LDFLAGS": f"-L{folder}", "LD_LIBRARY_PATH": str(folder),
+                            "GOPROXY": "off", "GOFLAGS": "-mod=readonly"}
+
+    def built(self, name):
+        """The path of a built program."""
+        made = path(f"go-{name.rpartition('/')[2]}")
+        ran(["go", "build", "-o", made, f"./{name}"], BINDINGS / "go", **self.environment)
+        return made
+
+    def test_two_thousand_requests_are_answered_by_list_and_by_state(self):
+        judge_answers(self, [self.built("internal/answers")], self.environment)
+
+    def test_the_example_waits_for_its_server(self):
+        self.assertEqual(ran([self.built("example")], TOP, **self.environment), "ready after 4 attempts\n")
+
+
+class FromNode(unittest.TestCase):
+    """The binding for Node."""
+
+    @classmethod
+    def setUpClass(cls):
+        header = pathlib.Path(os.environ.get("NODE_INCLUDE", "/usr/include/node")) / "node_api.h"
+        if not shutil.which("node") or not header.exists():
+            raise unittest.SkipTest(f"node or its header ({header}, of the package libnode-dev) isn't on this machine")
+        ran([BINDINGS / "node" / "build", path("zsched.node")], TOP, ZSCHED_LIBRARY_DIR=str(folder))
+        cls.environment = {"ZSCHED_NODE": str(path("zsched.node"))}
+
+    def test_two_thousand_requests_are_answered_by_list_and_by_state(self):
+        judge_answers(self, ["node", BINDINGS / "node" / "answers.js"], self.environment)
+
+    def test_the_example_waits_for_its_server(self):
+        self.assertEqual(ran(["node", "example.js"], BINDINGS / "node", **self.environment), "ready after 4 attempts\n")
+
+    def test_retries_end_as_they_should(self):
+        said = ran(["node", "-e", NODE_RETRIES], BINDINGS / "node", **self.environment)
+        self.assertEqual(said.splitlines(), [
+            "third after 3", "4th, given up", "mine, TypeError: Cannot convert undefined to a BigInt", "stopped",
+            "no term at byte 0, 11 0", "the moment is below that of the step before it, 3 0", "1,20,1"])
+
+
 class Retries(unittest.TestCase):
     """Retries in Python, by a clock that nobody waits for."""
 
     def setUp(self):
         import zsched
+        self.zsched = zsched
         self.clock = Clock()
         self.retrying = lambda text, **more: zsched.retrying(text, clock=self.clock, **{"sleep": self.clock.sleep, **more})
 
@@ -490,6 +670,53 @@ class Retries(unittest.TestCase):
         self.assertEqual((asyncio.run(tried()), asyncio.run(loop())), ("done", "done"))
         self.assertEqual(self.clock.slept, [0.01, 0.02])
 
+    def test_an_input_that_is_no_number_hides_no_error(self):
+        for code in [None, "503", 2.0, -1, 2 ** 64]:
+            with self.assertRaisesRegex(OSError, "^9 left$") as caught:
+                self.retrying("spaced(1)", input_of=lambda error: code)(Refusing(self.clock, 10))()
+            self.assertIn("zsched: not tried again", caught.exception.__notes__[0])
+        with self.assertRaisesRegex(OSError, "^9 left$") as caught:
+            self.retrying("spaced(1)", input_of=lambda error: error.code)(Refusing(self.clock, 10))()
+        self.assertIn("has no attribute 'code'", caught.exception.__notes__[0])
+        self.assertEqual(self.clock.slept, [])
+
+    def test_a_wait_that_no_clock_has_is_an_error(self):
+        with self.assertRaisesRegex(OverflowError, "18446744073709552 seconds away") as caught:
+            self.retrying("spaced(18446744073709551615)", sleep=None)(Refusing(self.clock, 1))()
+        self.assertEqual(str(caught.exception.__cause__), "0 left")
+
+    def test_a_task_that_is_cancelled_is_not_tried_again(self):
+        numbers = []
+
+        async def cancelled(where):
+            async for attempt in self.retrying("spaced(1000)", on=BaseException, sleep=None):
+                with attempt:
+                    numbers.append(attempt.number)
+                    await asyncio.sleep(60) if where == "attempt" else Refusing(self.clock, 1)()
+
+        async def main():
+            for where in ["attempt", "wait"]:
+                task = asyncio.create_task(cancelled(where))
+                await asyncio.sleep(0.02)
+                task.cancel()
+                with self.assertRaises(asyncio.CancelledError):
+                    await task
+        asyncio.run(main())
+        self.assertEqual(numbers, [1, 1])
+
+    def test_many_attempts_keep_no_list(self):
+        run = iter(self.retrying("(linear(1) || spaced(7))"))
+        effect = Refusing(self.clock, 5000)
+        for attempt in run:
+            with attempt:
+                effect()
+        self.assertEqual((attempt.number, len(self.clock.slept), self.clock.slept[-1]), (5001, 5000, 0.007))
+        self.assertEqual(len(run.schedule.state), len(self.zsched.Stepper("(linear(1) || spaced(7))").state))
+
+    def test_a_schedule_that_collects_is_followed_by_its_list(self):
+        self.assertEqual(self.retrying("(linear(10) && recurs(5)).collectAll")(Refusing(self.clock, 3))(), "done")
+        self.assertEqual(self.clock.slept, [0.01, 0.02, 0.03])
+
     def test_one_may_serve_many_calls(self):
         by = self.retrying("(spaced(10) && recurs(1))")
         for _ in range(3):
@@ -497,9 +724,16 @@ class Retries(unittest.TestCase):
         self.assertEqual(self.clock.slept, [0.01] * 3)
 
 
-def ran(words, where, **more):
+def version_number():
+    """The version of this tree as one number."""
+    major, minor, patch = map(int, (TOP / "VERSION").read_text().split("."))
+    return 1_000_000 * major + 1000 * minor + patch
+
+
+def ran(words, where, text=None, **more):
     """What a program prints that has to succeed."""
-    ended = subprocess.run([str(it) for it in words], cwd=where, capture_output=True, text=True, env={**os.environ, **more})
+    ended = subprocess.run([str(it) for it in words], cwd=where, input=text, capture_output=True, text=True,
+                           env={**os.environ, **more})
     if ended.returncode:
         raise AssertionError(f"{words}: status {ended.returncode}: {ended.stdout[-1000:]}{ended.stderr[-2000:]}")
     return ended.stdout
@@ -560,22 +794,25 @@ class Examples(unittest.TestCase):
             self.skipTest("cargo isn't on this machine")
         crate = path("rust")
         shutil.copytree(BINDINGS / "rust", crate, ignore=shutil.ignore_patterns("target", "Cargo.lock"))
-        more = {"ZSCHED_LIBRARY_DIR": str(folder), "RUSTFLAGS": "-D warnings"}
+        more = {"ZSCHED_LIBRARY_DIR": str(folder), "RUSTFLAGS": "-D warnings", "CARGO_INCREMENTAL": "0", "CARGO_PROFILE_DEV_DEBUG": "0"}
         said = ran(["cargo", "run", "--quiet", "--offline", "--example", "retry"], crate, **more)
         self.assertEqual(said, 'Ok("ready") after 4 attempts\n')
-        self.assertIn("2 passed", ran(["cargo", "test", "--quiet", "--offline", "--doc"], crate, **more))
+        tested = ran(["cargo", "test", "--quiet", "--offline"], crate, **more)
+        self.assertEqual(re.findall(r"\d+ passed", tested), ["5 passed", "2 passed"])
+        ran(["cargo", "check", "--quiet", "--offline", "--no-default-features"], crate, **more)
 
     def test_the_example_in_java_waits_for_its_server(self):
         if not shutil.which("javac") or not JNA.exists():
             self.skipTest(f"javac or JNA ({JNA}, of the package libjna-java) isn't on this machine")
         path("Steps.java").write_text(STEPS)
-        words = ["javac", "-Xlint:all", "-Werror", "-cp", JNA, "-d", path("java"), "zsched/Schedule.java", "zsched/Stepper.java"]
+        words = ["javac", *[f"-J{flag}" for flag in QUICK], "-Xlint:all", "-Werror", "-cp", JNA, "-d", path("java"), "zsched/Schedule.java", "zsched/Stepper.java"]
         ran([*words, "Example.java", path("Steps.java")], BINDINGS / "java")
-        words = ["java", "-cp", f"{JNA}:{path('java')}", f"-Djna.library.path={folder}"]
+        words = ["java", *QUICK, "-cp", f"{JNA}:{path('java')}", f"-Djna.library.path={folder}"]
         self.assertEqual(ran([*words, "Example"], BINDINGS / "java"), "ready after 4 attempts\n")
         wanted = ["Answer[done=false, next=13, output=(10,0), visits=3]", "the moment is below that of the step before it",
                   "Answer[done=false, next=33, output=(20,1), visits=3]", "[13, 40, 2]", "1 words in place of 3",
-                  "a schedule with collectAll has no state of fixed size", "no term at byte 0"]
+                  "a schedule with collectAll has no state of fixed size", "no term at byte 0", "PT5124095576030H25M51.614S",
+                  str(version_number()), "attempt 2, and / by zero", "attempt 2, and / by zero"]
         self.assertEqual(ran([*words, "Steps"], BINDINGS / "java").splitlines(), wanted)
 
     def test_make_library_tells_what_it_does_and_refuses_other_words(self):

@@ -12,7 +12,7 @@ import sys
 import tempfile
 import unittest
 
-from program import ONE_JOB, ONE_REPORT, TOP
+from support import ONE_JOB, ONE_REPORT, TOP
 from zsched_tools import program
 
 TOOLS = sorted(file.name for file in (TOP / "tools").glob("zsched-*"))
@@ -20,6 +20,8 @@ MANUAL = (TOP / "docs" / "zsched.1").read_text()
 FORMATS = (TOP / "docs" / "FORMATS.md").read_text()
 MISSING = [tool for tool in ["dpkg", "dpkg-deb", "objdump", "strip"] if shutil.which(tool) is None]
 EPOCH = "1800000000"
+OUTAGE = (b'{"horizon":"9s","clients":{"number":3},"windows":[{"from":0,"to":"1s","is":"down"}],'
+          b'"policies":{"backoff":"exponential(100)"}}')
 
 
 def output(words, **more):
@@ -151,6 +153,8 @@ class Package(unittest.TestCase):
         wanted += [f"usr/share/doc/zsched/{file.name}" for file in [TOP / "CHANGELOG.md", *TOP.glob("docs/*.md")]]
         wanted += [f"usr/bin/{tool}" for tool in TOOLS] + [f"usr/share/man/man1/{tool}.1.gz" for tool in TOOLS]
         wanted += [f"usr/share/zsched/zsched_tools/{file.name}" for file in TOP.glob("tools/zsched_tools/*.*")]
+        wanted += ["usr/share/zsched/VERSION"]
+        wanted += ["usr/share/zsched/play.html"]
         wanted += [f"usr/share/doc/zsched/examples/{file.name}" for file in TOP.glob("examples/*.json*")]
         self.assertEqual([path for path in wanted if not (self.root / path).is_file()], [])
         self.assertEqual([path for path in self.root.rglob("*") if path.suffix == ".pyc"], [])
@@ -187,7 +191,7 @@ class Package(unittest.TestCase):
         self.assertEqual(output(["chroot", self.root, "/usr/bin/zsched"], input=ONE_JOB).encode(), ONE_REPORT)
 
     def test_each_tool_runs_from_there_as_from_the_tree(self):
-        asked = [("--help",)] + [("--nothing",)]
+        asked = [("--help",), ("--nothing",), ("--version",)]
         for tool in TOOLS:
             for words in asked:
                 with self.subTest(tool, words=words):
@@ -210,7 +214,10 @@ class Package(unittest.TestCase):
         faulty.write_bytes(ONE_JOB.replace(b"recurs", b"recur"))
         column = ONE_JOB.index(b"recurs") + 1
         told = rf"zsched: job 0: schedule: no term at byte 0\n(.|\n)*faulty\.json:1:{column}\n"
-        runs = [(["zsched-explain", str(faulty)], b"", told), (["zsched-report", "summary"], ONE_REPORT, r"succeeded")]
+        runs = [(["zsched-explain", str(faulty)], b"", told), (["zsched-report", "summary"], ONE_REPORT, r"succeeded"),
+                (["zsched-try", "(exponential(100) && recurs(5))"], b"", r"^failed 503 after 6 attempts, 3\.34 s"),
+                (["zsched-try", "--version"], b"", rf"^zsched-try {re.escape((TOP / 'VERSION').read_text())}$"),
+                (["zsched-outage", "-"], OUTAGE, r"\ngave up +0\n")]
         return [run for run in runs if run[0][0] in TOOLS]
 
     def test_a_package_that_cannot_be_made_says_why(self):

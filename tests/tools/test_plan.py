@@ -1,10 +1,10 @@
 """zsched-plan split: the texts of the parts, what is refused, and the report of the whole from those of its parts."""
+import hashlib
 import io
 import json
 import os
 import pathlib
 import random
-import re
 import shutil
 import subprocess
 import sys
@@ -12,15 +12,15 @@ import tempfile
 import unittest
 from unittest import mock
 
-import program
+import support
 from measured import measured
-from zsched_tools import plan_text
+from zsched_tools import manifest, plan_text
 from zsched_tools import program as zsched
 from zsched_tools.command import Refused
-from zsched_tools.join import write_joined
+from zsched_tools.join import write_joined, write_known
 from zsched_tools.split import write_parts
 
-TOOL = program.TOP / "tools" / "zsched-plan"
+TOOL = support.TOP / "tools" / "zsched-plan"
 RANDOM_PLANS = 200
 
 JOBS = ['{"name":"a","x":1e400}', '{ "name" : "b" , "y" : 1.0 }',
@@ -54,7 +54,8 @@ class InFolder(unittest.TestCase):
     def parts(self, text, most, is_lines=False):
         """The texts of a plan's parts, in the order of their names."""
         write_parts(self.plan(text), is_lines, most, self.folder / "parts")
-        texts = [path.read_text() for path in sorted((self.folder / "parts").iterdir())]
+        texts = [path.read_text() for path in sorted((self.folder / "parts").glob("*.json"))]
+        self.assertEqual({path.suffix for path in (self.folder / "parts").iterdir()}, {".json", ""})
         shutil.rmtree(self.folder / "parts")
         return texts
 
@@ -70,7 +71,7 @@ class Parts(InFolder):
                                      + '],\n"workers":1.0, "horizon":2 }\n' for group in groups])
 
     def test_a_plan_that_is_one_part_stays_the_same(self):
-        texts = [path.read_text() for path in sorted(program.TOP.glob("examples/*.json"))]
+        texts = [path.read_text() for path in sorted(support.TOP.glob("examples/*.json"))]
         self.assertGreater(len(texts), 10)
         for text in [WHOLE, *texts, '{"jobs":[]}', ' {"jobs" : [ ] , "horizon":5}\n\n']:
             self.assertEqual(self.parts(text, 10_000), [text])
@@ -95,22 +96,78 @@ class Parts(InFolder):
         self.assertEqual(tool("split", 1000, self.plan(text), "-o", self.folder / "p"),
                          (0, f"{self.folder / 'p'}: 2 parts, 1100 jobs\n", ""))
         self.assertEqual(sorted(path.name for path in (self.folder / "p").iterdir()),
-                         ["part-000001.json", "part-000002.json"])
+                         ["manifest", "part-000001.json", "part-000002.json"])
 
     def test_a_folder_that_is_empty_is_taken(self):
         (self.folder / "p").mkdir()
         self.assertEqual(tool("split", 9, self.plan('{"jobs":[{"name":"a"}]}'), "-o", f"{self.folder / 'p'}/")[0], 0)
-        self.assertEqual([path.name for path in (self.folder / "p").iterdir()], ["part-000001.json"])
+        self.assertEqual(sorted(path.name for path in (self.folder / "p").iterdir()), ["manifest", "part-000001.json"])
 
     def test_a_large_plan_takes_little_memory(self):
         path = self.folder / "large"
         with open(path, "w", encoding="ascii") as file:
             file.write('{"horizon":1000}\n')
-            file.writelines(f'{{"name":"job-{number:07}","mode":"retry","schedule":"recurs(3)",{program.SCRIPT}}}\n'
+            file.writelines(f'{{"name":"job-{number:07}","mode":"retry","schedule":"recurs(3)",{support.SCRIPT}}}\n'
                             for number in range(60_000))
         status, kilobytes, _ = measured(TOOL, "split", 10_000, "--lines", path, "-o", self.folder / "p", out=os.devnull)
-        self.assertEqual((status, len(list((self.folder / "p").iterdir()))), (0, 6))
+        self.assertEqual((status, len(list((self.folder / "p").iterdir()))), (0, 7))
         self.assertLess(kilobytes, 40_000)
+
+
+class Blocks(InFolder):
+    """JSON lines are looked at many at a time."""
+
+    def test_blocks_of_any_length_are_read_the_same(self):
+        plain = [f'{{"name":"p{number}","ms":{number}}}' for number in range(9)]
+        lines = ["{}", *plain[:4], *JOBS[:3], *plain[4:], JOBS[3], ""]
+        for most in [1, 4, 100]:
+            wanted = ['{"jobs":[\n' + ",\n".join(lines[1:-1][at:at + most]) + "\n]}\n" for at in range(0, 13, most)]
+            for length in [1, 10, 40, 100, 10**6]:
+                with mock.patch.object(plan_text, "BLOCK", length):
+                    self.assertEqual(self.parts("\n".join(lines), most, is_lines=True), wanted)
+                    text = "\n".join([*lines[:7], "x", *lines[7:]])
+                    with self.assertRaisesRegex(Refused, "line 8, column 1: no JSON"):
+                        write_parts(self.plan(text), True, most, self.folder / "none")
+                    with self.assertRaisesRegex(Refused, "line 14: the name p4 stands in the job on line 9 too"):
+                        write_parts(self.plan("\n".join([*lines[:-2], plain[4], ""])), True, most, self.folder / "none")
+
+
+class Manifest(InFolder):
+    """The manifest beside the parts."""
+
+    def test_it_has_each_part_with_its_jobs_and_sums(self):
+        write_parts(self.plan(WHOLE), False, 2, self.folder / "p")
+        lines = (self.folder / "p" / "manifest").read_text().splitlines(keepends=True)
+        rows = []
+        for number, names in enumerate(["a\nb\n", "c\nd\n", "e\n"], 1):
+            plan = (self.folder / "p" / f"part-00000{number}.json").read_bytes()
+            rows.append(f"part-00000{number} jobs {names.count(chr(10))} plan {hashlib.sha256(plan).hexdigest()} "
+                        f"names {hashlib.sha256(names.encode()).hexdigest()}\n")
+        wanted = ["zsched-parts 1\n", "parts 3 jobs 5\n", *rows]
+        self.assertEqual(lines, [*wanted, f"sha256 {hashlib.sha256(''.join(wanted).encode()).hexdigest()}\n"])
+
+    def test_it_is_read_as_it_was_written(self):
+        for most in [1, 2, 5]:
+            write_parts(self.plan(WHOLE), False, most, self.folder / str(most))
+            entries = manifest.read(self.folder / str(most) / "manifest")
+            self.assertEqual([entry.jobs for entry in entries], [min(most, 5 - at) for at in range(0, 5, most)])
+        write_parts(self.plan('{"jobs":[]}'), False, 2, self.folder / "none")
+        self.assertEqual([entry.jobs for entry in manifest.read(self.folder / "none" / "manifest")], [0])
+
+    def test_plain_jobs_are_those_that_are_decoded(self):
+        rng, plain = random.Random(3), 0
+        jobs = [support.job("a-1"), support.job("b.2", script='"script":[]'), '{"name":"c","x":[{"ms":1}],"y":"z"}',
+                '{"name": "d", "ms": 7, "script": [{"ms": 1, "ok": 0}, {"ms": 2, "err": 1}]}', *JOBS]
+        for _ in range(4000):
+            text = rng.choice(jobs)
+            at = rng.randrange(len(text))
+            text = text[:at] + rng.choice('"{}[],:\\ 0123name.eé\t') + text[at + rng.randrange(2):]
+            text = text.encode().decode("latin-1")
+            found = plan_text._PLAIN_JOB.fullmatch(text)
+            if found is not None:
+                plain += 1
+                self.assertEqual(json.loads(text)["name"], found[1], text)
+        self.assertGreater(plain, 400)
 
 
 # What is no plan to be cut, and what is said of it.
@@ -213,6 +270,14 @@ class Refusals(InFolder):
         self.assertEqual(tool("split", 5, path, "-o", self.folder / "p")[0], 2)
         self.assertTrue((self.folder / "p.partial" / "kept").exists())
 
+    def test_an_output_that_takes_nothing_ends_it_with_3_and_one_line(self):
+        path = self.plan('{"jobs":[]}')
+        for number, (target, said) in enumerate([("> /dev/full", "No space left on device"),
+                                                 (">&-", "standard output is closed")]):
+            command = f"{sys.executable} {TOOL} split 5 {path} -o {self.folder / str(number)} {target}"
+            ended = subprocess.run(["bash", "-c", command], capture_output=True, text=True, check=False)
+            self.assertEqual((ended.returncode, ended.stderr), (3, f"zsched-plan: {said}\n"))
+
     def test_wrong_words_end_with_2(self):
         path = self.plan('{"jobs":[]}')
         for words in [[], ["split"], ["split", 0, path, "-o", "p"], ["split", 10_001, path, "-o", "p"],
@@ -271,87 +336,17 @@ class Whole(InFolder):
             whole = self.plan(random_plan(rng), f"{seed}.json")
             write_parts(whole, False, rng.randint(1, 8), folder)
             out = io.BytesIO()
-            write_joined(self.reports(sorted(folder.iterdir())), out.write)
+            reports = self.reports(sorted(folder.glob("*.json")))
+            write_joined(reports, out.write)
             wanted = self.reports([whole])[0].read_bytes()
             self.assertEqual(out.getvalue(), wanted, f"seed {seed}")
+            for report in reports:
+                support.write_digest(report)
+            known = io.BytesIO()
+            write_known(folder / "manifest", known.write)
+            self.assertEqual(known.getvalue(), wanted, f"seed {seed}")
             attempts += wanted.count(b"\nattempt ")
         self.assertGreater(attempts, 10 * RANDOM_PLANS)
-
-
-def recipe(title, language="sh"):
-    """The blocks of commands in a section of docs/SCALE.md."""
-    text = (program.TOP / "docs" / "SCALE.md").read_text()
-    section = re.search(rf"^## {title}\n(.*?)(?=^## |\Z)", text, re.MULTILINE | re.DOTALL)[1]
-    return re.findall(rf"^```{language}\n(.*?)^```", section, re.MULTILINE | re.DOTALL)
-
-
-class Recipes(InFolder):
-    """The recipes of docs/SCALE.md, run as they are written."""
-
-    def setUp(self):
-        super().setUp()
-        try:
-            built = pathlib.Path(zsched.find()).resolve().parent
-        except zsched.NoProgram as missing:
-            self.skipTest(str(missing))
-        path = f"{program.TOP / 'tools'}:{built}:/usr/local/bin:/usr/bin:/bin"
-        self.environment = {"PATH": path, "HOME": str(self.folder), "LC_ALL": "C"}
-
-    def run_in_folder(self, commands):
-        """Runs commands in the folder: status and errors."""
-        ended = subprocess.run(["bash", "-c", commands], cwd=self.folder, env=self.environment, capture_output=True,
-                               check=False, timeout=120)
-        return ended.returncode, ended.stderr.decode()
-
-    def population(self, count):
-        """A plan of so many jobs, in the folder."""
-        return self.plan(program.plan([program.job(f"job-{number}") for number in range(count)]), "plan.json")
-
-    def whole(self, plan):
-        """The report of a plan in one run."""
-        return zsched.run(self.environment["PATH"].split(":")[1] + "/zsched", plan.read_bytes())[1]
-
-    def test_gnu_parallel(self):
-        if shutil.which("parallel") is None or "GNU" not in subprocess.run(
-                ["parallel", "--version"], capture_output=True, text=True, check=False).stdout:
-            self.skipTest("GNU parallel isn't on this machine")
-        (self.folder / ".parallel").mkdir()
-        (self.folder / ".parallel" / "will-cite").touch()
-        split, run, join = recipe("GNU parallel")[:3]
-        plan = self.population(25)
-        self.assertEqual(self.run_in_folder(split.replace("10000", "10")), (0, ""))
-        broken = self.folder / "parts" / "part-000002.json"
-        good = broken.read_text()
-        broken.write_text(good.replace("recurs", "recur"))
-        status, errors = self.run_in_folder(run)
-        self.assertEqual((status, errors), (1, "zsched: job 0: schedule: no term at byte 0\n"))
-        self.assertEqual(self.run_in_folder(join),
-                         (2, "zsched-report: parts/part-000002.report: is empty, and no report\n"))
-        broken.write_text(good)
-        self.assertEqual(self.run_in_folder(run), (0, ""))
-        self.assertEqual(self.run_in_folder(join), (0, ""))
-        self.assertEqual((self.folder / "whole.report").read_bytes(), self.whole(plan))
-        ran = [line.split("\t")[-1].split()[2] for line in (self.folder / "parts.log").read_text().splitlines()[1:]]
-        self.assertEqual(sorted(ran), [f"parts/part-00000{number}.json" for number in [1, 2, 2, 3]])
-
-    def test_gnu_make(self):
-        if shutil.which("make") is None:
-            self.skipTest("GNU make isn't on this machine")
-        self.population(25)
-        self.plan(*recipe("GNU make", "make"), "Makefile")
-        split, run = recipe("GNU make")[:2]
-        self.assertEqual(self.run_in_folder(split.replace("10000", "10")), (0, ""))
-        broken = self.folder / "parts" / "part-000002.json"
-        good = broken.read_text()
-        broken.write_text(good.replace("recurs", "recur"))
-        status, errors = self.run_in_folder(run)
-        self.assertEqual((status, (self.folder / "whole.report").exists()), (2, False))
-        self.assertIn("zsched: job 0: schedule: no term at byte 0\n", errors)
-        self.assertEqual(sorted(it.name for it in (self.folder / "parts").glob("*.report")),
-                         ["part-000001.report", "part-000003.report"])
-        broken.write_text(good)
-        self.assertEqual(self.run_in_folder(run), (0, ""))
-        self.assertEqual((self.folder / "whole.report").read_bytes(), self.whole(self.folder / "plan.json"))
 
 
 if __name__ == "__main__":

@@ -1,30 +1,26 @@
-"""tools/zsched-play: what the server takes and refuses, what it answers, and the page in a real browser.
+"""tools/zsched-play: what the server takes and rejects, what it answers, and its page in a real browser.
 
-The browser is chromium, where it is installed."""
+The browser is chromium, if it is installed. What the page does with what is typed is in test_page.py."""
 import http.client
 import json
 import os
 import re
-import shutil
 import signal
 import socket
 import subprocess
-import tempfile
 import threading
 import unittest
 import unittest.mock
 import urllib.parse
-import xml.etree.ElementTree
 
-from program import TOP, run
-from zsched_tools import asking, play, program
+from browser import CHROMIUM, inside, opened
+from support import ONE_JOB, TOP, run
+from zsched_tools import duration_text, play, program
 
 TOOL = TOP / "tools" / "zsched-play"
-PAGE = (TOP / "tools" / "zsched_tools" / "play.html").read_text()
-EXAMPLES = json.loads(re.search(r'id="example-list">\n(.*?)</script>', PAGE, re.S)[1])
-CHROMIUM = shutil.which("chromium") or shutil.which("chromium-browser")
+PAGE = (TOP / "docs" / "play.html").read_text()
 
-# A schedule that is refused, what the caret lies under, and words of the cause or the help.
+# A schedule that is rejected, what the caret is under, and words of the cause or the help.
 CARETS = [
     ("recur(3)", "recur", "recurs"),
     ("(spaced(10) && recurs(3s))", "s", "milliseconds"),
@@ -32,33 +28,33 @@ CARETS = [
     ("spaced(10) && recurs(3)", "&&", "parenthes"),
     ("exponential(10, 0)", "0", "factor"),
     ("recurs(18446744073709551616)", "18446744073709551616", "18446744073709551615"),
+    ('recurs(3)"<script>', '"', "quotes"),
 ]
 
-# Fields that can't be read: the field, its text, and words of what is told.
-UNREAD = [
-    ("script", "", "is no attempt"),
-    ("script", "40 error 503", "is no attempt"),
-    ("script", "40 err 503 x0", "1 to 1000 attempts"),
-    ("script", "40 err 503 x1001", "1 to 1000 attempts"),
-    ("script", "40 err 503, ", "is no attempt"),
-    ("script", "4x err 503", "is no attempt"),
-    ("until", "", "is no duration"),
-    ("until", "1 week", "is no duration"),
-    ("until", "-5", "is no duration"),
-    ("start", "1.5", "isn't a whole number of milliseconds"),
-    ("start", "9" * 5000, "isn't a whole number of milliseconds"),
-]
-
-# Durations in words, and their milliseconds.
+# Durations in words, and their milliseconds; and texts that are none.
 DURATIONS = [("40", 40), ("40ms", 40), (" 1.5s ", 1500), ("0.001 s", 1), ("2min", 120000), ("2m", 120000),
              ("1h", 3600000), ("1d", 86400000), ("0.5d", 43200000), ("0", 0), ("007", 7),
              ("18446744073709551615", 18446744073709551615)]
+NO_DURATIONS = ["", "1 week", "-5", "1.5", "9" * 5000]
 
 
-def fields(**changed):
-    """The page's fields, by default those of a short run."""
-    short = {"schedule": "recurs(3)", "mode": "retry", "script": "5 err 7, 5 ok 1", "until": "1s", "start": ""}
-    return {**short, **changed}
+def question(schedule="recurs(3)", horizon="1000", script='[{"ms":1,"err":7}]'):
+    """The bytes of a plan of one retry."""
+    return (f'{{"horizon":{horizon},"jobs":[{{"name":"A","mode":"retry","schedule":{json.dumps(schedule)},'
+            f'"script":{script}}}]}}').encode()
+
+
+class Words(unittest.TestCase):
+    """Durations in words, as other tools take them too."""
+
+    def test_durations(self):
+        for text, wanted in DURATIONS:
+            self.assertEqual(duration_text.milliseconds(text), wanted, text)
+
+    def test_what_is_none(self):
+        for text in NO_DURATIONS:
+            with self.subTest(text[:20]), self.assertRaises(ValueError):
+                duration_text.milliseconds(text)
 
 
 class Served(unittest.TestCase):
@@ -98,9 +94,9 @@ class Served(unittest.TestCase):
         connection.close()
         return found
 
-    def asked(self, **changed):
-        """The answer for the page's fields."""
-        status, _, body = self.request("POST", "/report", json.dumps(fields(**changed)).encode())
+    def asked(self, plan_bytes):
+        """The answer for a plan."""
+        status, _, body = self.request("POST", "/report", plan_bytes)
         self.assertEqual(status, 200, body)
         return json.loads(body)
 
@@ -108,93 +104,54 @@ class Served(unittest.TestCase):
 class Answers(Served):
     """What the server answers."""
 
-    def test_each_example_of_the_page_gives_its_report_and_a_picture(self):
-        self.assertEqual(len(EXAMPLES), 8)
-        for example in EXAMPLES:
-            with self.subTest(example["name"]):
-                answer = self.asked(**{field: example[field] for field in asking.FIELDS})
-                self.assertEqual(sorted(answer), ["end", "note", "picture", "plan", "report"])
-                status, report, _ = run(self.zsched, answer["plan"].encode())
-                self.assertEqual((status, answer["report"]), (0, report.decode()))
-                self.assertIn(answer["end"], answer["report"].splitlines())
-                self.assertEqual(answer["note"], "")
-                picture = xml.etree.ElementTree.fromstring(answer["picture"])
-                self.assertEqual(picture.tag, "svg")
-                self.assertGreater(len(picture.findall(".//title")), 3)
+    def test_the_report_is_that_of_the_program(self):
+        for file in sorted(TOP.glob("examples/*.json"))[:8]:
+            with self.subTest(file.name):
+                wanted = file.with_name(f"{file.name}.stdout").read_text()
+                self.assertEqual(self.asked(file.read_bytes()), {"report": wanted, "size": len(wanted)})
 
-    def test_the_plan_is_what_the_fields_say(self):
-        plan = json.loads(self.asked(script="1.5s err 503 x2, 35 ok 200", until="2min", start="1s")["plan"])
-        self.assertEqual(plan, {"horizon": 120000, "jobs": [{
-            "name": "job", "mode": "retry", "start": 1000, "schedule": "recurs(3)",
-            "script": [{"ms": 1500, "err": 503}, {"ms": 1500, "err": 503}, {"ms": 35, "ok": 200}]}]})
-
-    def test_the_greatest_number_is_kept(self):
-        self.assertIn("ok 18446744073709551615", self.asked(script="5 ok 18446744073709551615")["report"])
-
-    def test_durations(self):
-        for text, wanted in DURATIONS:
-            self.assertEqual(asking.milliseconds("until", text), wanted, text)
-
-    def test_a_fault_of_the_schedule_has_a_caret(self):
+    def test_a_fault_of_a_schedule_has_its_place(self):
         for text, marked, word in CARETS:
             with self.subTest(text):
-                answer = self.asked(schedule=text)
-                fault = answer["fault"]
-                status, _, errors = run(self.zsched, answer["plan"].encode())
+                data = question(text)
+                fault = self.asked(data)["fault"]
+                status, _, errors = run(self.zsched, data)
                 self.assertEqual((status, f"zsched: {fault['text']}\n"), (2, errors.decode()))
-                self.assertEqual((fault["field"], fault["line"]), ("schedule", text))
+                self.assertEqual((fault["job"], fault["key"]), (0, "schedule"))
                 self.assertEqual(text[fault["at"]:fault["at"] + fault["size"]], marked)
                 self.assertIn(word, fault["cause"] + fault["help"])
 
-    def test_the_caret_of_an_end_that_comes_too_soon_stands_behind_it(self):
-        fault = self.asked(schedule="(recurs(3) && forever")["fault"]
-        self.assertEqual((fault["line"], fault["at"], fault["size"]), ("(recurs(3) && forever", 21, 1))
+    def test_the_place_of_an_end_that_comes_too_soon_is_behind_it(self):
+        fault = self.asked(question("(recurs(3) && forever"))["fault"]
+        self.assertEqual((fault["at"], fault["size"]), (21, 1))
 
-    def test_a_long_schedule_is_cut_around_the_caret(self):
-        fault = self.asked(schedule="(" * 5000 + "recur(3)")["fault"]
-        self.assertLessEqual(len(fault["line"]), 160)
-        self.assertTrue(fault["line"][fault["at"]:].startswith("recur"), fault)
+    def test_the_place_counts_the_text_and_not_its_escapes(self):
+        fault = self.asked(question().replace(b"recurs(3)", b"(recurs(\\u0033) \\u0026 forever)"))["fault"]
+        self.assertEqual((fault["at"], fault["size"], fault["help"]), (11, 1, "write &&"))
 
-    def test_a_fault_of_another_field_stands_there(self):
-        for changed, field, word in [({"until": "1000000000000000"}, "until", "out of range"),
-                                     ({"script": "0 err 5"}, "script", "0 ms"),
-                                     ({"mode": "loop"}, "mode", "out of range"),
-                                     ({"start": "18446744073709551616"}, "start", "wrong shape"),
-                                     ({"script": "5 ok 18446744073709551616"}, "script", "wrong shape")]:
-            with self.subTest(changed):
-                fault = self.asked(**changed)["fault"]
-                self.assertEqual(fault["field"], field, fault)
-                self.assertIn(word, fault["text"])
+    def test_another_fault_has_its_cause(self):
+        for data, text, word in [(question(horizon="1000000000000000"), "plan: out of range", "milliseconds"),
+                                 (question(script='[{"ms":0,"ok":1}]'), "job 0: script: an entry takes 0 ms", "1"),
+                                 (b"", "plan is not JSON", "begins as"), (b"\xff", "plan is not JSON", "UTF-8")]:
+            with self.subTest(data[:40]):
+                fault = self.asked(data)["fault"]
+                self.assertEqual(sorted(fault), ["cause", "help", "text"])
+                self.assertEqual(fault["text"], text)
+                self.assertIn(word, fault["cause"] + fault["help"])
 
-    def test_a_field_that_cannot_be_read_is_told(self):
-        for field, text, words in UNREAD:
-            with self.subTest(field=field, text=text[:40]):
-                answer = self.asked(**{field: text})
-                self.assertEqual((list(answer), answer["fault"]["field"]), (["fault"], field))
-                self.assertIn(words, answer["fault"]["text"])
+    def test_a_long_report_is_cut(self):
+        with unittest.mock.patch.object(play, "LONGEST_REPORT", 1000):
+            with unittest.mock.patch.object(play, "LONGEST_SHOWN", 500):
+                answer = play.answer(self.zsched, question("forever"), 10)
+        _, report, _ = run(self.zsched, question("forever"))
+        self.assertEqual((answer["size"], answer["isCut"]), (len(report), True))
+        self.assertLessEqual(len(answer["report"]), 500)
+        self.assertTrue(report.decode().startswith(answer["report"]) and answer["report"].endswith("\n"))
 
-    def test_what_is_typed_never_becomes_markup(self):
-        answer = self.asked(schedule='recurs(3)"<script>alert(1)</script>\\')
-        self.assertEqual(json.loads(answer["plan"])["jobs"][0]["schedule"], 'recurs(3)"<script>alert(1)</script>\\')
-        self.assertEqual(answer["fault"]["field"], "schedule")
-        self.assertNotIn("innerHTML = got.fault", PAGE)
-        self.assertEqual(re.findall(r"innerHTML = (.*);", PAGE), ["got.picture"])
-
-    def test_a_long_report_is_cut_with_a_note(self):
-        answer = self.asked(schedule="forever", script="1 err 7", until="10s")
-        self.assertLessEqual(len(answer["report"]), play.LONGEST_SHOWN)
-        self.assertTrue(answer["report"].endswith("\n"))
-        _, report, _ = run(self.zsched, answer["plan"].encode())
-        self.assertTrue(report.decode().startswith(answer["report"]))
-        told = f"The report has {len(report)} bytes, and its first {len(answer['report'])} are shown;"
-        self.assertIn(told, answer["note"])
-        self.assertEqual(xml.etree.ElementTree.fromstring(answer["picture"]).tag, "svg")
-
-    def test_a_report_of_many_megabytes_has_no_picture(self):
-        answer = self.asked(schedule="forever", script="1 err 7", until="100s")
-        self.assertLessEqual(len(answer["report"]), play.LONGEST_SHOWN)
-        self.assertRegex(answer["note"], r"has \d{7} bytes, .* too long for a picture")
-        self.assertEqual((answer["picture"], answer["end"]), ("", ""))
+    def test_a_plan_of_too_many_attempts_is_not_run(self):
+        answer = play.answer("/nowhere", question("forever", horizon="999999999999999"), 10)
+        self.assertEqual(answer["fault"]["field"], "until")
+        self.assertRegex(answer["fault"]["cause"], r"^its attempts may be 1\.0e\+15, more than 100000000: ")
 
 
 class Requests(Served):
@@ -202,14 +159,15 @@ class Requests(Served):
 
     def test_the_page_loads_nothing_from_elsewhere(self):
         status, headers, body = self.request("GET", "/?schedule=forever")
-        self.assertEqual((status, body.decode()), (200, PAGE))
+        self.assertEqual((status, body.decode()), (200, PAGE.replace('data-engine="page"', 'data-engine="program"', 1)))
+        self.assertEqual((PAGE.count('data-engine="page"'), len(body)), (1, len(PAGE.encode()) + 3))
         self.assertTrue(headers["Content-Security-Policy"].startswith("default-src 'none'; "))
         self.assertEqual(re.findall(r"https?:|//[a-z]|@import|url\(", PAGE.replace("// ", "")), [])
         self.assertEqual(set(re.findall(r'(?:src|href)="([^"]*)"', PAGE)), {"data:,"})
 
     def test_head_has_no_body(self):
         status, headers, body = self.request("HEAD", "/")
-        self.assertEqual((status, headers["Content-Length"], body), (200, str(len(PAGE.encode())), b""))
+        self.assertEqual((status, headers["Content-Length"], body), (200, str(len(PAGE.encode()) + 3), b""))
 
     def test_localhost_is_its_own_name(self):
         self.assertEqual(self.request("GET", "/", Host=f"localhost:{self.port}")[0], 200)
@@ -220,7 +178,7 @@ class Requests(Served):
         for host in [*others, None]:
             for method, path in [("GET", "/"), ("POST", "/report")]:
                 with self.subTest(host=host, method=method):
-                    self.assertEqual(self.request(method, path, json.dumps(fields()).encode(), Host=host)[0], 421)
+                    self.assertEqual(self.request(method, path, ONE_JOB, Host=host)[0], 421)
 
     def test_refuses_two_hosts(self):
         with socket.create_connection(("127.0.0.1", self.port), timeout=30) as line:
@@ -228,12 +186,11 @@ class Requests(Served):
             line.sendall(f"GET / HTTP/1.1\r\n{own}{own}\r\n".encode())
             self.assertTrue(line.recv(100).startswith(b"HTTP/1.0 421 "))
 
-    def test_refuses_a_question_of_another_origin(self):
-        question = json.dumps(fields()).encode()
+    def test_refuses_a_plan_of_another_origin(self):
         for origin, wanted in [("http://zsched.example", 403), ("null", 403), (f"https://127.0.0.1:{self.port}", 403),
                                (f"http://127.0.0.1:{self.port}", 200)]:
             with self.subTest(origin):
-                self.assertEqual(self.request("POST", "/report", question, Origin=origin)[0], wanted)
+                self.assertEqual(self.request("POST", "/report", ONE_JOB, Origin=origin)[0], wanted)
 
     def test_refuses_other_methods(self):
         for method in ["PUT", "DELETE", "PATCH", "OPTIONS", "TRACE"]:
@@ -251,23 +208,15 @@ class Requests(Served):
                 self.assertEqual(self.request("GET", path)[0], 404)
                 self.assertEqual(self.request("POST", path, b"{}")[0], 404)
 
-    def test_refuses_a_question_that_is_too_long(self):
+    def test_refuses_a_plan_that_is_too_long(self):
         self.assertEqual(self.request("POST", "/report", b" " * 16777217)[0], 413)
-        self.assertEqual(self.request("POST", "/report", b" " * 16777216)[0], 400)
+        self.assertEqual(self.request("POST", "/report", b" " * 16777216)[0], 200)
 
     def test_refuses_a_length_that_is_none(self):
         for length, wanted in [(None, 411), ("ten", 400), ("-1", 400), ("1_0", 400), ("1" * 19, 400), ("1" * 18, 413)]:
             with self.subTest(length):
                 self.assertEqual(self.request("POST", "/report", Content_Length=length)[0], wanted)
         self.assertEqual(self.request("POST", "/report", Transfer_Encoding="chunked")[0], 411)
-
-    def test_refuses_a_question_that_is_none(self):
-        lacking = {field: "" for field in asking.FIELDS[1:]}
-        for body in [b"", b"{}", b"[]", b"\xff", b"null", b"[" * 100000, json.dumps(lacking).encode(),
-                     json.dumps(fields(more="1")).encode(), json.dumps(fields(until=5)).encode(),
-                     json.dumps(fields(schedule="\ud800")).encode()]:
-            with self.subTest(body[:40]):
-                self.assertEqual(self.request("POST", "/report", body)[0], 400)
 
     def test_a_browser_that_goes_away_does_no_harm(self):
         with socket.create_connection(("127.0.0.1", self.port), timeout=30) as line:
@@ -292,8 +241,7 @@ class Stopped(unittest.TestCase):
         self.addCleanup(server.server_close)
         self.addCleanup(server.shutdown)
         connection = http.client.HTTPConnection("127.0.0.1", server.server_port, timeout=30)
-        endless = fields(schedule="spaced(1)", script="1 err 7", until="999999999999999")
-        connection.request("POST", "/report", json.dumps(endless))
+        connection.request("POST", "/report", question("forever", horizon="99999998"))
         fault = json.loads(connection.getresponse().read())["fault"]
         connection.close()
         return fault
@@ -302,15 +250,16 @@ class Stopped(unittest.TestCase):
         self.assertEqual(play.SECONDS, 10)
         fault = self.fault(1)
         self.assertEqual(fault["field"], "until")
-        self.assertIn("no report within 1 seconds, so zsched was stopped: shorten", fault["text"])
+        self.assertEqual(fault["cause"], "no report within 1 seconds, so zsched was stopped")
+        self.assertIn("shorten", fault["help"])
         children = run(["ps", "-o", "args=", "--ppid", str(os.getpid())], b"")[1].decode()
         self.assertNotIn(program.find(), children)
 
     def test_a_plan_that_takes_too_much_memory_is_told(self):
         with unittest.mock.patch.object(play, "MEMORY", 64 << 20):
             fault = self.fault(30)
-        self.assertEqual((fault["field"], fault["text"]),
-                         ("until", f"out of memory (64 MB are given to it): {play.SMALLER}"))
+        self.assertEqual((fault["field"], fault["cause"], fault["help"]),
+                         ("until", "out of memory (64 MB are given to it)", play.SMALLER))
 
 
 class CommandLine(unittest.TestCase):
@@ -323,7 +272,7 @@ class CommandLine(unittest.TestCase):
     def test_help_names_what_it_takes_and_its_statuses(self):
         status, output, errors = self.ended("--help")
         self.assertEqual((status, errors), (0, b""))
-        for word in [b"--port", b"--zsched", b"8642", b"tatus 0", b"tatus 2"]:
+        for word in [b"--port", b"--zsched", b"--version", b"--color", b"8642", b"tatus 0", b"tatus 2"]:
             self.assertIn(word, output)
 
     def test_refuses_what_is_no_port(self):
@@ -362,39 +311,22 @@ class CommandLine(unittest.TestCase):
 
 @unittest.skipIf(CHROMIUM is None, "chromium isn't installed (Debian: chromium)")
 class Browser(Served):
-    """The page in a browser that can reach no other host."""
+    """The page over the program, in a browser that can reach no other host."""
 
-    def opened(self, **query):
-        """The page's document, after its script has run on the fields of the address."""
-        with tempfile.TemporaryDirectory() as folder:
-            words = [CHROMIUM, "--headless=new", "--no-sandbox", "--disable-gpu", "--disable-background-networking",
-                     "--no-first-run", "--host-resolver-rules=MAP * ~NOTFOUND , EXCLUDE 127.0.0.1",
-                     f"--user-data-dir={folder}", "--virtual-time-budget=8000", "--dump-dom",
-                     f"{self.url}?{urllib.parse.urlencode(query)}"]
-            at_home = {**os.environ, "HOME": folder}
-            ended = subprocess.run(words, capture_output=True, check=False, timeout=60, env=at_home)
-        self.assertEqual(ended.returncode, 0, ended.stderr[-500:])
-        return ended.stdout.decode()
-
-    def test_shows_the_first_example(self):
-        document = self.opened()
-        self.assertEqual(len(re.findall('<button type="button" aria-pressed="', document)), len(EXAMPLES))
-        self.assertEqual(re.findall('aria-pressed="true">(.*?)<', document), ["Backoff with a cap"])
-        self.assertIn("end failed 503 at 13540 polls 22", document)
-        self.assertRegex(document, r'<div id="picture"[^>]*><svg ')
+    def test_shows_what_the_program_gives(self):
+        document = opened(self.url)
+        self.assertIn("comes from zsched itself", inside(document, "engine"))
+        self.assertIn("gives up with 503 after 11 attempts, 13.54 s; longest wait 2 s", inside(document, "state"))
+        self.assertIn("end failed 503 at 13540 polls 22", inside(document, "report"))
         self.assertNotIn('class="fault shown"', document)
 
-    def test_shows_a_fault_with_its_caret(self):
-        document = self.opened(**fields(schedule="(spaced(10) && recur(3))"))
-        fault = re.search(r'<div class="fault shown" id="schedule-fault" role="alert">(.*?)</div>', document, re.S)[1]
-        self.assertIn("(spaced(10) &amp;&amp; recur(3))\n" + " " * 15 + "<b>^^^^^</b>", fault)
-        self.assertIn("recurs", fault)
-        self.assertRegex(document, r'<textarea id="schedule"[^>]* aria-invalid="true"')
-
-    def test_every_field_has_a_label(self):
-        named = set(re.findall(r'<label for="(\w+)"', PAGE))
-        self.assertEqual(named, set(asking.FIELDS))
-        self.assertEqual(set(re.findall(r'<(?:input|textarea|select) id="(\w+)"', PAGE)), named)
+    def test_shows_a_fault_as_the_program_and_its_rules_tell_it(self):
+        document = opened(f"{self.url}#{urllib.parse.urlencode({'a': 'recurs(3)', 'b': '(spaced(10) && recur(3))'})}")
+        fault = re.search(r'<div class="fault shown" id="b-fault" role="alert">(.*?)</div><', document + "<", re.S)[1]
+        self.assertTrue(fault.startswith("<strong class=\"\">there is no recur</strong><pre>"), fault)
+        self.assertIn("(spaced(10) &amp;&amp; recur(3))\n" + " " * 15 + '<b class="">^^^^^</b>', fault)
+        self.assertIn("did you mean recurs?", document)
+        self.assertIn("zsched: job 1: schedule: no term at byte 15", document)
 
 
 if __name__ == "__main__":

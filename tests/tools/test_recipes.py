@@ -13,6 +13,7 @@ from zsched_tools import program
 TOP = pathlib.Path(__file__).resolve().parents[2]
 PAGE = (TOP / "docs" / "RECIPES.md").read_text()
 TASKS, TABLES = PAGE.split("\n## For those who come from ZIO\n")
+TASKS, _COMMANDS = TASKS.split("\n## Commands\n")
 HEAD, *SECTIONS = TASKS.split("\n### ")
 
 # What the letters of the tables stand for: d, e, k and N, several times.

@@ -1,25 +1,32 @@
 """zsched-report: JSON lines and back, the summary, pictures, pages, and one report of many."""
 import io
 import json
+import math
+import multiprocessing
 import os
 import pathlib
+import random
 import re
 import subprocess
 import sys
 import tempfile
 import unittest
 import xml.etree.ElementTree
+from unittest import mock
 
-import program
+import support
 from measured import measured
 from report_samples import GREATEST, NO_REPORTS, REPORTS, RETRIED, RUNNING, SUMMARIES, WAITING, long_report, wide_report
-from zsched_tools import lines
+from zsched_tools import columns, lines, load, progress
+from zsched_tools.axis import Scale, View
 from zsched_tools.command import Refused
 from zsched_tools.join import write_joined
-from zsched_tools.page import page
+from zsched_tools.page import LOAD_WIDTHS, page
 from zsched_tools.picture import draw, rows_of
+from zsched_tools.report import records
+from zsched_tools.summary import Options, write_summary
 
-TOOL = program.TOP / "tools" / "zsched-report"
+TOOL = support.TOP / "tools" / "zsched-report"
 FORMS = ["lines", "summary", "svg", "html"]
 
 
@@ -32,14 +39,14 @@ def tool(*words, text=""):
 
 def known_reports():
     """The reports of the repository, by name."""
-    files = sorted([*program.TOP.glob("examples/*.stdout"), *program.TOP.glob("tests/plans/*.stdout")])
+    files = sorted([*support.TOP.glob("examples/*.stdout"), *support.TOP.glob("tests/plans/*.stdout")])
     return {file.name: file.read_text() for file in files}
 
 
 def lines_of(text):
     """The JSON lines of a report."""
     out = []
-    lines.write_lines(io.StringIO(text), out.append)
+    lines.write_lines(io.BytesIO(text.encode("latin-1")), out.append)
     return "".join(out)
 
 
@@ -186,14 +193,38 @@ class Refusals(unittest.TestCase):
         for words in [*([form, "/nowhere/x"] for form in FORMS), ["join", "/nowhere/x"]]:
             self.assertEqual(tool(*words), (3, "", "zsched-report: /nowhere/x: No such file or directory\n"))
 
-    def test_a_reader_that_goes_away_ends_it_with_3(self):
+    def test_a_reader_that_goes_away_ends_it_quietly_but_for_join(self):
         with tempfile.NamedTemporaryFile("w") as file:
             file.write(long_report(20_000))
             file.flush()
-            command = f"{sys.executable} {TOOL} lines {file.name} | head -n 1 > {os.devnull}; exit ${{PIPESTATUS[0]}}"
-            ended = subprocess.run(["bash", "-c", command], capture_output=True, check=False)
-        self.assertEqual((ended.returncode, ended.stderr),
-                         (3, b"zsched-report: the reader of standard output went away\n"))
+            for form, status, said in [("lines", 141, b""), ("load --every 10ms", 141, b""),
+                                       ("join", 3, b"zsched-report: the reader of standard output went away\n")]:
+                command = f"{sys.executable} {TOOL} {form} {file.name} | head -n 1 > {os.devnull}; exit ${{PIPESTATUS[0]}}"
+                ended = subprocess.run(["bash", "-c", command], capture_output=True, check=False)
+                self.assertEqual((ended.returncode, ended.stderr), (status, said), form)
+
+    def test_an_output_that_takes_nothing_ends_it_with_3_and_one_line(self):
+        with tempfile.NamedTemporaryFile("w") as file:
+            file.write(long_report(2_000))
+            file.flush()
+            for form in ["lines", "load", "join"]:
+                for target, said in [("> /dev/full", "No space left on device"), (">&-", "standard output is closed")]:
+                    ended = subprocess.run(["bash", "-c", f"{sys.executable} {TOOL} {form} {file.name} {target}"],
+                                           capture_output=True, text=True, check=False)
+                    self.assertEqual((ended.returncode, ended.stderr), (3, f"zsched-report: {said}\n"), f"{form} {target}")
+
+    def test_no_python_and_an_old_one_are_told_in_one_line(self):
+        for name in ["zsched-report", "zsched-plan"]:
+            path = TOOL.with_name(name)
+            ended = subprocess.run(["/bin/sh", path, "--help"], env={"PATH": "/nowhere"}, capture_output=True, text=True,
+                                   check=False)
+            said = f"{name}: needs Python 3.11 or later, and "
+            self.assertEqual((ended.returncode, ended.stdout, ended.stderr),
+                             (3, "", f"{said}there is no python3 on this machine\n"))
+            inside = f"import sys; sys.version_info, __file__ = (3, 10, 4), {str(path)!r}; exec(open(__file__).read())"
+            ended = subprocess.run([sys.executable, "-c", inside], capture_output=True, text=True, check=False)
+            self.assertEqual((ended.returncode, ended.stdout, ended.stderr), (3, "", f"{said}this is Python 3.10\n"))
+            self.assertEqual(subprocess.run([path, "--help"], capture_output=True, check=False).returncode, 0)
 
     def test_wrong_words_end_with_2(self):
         for words in [[], ["picture"], ["svg", "a", "b"], ["lines", "--title", "x"], ["join"]]:
@@ -202,12 +233,35 @@ class Refusals(unittest.TestCase):
             self.assertIn("usage: zsched-report", errors)
 
 
+class Terminal(unittest.TestCase):
+    """What is shown on a terminal meanwhile."""
+
+    def test_a_long_command_says_how_far_it_is(self):
+        shown = io.StringIO()
+        shown.isatty = lambda: True
+        with mock.patch.object(progress.sys, "stderr", shown), mock.patch.object(progress, "FIRST", 0), \
+                mock.patch.object(progress, "EVERY", 0):
+            write_summary(io.BytesIO(wide_report(300, 3).encode()), lambda _: None,
+                          progress=progress.Progress("tool", lambda done: f"{done} bytes"))
+        self.assertRegex(shown.getvalue(), r"^\r\x1b\[Ktool: \d+ bytes(\r\x1b\[K.*)*\r\x1b\[K$")
+
+    def test_nothing_is_shown_where_no_terminal_is_or_a_command_is_short(self):
+        for is_terminal, first in [(False, 0), (True, 60)]:
+            shown = io.StringIO()
+            shown.isatty = lambda is_terminal=is_terminal: is_terminal
+            with mock.patch.object(progress.sys, "stderr", shown), mock.patch.object(progress, "FIRST", first):
+                found = progress.Progress("tool", str)
+                found.add(5)
+                found.close()
+            self.assertEqual(shown.getvalue(), "")
+
+
 class Summary(unittest.TestCase):
     """The table with a line a job."""
 
     def test_six_reports_by_hand(self):
         self.assertEqual(len(SUMMARIES), 6)
-        for name, (rows, total, crowd) in SUMMARIES.items():
+        for name, (rows, total, crowd, times) in SUMMARIES.items():
             with self.subTest(name):
                 status, out, errors = tool("summary", text=REPORTS[name])
                 self.assertEqual((status, errors), (0, ""))
@@ -215,7 +269,7 @@ class Summary(unittest.TestCase):
                 cells = [re.split(r"\s{2,}", line) for line in told[:len(rows) + 1]]
                 self.assertEqual(cells, [["job", "mode", "ending", "at", "attempts", "ok", "err", "busy", "waited",
                                           "longest wait"], *rows])
-                self.assertEqual(told[len(rows) + 1:], ["", total, crowd])
+                self.assertEqual(told[len(rows) + 1:], ["", total, crowd, times])
 
     def test_columns_stand_under_each_other(self):
         told = tool("summary", text=WAITING)[1].splitlines()
@@ -229,6 +283,178 @@ class Summary(unittest.TestCase):
         out = "[" + ",".join(["1"] * 500) + "]"
         text = f"job a repeat\nattempt 1 0..5 ok 1\nstep 1 out {out} done\nend finished {out} at 5 polls 2\npolls 2\n"
         self.assertLess(max(map(len, tool("summary", text=text)[1].splitlines())), 140)
+
+
+    def test_tables_are_sorted_as_chosen(self):
+        names = {order: [line.split()[0] for line in tool("summary", "--sort", order, text=WAITING)[1].splitlines()[1:3]]
+                 for order in ["end", "name", "attempts"]}
+        self.assertEqual(names, {"end": ["broken", "beat"], "name": ["beat", "broken"], "attempts": ["beat", "broken"]})
+
+    def test_one_line_has_all_but_the_table(self):
+        self.assertEqual(tool("summary", "--one-line", "--within", "2.5s", text=REPORTS["coarse"]),
+                         (0, "2 jobs: 1 unfinished, 1 succeeded; 7 attempts; 14 polls; most attempts at once: 2, first at "
+                             "1.5 s; time to the end: p50 2.5 s, p95 unfinished, p99 unfinished; ended well within 2.5 s: "
+                             "1 of 2 jobs, 50.00 %\n", ""))
+
+    def test_times_to_the_end(self):
+        # Job k of 100 begins at 37 k, has one attempt of 50 ms after one of 30 + k ms and a wait of 100 ms.
+        said = tool("summary", "--one-line", "--within", "229ms", text=wide_report(100, 2))[1]
+        self.assertIn("time to the end: p50 229 ms, p95 274 ms, p99 278 ms; ended well within 229 ms: 50 of 100 jobs, "
+                      "50.00 %", said)
+        self.assertIn(": 0 of 1 job, 0.00 %", tool("summary", "--within", "9ms", text=RETRIED)[1])
+        self.assertIn(": 1 of 1 job, 100.00 %", tool("summary", "--within", "10", text=RETRIED)[1])
+        failed = "job a retry\nattempt 1 0..5 err 1\nstep 1 out 0 done\nend failed 1 at 5 polls 2\npolls 2\n"
+        self.assertIn("p99 5 ms; ended well within 1 min: 0 of 1 job", tool("summary", "--one-line", "--within", "1min",
+                                                                            text=failed)[1])
+
+    def test_wrong_times_are_refused(self):
+        for words in [["summary", "--within", "x"], ["summary", "--sort", "x"], ["load", "--every", "0"],
+                      ["load", "--every", "1.5ms"], ["load", "--csv", "--svg"]]:
+            status, out, errors = tool(*words, text=RETRIED)
+            self.assertEqual((status, out), (2, ""))
+            self.assertIn("usage: zsched-report", errors)
+
+
+class Load(unittest.TestCase):
+    """What begins and ends in each step of time."""
+
+    # Worked out by hand from the reports' texts: first moment of the step, begun, ok, err, running, waiting.
+    LOADS = {
+        "running": [[0, 1, 0, 1, 0, 1], [1000, 1, 0, 0, 1, 0], [2000, 0, 0, 1, 0, 1], [3000, 1, 0, 0, 1, 0],
+                    [4000, 0, 0, 1, 0, 1], [5000, 0, 0, 0, 0, 1], [6000, 1, 0, 1, 0, 1], [7000, 0, 0, 0, 0, 1],
+                    [8000, 0, 0, 0, 0, 1], [9000, 1, 0, 0, 1, 0]],
+        "coarse": [[0, 3, 1, 1, 1, 1], [1000, 3, 1, 1, 2, 0], [2000, 0, 1, 0, 1, 1], [3000, 1, 1, 0, 1, 0],
+                   [4000, 0, 0, 0, 1, 0], [5000, 0, 1, 0, 0, 1]],
+        "never": [[0, 3, 3, 0, 0, 0]],
+        "waiting": [[0, 3, 2, 1, 0, 1], [1000, 1, 0, 0, 1, 0], [2000, 0, 0, 0, 1, 0], [3000, 1, 2, 0, 0, 1]],
+    }
+
+    def test_four_loads_by_hand(self):
+        for name, rows in self.LOADS.items():
+            with self.subTest(name):
+                status, out, errors = tool("load", "--csv", text=REPORTS[name])
+                self.assertEqual((status, errors), (0, ""))
+                told = out.splitlines()
+                self.assertEqual(told[0], "from_ms,begun,ok,err,running,waiting")
+                self.assertEqual([list(map(int, line.split(","))) for line in told[1:]], rows)
+
+    def test_the_table_has_the_same_figures_and_their_sums(self):
+        status, out, _ = tool("load", "--every", "2.5s", text=REPORTS["coarse"])
+        self.assertEqual((status, [line.split() for line in out.splitlines()]), (0, [
+            ["from", "begun", "ok", "err", "running", "waiting"], ["0", "ms", "6", "3", "2", "1", "1"],
+            ["2.5", "s", "1", "1", "0", "1", "0"], ["5", "s", "0", "1", "0", "0", "1"], [],
+            ["7", "attempts:", "5", "ok,", "2", "err,", "0", "running", "at", "the", "horizon"]]))
+        self.assertEqual(tool("load", text="polls 0\n"), (0, "0 attempts: 0 ok, 0 err, 0 running at the horizon\n", ""))
+
+    def test_too_many_steps_are_refused(self):
+        self.assertEqual(tool("load", "--every", "1ms", text=long_report(20_000)),
+                         (2, "", "zsched-report: standard input: has 199998 steps of 1 ms, and a load has at most 100000: "
+                                 "take a longer --every\n"))
+
+    def test_figures_of_every_step_length_fit_together(self):
+        text = wide_report(60, 5)
+        for every in [1, 7, 50, 1000, 10**6]:
+            rows = list(load.read(io.BytesIO(text.encode()), every).rows())
+            self.assertEqual([sum(row[place] for row in rows) for place in (1, 2, 3)], [300, 60, 240])
+            self.assertEqual(rows[-1][4:], [0, 0])
+            for before, row in zip([[0] * 6, *rows], rows):
+                self.assertEqual(row[4], before[4] + row[1] - row[2] - row[3])
+                self.assertGreaterEqual(min(row), 0)
+
+    def test_the_picture_has_all_figures_and_nothing_outside(self):
+        for text in [wide_report(300, 4), RUNNING, GREATEST, "polls 0\n"]:
+            status, out, errors = tool("load", "--svg", "--every", "50ms", "--title", "A & B", text=text)
+            self.assertEqual((status, errors), (0, ""))
+            root = xml.etree.ElementTree.fromstring(out)
+            found = [it.text for it in root.iter(f"{SVG}title")]
+            self.assertEqual(sum(int(re.search(r"(\d+) begun", it)[1]) for it in found), text.count("\nattempt "))
+            nothing_outside(self, root)
+
+
+class Fast(unittest.TestCase):
+    """Pieces of a report, read by columns, are what a Reader makes of its lines."""
+
+    def lines_of_reader(self, text):
+        """The JSON lines of a report, record by record, and what is said of it."""
+        out = []
+        try:
+            for job, record in records(io.StringIO(text)):
+                out.append(lines.json_line(job, record) + "\n")
+        except Refused as refused:
+            return "".join(out), str(refused)
+        return "".join(out), None
+
+    def lines_of_pieces(self, text):
+        """The same by pieces."""
+        out = []
+        try:
+            lines.write_lines(io.BytesIO(text.encode("latin-1")), out.append)
+        except Refused as refused:
+            return "".join(out), str(refused)
+        return "".join(out), None
+
+    def texts(self):
+        """Reports and what is none."""
+        yield from REPORTS.values()
+        yield from (text for text, _ in NO_REPORTS)
+        yield wide_report(8, 4)
+        yield long_report(40)
+
+    def test_pieces_of_any_length(self):
+        for length in [1, 7, 60, 300, 1000]:
+            with mock.patch.object(columns, "PIECE", length), mock.patch.object(columns, "ALONE", 10**9):
+                for text in self.texts():
+                    self.assertEqual(self.lines_of_pieces(text), self.lines_of_reader(text))
+
+    def test_changed_reports(self):
+        rng, texts, refused = random.Random(5), [text for text in self.texts() if len(text) < 2500], 0
+        with mock.patch.object(columns, "ALONE", 10**9):
+            for _ in range(800):
+                text = rng.choice(texts[:6] + texts[-2:])
+                place = rng.randrange(len(text))
+                text = text[:place] + rng.choice("0123456789\n ejaosdk.,(%") + text[place + rng.randrange(3):]
+                with mock.patch.object(columns, "PIECE", rng.choice([20, 200, 10**6])):
+                    found = self.lines_of_pieces(text)
+                self.assertEqual(found, self.lines_of_reader(text))
+                refused += found[1] is not None
+        self.assertGreater(refused, 300)
+
+    def test_good_reports_are_not_read_line_by_line(self):
+        for text in [wide_report(50, 4), long_report(3000), WAITING, RUNNING, REPORTS["never"], REPORTS["coarse"]]:
+            for length in [300, 10**6]:
+                with mock.patch.object(columns, "PIECE", length), mock.patch.object(columns, "_shown_slowly") as slow:
+                    self.lines_of_pieces(text)
+                slow.assert_not_called()
+
+    def test_several_processes_read_the_same(self):
+        text = wide_report(300, 6) + "x"
+        for given in [text, text[:-1]]:
+            alone = self.lines_of_reader(given)
+            with mock.patch.object(columns, "PIECE", 2000), mock.patch.object(columns, "ALONE", 2):
+                self.assertEqual(self.lines_of_pieces(given), alone)
+        self.assertEqual(multiprocessing.active_children(), [])
+
+    def test_summary_and_load_of_a_job_in_many_pieces(self):
+        for text in [long_report(500), RUNNING, WAITING]:
+            whole = [], load.read(io.BytesIO(text.encode()), 100)
+            write_summary(io.BytesIO(text.encode()), whole[0].append, Options(within=500))
+            with mock.patch.object(columns, "PIECE", 90):
+                cut = [], load.read(io.BytesIO(text.encode()), 100)
+                write_summary(io.BytesIO(text.encode()), cut[0].append, Options(within=500))
+            self.assertEqual((cut[0], list(cut[1].rows())), (whole[0], list(whole[1].rows())))
+
+    def test_the_forms_keep_up_with_the_program(self):
+        text = wide_report(800, 60)
+        with tempfile.TemporaryDirectory() as folder:
+            path = pathlib.Path(folder) / "report"
+            path.write_text(text)
+            once = measured(TOOL, "from-lines", os.devnull, out=os.devnull)[2]
+            for form in [["lines"], ["summary", "--one-line"], ["load"]]:
+                status, kilobytes, seconds = measured(TOOL, *form, path, out=os.devnull)
+                self.assertEqual(status, 0)
+                self.assertLess(kilobytes, 60_000)
+                # Line by line took over one second a megabyte on the slowest machine that was seen.
+                self.assertLess(seconds - once, 0.4 * len(text) / 1e6)
 
 
 SVG = "{http://www.w3.org/2000/svg}"
@@ -278,9 +504,9 @@ def sizes(root):
             for name in names.replace(".", "").split(",")}
 
 
-def picture_of(text, chosen=(), title=""):
+def picture_of(text, chosen=(), title="", view=View()):
     """The picture of a report, read as XML."""
-    return xml.etree.ElementTree.fromstring("".join(draw(rows_of(io.StringIO(text), chosen), title)))
+    return xml.etree.ElementTree.fromstring("".join(draw(rows_of(io.StringIO(text), chosen), title, view)))
 
 
 def titles(root):
@@ -302,23 +528,27 @@ def pictures():
     yield "from 0 to 2^64 - 1", GREATEST.replace("attempt 1 18446744073709551514..", "attempt 1 0..")
 
 
+def nothing_outside(test, root):
+    """No element reaches out of a picture."""
+    _, _, width, height = map(float, root.get("viewBox").split())
+    size_of = sizes(root)
+    drawn_in_patterns = list(root.iterfind(f"{SVG}defs//*"))
+    for element in root.iterfind(".//*"):
+        if element in drawn_in_patterns:
+            continue
+        styles = element.get("class", "").split()
+        for x, y in corners(element, max([size_of.get(style, 0) for style in styles], default=0)):
+            test.assertTrue(0 <= x <= width and 0 <= y <= height,
+                            f"{element.tag} {element.attrib} {element.text} reaches {x}, {y}")
+
+
 class Pictures(unittest.TestCase):
     """SVG and pages."""
 
     def test_nothing_stands_outside_of_the_picture(self):
         for name, text in pictures():
             with self.subTest(name):
-                root = picture_of(text, title="A title & <more>")
-                _, _, width, height = map(float, root.get("viewBox").split())
-                size_of = sizes(root)
-                drawn_in_patterns = list(root.iterfind(f"{SVG}defs//*"))
-                for element in root.iterfind(".//*"):
-                    if element in drawn_in_patterns:
-                        continue
-                    styles = element.get("class", "").split()
-                    for x, y in corners(element, max([size_of.get(style, 0) for style in styles], default=0)):
-                        self.assertTrue(0 <= x <= width and 0 <= y <= height,
-                                        f"{element.tag} {element.attrib} {element.text} reaches {x}, {y}")
+                nothing_outside(self, picture_of(text, title="A title & <more>"))
 
     def test_each_attempt_that_stands_apart_has_a_title(self):
         for name, text in [*REPORTS.items(), ("50 jobs", wide_report(50, 3))]:
@@ -358,17 +588,47 @@ class Pictures(unittest.TestCase):
 
     def test_moments_that_are_far_from_0_count_from_the_first(self):
         told = [it.text for it in picture_of(GREATEST).iter(f"{SVG}text") if it.get("class") == "axis"]
-        self.assertEqual(told[:3], ["time since moment 18446744073709551514 ms", "+0 ms", "+10 ms"])
+        self.assertEqual(told[:3], ["time since moment 18446744073709551514 ms", "+0 ms", "+20 ms"])
 
-    def test_jobs_are_chosen_by_name_and_more_than_200_are_refused(self):
+    def test_an_unfinished_job_says_at_which_horizon(self):
+        for at, wanted in [(10_000, "unfinished at 10 s · "), (7_200_000, "unfinished at 2 h · ")]:
+            told = [it.text for it in picture_of(RUNNING.replace("at 10000", f"at {at}")).iter(f"{SVG}text")]
+            self.assertTrue(any(it.startswith(wanted) for it in told), told)
+
+    def test_jobs_are_chosen_by_name_and_of_more_than_200_the_load_is_drawn(self):
         many = wide_report(201, 2)
-        self.assertEqual(tool("svg", text=many),
-                         (2, "", "zsched-report: standard input: has 201 jobs to draw, and a picture has room for 200: "
-                                 "choose some with --job NAME\n"))
+        for form in ["svg", "html"]:
+            status, out, errors = tool(form, "--title", "T & U", text=many)
+            self.assertEqual((status, errors), (0, ""))
+            self.assertIn("201 jobs; a picture has room for the rows of 200: choose some with --job NAME", out)
+            self.assertNotIn("service-007", out)
+            # 201 jobs, each with an attempt that fails and one that succeeds.
+            figures = re.findall(r": (\d+) begun, (\d+) ok, (\d+) err; at the end (\d+) running, (\d+) waiting<", out)
+            drawn = len(LOAD_WIDTHS) if form == "html" else 1
+            wanted = [drawn * count for count in (402, 201, 201)]
+            self.assertEqual([sum(int(row[place]) for row in figures) for place in range(3)], wanted)
+            self.assertEqual(figures[-1][3:], ("0", "0"))
+        status, out, _ = tool("svg", "--job", "service-200", "--job", "service-007", text=many)
+        self.assertEqual({it.split(" of ")[1].split(":")[0] for it in titles(xml.etree.ElementTree.fromstring(out))},
+                         {"service-007", "service-200"})
+        self.assertNotIn(" begun, ", out)
         told = titles(picture_of(many, ["service-200", "service-007"]))
         self.assertEqual({it.split(" of ")[1].split(":")[0] for it in told}, {"service-007", "service-200"})
         self.assertEqual(tool("html", "--job", "x", text=many),
                          (2, "", "zsched-report: standard input: has no job x\n"))
+
+    def test_the_rows_of_a_picture_can_be_ordered(self):
+        text = "".join(f"job {name} retry\n{body}" for name, body in [
+            ("b", "attempt 1 0..30 ok 1\nend succeeded 1 at 30 polls 2\n"),
+            ("c", "attempt 1 0..5 err 7\nstep 1 out 0 next 5\nattempt 2 5..10 ok 1\nend succeeded 1 at 10 polls 3\n"),
+            ("a", "attempt 1 0..20 ok 1\nend succeeded 1 at 20 polls 2\n")]) + "polls 7\n"
+        for words, wanted in [([], "bca"), (["--sort", "end"], "cab"), (["--sort", "name"], "abc"),
+                              (["--sort", "attempts"], "cba")]:
+            status, out, _ = tool("svg", *words, text=text)
+            shown = [it.text for it in xml.etree.ElementTree.fromstring(out).iter(f"{SVG}text") if it.text in ("a", "b", "c")]
+            self.assertEqual((status, "".join(shown)), (0, wanted))
+            status, out, _ = tool("html", *words, text=text)
+            self.assertEqual((status, "".join(re.findall(r"^job (\w) retry$", out, re.M))), (0, wanted))
 
     def test_a_page_has_the_picture_and_no_network_address(self):
         for name, text in pictures():
@@ -379,6 +639,87 @@ class Pictures(unittest.TestCase):
                 drawn = "".join(f"{line}\n" for line in draw(rows_of(io.StringIO(text), ()), "A & B"))
                 self.assertIn(drawn.replace(' xmlns="http://www.w3.org/2000/svg"', ""), made)
 
+    def test_a_part_of_time_has_its_attempts_alone(self):
+        shown = titles(picture_of(RUNNING, view=View(2000, 6000)))
+        self.assertEqual([it.split(" of ")[0] for it in shown], ["attempt 2", "attempt 3"])
+        root = picture_of(RUNNING, view=View(2500, 3300))
+        self.assertEqual(titles(root), [])
+        self.assertEqual(len([it for it in root.iter(f"{SVG}path") if it.get("class") == "wait"]), 2)
+        for words in [["--from", "5s", "--to", "5s"], ["--from", "1min"]]:
+            status, out, errors = tool("svg", *words, text=RUNNING)
+            self.assertEqual((status, out), (2, ""))
+            self.assertIn("--from has to be before --to", errors)
+        self.assertIn('"x" is not a duration', tool("svg", "--from", "x", text=RUNNING)[2])
+
+    def test_a_part_of_time_has_its_load_alone(self):
+        for jobs in [20, 201]:
+            text = wide_report(jobs, 2)
+            begins = [int(begin) for begin in re.findall(r"^attempt \d+ (\d+)", text, re.MULTILINE)]
+            for words, least, most in [(["--from", "300", "--to", "899"], 300, 900), (["--to", "899", "--log"], 0, 900),
+                                       (["--log"], 0, max(begins) + 1)]:
+                status, out, errors = tool("svg", *words, text=text)
+                self.assertEqual((status, errors), (0, ""))
+                root = xml.etree.ElementTree.fromstring(out)
+                shown = [int(found[1]) for it in root.iter(f"{SVG}title") if (found := re.search(r": (\d+) begun, ", it.text))]
+                self.assertEqual(sum(shown), sum(least <= begin < most for begin in begins), f"{jobs} jobs, {words}")
+                nothing_outside(self, root)
+            self.assertEqual(tool("svg", "--from", "900", "--to", "300", text=text)[:2], (2, ""))
+
+    def test_the_page_of_a_load_has_a_picture_for_each_width(self):
+        status, out, _ = tool("html", "--title", "T & U", text=wide_report(201, 2))
+        self.assertEqual(status, 0)
+        drawn = [xml.etree.ElementTree.fromstring(it.replace("<svg", f"<svg xmlns={SVG[1:-1]!r}", 1))
+                 for it in re.findall("<svg.*?</svg>", out, re.DOTALL)]
+        self.assertEqual([int(root.get("width")) for root in drawn], list(LOAD_WIDTHS))
+        for root in drawn:
+            nothing_outside(self, root)
+        # At each width of a window one of them is shown, the widest that fits.
+        rules = re.findall(r"@media(.*?)\{\.w(\d+)\{", out)
+        for window in (360, 400, 783, 784, 1263, 1264, 1600):
+            shown = [int(width) for bounds, width in rules
+                     if all(window >= int(it) for it in re.findall(r"min-width:(\d+)", bounds))
+                     and all(window <= int(it) for it in re.findall(r"max-width:(\d+)", bounds))]
+            self.assertEqual(shown, [max(it for it in LOAD_WIDTHS if it + 24 <= window)], window)
+        # The bars of each picture are filled by the patterns of the first one, which most windows hide.
+        self.assertIn("pattern{visibility:visible}", out)
+
+    def test_no_line_of_the_grid_crosses_the_words_of_a_load(self):
+        root = xml.etree.ElementTree.fromstring(tool("svg", text=wide_report(201, 2))[1])
+        words = [float(it.get("y")) for it in root.iter(f"{SVG}text") if ":" in "".join(it.itertext())]
+        lines = [it.get("d") for it in root.iter(f"{SVG}path") if it.get("class") == "grid"]
+        self.assertTrue(words and lines)
+        for above, below in [map(float, it) for line in lines for it in re.findall(r"M\S+ ([\d.]+)V([\d.]+)", line)]:
+            self.assertFalse([y for y in words if above < y < below], (above, below))
+
+    def test_equal_ratios_are_equally_long_on_a_logarithmic_axis(self):
+        root = picture_of(RUNNING, view=View(is_log=True))
+        bars = [it for it in root.iter(f"{SVG}rect") if it.find(f"{SVG}title") is not None]
+        left = [float(bar.get("x")) for bar in bars]
+        scale = Scale(0, 10000, left[0], left[0] + 1000, 700)
+        self.assertEqual([round(scale.at(moment)) for moment in (0, 700, 2100, 4900)],
+                         [round(left[0] + 1000 * number / math.log2(1 + 10000 / 700)) for number in (0, 1, 2, 3)])
+        plain = [float(bar.get("x")) for bar in picture_of(RUNNING).iter(f"{SVG}rect")
+                 if bar.find(f"{SVG}title") is not None]
+        self.assertGreater(left[1] - left[0], 2 * (plain[1] - plain[0]))
+        for name, text in pictures():
+            root = picture_of(text, view=View(is_log=True))
+            labels = [it for it in root.iter(f"{SVG}text") if it.get("class") == "axis"]
+            places = sorted({float(it.get("x")) for it in labels})
+            self.assertTrue(all(right - left > 59 for left, right in zip(places[1:], places[2:])), name)
+
+    def test_a_picture_is_dark_where_that_is_preferred_and_has_no_small_letter(self):
+        text = "".join(draw(rows_of(io.StringIO(WAITING), ()), ""))
+        self.assertIn("@media(prefers-color-scheme:dark){text{fill:#e4e7eb}", text)
+        self.assertGreaterEqual(min(int(size) for size in re.findall(r"font-size:(\d+)px", text)), 11)
+
+    def test_a_page_has_the_report_that_its_scripts_draw(self):
+        for name, text in pictures():
+            with self.subTest(name):
+                made = "".join(page(rows_of(io.StringIO(text), ()), "", view=View(0, None, True)))
+                held = re.search(r'<script type="text/plain" id="report">\n(.*?)</script>', made, re.S)[1]
+                self.assertEqual(held, text[:text.rindex("polls ", 0, -1)] if text.count("\n") > 1 else "")
+                self.assertIn('id="view">{"from": 0, "isLog": true}</script>', made)
+
     def test_the_command_writes_picture_and_page(self):
         for form, make in [("svg", draw), ("html", page)]:
             status, out, errors = tool(form, "--title", "T", "--job", "beat", text=WAITING)
@@ -387,10 +728,10 @@ class Pictures(unittest.TestCase):
             self.assertEqual(out.replace("\n", ""), made.replace("\n", ""))
 
     def test_the_picture_of_the_documents_is_that_of_its_example(self):
-        report_text = (program.TOP / "examples" / "many_jobs_on_several_workers.json.stdout").read_text()
+        report_text = (support.TOP / "examples" / "two_policies.json.stdout").read_text()
         status, out, _ = tool("svg", text=report_text)
         self.assertEqual(status, 0)
-        self.assertEqual(out, (program.TOP / "docs" / "timeline.svg").read_text())
+        self.assertEqual(out, (support.TOP / "docs" / "two_policies.svg").read_text())
 
 
 COARSE_AND_FAILED = REPORTS["coarse"]

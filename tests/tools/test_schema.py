@@ -8,8 +8,9 @@ import random
 import re
 import unittest
 
-from fuzz import changed_bytes, changed_tokens, changed_tree, made_schedule
-from program import ONE_JOB, TOP, job, plan, run
+import mutate
+from generator import made_term
+from support import ONE_JOB, TOP, job, plan, run
 from zsched_tools import program
 
 try:
@@ -121,9 +122,7 @@ def described(part, place):
 def changed(chance, text):
     """A plan changed once or twice at random, so that it still is JSON: its bytes and its tree."""
     while True:
-        other = text
-        for _ in range(chance.choice([1, 1, 2])):
-            other = chance.choice([changed_bytes, changed_tokens, changed_tokens, changed_tree])(chance, other)
+        other = mutate.changed(chance, text, chance.choice([1, 1, 2]))
         try:
             return other, json.loads(other.decode())
         except ValueError:
@@ -192,7 +191,7 @@ class Validated(unittest.TestCase):
     def test_takes_lawful_schedules_made_at_random(self):
         chance = random.Random(SEED)
         for _ in range(500):
-            text = spread(chance, made_schedule(chance)[0])
+            text = spread(chance, " ".join(made_term(chance, chance.choice([1, 2, 3, 5, 12]))[0]))
             self.assertTrue(self.validator.is_valid(json.loads(scheduled(text))), text)
 
     def test_refuses_each_faulty_plan_as_the_program_does(self):

@@ -1,4 +1,7 @@
 """The time axis of a picture: where a moment stands, and which moments are labelled."""
+import math
+from typing import NamedTuple
+
 from zsched_tools.durations import DAY, HOUR, MINUTE, duration
 
 NEAREST_LABELS = 90
@@ -8,17 +11,31 @@ _STEPS = (_SHORT_STEPS + [1000 * it for it in [1, 2, 5, 10, 15, 30]] + [MINUTE *
           + [HOUR * it for it in [1, 2, 3, 6, 12]])
 
 
-class Scale:
-    """Moments from `first` to `last`, drawn from the pixel `left` to the pixel `right`."""
+_TIMES = _STEPS + [DAY * many * 10**power for power in range(12) for many in [1, 2, 5]]
 
-    def __init__(self, first, last, left, right):
+
+class View(NamedTuple):
+    """The part of time that a picture shows: its first and last moment, None for what is sensible; and whether its axis
+    is logarithmic."""
+    first: int | None = None
+    last: int | None = None
+    is_log: bool = False
+
+
+class Scale:
+    """Moments from `first` to `last`, drawn from the pixel `left` to the pixel `right`. With a `unit` the axis is
+    logarithmic: equal ratios of the time since `first` are equally long, from about a unit of time on."""
+
+    def __init__(self, first, last, left, right, unit=None):
         self.first, self.last = first, max(last, first + 1)
         self.left, self.right = left, right
-        self.pixels = (right - left) / (self.last - self.first)
+        self.unit = unit
+        self.whole = math.log1p((self.last - first) / unit) if unit else self.last - first
 
     def at(self, moment):
-        """Where a moment stands; one past the last stands with the last."""
-        return self.left + (min(moment, self.last) - self.first) * self.pixels
+        """The pixel of a moment; one before the first is with the first, one past the last with the last."""
+        time = min(max(moment, self.first), self.last) - self.first
+        return self.left + (self.right - self.left) * (math.log1p(time / self.unit) if self.unit else time) / self.whole
 
 
 def step_between_labels(time, room):
@@ -38,6 +55,8 @@ def step_between_labels(time, room):
 def labels(scale):
     """The moments that get a label, with the labels; and the moment that they count from, where it isn't 0. Labels that
     would be long count from a moment near the first."""
+    if scale.unit:
+        return _labels_of_times(scale)
     step = step_between_labels(scale.last - scale.first, scale.right - scale.left)
     moments = range(-(-scale.first // step) * step, scale.last + 1, step)
     plain = [duration(moment) if moment else "0" for moment in moments]
@@ -46,6 +65,16 @@ def labels(scale):
     base = scale.first
     moments = range(base, scale.last + 1, step)
     return [(moment, f"+{duration(moment - base)}") for moment in moments], base
+
+
+def _labels_of_times(scale):
+    """The same on a logarithmic axis: moments that count from the first one."""
+    found = [(scale.first, "0" if scale.first == 0 else "+0 ms")]
+    for time in _TIMES:
+        moment = scale.first + time
+        if moment <= scale.last and scale.at(moment) - scale.at(found[-1][0]) >= NEAREST_LABELS * 2 // 3:
+            found.append((moment, duration(time) if scale.first == 0 else f"+{duration(time)}"))
+    return found, scale.first
 
 
 def shown_moments(attempts, horizon):

@@ -36,6 +36,8 @@ class Shapes:
     def __init__(self, attempts, scale):
         self.found = []
         for attempt in attempts:
+            if attempt.begin > scale.last or (attempt.end is not None and attempt.end < scale.first):
+                continue
             right = scale.right if attempt.end is None else scale.at(attempt.end)
             self._add(attempt, scale.at(attempt.begin), right)
         for shape, after in zip(self.found, self.found[1:]):

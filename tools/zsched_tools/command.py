@@ -1,9 +1,14 @@
 """How a command ends: what it refuses, what the machine refuses it, and the exit status of each."""
+import contextlib
+import io
 import os
 import sys
 
+from zsched_tools import colors
+
 REFUSED = 2
 FAILED = 3
+_colored = ["auto"]
 
 
 class Refused(Exception):
@@ -12,7 +17,10 @@ class Refused(Exception):
 
 def run(tool, work):
     """Does a command's work and answers its exit status: 0, 2 where what was given is refused, 3 where reading or
-    writing failed, 130 where the user broke it off. Each of these but 0 is told on standard error, in one line."""
+    writing failed, 130 where the user broke it off. Each of these but 0 is told on standard error, in one line.
+    `starting.run` does the same, but says nothing when the reader of standard output goes away."""
+    if sys.stdout is None:
+        return _told(tool, "standard output is closed", FAILED)
     try:
         work()
         sys.stdout.flush()
@@ -20,10 +28,10 @@ def run(tool, work):
     except Refused as refused:
         return _told(tool, refused, REFUSED)
     except BrokenPipeError:
-        # Python flushes standard output once more when it ends, and must find nothing closed there.
-        os.dup2(os.open(os.devnull, os.O_WRONLY), sys.stdout.fileno())
+        _drop_output()
         return _told(tool, "the reader of standard output went away", FAILED)
     except OSError as failure:
+        _drop_output()
         place = f"{failure.filename}: " if failure.filename else ""
         return _told(tool, f"{place}{failure.strerror or failure}", FAILED)
     except MemoryError:
@@ -32,7 +40,20 @@ def run(tool, work):
         return _told(tool, "broken off", 130)
 
 
+def _drop_output():
+    """Python flushes standard output once more when it ends, and must find nothing closed or full there. A stream in
+    memory is unchanged."""
+    with contextlib.suppress(io.UnsupportedOperation):
+        os.dup2(os.open(os.devnull, os.O_WRONLY), sys.stdout.fileno())
+
+
+def color(choice):
+    """Says when the line with which a command ends is coloured: auto, always or never."""
+    _colored[0] = choice
+
+
 def _told(tool, text, status):
     """Says why a command ends, and answers its status."""
-    print(f"{tool}: {text}", file=sys.stderr)
+    if sys.stderr is not None:
+        print(colors.Paint(_colored[0], sys.stderr)("bad", f"{tool}: {text}"), file=sys.stderr)
     return status

@@ -8,7 +8,7 @@ import sys
 import tempfile
 import threading
 
-from zsched_tools import program
+from zsched_tools import colors, plan_size, program, release, starting
 from zsched_tools.cause import WIDTH, shown
 
 ABOUT = """Runs zsched on a plan, and tells where the plan's fault is.
@@ -17,22 +17,34 @@ The first line on standard error is the program's own. Where the plan is refused
 these follow: the place as FILE:LINE:COLUMN, both counted from 1, a column being a
 character; the line, cut where it is long; what is wrong there, and what to write,
 where that is known; the name of the job. Where the plan is taken, 'FILE: no fault'
-is written to standard output. The report is left to zsched itself."""
+is written to standard output. The report is left to zsched itself.
+
+With --all the faults after the first one follow: each that was found is mended in
+a copy, which is run again. A plan that may have more than 100000000 attempts gets a
+warning before it is run."""
 STATUSES = """exit status, that of zsched:
   0  the plan has no fault
-  2  the plan is refused
+  2  the plan is refused, or the words of the command are wrong
   3  reading or writing failed, also that of the command itself
   4  there was no memory or no thread
   128 and more: a signal ended zsched
-and 1 where the words of the command are wrong, or zsched isn't found"""
+and 1 where zsched isn't found"""
+MOST_FAULTS = 10
 
 
 class Words(argparse.ArgumentParser):
-    """The command's words; a wrong one ends with status 1, since 2 is that of a refused plan."""
+    """The command's words."""
 
     def error(self, message):
         """Ends the command, with what is wrong with its words."""
-        self.exit(1, f"{self.prog}: {message}\n{self.format_usage()}")
+        self.exit(2, f"{self.prog}: {message}\n{self.format_usage()}")
+
+
+def _number(word):
+    """A number of faults."""
+    if not word.isascii() or not word.isdigit() or not 1 <= int(word[:9]) <= 10000:
+        raise argparse.ArgumentTypeError(f"{word} isn't a number from 1 to 10000")
+    return int(word)
 
 
 def words():
@@ -43,6 +55,11 @@ def words():
                        help="the plan's file; - or none for standard input")
     found.add_argument("--zsched", metavar="PATH",
                        help="the program; else that of the variable ZSCHED, the built or the installed one")
+    found.add_argument("--all", action="store_true", help="show all faults of the plan and not the first alone")
+    found.add_argument("--most", type=_number, default=MOST_FAULTS, metavar="N",
+                       help=f"how many faults --all shows at most ({MOST_FAULTS})")
+    colors.add_color(found)
+    release.add_version(found)
     return found
 
 
@@ -50,25 +67,52 @@ def main(arguments=None):
     """Runs the command, by default with the words that it was called with, and answers its exit status."""
     taken = words().parse_args(arguments)
     try:
-        return _explain("standard input" if taken.plan == "-" else taken.plan, taken.plan, taken.zsched)
+        return _explain("standard input" if taken.plan == "-" else taken.plan, taken)
     except KeyboardInterrupt:
         return 130
+    except BrokenPipeError:
+        return starting.end_by_pipe()
 
 
-def _explain(name, plan, zsched):
+def _explain(name, taken):
     """Explains the plan that has this name in what is written; answers the exit status."""
+    paint = colors.Paint(taken.color, sys.stderr)
     try:
-        zsched = program.find(zsched)
-        look = Look(_plan(plan))
+        zsched = program.find(taken.zsched)
+        look = Look(_plan(taken.plan))
     except program.NoProgram as missing:
         return _failed(str(missing), 1)
     except OSError as failed:
         return _failed(f"{shown(name, WIDTH)}: {failed.strerror}", 3)
+    many = plan_size.warning(look.data)
+    if many:
+        print(f"zsched-explain: {paint('strong', 'warning')}: {many}", file=sys.stderr, flush=True)
     try:
         status, line = refusal(zsched, look)
+        if status == 2 and taken.all:
+            return _tell_all(name, zsched, look.data, taken.most, paint)
     except OSError as failed:
         return _failed(f"{zsched}: {failed.strerror}", 1)
-    return tell(name, look, status, line)
+    return tell(name, look, status, line, paint)
+
+
+def _tell_all(name, zsched, data, most, paint):
+    """Writes all faults of a plan, and answers the status."""
+    from zsched_tools import all_faults, explanation
+    count = 0
+    for line, found in all_faults.all_faults(lambda text: outcome(zsched, text), data, most + 1):
+        count += 1
+        if count <= most:
+            sys.stderr.write(f"{paint('bad', line.strip())}\n{explanation.fault_lines(name, found, paint)}")
+    shown_faults = f"{min(count, most)} fault{'s' * (count > 1)}"
+    sys.stderr.write(f"{shown_faults}; there are more: --most N shows N\n" if count > most else f"{shown_faults}\n")
+    return 2
+
+
+def outcome(zsched, data):
+    """The status and the line of the program on a plan's bytes."""
+    status, _, errors = program.run(zsched, data)
+    return status, errors.decode(errors="replace")
 
 
 def _failed(what, status):
@@ -99,11 +143,11 @@ class Look(threading.Thread):
         self.plan = faults.Plan(self.data)
         self.plan.look()
 
-    def explanation(self, name, line):
+    def explanation(self, name, line, paint):
         """The lines that tell where the fault is of which the program wrote this line, once the look has ended."""
         from zsched_tools import explanation
         self.join()
-        return explanation.explanation(name, self.plan, line)
+        return explanation.explanation(name, self.plan, line, paint)
 
 
 def refusal(zsched, look, seconds=None):
@@ -123,13 +167,16 @@ def refusal(zsched, look, seconds=None):
     return process.returncode if process.returncode >= 0 else 128 - process.returncode, line
 
 
-def tell(name, look, status, line):
+def tell(name, look, status, line, paint=lambda _, text: text):
     """Writes what is to be said of a plan on which the program ended with this status and line; answers the status."""
     if status != 0:
-        sys.stderr.write(line + (look.explanation(name, line) if status == 2 else ""))
+        said = f"{paint('bad', line.rstrip())}\n" if line.strip() else line
+        sys.stderr.write(said + (look.explanation(name, line, paint) if status == 2 else ""))
         return status
     try:
         print(f"{shown(name, WIDTH)}: no fault", flush=True)
+    except BrokenPipeError:
+        raise
     except OSError as failed:
         os.dup2(os.open(os.devnull, os.O_WRONLY), sys.stdout.fileno())
         return _failed(f"standard output: {failed.strerror}", 3)

@@ -5,19 +5,30 @@ from zsched_tools.cause import WIDTH, line_of, shown
 from zsched_tools.faults import explained
 
 
-def explanation(name, plan, line):
-    """The lines that tell where in a Plan the fault is of which the program wrote this line."""
-    found = explained(plan, line.strip().removeprefix("zsched: "))
+def unpainted(_, text):
+    """A text without colours."""
+    return text
+
+
+def explanation(name, plan, line, paint=unpainted):
+    """The lines that say where in a Plan the fault is of which the program wrote this line."""
+    return fault_lines(name, explained(plan, line.strip().removeprefix("zsched: ")), paint)
+
+
+def fault_lines(name, found, paint=unpainted):
+    """The lines that say where the fault of an Explained is."""
     text, cause = found.text, found.cause
     number, begin = line_of(text, cause.at), text.rfind("\n", 0, cause.at) + 1
     source, mark = excerpt(text, begin, cause)
-    gutter = " " * len(str(number))
-    lines = [f"{gutter}--> {shown(name, WIDTH)}:{number}:{cause.at - begin + 1}", f"{gutter} |", f"{number} | {source}",
-             f"{gutter} | {mark} {cause.what}"]
+    gutter, bar = " " * len(str(number)), paint("faint", "|")
+    place = f"{shown(name, WIDTH)}:{number}:{cause.at - begin + 1}"
+    row = paint("faint", str(number))
+    lines = [f"{gutter}{paint('faint', '-->')} {place}", f"{gutter} {bar}", f"{row} {bar} {source}",
+             f"{gutter} {bar} {mark[:-len(mark.lstrip())]}{paint('bad', f'{mark.lstrip()} {cause.what}')}"]
     if cause.help:
-        lines.append(f"{gutter} = help: {cause.help}")
+        lines.append(f"{gutter} {paint('faint', '=')} {paint('help', 'help')}: {cause.help}")
     if found.name is not None:
-        lines.append(f'{gutter} = job {found.job} is "{shown(found.name, 64)}"')
+        lines.append(f'{gutter} {paint("faint", "=")} job {found.job} is "{shown(found.name, 64)}"')
     return "".join(line.rstrip() + "\n" for line in lines)
 
 

@@ -60,7 +60,8 @@ def explained(plan, fault):
     if fault == "plan is not JSON":
         if plan.no_utf8 is not None:
             return Explained(text, not_json.no_utf8(data, text, plan.no_utf8))
-        return Explained(text, plan.no_json or _unknown(0))
+        found = plan.no_json or _unknown(0)
+        return Explained(text, not_json.other_text(text, found.at) or found)
     return _in_document(plan.root, text, fault)
 
 

@@ -1,17 +1,27 @@
 """One report of many: the jobs of the parts one after another, and the sum of their polls.
 
 All parts are read and held against each other before a byte is written; then they are copied. Neither keeps a part in
-memory. Parts are read by several processes."""
+memory. Parts are read by several processes. With a manifest a part is held against its digest, and its jobs' names
+against the manifest's; without one its lines are held against each other, which a change of a value passes."""
+import errno
+import functools
+import hashlib
 import os
+import re
 import stat
 from dataclasses import dataclass
 
-from zsched_tools import processes
+from zsched_tools import columns, manifest, processes
 from zsched_tools.command import Refused
 from zsched_tools.names import Names, first_repeat
-from zsched_tools.report import Reader, as_text, text_lines
+from zsched_tools.progress import Progress
+from zsched_tools.report import Reader, Total, as_text, text_lines
 
 PIECE = 2**20
+# As much as a processor holds near itself while it is hashed and looked through.
+SHORT_PIECE = 2**18
+LONGEST_LAST = 100
+_LAST_LINE = re.compile(rb"\npolls (0|[1-9][0-9]*)\n\Z")
 
 
 @dataclass
@@ -40,24 +50,29 @@ def _state(file, path):
     return found.st_dev, found.st_ino, found.st_size, found.st_mtime_ns
 
 
+def _marks(stretches):
+    """What `join` keeps of a piece: the names of the jobs that begin in it."""
+    names = Names()
+    for stretch in stretches:
+        if not isinstance(stretch, Total) and stretch.number == 0:
+            names.add(stretch.name)
+    return names
+
+
 def _read_part(path, horizon=None, latest=0):
     """Reads one part to its end, and holds its moments against those of the parts before it. Answers the part and its
     names."""
-    reader, names, last = Reader(), Names(), ""
+    reader, names = Reader(), Names()
     reader.horizon, reader.latest = horizon, latest
     with open(path, "rb") as file:
         state = _state(file, path)
         try:
-            for last in text_lines(as_text(file)):
-                if reader.job is None and last.startswith("job "):
-                    reader.take(last)
-                    names.add(reader.job.name)
-                else:
-                    reader.take(last)
-            reader.close()
+            for added in columns.shown(file, _marks, is_shared=False, reader=reader):
+                names.add_all(added)
         except Refused as refused:
             raise Refused(f"{path}: {refused}") from None
-    return Part(path, state[2] - len(last) - 1, reader.total.polls, state, reader.horizon, reader.latest), names
+    length = state[2] - len(f"polls {reader.total.polls}\n")
+    return Part(path, length, reader.total.polls, state, reader.horizon, reader.latest), names
 
 
 def _named(paths):
@@ -69,10 +84,11 @@ def _named(paths):
                     yield line.split(" ")[1], f"{path}: line {number}"
 
 
-def checked(paths):
+def checked(paths, progress):
     """All parts, each a whole report, with no file and no name of a job twice, and at one horizon."""
     names, parts, files, horizon, latest = Names(), [], {}, None, 0
     for path, (part, added) in zip(paths, processes.in_order(_read_part, paths)):
+        progress.add(1)
         if not part.fits(horizon, latest):
             part, added = _read_part(path, horizon, latest)
         if part.state[:2] in files:
@@ -103,9 +119,97 @@ def _copy(part, write):
             left -= len(piece)
 
 
+def _progress(count, what):
+    """What a terminal shows of parts that are read."""
+    return Progress("zsched-report", lambda done: f"{done} of {count} {what}")
+
+
 def write_joined(paths, write):
     """Writes the report of all parts as bytes, where every part is good, and else nothing."""
-    parts = checked(paths)
-    for part in parts:
-        _copy(part, write)
+    progress = _progress(len(paths), "parts read")
+    try:
+        parts = checked(paths, progress)
+    finally:
+        progress.close()
+    _write_parts(parts, write)
+
+
+def _write_parts(parts, write):
+    """Writes the jobs of parts that were read, and the sum of their polls."""
+    progress = _progress(len(parts), "parts written")
+    try:
+        for part in parts:
+            _copy(part, write)
+            progress.add(1)
+    finally:
+        progress.close()
     write(f"polls {sum(part.polls for part in parts)}\n".encode())
+
+
+def _sum_of(path):
+    """The SHA-256 of a file."""
+    with open(path, "rb") as file:
+        return hashlib.file_digest(file, "sha256").hexdigest()
+
+
+class _Heads:
+    """The SHA-256 of a report, that of its jobs' names, and their number, gathered by pieces of whole lines."""
+
+    def __init__(self):
+        self.report, self.names = hashlib.sha256(), hashlib.sha256()
+        self.jobs = 0
+
+    def add(self, piece):
+        """A piece more."""
+        self.report.update(piece)
+        heads = piece.split(b"\njob ")
+        if heads[0].startswith(b"job "):
+            heads[0] = heads[0][len(b"job "):]
+        else:
+            del heads[0]
+        if heads:
+            self.names.update(b"\n".join([head[:head.find(b" ")] for head in heads]) + b"\n")
+            self.jobs += len(heads)
+
+
+def _read_known(folder, entry):
+    """Reads a part of a manifest: its plan, if that is here, its digest and its report. Answers the part."""
+    place = os.path.join(folder, entry.name)
+    report = f"{place}.report"
+    with open(report, "rb") as file:
+        state = _state(file, report)
+        plan, wanted = manifest.digests(f"{place}.sha256", entry.name)
+        if plan != entry.plan:
+            raise Refused(f"{report}: is by its digest the report of another plan than the manifest's {entry.name}.json")
+        if os.path.exists(f"{place}.json") and _sum_of(f"{place}.json") != entry.plan:
+            raise Refused(f"{place}.json: isn't the plan that the manifest has: its SHA-256 is another one")
+        heads = _Heads()
+        while piece := file.read(SHORT_PIECE):
+            heads.add(piece + file.readline())
+        file.seek(max(0, state[2] - LONGEST_LAST))
+        last = _LAST_LINE.search(b"\n" + file.read())
+    if heads.report.hexdigest() != wanted:
+        raise Refused(f"{report}: was changed or cut after its digest was made: its SHA-256 is another one")
+    if heads.names.hexdigest() != entry.names or heads.jobs != entry.jobs:
+        raise Refused(f"{report}: has other jobs than the manifest's {entry.name}.json")
+    if last is None:
+        raise Refused(f"{report}: has no last line 'polls TOTAL'")
+    return Part(report, state[2] - len(last[0]) + 1, int(last[1]), state, None, 0)
+
+
+def write_known(path, write):
+    """Writes the report of a manifest's parts as bytes, where every part is good, and else nothing."""
+    entries, folder, parts = manifest.read(path), os.path.dirname(path), []
+    absent = [name for name in (os.path.join(folder, entry.name + ending) for entry in entries
+                                for ending in (".report", ".sha256")) if not os.path.exists(name)]
+    if absent:
+        more = f", and {len(absent) - 1} more missing" if len(absent) > 1 else ""
+        raise FileNotFoundError(errno.ENOENT, os.strerror(errno.ENOENT) + more, absent[0])
+    progress = _progress(len(entries), "parts read")
+    try:
+        for part in processes.in_order(functools.partial(_read_known, folder), entries):
+            parts.append(part)
+            progress.add(1)
+    finally:
+        progress.close()
+    _write_parts(parts, write)

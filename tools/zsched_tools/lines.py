@@ -5,8 +5,9 @@ Each attempt is an object of type `attempt`, each job's ending one of type `end`
 report has them."""
 import json
 
+from zsched_tools import columns
 from zsched_tools.command import Refused
-from zsched_tools.report import Attempt, Ending, Reader, records, shown, text_lines
+from zsched_tools.report import Attempt, Ending, Job, Reader, Total, shown, text_lines
 
 _decode = json.JSONDecoder(parse_float=str).decode
 
@@ -34,10 +35,32 @@ def json_line(job, record):
     return f'{{"type":"total","polls":{record.polls}}}'
 
 
-def write_lines(source, write):
-    """Writes a report's JSON lines, each as soon as it is known."""
-    for job, record in records(source):
-        write(json_line(job, record) + "\n")
+def _lines_of(stretch):
+    """The JSON lines of a job's attempts in a piece of a report, and of its ending."""
+    if isinstance(stretch, Total):
+        return json_line(None, stretch) + "\n"
+    job, words, waits = Job(stretch.name, stretch.mode), list(stretch.words), list(map(str, stretch.waits))
+    if stretch.end is None:
+        waits.insert(0, "null")
+    count = len(words) // len(columns.WORDS)
+    words[4::len(columns.WORDS)] = waits[:count]
+    outcome = columns.ASKED[stretch.mode]
+    form = (f'{{"type":"attempt","job":"{job.name}","mode":"{job.mode}","attempt":%s,"begin":%s,"end":%s,'
+            f'"outcome":"{outcome}","value":%s,"waited":%s,"out":"%s","next":%s}}\n')
+    text = columns.long((form * count) % tuple(words))
+    if stretch.last is not None:
+        number, begin, end, outcome, value, out = stretch.last
+        waited = None if waits[count] == "null" else int(waits[count])
+        text += json_line(job, Attempt(number, begin, end, outcome, value and int(value), waited, out)) + "\n"
+    if stretch.ending is not None:
+        text += json_line(job, stretch.ending) + "\n"
+    return text
+
+
+def write_lines(file, write, progress=None):
+    """Writes the JSON lines of a report, a binary file, each as soon as it is known."""
+    for text in columns.shown(file, lambda stretches: "".join(map(_lines_of, stretches)), progress):
+        write(text)
 
 
 def _attempt_lines(item):

@@ -23,6 +23,12 @@ class Names:
         mark = _mark(name)
         self.buckets[mark % _BUCKETS].append(mark)
 
+    def add_each(self, names):
+        """Some names more."""
+        for name in names:
+            mark = hash(name) & _SIXTY_FOUR_BITS
+            self.buckets[mark % _BUCKETS].append(mark)
+
     def add_all(self, others):
         """All names of others more."""
         for bucket, other in zip(self.buckets, others.buckets):

@@ -15,6 +15,42 @@ _QUOTES = "'`\u201c\u201d\u2018\u2019\u00ab\u00bb"
 _CLOSING = {"{": "}", "[": "]"}
 
 
+# How packed files begin.
+_PACKED = {
+    b"\x1f\x8b": ("this is a file packed by gzip", "unpack it: zcat plan.json.gz | zsched"),
+    b"\x28\xb5\x2f\xfd": ("this is a file packed by zstd", "unpack it: zstdcat plan.json.zst | zsched"),
+    b"\xfd7zXZ": ("this is a file packed by xz", "unpack it: xzcat plan.json.xz | zsched"),
+    b"PK\x03\x04": ("this is a zip file", "unpack it: unzip -p plan.zip | zsched"),
+}
+# How texts begin that are something else, what they are, and what to do.
+_OTHER_TEXTS = [
+    (r"```", "this is Markdown, and a plan is JSON alone", "leave the lines out that begin with ```"),
+    (r"(?i)<(?:!doctype|html)", "this is a page of HTML, and no plan", "look at what was downloaded: perhaps an error"),
+    (r"<\?xml", "this is XML, and a plan is JSON", f"write {SKETCH}"),
+    (r"job [A-Za-z0-9._-]+ (?:retry|repeat)\n|polls [0-9]+\n", "this is a report of zsched, and no plan",
+     "give the plan of which zsched made it; zsched-report reads reports"),
+    (r"\[\[?[A-Za-z_.]+\]\]?[ \t]*\n|[A-Za-z_]\w*[ \t]*=", "this looks like TOML, and a plan is JSON",
+     f"write {SKETCH}"),
+    (r"\x00+\Z", "this file has NUL bytes alone: what was in it is lost", "take the plan from a backup"),
+    (r"(?:[^\x00]\x00){2}|(?:\x00[^\x00]){2}", "this is UTF-16, and no UTF-8", "save the plan as UTF-8"),
+]
+
+
+def other_text(text, at):
+    """The cause at a place where a text stops to be JSON, if it is something else as a whole, or None."""
+    line = text.rfind("\n", 0, at) + 1
+    if re.compile(r"<{7} |={7}$|>{7} ", re.M).match(text, line):
+        return Cause(at, 1, "a merge left its marks here",
+                     "take out one side, and the lines <<<<<<<, ======= and >>>>>>>")
+    if re.compile(r"\{[{%]|\$[{(]").match(text, max(0, at - (text[at - 1:at] == "{"))):
+        return Cause(at, 1, "this template isn't filled in", "write the value here: zsched fills in nothing")
+    begin = text.lstrip(_SPACE)[:4000]
+    for pattern, what, help in _OTHER_TEXTS:
+        if re.match(pattern, begin):
+            return Cause(at, 1, what, help)
+    return None
+
+
 def no_plan(text):
     """The text is empty, or begins with a mark that isn't JSON's."""
     if text.startswith("\ufeff"):
@@ -26,6 +62,9 @@ def no_utf8(data, text, at):
     """The byte at this place of the text isn't UTF-8's."""
     if data[:2] in (b"\xff\xfe", b"\xfe\xff"):
         return Cause(at, 1, "this is UTF-16, and no UTF-8", "save the plan as UTF-8")
+    for begin, (what, help) in _PACKED.items():
+        if data.startswith(begin):
+            return Cause(at, 1, what, help)
     byte = data[len(text[:at].encode())]
     return Cause(at, 1, f"this byte, {byte:#04x}, is no UTF-8", "save the plan as UTF-8")
 
@@ -36,7 +75,10 @@ def more_text(text, at):
     if mark in "}]":
         return Cause(at, 1, f"this {mark} closes nothing", "take it out, or open before what it closes")
     if mark in "{[":
-        return Cause(at, 1, "a second document begins here", "a plan is one document, with one list of jobs")
+        is_population = '"jobs"' not in text[:at] and '"name"' in text[at:at + 4000]
+        help = "zsched-plan split N --lines makes plans of a document and of jobs in lines" if is_population else \
+            "a plan is one document, with one list of jobs"
+        return Cause(at, 1, "a second document begins here", help)
     if mark == ":" or re.match(r'\s*"?\w+"?\s*:', text):
         return Cause(at, 1, "the plan has ended, and more follows", f"a plan stands in braces: {SKETCH}")
     return _comment(text, at) or Cause(at, 1, "the plan has ended, and more follows", "take it out")

@@ -1,70 +1,140 @@
-"""A picture as a page that zooms. It is whole in itself, and asks nothing of any network."""
-import html
+"""A picture as a page whose axis of time zooms. It is whole in itself, and asks nothing of any network.
 
-from zsched_tools.picture import draw
+The picture in the page is that of a file; where the page's scripts run, they draw it anew as wide as there is room, by
+what docs/play.html draws with."""
+import html
+import json
+
+from zsched_tools import picture, play_page
+from zsched_tools.axis import View
+from zsched_tools.lines import json_line, report_lines
+from zsched_tools.strip import draw_strip
+
+# The widths in which the load of many jobs is drawn, and the room beside it.
+LOAD_WIDTHS = (330, 760, picture.WIDTH)
+BESIDE = 24
 
 HEAD = """<!doctype html>
 <html lang="en">
 <meta charset="utf-8">
-<meta name="viewport" content="width=device-width">
+<meta name="viewport" content="width=device-width, initial-scale=1">
 <title>{title}</title>
 <style>
-body{{margin:0;display:flex;flex-direction:column;height:100vh;font:14px sans-serif;color:#1f2933}}
-header{{padding:8px 16px;border-bottom:1px solid #d9dee4}}
-button{{font:inherit;min-width:2.5em;padding:2px 8px;margin-right:4px}}
-main{{flex:1;overflow:auto}}
-main svg{{display:block;width:100%;height:auto}}
+{style}
+body{{margin:0;font:14px system-ui,"DejaVu Sans",sans-serif;color:var(--ink);background:var(--page)}}
+h1{{font-size:17px;margin:10px 12px 0}}
+header{{position:sticky;top:0;background:var(--page);padding:8px 12px 0;z-index:1}}
+header div{{display:flex;flex-wrap:wrap;gap:4px;align-items:center;margin-bottom:6px}}
+button{{font:inherit;min-width:2.5em;padding:2px 8px;color:inherit;background:var(--band);
+border:1px solid var(--line);border-radius:5px}}
+label{{display:flex;gap:4px;align-items:center}}
+small{{color:var(--soft)}}
+main{{padding:0 12px 12px;overflow-x:auto}}
+main>svg{{display:block}}
 </style>
-<header>
-<button id="in" aria-label="larger">+</button>
-<button id="out" aria-label="smaller">−</button>
-<button id="all">whole width</button>
-<span>Ctrl and the wheel zoom too. What an attempt was is told where the pointer rests on it.</span>
-</header>
-<main tabindex="0">
 """
-
-FOOT = """
-</main>
-<script>
-"use strict";
-const view = document.querySelector("main"), picture = view.querySelector("svg");
-const names = document.getElementById("names"), moments = document.getElementById("moments");
-let zoom = 1;
-function keepInSight() {
-  if (!names) return;
-  const scale = picture.getBoundingClientRect().width / picture.viewBox.baseVal.width;
-  const above = view.scrollTop / scale - moments.getBBox().y;
-  names.setAttribute("transform", `translate(${view.scrollLeft / scale} 0)`);
-  moments.setAttribute("transform", `translate(0 ${Math.max(0, above)})`);
+TOOLS = """<header>
+<div>
+<button id="in" aria-label="shorter time">+</button>
+<button id="out" aria-label="longer time">−</button>
+<button id="back" aria-label="earlier">‹</button>
+<button id="forth" aria-label="later">›</button>
+<button id="all">whole time</button>
+<label><input type="checkbox" id="log"> logarithmic</label>
+<small>Ctrl and the wheel zoom too. What an attempt was is shown where the pointer rests on it.</small>
+</div>
+<div id="axis" aria-hidden="true"></div>
+</header>
+"""
+VIEW = """"use strict";
+const main = document.querySelector("main"), the = id => document.getElementById(id);
+const rows = drawing.rowsOf(the("report").textContent), first = JSON.parse(the("view").textContent);
+let view = {}, drawn;
+the("log").checked = first.isLog;
+function draw() {
+  const width = Math.max(280, main.clientWidth - 24), isLog = the("log").checked;
+  drawn = drawing.picture(rows, { ...view, width, isLog, hasLoad: rows.length > 16 });
+  main.innerHTML = drawn.svg;
+  the("axis").innerHTML = drawn.axis;
+  main.firstChild.style.marginTop = `${-drawn.top}px`;
 }
-function zoomTo(wanted, x, y) {
-  const next = Math.min(64, Math.max(1, wanted)), factor = next / zoom;
-  const left = (view.scrollLeft + x) * factor - x, top = (view.scrollTop + y) * factor - y;
-  zoom = next;
-  picture.style.width = 100 * zoom + "%";
-  view.scrollTo(left, top);
-  keepInSight();
+function zoom(times, around, moved) {
+  const [from, to] = drawing.zoomed(drawn, times, around, moved);
+  view = { from, to };
+  draw();
 }
-function zoomInMiddle(wanted) { zoomTo(wanted, view.clientWidth / 2, view.clientHeight / 2); }
-document.getElementById("in").onclick = () => zoomInMiddle(zoom * 1.5);
-document.getElementById("out").onclick = () => zoomInMiddle(zoom / 1.5);
-document.getElementById("all").onclick = () => zoomInMiddle(1);
-view.addEventListener("scroll", keepInSight);
-view.addEventListener("wheel", event => {
+the("in").onclick = () => zoom(0.5, 0.5, 0);
+the("out").onclick = () => zoom(2, 0.5, 0);
+the("back").onclick = () => zoom(1, 0.5, -0.5);
+the("forth").onclick = () => zoom(1, 0.5, 0.5);
+the("all").onclick = () => { view = {}; draw(); };
+the("log").onchange = draw;
+addEventListener("resize", draw);
+main.addEventListener("wheel", event => {
   if (!event.ctrlKey) return;
   event.preventDefault();
-  const box = view.getBoundingClientRect();
-  zoomTo(zoom * (event.deltaY < 0 ? 1.25 : 0.8), event.clientX - box.left, event.clientY - box.top);
+  zoom(event.deltaY < 0 ? 0.8 : 1.25, (event.clientX - 12 - drawn.left) / (drawn.right - drawn.left), 0);
 }, { passive: false });
-</script>
-</html>
+draw();
+const since = moment => moment === undefined ? undefined : moment - Number(drawn.base);
+view = { from: since(first.from), to: since(first.to) };
+draw();
 """
 
 
-def page(rows, title):
+def report_of(rows):
+    """The lines of the report of some rows."""
+    for row in rows:
+        yield f"job {row.job.name} {row.job.mode}"
+        for record in [*row.attempts, row.ending]:
+            yield from report_lines(json.loads(json_line(row.job, record)), True)
+
+
+def _head(title):
+    """The page up to its title."""
+    name = html.escape(title or "Timeline of a report of zsched")
+    yield HEAD.format(title=name, style=play_page.piece("drawing-style"))
+    if title:
+        yield f"<h1>{html.escape(title)}</h1>\n"
+
+
+def page(rows, title, view=View()):
     """The page of some jobs, in pieces."""
-    yield HEAD.format(title=html.escape(title or "Timeline of a report of zsched"))
-    for line in draw(rows, title, namespace=""):
+    yield from _head(title)
+    yield TOOLS
+    yield "<main tabindex=\"0\">\n"
+    for line in picture.draw(rows, title, view, namespace=""):
         yield f"{line}\n"
-    yield FOOT.lstrip("\n")
+    yield "</main>\n"
+    yield '<script type="text/plain" id="report">\n'
+    for line in report_of(rows):
+        yield f"{line}\n"
+    shown = {"from": view.first, "to": view.last, "isLog": view.is_log}
+    options = json.dumps({key: value for key, value in shown.items() if value is not None})
+    yield f'</script>\n<script type="application/json" id="view">{options}</script>\n'
+    yield f"<script>\n{play_page.piece('drawing')}</script>\n<script>\n{VIEW}</script>\n"
+    yield "</html>\n"
+
+
+def _style_of_widths():
+    """Of the pictures of each width, the widest that fits is shown. The others keep their patterns, which have one name:
+    those of the first picture are drawn with in all of them."""
+    yield "<style>main>div{visibility:hidden;height:0;overflow:hidden}pattern{visibility:visible}\n"
+    for width, wider in zip(LOAD_WIDTHS, [*LOAD_WIDTHS[1:], None]):
+        bounds = [f"(min-width:{width + BESIDE}px)"] if width > LOAD_WIDTHS[0] else []
+        bounds += [f"(max-width:{wider + BESIDE - 1}px)"] if wider else []
+        yield f"@media{'and'.join(f' {it} ' for it in bounds)}{{.w{width}{{visibility:visible;height:auto}}}}\n"
+    yield "</style>\n"
+
+
+def load_page(load, title, note, view=View()):
+    """The page of a load, in pieces, in each of some widths. It doesn't zoom."""
+    yield from _head(title)
+    yield from _style_of_widths()
+    yield f'<main tabindex="0">\n<p><small>{html.escape(note)}</small></p>\n'
+    for width in LOAD_WIDTHS:
+        yield f'<div class="w{width}">\n'
+        for line in draw_strip(load, "", namespace="", view=view, width=width):
+            yield f"{line}\n"
+        yield "</div>\n"
+    yield "</main>\n</html>\n"

@@ -2,7 +2,8 @@
 import html
 from dataclasses import dataclass
 
-from zsched_tools.axis import Scale, labels, shown_moments
+from zsched_tools import strip
+from zsched_tools.axis import Scale, View, labels, shown_moments
 from zsched_tools.bars import Shapes, draw_shape, mark
 from zsched_tools.command import Refused
 from zsched_tools.drawing import cut_text, path, place, rectangle, text, text_width
@@ -19,18 +20,22 @@ AFTER_PLOT = 34
 LONGEST_RESULT = 24
 TITLE_SIZE = 16
 SMALL_SIZE = 11
-WAIT_SIZE = 10
+WAIT_SIZE = 11
 
-STYLE = """text{font-family:"DejaVu Sans",Verdana,Geneva,sans-serif;fill:#1f2933}
-.title{font-size:16px;font-weight:bold}.large{font-size:13px}.small,.axis,.legend{font-size:11px}.wide{font-size:10px}
-.axis,.legend,.mode,.wide{fill:#616e7c}.mode{font-size:10px}
+STYLE = """svg{color-scheme:light dark}text{font-family:"DejaVu Sans",Verdana,Geneva,sans-serif;fill:#1f2933}
+.title{font-size:16px;font-weight:bold}.large{font-size:13px}.small,.axis,.legend,.mode,.wide{font-size:11px}
+.axis,.legend,.mode,.wide{fill:#616e7c}
 .page{fill:#fff}.band{fill:#f5f7fa}.grid{stroke:#d9dee4}.edge{stroke:#7b8794}
 .horizon{stroke:#52606d;stroke-dasharray:6 3 1 3}
 .ok{fill:#0a8f6a}.err{fill:#d1495b}.good{fill:#087456}.bad{fill:#b8304a}.open{fill:#616e7c}
 .running{fill:url(#running);stroke:#8a6fc1}.hatch{fill:#e2dbf0}.line{stroke:#8a6fc1;stroke-width:3}
 .many{fill:url(#many)}.stripe{fill:#fff;fill-opacity:.55}
 .wait,.arrow{fill:none;stroke:#7b8794}.wait{stroke-dasharray:2 3}
-.sign{fill:none;stroke:#fff;stroke-width:1.6}.hole{fill:#fff}"""
+.sign{fill:none;stroke:#fff;stroke-width:1.6}.hole{fill:#fff}
+@media(prefers-color-scheme:dark){text{fill:#e4e7eb}.axis,.legend,.mode,.wide{fill:#a3afbb}
+.page,.hole{fill:#14191f}.band{fill:#1d252e}.grid{stroke:#3e4c59}.edge,.horizon,.wait,.arrow{stroke:#9aa5b1}
+.ok{fill:#2bb08a}.err{fill:#e0616f}.good{fill:#37c29b}.bad{fill:#f0808f}.open{fill:#a3afbb}
+.hatch{fill:#2f2844}.line{stroke:#a48cd8}.running{stroke:#a48cd8}.stripe{fill:#14191f}.sign{stroke:#14191f}}"""
 
 PATTERNS = ('<pattern id="running" width="6" height="6" patternUnits="userSpaceOnUse" patternTransform="rotate(45)">'
             '<rect class="hatch" width="6" height="6"/><path class="line" d="M0 0V6"/></pattern>'
@@ -47,11 +52,11 @@ class Row:
 
     def verdict(self, base):
         """How the job ended, in words, and when, counted from a base."""
-        if not self.attempts:
-            return "unfinished · never began"
-        words = f"{ending_text(self.ending, LONGEST_RESULT)} · {plural(len(self.attempts), 'attempt')}"
         when = ("+" if base else "") + duration(max(0, self.ending.at - base))
-        return words if self.ending.how == "unfinished" else f"{words} · {when}"
+        many = plural(len(self.attempts), "attempt") if self.attempts else "never began"
+        if self.ending.how == "unfinished":
+            return f"unfinished at {when} · {many}"
+        return f"{ending_text(self.ending, LONGEST_RESULT)} · {many} · {when}"
 
 
 def rows_of(source, chosen):
@@ -79,7 +84,7 @@ def rows_of(source, chosen):
 class Layout:
     """Where everything stands: rows by their number, the plot from left to right, and the words beside it."""
 
-    def __init__(self, rows, title):
+    def __init__(self, rows, title, view=View()):
         count = max(1, len(rows))
         self.row = 40 if count <= 6 else 30 if count <= 16 else 20
         self.size = 13 if self.row >= 30 else SMALL_SIZE
@@ -92,17 +97,39 @@ class Layout:
         self.verdict_room = min(WIDEST_VERDICT, verdicts) + 1
         self.right = WIDTH - MARGIN - self.verdict_room - AFTER_PLOT
         self.horizon = next((row.ending.at for row in rows if row.ending.how == "unfinished"), None)
-        self.scale = Scale(*shown_moments([row.attempts for row in rows], self.horizon), self.left, self.right)
+        unit = log_unit(rows) if view.is_log else None
+        self.scale = Scale(*view_of(rows, self.horizon, view), self.left, self.right, unit)
         self.labels, self.base = labels(self.scale)
         self.shapes = [Shapes(row.attempts, self.scale).found for row in rows]
-        self.waits = [list(waits_of(row, shapes, self.right)) for row, shapes in zip(rows, self.shapes)]
+        self.waits = [list(waits_of(row, shapes, self.scale)) for row, shapes in zip(rows, self.shapes)]
         self.top = 34 + (30 if title else 0) + (18 if self.base else 0)
         self.bottom = self.top + count * self.row
-        self.foot = self.bottom + (24 if count > 16 else 6)
+        self.foot = self.bottom + (24 + strip.HEIGHT if count >= strip.FEWEST_ROWS else 6)
 
     def middle(self, number):
         """The height at which a row's attempts stand."""
         return self.top + (number + 0.5) * self.row
+
+
+def view_of(rows, horizon, view):
+    """The first and the last moment that a picture shows."""
+    first, last = shown_moments([row.attempts for row in rows], horizon)
+    return view_within(first, last, view) if rows else (first, last)
+
+
+def view_within(first, last, view):
+    """The moments of a view, and those that are given where it names none."""
+    first, last = first if view.first is None else view.first, last if view.last is None else view.last
+    if first >= last and view != View(is_log=view.is_log):
+        raise Refused(f"has nothing from {first} ms to {last} ms: --from has to be before --to")
+    return first, last
+
+
+def log_unit(rows):
+    """From what time on a logarithmic axis is one: that of the shortest first attempt."""
+    firsts = [row.attempts[0] for row in rows if row.attempts]
+    times = [attempt.end - attempt.begin for attempt in firsts if attempt.end is not None]
+    return max(1, min(times, default=1))
 
 
 def draw_bands(layout, count, right):
@@ -119,7 +146,7 @@ def draw_grid(layout, count):
         yield path(f"M{place(x)} {place(layout.top - 5)}V{place(layout.bottom)}", "grid")
         if count > 16:
             yield text(x, layout.bottom + 16, label, "axis", "middle")
-    if layout.horizon is not None and layout.horizon <= layout.scale.last:
+    if layout.horizon is not None and layout.scale.first <= layout.horizon <= layout.scale.last:
         x = layout.scale.at(layout.horizon)
         title = f"horizon, {layout.horizon} ms"
         yield path(f"M{place(x)} {place(layout.top)}V{place(layout.bottom)}", "horizon", title)
@@ -137,15 +164,21 @@ def draw_moments(layout):
     yield path(f"M{place(layout.left)} {place(layout.top)}H{place(layout.right)}", "edge")
 
 
-def waits_of(row, shapes, right):
-    """The waits of a job that are long enough to be seen: from where to where, and how long; that of one which goes
-    on at the horizon isn't told."""
-    for before, after in zip(shapes, shapes[1:]):
-        if after.left - before.right >= 2:
-            yield before.right, after.left, after.first.begin - before.last.end
+def waits_of(row, shapes, scale):
+    """The waits of a job that are long enough to be seen: from where to where, and how long, which is None for one that
+    goes on at the horizon. A wait that begins or ends outside of the picture goes to its edge."""
+    before = [it for it in row.attempts if it.end is not None and it.end < scale.first][-1:]
+    after = [it for it in row.attempts if it.begin > scale.last][:1]
+    ends = [(scale.left, scale.left, it, it) for it in before]
+    ends += [(shape.left, shape.right, shape.first, shape.last) for shape in shapes]
+    ends += [(scale.right, scale.right, it, it) for it in after]
+    for (_, left, _, last), (right, _, first, _) in zip(ends, ends[1:]):
+        if right - left >= 2:
+            yield left, right, first.begin - last.end
     last = row.attempts[-1] if row.attempts else None
-    if row.ending.how == "unfinished" and last is not None and last.end is not None and right - shapes[-1].right >= 8:
-        yield shapes[-1].right, right, None
+    if row.ending.how == "unfinished" and last is not None and last.end is not None and shapes:
+        if shapes[-1].last is last and scale.right - shapes[-1].right >= 8:
+            yield shapes[-1].right, scale.right, None
 
 
 def draw_waits(layout, waits, middle):
@@ -177,7 +210,7 @@ def draw_row(layout, number, row):
     yield from draw_waits(layout, layout.waits[number], middle)
     for shape in shapes:
         yield from draw_shape(shape, middle, layout.bar, row.job.name)
-    if shapes and row.ending.how != "unfinished":
+    if shapes and row.ending.how != "unfinished" and shapes[-1].last is row.attempts[-1]:
         size = min(layout.bar * 0.6, 7)
         yield from mark(row.ending.how, shapes[-1].right + size + 3, middle, size)
     verdict = cut_text(row.verdict(layout.base), layout.size, layout.verdict_room)
@@ -226,14 +259,14 @@ def legend_entries(layout, rows):
         if how in endings:
             yield (lambda x, y, how=how: mark(how, x + 8, y, 6)), words
     if layout.horizon is not None:
-        is_shown = layout.horizon <= layout.scale.last
-        words = f"horizon, {duration(layout.horizon)}" + ("" if is_shown else ", far to the right of this picture")
+        is_shown = layout.scale.first <= layout.horizon <= layout.scale.last
+        words = f"horizon, {duration(layout.horizon)}" + ("" if is_shown else ", outside of this picture")
         yield lambda x, y: [path(f"M{place(x + 8)} {place(y - 8)}v16", "horizon")], words
 
 
-def draw(rows, title, namespace=' xmlns="http://www.w3.org/2000/svg"'):
+def draw(rows, title, view=View(), namespace=' xmlns="http://www.w3.org/2000/svg"'):
     """The picture of some jobs as SVG, in lines. Inside of a page the namespace is left out."""
-    layout = Layout(rows, title)
+    layout = Layout(rows, title, view)
     entries, height = legend(layout, rows)
     tall = place(layout.foot + height)
     told = html.escape(title or "Timeline of a report of zsched")
@@ -258,6 +291,8 @@ def draw_jobs(layout, rows):
     yield from draw_grid(layout, len(rows))
     for number, row in enumerate(rows):
         yield from draw_row(layout, number, row)
+    if len(rows) >= strip.FEWEST_ROWS:
+        yield from strip.strip(strip.load_of_rows(rows, layout.scale), layout.scale, layout.bottom + 24)
     yield '<g id="names">'
     yield from draw_names(layout, rows)
     yield '</g><g id="moments">'

@@ -1,16 +1,22 @@
-"""The command zsched-plan: a large plan as many plans."""
+"""The command zsched-plan: a large plan as many plans, and another file as a plan."""
 import argparse
 
-from zsched_tools import command
+from zsched_tools import colors, command, release, starting
+from zsched_tools.progress import Progress
 from zsched_tools.split import MOST_JOBS, write_parts
 from zsched_tools.summary import plural
+from zsched_tools.importing import add_command as add_from
 
 TOOL = "zsched-plan"
 DESCRIPTION = """A plan cut into parts, for plans of more jobs than one run takes, or for more than one machine.
 
-  zsched-plan split 10000 plan.json -o parts"""
+  zsched-plan split 10000 plan.json -o parts
+
+A log of calls (CSV) or a policy file (YAML, TOML) as a plan.
+
+  zsched-plan from log.csv --schedule '(exponential(100) && recurs(5))' > plan.json"""
 SPLIT = """Cuts PLAN by its jobs into plans of at most N jobs, in order: FOLDER/part-000001.json, part-000002.json and
-so on. The other keys of the document stand in each part. All is kept as it was written. Where PLAN is refused,
+so on, and FOLDER/manifest, by which `zsched-report join` checks their reports. The other keys of the document stand in each part. All is kept as it was written. Where PLAN is refused,
 nothing is made. The report of PLAN is the reports of its parts, joined by `zsched-report join`; docs/SCALE.md has
 recipes."""
 EPILOG = """Exit status: 0, with the number of parts and jobs on standard output; 2 where the plan or the words are
@@ -26,7 +32,11 @@ def _jobs_of_a_part(word):
 
 
 def _split(given):
-    parts, jobs = write_parts(given.plan, given.lines, given.jobs, given.folder)
+    progress = Progress(TOOL, lambda jobs: f"{jobs} jobs cut")
+    try:
+        parts, jobs = write_parts(given.plan, given.lines, given.jobs, given.folder, progress)
+    finally:
+        progress.close()
     print(f"{given.folder}: {plural(parts, 'part')}, {plural(jobs, 'job')}")
 
 
@@ -34,6 +44,8 @@ def _arguments():
     """The words of the command line."""
     form = argparse.RawDescriptionHelpFormatter
     parser = argparse.ArgumentParser(prog=TOOL, description=DESCRIPTION, epilog=EPILOG, formatter_class=form)
+    release.add_version(parser)
+    colors.add_color(parser)
     forms = parser.add_subparsers(required=True, metavar="FORM")
     split = forms.add_parser("split", description=SPLIT, epilog=EPILOG, formatter_class=form,
                              help="a plan cut by its jobs")
@@ -44,10 +56,12 @@ def _arguments():
     split.add_argument("-o", dest="folder", metavar="FOLDER", required=True,
                        help="a new folder for the parts, or an empty one")
     split.set_defaults(work=_split)
+    add_from(forms, form)
     return parser
 
 
 def main():
     """The command line."""
-    given = _arguments().parse_args()
-    return command.run(TOOL, lambda: given.work(given))
+    given = starting.parsed(_arguments())
+    command.color(given.color)
+    return starting.run(TOOL, lambda: given.work(given))

@@ -2,11 +2,13 @@
 
 Texts are of single bytes (see `report.as_text`), so that what is written again is what was read. That they are UTF-8 is
 looked at where their values are read."""
+import io
 import json
 import re
 from typing import NamedTuple
 
 from zsched_tools.command import Refused
+from zsched_tools.patterns import maybe, run_of
 from zsched_tools.report import shown, text_lines
 
 LONGEST_PLAN = 16_777_216
@@ -23,6 +25,18 @@ class Number(str):
 def _no_number(word):
     raise ValueError(f"{word} is no number")
 
+
+# A job of JSON lines as programs write it: ASCII, no escapes, numbers in digits alone. Others are decoded.
+_TEXT = r'"[ !#-\[\]-~]*+"'
+_DIGITS = "(?:0|[1-9][0-9]*+)"
+_FLAT = rf"(?:{_TEXT}|{_DIGITS})"
+_ENTRY = rf"\{{ ?{_TEXT}: ?{_FLAT}{run_of(rf', ?{_TEXT}: ?{_FLAT}')} ?\}}"
+_MEMBER = rf', ?"(?!name")[ !#-\[\]-~]*+": ?(?:{_FLAT}|\[{maybe(_ENTRY + run_of(f", ?{_ENTRY}"))}\])'
+_PLAIN = rf'\{{ ?"name": ?"([ !#-\[\]-~]*+)"{run_of(_MEMBER)} ?\}}'
+_PLAIN_JOB = re.compile(_PLAIN)
+_PLAIN_LINES = re.compile(f"({_PLAIN})\n")
+# As many characters of JSON lines are looked at together.
+BLOCK = 2**16
 
 _DECODER = json.JSONDecoder(parse_constant=_no_number, parse_float=Number, parse_int=Number)
 
@@ -155,6 +169,11 @@ class PlanText:
             space = ""
         self._read_after()
 
+    def groups(self):
+        """The texts and names of the jobs in order, one job at a time."""
+        for job in self.jobs():
+            yield [job.text], [job.name]
+
     def _key(self):
         """Takes a key of the document, with the colon and the white space after it. Answers the text and the key."""
         space = self.source.space()
@@ -200,17 +219,43 @@ class LinesText:
 
     def jobs(self):
         """The jobs in order."""
-        number = 0
-        for number, text in enumerate(text_lines(self.file, LONGEST_PLAN), 1):
-            value = self._value(number, text)
-            if number > 1:
-                yield _job("\n" + text, value, number)
-            elif not isinstance(value, dict) or "jobs" in value:
-                raise Refused("line 1: this isn't a plan's document without its jobs")
-            else:
-                self.before = text.strip().removesuffix("}") + ("," if value else "") + '"jobs":['
-        if number == 0:
+        lines = self._lines_after_head()
+        for number, text in enumerate(lines, 2):
+            yield self._job(number, text)
+
+    def groups(self):
+        """The jobs in order, many at a time: their texts and their names."""
+        self._lines_after_head()
+        number = 2
+        while block := self.file.read(BLOCK) + self.file.readline(LONGEST_PLAN):
+            found = _PLAIN_LINES.findall(block)
+            if sum(len(line) + 1 for line, _ in found) == len(block):
+                yield ["\n" + line for line, _ in found], [name for _, name in found]
+                number += len(found)
+                continue
+            for number, text in enumerate(text_lines(io.StringIO(block, newline="\n"), LONGEST_PLAN, number - 1), number):
+                job = self._job(number, text)
+                yield [job.text], [job.name]
+            number += 1
+
+    def _lines_after_head(self):
+        """Takes the first line, and returns the lines after it."""
+        lines = text_lines(self.file, LONGEST_PLAN)
+        text = next(lines, None)
+        if text is None:
             raise Refused("is empty, where a plan's document without its jobs is due")
+        value = self._value(1, text)
+        if not isinstance(value, dict) or "jobs" in value:
+            raise Refused("line 1: this isn't a plan's document without its jobs")
+        self.before = text.strip().removesuffix("}") + ("," if value else "") + '"jobs":['
+        return lines
+
+    def _job(self, number, text):
+        """The job of a line."""
+        plain = _PLAIN_JOB.fullmatch(text)
+        if plain is not None:
+            return JobText("\n" + text, plain[1], number)
+        return _job("\n" + text, self._value(number, text), number)
 
     @staticmethod
     def _value(number, text):

@@ -1,10 +1,11 @@
-"""A page on this machine: one types a schedule and what its attempts do, and sees the picture and the report, or the
-fault with its place. Each answer is a run of zsched. Nothing is loaded from elsewhere, nothing leaves the machine."""
+"""A page on this machine: one types schedules and what their attempts do, and sees the picture and the report, or the
+fault with its place. It is docs/play.html, whose reports are then runs of zsched. Nothing is loaded from elsewhere,
+nothing leaves the machine."""
 import argparse
+import bisect
 import http.server
-import io
+import itertools
 import json
-import pathlib
 import re
 import resource
 import signal
@@ -12,29 +13,29 @@ import subprocess
 import sys
 import tempfile
 
-from zsched_tools import asking, command, faults, picture, program
+from zsched_tools import colors, command, faults, plan_size, play_page, program, release, starting
 
 ADDRESS = "127.0.0.1"
 PORT = 8642
 SECONDS = 10
 MEMORY = 1 << 30
 SMALLER = "shorten the horizon, or lengthen the waits"
-LONGEST_BODY = 16777216
+LONGEST_BODY = program.MAX_BYTES
+LONGEST_REPORT = 8_000_000
 LONGEST_SHOWN = 200_000
-LONGEST_DRAWN = 4_000_000
 PATIENCE = 30
-LONGEST_LINE = 160
-LINE = re.compile(r' *(?:\{ )?"(?P<key>\w+)": "?')
-FIELD_OF = {"horizon": "until", "mode": "mode", "start": "start", "schedule": "schedule", "script": "script",
-            "ms": "script"}
-PAGE = pathlib.Path(__file__).with_name("play.html")
 POLICY = ("default-src 'none'; script-src 'unsafe-inline'; style-src 'unsafe-inline'; img-src data:; "
           "connect-src 'self'; base-uri 'none'; form-action 'none'; frame-ancestors 'none'")
 PATHS = {"/": ["GET", "HEAD"], "/report": ["POST"]}
 
 
 class Late(Exception):
-    """The program gave no report in time, and was killed."""
+    """The program wrote no report in time, and was killed."""
+
+
+def page():
+    """docs/play.html with zsched in place of the page's evaluator."""
+    return play_page.text().replace('data-engine="page"', 'data-engine="program"', 1)
 
 
 def run(zsched, plan, seconds):
@@ -50,60 +51,49 @@ def run(zsched, plan, seconds):
                 raise Late from None
         size = report.seek(0, 2)
         report.seek(0)
-        return child.returncode, report.read(LONGEST_DRAWN + 1), size, errors
+        return child.returncode, report.read(LONGEST_REPORT + 1), size, errors
 
 
-def answer(zsched, fields, seconds):
-    """What the page shows for its fields: the plan, and the report with its picture or the fault with its place."""
+def answer(zsched, plan, seconds):
+    """What the page shows for the bytes of a plan: the report, or the fault with its place."""
+    many = plan_size.warning(plan)
+    if many:
+        return {"fault": {"field": "until", "cause": many, "help": SMALLER}}
     try:
-        plan = asking.plan_of(fields)
-    except asking.Unread as unread:
-        return {"fault": {"field": unread.field, "text": str(unread)}}
-    try:
-        status, report, size, errors = run(zsched, plan.encode(), seconds)
+        status, report, size, errors = run(zsched, plan, seconds)
     except Late:
-        text = f"no report within {seconds} seconds, so zsched was stopped: {SMALLER}"
-        return {"plan": plan, "fault": {"field": "until", "text": text}}
+        cause = f"no report within {seconds} seconds, so zsched was stopped"
+        return {"fault": {"field": "until", "cause": cause, "help": SMALLER}}
     except OSError as fault:
-        return {"plan": plan, "fault": {"field": "plan", "text": f"{zsched} could not be run: {fault.strerror}"}}
-    told = errors.decode(errors="replace").strip().removeprefix("zsched: ")
+        return {"fault": {"cause": f"{zsched} could not be run: {fault.strerror}"}}
+    said = errors.decode(errors="replace").strip().removeprefix("zsched: ")
     if status == 2:
-        return {"plan": plan, "fault": placed(plan, told)}
+        return {"fault": placed(plan, said)}
     if status:
-        text = f"{told or f'status {status} and no report'} ({MEMORY >> 20} MB are given to it): {SMALLER}"
-        return {"plan": plan, "fault": {"field": "until", "text": text}}
-    return {"plan": plan, **shown(report, size)}
+        cause = f"{said or f'status {status} and no report'} ({MEMORY >> 20} MB are given to it)"
+        return {"fault": {"field": "until", "cause": cause, "help": SMALLER}}
+    return shown(report, size)
 
 
-def placed(plan, told):
-    """A fault of the program with its place: the field, the line with the caret's columns, the cause and the help."""
-    found = faults.explained(faults.Plan(plan.encode()), told)
+def placed(plan, said):
+    """A fault of the program with its cause and its help; that of a schedule with its job and its place there."""
+    read = faults.Plan(plan)
+    found = faults.explained(read, said)
     at, size, cause, help_text = found.cause
-    begin = found.text.rfind("\n", 0, at) + 1
-    line = found.text[begin:].split("\n", 1)[0]
-    key = LINE.match(line)
-    field = FIELD_OF.get(key["key"], "plan") if key else "plan"
-    if field == "schedule":
-        begin, line = begin + key.end(), line[key.end():].removesuffix(",").removesuffix('"')
-    column = max(0, min(at - begin, len(line)))
-    cut = max(0, column - LONGEST_LINE // 2)
-    line, column = line[cut:cut + LONGEST_LINE], column - cut
-    return {"field": field, "text": told, "line": line, "at": column,
-            "size": max(1, min(size, len(line) - column)), "cause": cause, "help": help_text}
+    fault = {"text": said, "cause": cause, "help": help_text}
+    if found.job is None or not said.startswith(f"job {found.job}: schedule: "):
+        return fault
+    schedule = next(itertools.islice(read.root.get("jobs").items(), found.job, None)).get("schedule")
+    letters = range(len(schedule.string()) + 1)
+    begin, end = (bisect.bisect_left(letters, place, key=schedule.place_in) for place in (at, at + size))
+    return {**fault, "job": found.job, "key": "schedule", "at": begin, "size": max(1, end - begin)}
 
 
 def shown(report, size):
-    """The answer for a report: its text, cut where it is long, a note of that, its picture, and its last job's end."""
-    whole = report.decode()
-    text, note = whole, ""
-    if size > LONGEST_SHOWN:
-        text = whole[:whole.rindex("\n", 0, LONGEST_SHOWN) + 1]
-        note = f"The report has {size} bytes, and its first {len(text)} are shown; zsched itself prints them all."
-    if size > LONGEST_DRAWN:
-        note += " It is too long for a picture."
-        return {"report": text, "note": note, "picture": "", "end": ""}
-    drawn = picture.draw(picture.rows_of(io.StringIO(whole), []), "", namespace="")
-    return {"report": text, "note": note, "picture": "".join(drawn), "end": whole.splitlines()[-2]}
+    """The answer for a report, whose end is left out if it is long."""
+    if size > LONGEST_REPORT:
+        return {"report": report[:report.rindex(b"\n", 0, LONGEST_SHOWN) + 1].decode(), "size": size, "isCut": True}
+    return {"report": report.decode(), "size": size}
 
 
 class Server(http.server.ThreadingHTTPServer):
@@ -151,14 +141,14 @@ class Handler(http.server.BaseHTTPRequestHandler):
         return self.refusal_of_body() if self.command == "POST" else None
 
     def refusal_of_body(self):
-        """The same for a question's length."""
+        """The same for a plan's length."""
         size = self.headers.get("Content-Length")
         if size is None or "Transfer-Encoding" in self.headers:
-            return 411, "a question tells its length"
+            return 411, "a plan is sent with its length"
         if not re.fullmatch("[0-9]{1,18}", size):
-            return 400, "the length of the question is no number"
+            return 400, "the length of the plan is no number"
         if int(size) > LONGEST_BODY:
-            return 413, f"a question is at most {LONGEST_BODY} bytes long"
+            return 413, f"a plan is at most {LONGEST_BODY} bytes long"
         return None
 
     def do_GET(self):
@@ -170,19 +160,15 @@ class Handler(http.server.BaseHTTPRequestHandler):
         elif self.command == "POST":
             self.give_answer()
         else:
-            self.give(200, "text/html; charset=utf-8", PAGE.read_bytes())
+            self.give(200, "text/html; charset=utf-8", page().encode())
 
     do_HEAD = do_POST = do_PUT = do_DELETE = do_PATCH = do_OPTIONS = do_TRACE = do_CONNECT = do_GET
 
     def give_answer(self):
-        """The answer to a question."""
-        body = self.rfile.read(int(self.headers["Content-Length"]))
-        try:
-            fields = asking.fields_of(body)
-        except (ValueError, RecursionError) as fault:
-            return self.give(400, "text/plain; charset=utf-8", f"zsched-play: {fault}\n".encode(errors="replace"))
-        answered = json.dumps(answer(self.server.zsched, fields, self.server.seconds)).encode()
-        return self.give(200, "application/json", answered)
+        """The answer to a plan."""
+        plan = self.rfile.read(int(self.headers["Content-Length"]))
+        answered = json.dumps(answer(self.server.zsched, plan, self.server.seconds)).encode()
+        self.give(200, "application/json", answered)
 
     def give(self, status, kind, body):
         """Sends a response."""
@@ -237,7 +223,8 @@ def serve(given):
     with server:
         try:
             signal.signal(signal.SIGTERM, stop)
-            print(f"zsched-play: {server.url()}", flush=True)
+            paint = colors.Paint(given.color, sys.stdout)
+            print(f"zsched-play: {paint('strong', server.url())}", flush=True)
             server.serve_forever()
         except KeyboardInterrupt:
             pass
@@ -250,5 +237,8 @@ def main():
         epilog="Ctrl-C ends it, with status 0. Status 2: wrong words, no program, or a port that can't be had.")
     words.add_argument("--port", type=port_of, default=PORT, help=f"the port ({PORT}); 0 picks one, and it is printed")
     words.add_argument("--zsched", metavar="PATH", help="the program (ZSCHED, or the one that is built or on PATH)")
+    release.add_version(words)
+    colors.add_color(words)
     given = words.parse_args()
-    return command.run("zsched-play", lambda: serve(given))
+    command.color(given.color)
+    return starting.run("zsched-play", lambda: serve(given))

@@ -1,56 +1,84 @@
 """Work that is shared by processes, one for each processor. Elsewhere than on Linux one process does it."""
+import itertools
 import multiprocessing
 import os
 import signal
 
 
 def in_order(function, items):
-    """What a function answers for each item of a list, in order. What it raises for one is raised in its place.
+    """Yields what a function returns for each item, in order. What it raises for one is raised in its place.
 
-    A process begins as a copy of this one, so what a hash of a text is here it is there. A process has at most one
-    answer that wasn't asked for yet, beside what a pipe holds."""
-    count = min(len(items), len(os.sched_getaffinity(0)) if hasattr(os, "sched_getaffinity") else 1)
-    if count < 2:
-        yield from map(function, items)
+    A process begins as a copy of this one, so a text has the same hash here and there. Each process works on at most
+    one item at a time, and an item is taken from `items` when a process is free for it: at most as many items as there
+    are processors are in memory."""
+    items = iter(items)
+    count = len(os.sched_getaffinity(0)) if hasattr(os, "sched_getaffinity") else 1
+    first = list(itertools.islice(items, 2))
+    if count < 2 or len(first) < 2:
+        yield from map(function, itertools.chain(first, items))
         return
-    context, processes, answers = multiprocessing.get_context("fork"), [], []
+    processes, pipes, sent = [], [], 0
     try:
-        for first in range(count):
-            taken, given = context.Pipe(duplex=False)
-            answers.append(taken)
-            words = (function, items[first::count], given, answers)
-            processes.append(context.Process(target=_work, args=words, daemon=True))
-            processes[-1].start()
-            given.close()
-        for number in range(len(items)):
-            yield _taken(answers[number % count])
+        for item in itertools.chain(first, items):
+            if sent < count:
+                _start(function, processes, pipes)
+                _give(pipes[sent], item)
+            else:
+                answer = _taken(pipes[sent % count])
+                _give(pipes[sent % count], item)
+                yield answer
+            sent += 1
+        for number in range(max(0, sent - count), sent):
+            yield _taken(pipes[number % count])
     finally:
         for process in processes:
             process.terminate()
             process.join()
 
 
-def _work(function, items, given, answers):
-    """Gives the answers for some items, in a process of its own. Where nobody takes them any longer it ends."""
-    signal.signal(signal.SIGINT, signal.SIG_DFL)
-    for taken in answers:
-        taken.close()
-    for item in items:
+def _start(function, processes, pipes):
+    """Starts one process more, and adds it and the pipe to it."""
+    context = multiprocessing.get_context("fork")
+    near, far = context.Pipe()
+    pipes.append(near)
+    processes.append(context.Process(target=_work, args=(function, far, pipes), daemon=True))
+    processes[-1].start()
+    far.close()
+
+
+def _work(function, pipe, others):
+    """Takes items and gives the function's results, in a separate process. It ends when the other side is gone."""
+    signal.signal(signal.SIGINT, signal.SIG_IGN)
+    for other in others:
+        other.close()
+    while True:
+        try:
+            item = pipe.recv()
+        except (EOFError, ConnectionResetError):
+            return
         try:
             answer = function(item), None
         except Exception as fault:
             answer = None, fault
         try:
-            given.send(answer)
-        except BrokenPipeError:
+            pipe.send(answer)
+        except (BrokenPipeError, ConnectionResetError):
             return
 
 
-def _taken(taken):
-    """The next answer of a process."""
+def _give(pipe, item):
+    """Gives an item to a process."""
     try:
-        answer, fault = taken.recv()
-    except EOFError:
+        pipe.send(item)
+    except (BrokenPipeError, ConnectionResetError):
+        raise ChildProcessError("a process that shares the work was ended") from None
+
+
+def _taken(pipe):
+    """The next result of a process."""
+    try:
+        answer, fault = pipe.recv()
+    except (EOFError, ConnectionResetError):
         raise ChildProcessError("a process that shares the work was ended") from None
     if fault is not None:
         raise fault

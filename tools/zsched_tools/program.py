@@ -24,8 +24,10 @@ def find(named=None):
         return str(BUILT)
     installed = shutil.which("zsched")
     if installed is None:
+        unproved = sorted(BUILT.parent.glob("unproved-*"))
+        which = f"{unproved[-1]}, unproved" if unproved else "the unproved one that ./run leaves in crates/zsched/out"
         raise NoProgram("zsched is neither built (./run --proved builds it) nor installed; --zsched PATH or ZSCHED "
-                        "names one")
+                        f"names one, as {which}")
     return installed
 
 
@@ -34,3 +36,9 @@ def run(program, plan, seconds=None):
     subprocess.TimeoutExpired is raised."""
     ended = subprocess.run([program], input=plan, capture_output=True, timeout=seconds, check=False)
     return ended.returncode, ended.stdout, ended.stderr
+
+
+def failure(status, errors):
+    """What a run says that failed: the program's line on standard error, or how it ended where there is none."""
+    line = errors.decode(errors="replace").strip()
+    return line or (f"zsched was ended by signal {-status}" if status < 0 else f"zsched ended with status {status}")

@@ -247,9 +247,10 @@ _FORMS = {
 _NO_FORM = (re.compile("(?!)"), None)
 
 
-def text_lines(source, longest=LONGEST_LINE):
-    """The lines of an open text file, without their newlines. A line that has none is refused."""
-    number = 0
+def text_lines(source, longest=LONGEST_LINE, before=0):
+    """The lines of an open text file, without their newlines. A line that has none is refused. Lines are counted from
+    the number of those that were before."""
+    number = before
     while line := source.readline(longest):
         number += 1
         if line[-1] != "\n":

@@ -1,23 +1,31 @@
 """The command zsched-report: a report in other forms, and many reports as one."""
 import argparse
+import os
 import sys
 
-from zsched_tools import command
+from zsched_tools import colors, command, load, release, starting
+from zsched_tools.axis import View
 from zsched_tools.command import Refused
-from zsched_tools.join import write_joined
+from zsched_tools.duration_text import milliseconds
+from zsched_tools.join import write_joined, write_known
 from zsched_tools.lines import write_lines, write_report
-from zsched_tools.page import page
-from zsched_tools.picture import draw, rows_of
-from zsched_tools.report import as_text, standard_input
-from zsched_tools.summary import write_summary
+from zsched_tools.page import load_page, page
+from zsched_tools.manifest import is_manifest
+from zsched_tools.picture import MOST_JOBS, draw
+from zsched_tools.progress import Progress
+from zsched_tools.report import as_text
+from zsched_tools.strip import crowd_of, draw_strip, note_of
+from zsched_tools.summary import SORTS, Options, write_summary
 
 TOOL = "zsched-report"
 DESCRIPTION = """A report of zsched in other forms, and many reports as one.
 
   zsched < plan.json | zsched-report summary
+  zsched < plan.json | zsched-report load --every 1s
   zsched < plan.json > whole.report && zsched-report svg whole.report > whole.svg"""
 EPILOG = """Exit status: 0; 2 where the report or the words are refused, with the file and the line on standard error;
-3 where reading or writing fails. What is refused by summary, svg, html and join has written nothing.
+3 where reading or writing fails. What is refused by summary, load, svg, html and join has written nothing.
+When the reader of standard output goes away (`| head`), all but join end without a word, by SIGPIPE.
 docs/FORMATS.md has the form of a report, docs/SCALE.md recipes with join."""
 LINES = """Writes a report as JSON lines: an object of type attempt for each attempt with its step, one of type end
 for each job, and last one of type total. `next` is null where the schedule is done, `out` is null where it wasn't
@@ -29,28 +37,47 @@ FROM_LINES = """Writes the report that JSON lines stand for, byte for byte the o
 are those of no report are refused; as with `lines`, what stands before the fault has gone out then."""
 SUMMARY = """Writes a table with a line a job: its ending, the moment of that, its attempts, how many succeeded (ok)
 and failed (err), the time that its attempts took (busy), the time between them (waited) and the longest wait. An
-attempt that runs or a wait that goes on at the horizon counts up to it. The last line is the most attempts at once,
-with the first such moment."""
-SVG = """Writes a picture: jobs from top to bottom, time from left to right. It has room for 200 jobs. Each attempt
-that stands apart tells what it was where the pointer rests on it; attempts that are too near each other share a
-striped block."""
-HTML = """Writes the picture of `svg` as a page that zooms. The page loads nothing from elsewhere."""
-JOIN = """Makes one report of the reports of a plan's parts, in the order given: the jobs of each, and the sum of all
-polls. Every part must be a whole report. One that is empty, cut or no report, a part or a job that is given twice,
-and a part with another horizon are refused by name. All parts are read before a byte is written, so they must be
-files and no pipes. A part that isn't given can't be missed: name the parts after the plans that they come from
-(docs/SCALE.md)."""
+attempt that runs or a wait that goes on at the horizon counts up to it. The lines below are the most attempts at once,
+with the first such moment, and the times within which 50, 95 and 99 of 100 jobs ended. A job's time is that from its
+first attempt to its end; an unfinished job takes longer than all others."""
+LOAD = """Writes a table with a line for each step of time: how many attempts began in it, succeeded (ok) and failed (err)
+in it, how many attempts run and how many jobs wait for their next attempt at its end. The first line is the first step in
+which something begins, the last line the last step in which something begins or ends. A step includes its first moment
+and not its last."""
+SVG = """Writes a picture: jobs from top to bottom, time from left to right. Each attempt that stands apart tells what
+it was where the pointer rests on it; attempts that are too near each other share a striped block. Under more than 16 jobs
+is a strip with their load; of more than 200 jobs the load is drawn alone."""
+HTML = """Writes the picture of `svg` as a page whose axis of time zooms. The page loads nothing from elsewhere."""
+JOIN = """Makes one report of the reports of a plan's parts: the jobs of each, in order, and the sum of all polls.
+With the manifest that `zsched-plan split` wrote, each part's report is held against its digest part-NNNNNN.sha256, which
+is what `sha256sum part-NNNNNN.json part-NNNNNN.report` prints, and its jobs' names against the manifest: a changed byte,
+a part that is swapped, given twice or from elsewhere is rejected by name, and so is a plan that was changed. Where a
+report or a digest is missing, its name is said and the status is 3.
+With parts in place of a manifest their lines are held against each other. Parts that are empty, cut or no report, a part
+or a job that is given twice, and a part with another horizon are rejected by name. This doesn't see another digit of a
+value or an output, another name of a job, parts in another order, and a part that isn't given.
+All parts are read before a byte is written, so they must be files and no pipes. docs/SCALE.md has recipes."""
 
 
 def _with_source(given, work):
-    """Does some work with the file that was given, or with standard input, and puts its name before what is refused."""
+    """Does some work with the binary file that was given, or with standard input, and puts its name before what is
+    rejected."""
     try:
         if given.file is None:
-            return work(standard_input())
+            if sys.stdin is None:
+                raise OSError("standard input is closed")
+            return work(sys.stdin.buffer, _progress(None))
         with open(given.file, "rb") as binary:
-            return work(as_text(binary))
+            return work(binary, _progress(os.fstat(binary.fileno()).st_size))
     except Refused as refused:
         raise Refused(f"{given.file or 'standard input'}: {refused}") from None
+
+
+def _progress(size):
+    """What a terminal shows of a report that is read: a share of its size, if that is known."""
+    if not size:
+        return Progress(TOOL, lambda done: f"{done // 10**6} MB read")
+    return Progress(TOOL, lambda done: f"{done // 10**6} of {size // 10**6} MB read, {100 * done // size} %")
 
 
 def _write(words):
@@ -58,40 +85,137 @@ def _write(words):
 
 
 def _lines(given):
-    _with_source(given, lambda source: write_lines(source, _write))
+    def work(file, progress):
+        """Writes lines as they come. What a terminal shows of them leaves no room for a progress line."""
+        write_lines(file, _write, None if sys.stdout.isatty() else progress)
+    _with_source(given, work)
 
 
 def _from_lines(given):
-    _with_source(given, lambda source: write_report(source, _write))
+    _with_source(given, lambda file, _: write_report(as_text(file), _write))
 
 
 def _summary(given):
-    _with_source(given, lambda source: write_summary(source, _write))
+    options = Options(given.sort, given.one_line, given.within)
+    _with_source(given, lambda file, progress: write_summary(file, _write, options, progress))
+
+
+def _load(given):
+    found = _with_source(given, lambda file, progress: _load_in(file, given.every, progress))
+    if given.csv:
+        load.write_csv(found, _write)
+    elif given.svg:
+        for line in draw_strip(found, given.title):
+            _write(f"{line}\n")
+    else:
+        load.write_table(found, _write)
+
+
+def _load_in(file, every, progress):
+    """The load of a report, the steps of which are not too many."""
+    found = load.read(file, every, progress)
+    found.check()
+    return found
+
+
+# The orders of a picture's rows.
+_ROW_ORDERS = {"end": lambda row: row.ending.at, "name": lambda row: row.job.name,
+               "attempts": lambda row: -len(row.attempts)}
+
+
+def _crowd(given):
+    """The jobs to draw, in order. When they are too many for rows, their load is drawn, with a note."""
+    crowd = _with_source(given, lambda file, progress: crowd_of(file, given.job, progress))
+    if given.sort:
+        crowd.rows.sort(key=_ROW_ORDERS[given.sort])
+    return crowd
+
+
+def _view(given):
+    """The part of time that is drawn."""
+    return View(given.first, given.last, given.log)
 
 
 def _svg(given):
-    for line in draw(_with_source(given, lambda source: rows_of(source, given.job)), given.title):
+    crowd = _crowd(given)
+    lines = (draw(crowd.rows, given.title, _view(given)) if crowd.jobs <= MOST_JOBS
+             else draw_strip(crowd.load, given.title, note=note_of(crowd), view=_view(given)))
+    for line in lines:
         _write(f"{line}\n")
 
 
 def _html(given):
-    for piece in page(_with_source(given, lambda source: rows_of(source, given.job)), given.title):
+    crowd = _crowd(given)
+    pieces = (page(crowd.rows, given.title, view=_view(given)) if crowd.jobs <= MOST_JOBS
+              else load_page(crowd.load, given.title, note_of(crowd), _view(given)))
+    for piece in pieces:
         _write(piece)
 
 
 def _join(given):
-    write_joined(given.parts, sys.stdout.buffer.write)
+    if len(given.parts) == 1 and is_manifest(given.parts[0]):
+        write_known(given.parts[0], sys.stdout.buffer.write)
+    else:
+        write_joined(given.parts, sys.stdout.buffer.write)
+
+
+def _time(word):
+    """A moment or a duration of the command line, in milliseconds."""
+    try:
+        return milliseconds(word)
+    except ValueError as wrong:
+        raise argparse.ArgumentTypeError(str(wrong)) from None
+
+
+def _step(word):
+    """A duration that is longer than nothing."""
+    found = _time(word)
+    if found == 0:
+        raise argparse.ArgumentTypeError("a step of time takes at least 1 ms")
+    return found
+
+
+def _add_summary(one):
+    """The words of `summary` alone."""
+    one.add_argument("--sort", choices=list(SORTS), help="the table's order: by the moment of the end, by name, or the "
+                     "most attempts first; else that of the report")
+    one.add_argument("--one-line", action="store_true", help="no table, and the rest in one line")
+    one.add_argument("--within", metavar="TIME", type=_time,
+                     help="say how many jobs succeeded or finished within this time, such as 5s, from their first attempt")
+
+
+def _add_load(one):
+    """The words of `load` alone."""
+    one.add_argument("--every", metavar="TIME", type=_step, default=load.SECOND,
+                     help="the length of a step, such as 250ms, 1s or 5min (1s)")
+    one.add_argument("--title", default="", help="words above the picture")
+    form = one.add_mutually_exclusive_group()
+    form.add_argument("--csv", action="store_true", help="comma-separated values, with moments in milliseconds")
+    form.add_argument("--svg", action="store_true", help="a picture")
+
+
+_ADDED = {"summary": _add_summary, "load": _add_load}
+
+
+def _add_view(one):
+    """The words of a picture's axis."""
+    one.add_argument("--from", dest="first", metavar="TIME", type=_time, help="the first moment drawn, as 1.5s")
+    one.add_argument("--to", dest="last", metavar="TIME", type=_time, help="the last moment drawn, as 2min")
+    one.add_argument("--log", action="store_true", help="a logarithmic axis: for times of which some are much longer")
 
 
 def _arguments():
     """The words of the command line."""
     form = argparse.RawDescriptionHelpFormatter
     parser = argparse.ArgumentParser(prog=TOOL, description=DESCRIPTION, epilog=EPILOG, formatter_class=form)
+    release.add_version(parser)
+    colors.add_color(parser)
     forms = parser.add_subparsers(required=True, metavar="FORM")
     for name, work, told, short in [
             ("lines", _lines, LINES, "JSON lines"),
             ("from-lines", _from_lines, FROM_LINES, "the report again, from JSON lines"),
             ("summary", _summary, SUMMARY, "a table with a line a job"),
+            ("load", _load, LOAD, "a table with a line for each step of time"),
             ("svg", _svg, SVG, "a picture"),
             ("html", _html, HTML, "a page with the picture, that zooms")]:
         one = forms.add_parser(name, description=told, epilog=EPILOG, formatter_class=form, help=short)
@@ -101,14 +225,21 @@ def _arguments():
             one.add_argument("--title", default="", help="words above the picture")
             one.add_argument("--job", metavar="NAME", action="append", default=[],
                              help="draw this job; may be repeated")
+            one.add_argument("--sort", choices=list(_ROW_ORDERS), help="the order of the rows: by the moment of the end, "
+                             "by name, or the most attempts first; else that of the report")
+            _add_view(one)
+        _ADDED.get(name, lambda one: None)(one)
         one.set_defaults(work=work)
     joined = forms.add_parser("join", description=JOIN, epilog=EPILOG, formatter_class=form, help="one report of many")
-    joined.add_argument("parts", metavar="PART", nargs="+", help="a report of a part of the plan")
+    joined.add_argument("parts", metavar="MANIFEST | PART", nargs="+",
+                        help="the manifest of the parts, or the reports of all parts in order")
     joined.set_defaults(work=_join)
     return parser
 
 
 def main():
     """The command line."""
-    given = _arguments().parse_args()
-    return command.run(TOOL, lambda: given.work(given))
+    given = starting.parsed(_arguments())
+    command.color(given.color)
+    run = command.run if given.work is _join else starting.run
+    return run(TOOL, lambda: given.work(given))

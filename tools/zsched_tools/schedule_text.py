@@ -6,6 +6,7 @@ from typing import NamedTuple
 from zsched_tools.cause import Cause, shown
 from zsched_tools.hints import (BARE_LEAVES, COMPARISONS, LEAVES, METHODS, NUMBERED_LEAVES, OPERATORS, SYMBOLS, UNITS,
                                 in_milliseconds, near, zio)
+from zsched_tools.schedule_slips import slip
 
 TOKEN = re.compile(r"(?P<word>[A-Za-z]+)|(?P<number>[0-9]+)|(?P<mark>_[12]|&&|\|\||<=|!=|>=|[(),.<=>+*])")
 WINDOW = 4000
@@ -54,7 +55,8 @@ def _no_term(spot):
     if not spot.rest:
         return _ended(spot)
     expected = expectation(spot.before)
-    return _after_number(spot) or _in_scala(spot, expected) or _foreign(spot) or _EXPECTED[expected](spot)
+    return (slip(spot, expected) or _after_number(spot) or _in_scala(spot, expected) or _foreign(spot)
+            or _EXPECTED[expected](spot))
 
 
 def expectation(before):
@@ -347,7 +349,7 @@ def _no_close(spot):
         written = shown(spot.last() + groups[0].replace(",", "")) if groups else ")"
         return spot.cause(1, f"{word} takes one number",
                           f"write {written}: exponential alone takes a second one, its factor")
-    return _misspelled(spot, _WORDS) or spot.cause(max(1, len(token)), "a ) is missing here", "write )")
+    return spot.cause(max(1, len(token)), "a ) is missing here", "write )")
 
 
 _EXPECTED = {

@@ -1,12 +1,14 @@
-"""Cuts a plan by its jobs into plans of at most so many jobs, in order.
+"""Cuts a plan by its jobs into plans of at most so many jobs, in order, with a manifest of them.
 
 The document around the jobs, and each job, stand in a part as they were written. The parts are made in a folder of
-another name, which gets its own when the whole plan is known to be good. Besides the document around the jobs, one
-job at a time is kept in memory."""
+another name, which gets its own when the whole plan is known to be good. Besides the document around the jobs, few jobs
+are in memory at a time."""
+import hashlib
 import os
 import pathlib
 import shutil
 
+from zsched_tools import manifest
 from zsched_tools.command import Refused
 from zsched_tools.names import Names, first_repeat
 from zsched_tools.plan_text import LONGEST_PLAN, LinesText, PlanText
@@ -14,58 +16,99 @@ from zsched_tools.report import as_text
 
 MOST_JOBS = 10_000
 MOST_PARTS = 999_999
+PIECE = 2**16
+
+
+class Sums:
+    """What a manifest says of a part, as far as it was written."""
+
+    def __init__(self):
+        self.length = self.jobs = 0
+        self.plan, self.names = hashlib.sha256(), hashlib.sha256()
 
 
 class Parts:
     """The parts that are written so far. A part is a file with the text before the jobs, its jobs, and, once all jobs
-    were written, the text after them."""
+    were written, the text after them. Jobs are written many at a time."""
 
-    def __init__(self, folder, most):
-        self.folder, self.most = folder, most
-        self.lengths = []
+    def __init__(self, folder, most, progress=None):
+        self.folder, self.most, self.progress = folder, most, progress
+        self.sums, self.known = [], Names()
         self.jobs = 0
         self.file = None
+        self.texts, self.names, self.waiting = [], [], 0
 
     def _path(self, number):
-        return self.folder / f"part-{number:06}.json"
-
-    def _write(self, text):
-        self.lengths[-1] += self.file.write(text.encode("latin-1"))
+        return self.folder / f"{manifest.part_name(number)}.json"
 
     def begin(self, before):
         """Begins the next part."""
-        if len(self.lengths) == MOST_PARTS:
+        if len(self.sums) == MOST_PARTS:
             raise Refused(f"the plan has more than {MOST_PARTS} parts: take a greater N")
         self.end()
-        self.lengths.append(0)
-        self.file = open(self._path(len(self.lengths)), "wb")
-        self._write(before)
+        self.sums.append(Sums())
+        self.file = open(self._path(len(self.sums)), "wb")
+        self.texts.append(before)
 
-    def add(self, before, text):
-        """One job more, in the last part or in a new one."""
-        if self.jobs % self.most == 0:
-            self.begin(before)
-        else:
-            self._write(",")
-        self._write(text)
-        self.jobs += 1
+    def add(self, before, texts, names):
+        """Some jobs more, in the last part and in new ones."""
+        while texts:
+            room = self.most - self.jobs % self.most
+            if room == self.most:
+                self.begin(before)
+            else:
+                self.texts.append(",")
+            text = ",".join(texts[:room])
+            self.texts.append(text)
+            self.names += names[:room]
+            self.jobs += len(texts[:room])
+            self.waiting += len(text)
+            if self.waiting > PIECE:
+                self._write()
+            texts, names = texts[room:], names[room:]
+
+    def _write(self):
+        """Writes the jobs that wait for it."""
+        sums, data = self.sums[-1], "".join(self.texts).encode("latin-1")
+        self.file.write(data)
+        sums.length += len(data)
+        sums.jobs += len(self.names)
+        sums.plan.update(data)
+        self.known.add_each(self.names)
+        # A name may have letters that a plan's reader rejects later; it has to come through.
+        sums.names.update("".join(f"{name}\n" for name in self.names).encode("utf-8", "surrogatepass"))
+        if self.progress is not None:
+            self.progress.add(len(self.names))
+        self.texts, self.names, self.waiting = [], [], 0
 
     def end(self):
-        """Closes the last part's file, where one is open."""
+        """Closes the last part's file, if one is open."""
+        if self.file is not None:
+            self._write()
+            self.file.close()
+            self.file = None
+
+    def drop(self):
+        """Closes the last part's file without what waits."""
         if self.file is not None:
             self.file.close()
             self.file = None
 
     def close(self, after):
-        """Writes what stands after the jobs to each part."""
+        """Writes what stands after the jobs to each part, and the manifest."""
         self.end()
-        text = after.encode("latin-1")
-        for number, length in enumerate(self.lengths, 1):
-            if length + len(text) > LONGEST_PLAN:
-                raise Refused(f"part {number} has {length + len(text)} bytes, and a plan has at most {LONGEST_PLAN}: "
+        text, entries = after.encode("latin-1"), []
+        for number, sums in enumerate(self.sums, 1):
+            if sums.length + len(text) > LONGEST_PLAN:
+                raise Refused(f"part {number} has {sums.length + len(text)} bytes, and a plan has at most {LONGEST_PLAN}: "
                               "take a smaller N")
             with open(self._path(number), "ab") as file:
                 file.write(text)
+            sums.plan.update(text)
+            entries.append(manifest.Entry(manifest.part_name(number), sums.jobs, sums.plan.hexdigest(),
+                                          sums.names.hexdigest()))
+        with open(self.folder / manifest.NAME, "w", encoding="ascii", newline="\n") as file:
+            file.write(manifest.text_of(entries))
 
 
 def _named(path, form):
@@ -77,23 +120,21 @@ def _named(path, form):
 
 def _write_parts(path, form, parts):
     """Reads the plan to its end, and writes its parts."""
-    names = Names()
     with open(path, "rb") as binary:
         plan = form(as_text(binary))
-        for job in plan.jobs():
-            names.add(job.name)
-            parts.add(plan.before, job.text)
-    if not parts.lengths:
+        for texts, names in plan.groups():
+            parts.add(plan.before, texts, names)
+    if not parts.sums:
         parts.begin(plan.before)
     parts.close(plan.after)
-    repeats = names.repeats()
+    repeats = parts.known.repeats()
     repeated = first_repeat(repeats, _named(path, form)) if repeats else None
     if repeated is not None:
         name, first, second = repeated
         raise Refused(f"line {second}: the name {name} stands in the job on line {first} too")
 
 
-def write_parts(path, is_lines, most, folder):
+def write_parts(path, is_lines, most, folder, progress=None):
     """Makes a folder with the parts of a plan, and answers how many parts and jobs there are. Where the plan is
     refused, no folder is made."""
     folder = pathlib.Path(folder)
@@ -105,13 +146,13 @@ def write_parts(path, is_lines, most, folder):
     if making.exists():
         raise Refused(f"{making}: is there; another split makes it, or one was broken off: then remove it")
     making.mkdir()
-    parts = Parts(making, most)
+    parts = Parts(making, most, progress)
     try:
         _write_parts(path, LinesText if is_lines else PlanText, parts)
         os.rename(making, folder)
     except Refused as refused:
         raise Refused(f"{path}: {refused}") from None
     finally:
-        parts.end()
+        parts.drop()
         shutil.rmtree(making, ignore_errors=True)
-    return len(parts.lengths), parts.jobs
+    return len(parts.sums), parts.jobs

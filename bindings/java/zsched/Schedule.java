@@ -3,6 +3,7 @@ package zsched;
 import com.sun.jna.Library;
 import com.sun.jna.Native;
 import java.nio.charset.StandardCharsets;
+import java.time.Duration;
 import java.util.Arrays;
 import java.util.concurrent.Callable;
 import java.util.function.ToLongFunction;
@@ -29,10 +30,25 @@ public final class Schedule {
 
         int zs_step(byte[] text, long textLength, long[] state, long words, long moment, long input, long[] reply,
             byte[] out, long room);
+
+        long zs_fault_text(int number, long at, byte[] out, long room);
+
+        int zs_version();
     }
 
     /** What a schedule answers at a step. Where it is done, {@code next} says nothing. */
-    public record Answer(boolean done, long next, String output, long visits) {}
+    public record Answer(boolean done, long next, String output, long visits) {
+        /** How long it is from a moment, which is not past it, to the next attempt. */
+        public Duration waitFrom(long moment) {
+            long millis = next - moment;
+            return Duration.ofSeconds(Long.divideUnsigned(millis, 1000), Long.remainderUnsigned(millis, 1000) * 1_000_000);
+        }
+    }
+
+    /** What is stepped: a {@link Schedule} or a {@link Stepper}. */
+    private interface Follower {
+        Answer after(long moment, long input);
+    }
 
     /** A text is no schedule. The number and the place are those of zsched.h. */
     public static final class Fault extends IllegalArgumentException {
@@ -42,30 +58,16 @@ public final class Schedule {
         public final long at;
 
         Fault(int number, long at) {
-            super(text(number, at));
+            super(faultText(number, at));
             this.number = number;
             this.at = at;
         }
-
-        private static String text(int number, long at) {
-            String place = " at byte " + Long.toUnsignedString(at);
-            return switch (number) {
-                case 4 -> "not UTF-8" + place;
-                case 11 -> "no term" + place;
-                case 12 -> "too big";
-                case 13 -> "number too large" + place;
-                case 14 -> "factor is 0";
-                case 15 -> "no kind";
-                case 16 -> "window is 0";
-                default -> "number " + number;
-            };
-        }
     }
 
-    static final Calls CALLS = Native.load(System.getProperty("zsched.library", "zsched"), Calls.class);
+    static final Calls CALLS = load();
     private static final int DONE = 1;
     private static final int NO_PAIR = 2;
-    static final int FALLS = 3;
+    private static final int FALLS = 3;
     private static final int NO_MEMORY = 5;
     private static final int KEEPS_LIST = 6;
     static final int ROOM = 256;
@@ -126,25 +128,52 @@ public final class Schedule {
         return new Answer(number == DONE, reply[0], output, reply[2]);
     }
 
+    private static Calls load() {
+        try {
+            return Native.load(System.getProperty("zsched.library", "zsched"), Calls.class);
+        } catch (UnsatisfiedLinkError fault) {
+            throw new UnsatisfiedLinkError(fault.getMessage() + "\nzsched: install libzsched0, or build libzsched.so by "
+                + "tools/make-library and name its folder in the property jna.library.path");
+        }
+    }
+
+    /** The text of a number of zsched.h and of the place beside it. */
+    static String faultText(int number, long at) {
+        byte[] out = new byte[ROOM];
+        long size = CALLS.zs_fault_text(number, at, out, out.length);
+        return new String(out, 0, (int) size, StandardCharsets.US_ASCII);
+    }
+
+    /** The version of the library: a million times the first of its numbers, a thousand times the second, and the third. */
+    public static int version() {
+        return CALLS.zs_version();
+    }
+
     static void refuse(int number, long at) {
         switch (number) {
             case 0, DONE -> { }
-            case NO_PAIR -> throw new IllegalStateException("a schedule answers once it has seen a step");
-            case FALLS -> throw new IllegalArgumentException(
-                "the moment of step " + (at + 1) + " is below that of the step before it");
-            case NO_MEMORY -> throw new OutOfMemoryError("zsched: a request for memory was refused");
-            case KEEPS_LIST -> throw new IllegalArgumentException("a schedule with collectAll has no state of fixed size");
+            case NO_PAIR -> throw new IllegalStateException(faultText(number, at));
+            case FALLS, KEEPS_LIST -> throw new IllegalArgumentException(faultText(number, at));
+            case NO_MEMORY -> throw new OutOfMemoryError("zsched: " + faultText(number, at));
             default -> throw new Fault(number, at);
         }
     }
 
+    /** A schedule with a state of fixed size, but for one with collectAll, which keeps its steps. */
+    private static Follower begun(String text) {
+        byte[] bytes = text.getBytes(StandardCharsets.UTF_8);
+        int number = CALLS.zs_state_size(bytes, bytes.length, new long[1], new long[1]);
+        return number == KEEPS_LIST ? new Schedule(text)::after : new Stepper(text)::after;
+    }
+
     /**
      * Tries until there is a value or the schedule is done, and sleeps between two attempts; the last error goes on its
-     * way. The input of an error is what inputOf says. Moments are counted in milliseconds from the begin of the first
-     * attempt.
+     * way. The input of an error is what inputOf says; where it throws, the error goes on its way, and what it threw is
+     * suppressed by it. Moments are counted in milliseconds from the begin of the first attempt. Time and memory don't grow
+     * with the number of attempts, but for a schedule with collectAll, whose output grows.
      */
     public static <T> T retry(String text, ToLongFunction<Exception> inputOf, Callable<T> attempt) throws Exception {
-        Schedule schedule = new Schedule(text);
+        Follower schedule = begun(text);
         long start = System.nanoTime();
         while (true) {
             try {
@@ -153,12 +182,23 @@ public final class Schedule {
                 throw interrupted;
             } catch (Exception error) {
                 long now = (System.nanoTime() - start) / 1_000_000;
-                Answer answer = schedule.after(now, inputOf.applyAsLong(error));
+                Answer answer = schedule.after(now, input(inputOf, error));
                 if (answer.done()) {
                     throw error;
                 }
                 Thread.sleep(answer.next() < 0 ? Long.MAX_VALUE : answer.next() - now);
             }
+        }
+    }
+
+    private static long input(ToLongFunction<Exception> inputOf, Exception error) throws Exception {
+        try {
+            return inputOf.applyAsLong(error);
+        } catch (RuntimeException fault) {
+            if (fault != error) {
+                error.addSuppressed(fault);
+            }
+            throw error;
         }
     }
 }

@@ -63,9 +63,6 @@ public final class Stepper {
             stepped = state.clone();
             number = step(stepped, moment, input, reply, out);
         }
-        if (number == Schedule.FALLS) {
-            throw new IllegalArgumentException("the moment is below that of the step before it");
-        }
         Schedule.Answer answer = Schedule.told(number, reply, out);
         state = stepped;
         return answer;

@@ -11,8 +11,19 @@
 //!
 //! `Schedule` only answers, and so does `Stepper`, whose state has a fixed size; `retry` really sleeps. The answers are
 //! proved, the sleeping is not.
+//!
+//! Without the feature `std`, which is on unless it is turned off, all but `retry` is there; it needs `alloc`.
 
-use std::fmt;
+#![cfg_attr(not(feature = "std"), no_std)]
+
+extern crate alloc;
+
+use alloc::borrow::ToOwned;
+use alloc::string::String;
+use alloc::vec;
+use alloc::vec::Vec;
+use core::fmt;
+#[cfg(feature = "std")]
 use std::time::{Duration, Instant};
 
 /// What a schedule saw at one step.
@@ -58,6 +69,8 @@ extern "C" {
         out: *mut u8,
         out_len: usize,
     ) -> u32;
+    fn zs_fault_text(number: u32, at: u64, out: *mut u8, out_len: usize) -> u64;
+    fn zs_version() -> u32;
 }
 
 const NEXT: u32 = 0;
@@ -121,28 +134,46 @@ impl Fault {
             _ => unreachable!("libzsched answered {number}, which zsched.h doesn't name for a text that is UTF-8"),
         }
     }
-}
 
-impl fmt::Display for Fault {
-    fn fmt(&self, f: &mut fmt::Formatter<'_>) -> fmt::Result {
+    /// Its number and place in `zsched.h`; none for `OtherState`, which is found here.
+    pub fn number(self) -> Option<(u32, u64)> {
         match self {
-            Fault::NoPair => write!(f, "a schedule answers once it has seen a step"),
-            Fault::Falls { at } => write!(f, "the moment of step {} is below that of the step before it", at + 1),
-            Fault::Earlier => write!(f, "the moment is below that of the step before it"),
-            Fault::KeepsList => write!(f, "a schedule with collectAll has no state of fixed size"),
-            Fault::OtherState => write!(f, "the words of a state are those of another schedule"),
-            Fault::Memory => write!(f, "out of memory"),
-            Fault::NoTerm { at } => write!(f, "no term at byte {at}"),
-            Fault::TooBig => write!(f, "too big"),
-            Fault::BadNumber { at } => write!(f, "number too large at byte {at}"),
-            Fault::BadFactor => write!(f, "factor is 0"),
-            Fault::NoKind => write!(f, "no kind"),
-            Fault::BadWindow => write!(f, "window is 0"),
+            Fault::NoPair => Some((2, 0)),
+            Fault::Falls { at } => Some((3, at)),
+            Fault::Earlier => Some((3, 0)),
+            Fault::Memory => Some((5, 0)),
+            Fault::KeepsList => Some((6, 0)),
+            Fault::OtherState => None,
+            Fault::NoTerm { at } => Some((11, at)),
+            Fault::TooBig => Some((12, 0)),
+            Fault::BadNumber { at } => Some((13, at)),
+            Fault::BadFactor => Some((14, 0)),
+            Fault::NoKind => Some((15, 0)),
+            Fault::BadWindow => Some((16, 0)),
         }
     }
 }
 
-impl std::error::Error for Fault {}
+impl fmt::Display for Fault {
+    /// The library's text.
+    fn fmt(&self, f: &mut fmt::Formatter<'_>) -> fmt::Result {
+        let Some((number, at)) = self.number() else {
+            return f.write_str("the words of a state are those of another schedule");
+        };
+        let mut out = [0; ROOM];
+        // SAFETY: the pointer and the length are those of an array that is borrowed for the call.
+        let size = unsafe { zs_fault_text(number, at, out.as_mut_ptr(), out.len()) } as usize;
+        f.write_str(core::str::from_utf8(&out[..size.min(ROOM)]).map_err(|_| fmt::Error)?)
+    }
+}
+
+impl core::error::Error for Fault {}
+
+/// The version of the library: a million times the first of its numbers, a thousand times the second, and the third.
+pub fn version() -> u32 {
+    // SAFETY: it is given nothing.
+    unsafe { zs_version() }
+}
 
 /// Whether a text is a schedule, or the first fault of it.
 pub fn check(text: &str) -> Result<(), Fault> {
@@ -310,26 +341,129 @@ impl Stepper {
     }
 }
 
+/// A schedule with a state of fixed size, but for one with `collectAll`, which keeps its steps.
+#[cfg(feature = "std")]
+enum Follower {
+    Flat(Stepper),
+    Listed(Schedule),
+}
+
+#[cfg(feature = "std")]
+impl Follower {
+    fn new(text: &str) -> Result<Follower, Fault> {
+        match Stepper::new(text) {
+            Err(Fault::KeepsList) => Schedule::new(text).map(Follower::Listed),
+            made => made.map(Follower::Flat),
+        }
+    }
+
+    fn after(&mut self, moment: u64, input: u64) -> Result<Answer, Fault> {
+        match self {
+            Follower::Flat(stepper) => stepper.after(moment, input),
+            Follower::Listed(schedule) => schedule.after(moment, input),
+        }
+    }
+}
+
 /// Tries until there is a value or the schedule is done, and sleeps between two attempts. The input of an error is what
-/// `input_of` says. Moments are counted in milliseconds from the begin of the first attempt.
+/// `input_of` says. Moments are counted in milliseconds from the begin of the first attempt. Time and memory don't grow with
+/// the number of attempts, but for a schedule with `collectAll`, whose output grows.
 ///
 /// The outer fault is that of the text.
+#[cfg(feature = "std")]
 pub fn retry<T, E>(
     text: &str,
     input_of: impl Fn(&E) -> u64,
-    mut attempt: impl FnMut() -> Result<T, E>,
+    attempt: impl FnMut() -> Result<T, E>,
 ) -> Result<Result<T, E>, Fault> {
-    let mut schedule = Schedule::new(text)?;
     let start = Instant::now();
+    retry_by(text, input_of, attempt, || start.elapsed().as_millis() as u64, std::thread::sleep)
+}
+
+/// The same by a clock in milliseconds, which doesn't fall, and a sleep of the caller's.
+#[cfg(feature = "std")]
+pub fn retry_by<T, E>(
+    text: &str,
+    input_of: impl Fn(&E) -> u64,
+    mut attempt: impl FnMut() -> Result<T, E>,
+    mut now: impl FnMut() -> u64,
+    mut sleep: impl FnMut(Duration),
+) -> Result<Result<T, E>, Fault> {
+    let mut schedule = Follower::new(text)?;
     loop {
         let error = match attempt() {
             Ok(value) => return Ok(Ok(value)),
             Err(error) => error,
         };
-        let now = start.elapsed().as_millis() as u64;
-        match schedule.after(now, input_of(&error))?.next {
-            Some(next) => std::thread::sleep(Duration::from_millis(next - now)),
+        let moment = now();
+        match schedule.after(moment, input_of(&error))?.next {
+            Some(next) => sleep(Duration::from_millis(next - moment)),
             None => return Ok(Err(error)),
         }
+    }
+}
+
+#[cfg(all(test, feature = "std"))]
+mod tests {
+    use super::*;
+
+    /// Fails so many times, under a clock that only sleeps move on: the waits, and what came of it.
+    fn tried(text: &str, failures: u64) -> (Vec<u64>, Result<u64, u64>) {
+        let (clock, mut waits, mut attempts) = (core::cell::Cell::new(0), Vec::new(), 0);
+        let attempt = || {
+            attempts += 1;
+            if attempts > failures { Ok(attempts) } else { Err(503) }
+        };
+        let sleep = |wait: Duration| {
+            waits.push(wait.as_millis() as u64);
+            clock.set(clock.get() + wait.as_millis() as u64);
+        };
+        let ended = retry_by(text, |code| *code, attempt, || clock.get(), sleep).expect("a schedule");
+        (waits, ended)
+    }
+
+    #[test]
+    fn attempts_wait_as_the_schedule_says() {
+        assert_eq!(tried("(exponential(10) && recurs(5))", 3), (vec![10, 20, 40], Ok(4)));
+        assert_eq!(tried("(spaced(30) && recurs(2))", 9), (vec![30, 30], Err(503)));
+        assert_eq!(tried("spaced(30).whileInput(< 500)", 9), (vec![], Err(503)));
+    }
+
+    #[test]
+    fn a_schedule_that_collects_is_followed_by_its_list() {
+        assert_eq!(tried("(linear(5) && recurs(9)).collectAll", 3), (vec![5, 10, 15], Ok(4)));
+        assert_eq!(tried("(linear(5) && recurs(2)).collectAll", 3), (vec![5, 10], Err(503)));
+    }
+
+    #[test]
+    fn many_attempts_take_no_memory_of_their_own() {
+        let (waits, ended) = tried("spaced(1)", 200_000);
+        assert_eq!((waits.len(), ended), (200_000, Ok(200_001)));
+        let mut stepper = Stepper::new("(spaced(1) && recurs(9))").expect("a schedule");
+        let words = stepper.state().len();
+        for moment in 0..1000 {
+            stepper.after(moment, 0).expect("a step");
+        }
+        assert_eq!(stepper.state().len(), words);
+    }
+
+    #[test]
+    fn faults_have_the_texts_of_the_library() {
+        let texts = [
+            (check("recurs(1) && recurs(2)"), "no term at byte 10"),
+            (check("exponential(1, 0)"), "factor is 0"),
+            (Stepper::new("forever.collectAll").map(drop), "a schedule with collectAll has no state of fixed size"),
+            (Stepper::resume("recurs(1)", &[1]).map(drop), "the words of a state are those of another schedule"),
+        ];
+        for (found, wanted) in texts {
+            assert_eq!(found.expect_err("a fault").to_string(), wanted);
+        }
+        assert_eq!(Fault::Earlier.to_string(), "the moment is below that of the step before it");
+    }
+
+    #[test]
+    fn the_library_has_the_version_of_the_crate() {
+        let numbers: Vec<u32> = env!("CARGO_PKG_VERSION").split('.').map(|it| it.parse().expect("a number")).collect();
+        assert_eq!(version(), 1_000_000 * numbers[0] + 1000 * numbers[1] + numbers[2]);
     }
 }

@@ -1,1 +1,2 @@
 pub mod SeenPairs
+pub mod Rooms

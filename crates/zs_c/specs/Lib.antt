@@ -4,3 +4,4 @@ pub mod Numbers
 pub mod Refusals
 pub mod Told
 pub mod States
+pub mod FaultText

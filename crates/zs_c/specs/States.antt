@@ -19,6 +19,10 @@ pub record SpellsFlat (text : List ℕ) (t : Schedule) : Type 0 where
   pub spelled : SpellsSchedule text t
   pub flat : KeepsNoList t
 
+-- the text spells some schedule that keeps no list
+abbrev pub SpellsSomeFlat : List ℕ → Type 0
+SpellsSomeFlat text = (t : Schedule) × SpellsFlat text t
+
 -- the text spells a schedule that keeps a list
 pub record SpellsListed (text : List ℕ) : Type 0 where
   pub term : Schedule
@@ -51,9 +55,10 @@ IsBeginRefusal text room Memory = IsSizeRefusal text Memory
 IsBeginRefusal text room NoPair = ⊥
 IsBeginRefusal text room (Falls at) = ⊥
 
--- Its schedule has no state for this, or the words are too few; or the moment is below the last one that they tell, which is their first.
+-- Its schedule has no state for this, or the words are too few; or it has one, and the moment is below the last one that they tell, which is
+-- their first.
 abbrev pub IsStepRefusal : List ℕ → List ℕ → ℕ → Refusal → Type 0
-IsStepRefusal text words now (Falls at) = (now < slice_index_or words 0 0) × (at ≡ 0)
+IsStepRefusal text words now (Falls at) = SpellsSomeFlat text × (now < slice_index_or words 0 0) × (at ≡ 0)
 IsStepRefusal text words now NoRoom = Outgrows text (length words)
 IsStepRefusal text words now KeepsList = IsSizeRefusal text KeepsList
 IsStepRefusal text words now (NotUtf8 at) = IsSizeRefusal text (NotUtf8 at)

@@ -2,17 +2,20 @@
 
 ghost use Rattle.std.specs.Prelude.{◌≡◌, ◌<◌, ◌≤◌, length};
 ghost use Rattle.zs_c.specs.Pairs.{pairs_of};
+ghost use Rattle.zs_c.specs.FaultText.{fault_text, version_number};
 ghost use Rattle.zs_c.specs.Numbers.{refusal_place};
 ghost use Rattle.zs_c.specs.Refusals.{SpellsSome};
-ghost use Rattle.zs_c.specs.Told.{IsAnswered, IsRefused, IsTextRefused};
+ghost use Rattle.zs_c.specs.Told.{IsAnswered, IsRefused, IsTextRefused, written};
 ghost use Rattle.zs_c.specs.States.{IsSizeRefusal, IsBeginRefusal, IsSized, IsBegun, IsStepped, IsRefusedFor, IsNotStepped};
 
 use crate::answering::{answered, schedule_in, told};
 use crate::refusal::Refusal;
 use crate::reply::Reply;
-use crate::room::put_words;
+use crate::room::{put, put_behind, put_words};
 use crate::seen::Seen;
 use crate::states::{fitting_words, new_words, stepped};
+use crate::texts::{fault_words, has_byte};
+use itoa::Buffer;
 use std::alloc::Global;
 
 /// Whether a text spells a schedule: 0, or the number of the reason why not, and the byte at which that shows.
@@ -134,6 +137,34 @@ pub extern "C" fn zs_step(
     };
     *reply = refused_at(refusal);
     refusal.number()
+}
+
+/// Writes the text of a number and of the place beside it over the front of a room, as far as it fits, and answers how many
+/// bytes it has; none where the number is no fault.
+#[unsafe(no_mangle)]
+pub extern "C" fn zs_fault_text(number: u32, at: u64, out: &mut [u8]) -> u64
+    ensures size { result ≡ length (fault_text number at) }
+    ensures text { out.new ≡ written (fault_text number at) out.old }
+{
+    let words = fault_words(number).as_bytes();
+    put(out, words);
+    if !has_byte(number) {
+        return words.len() as u64;
+    }
+    let mut buffer = Buffer::new();
+    let digits = buffer.format(at).as_bytes();
+    let place = b" at byte ";
+    put_behind(out, words.len(), place);
+    put_behind(out, words.len() + place.len(), digits);
+    (words.len() + place.len() + digits.len()) as u64
+}
+
+/// The version of the library: a million times the first of its numbers, a thousand times the second, and the third.
+#[unsafe(no_mangle)]
+pub extern "C" fn zs_version() -> u32
+    ensures value { result ≡ version_number }
+{
+    2_000
 }
 
 // The reply of a refusal.

@@ -14,7 +14,10 @@ mod reply;
 mod room;
 mod seen;
 mod states;
+mod texts;
 
-pub use exports::{zs_answer, zs_begin, zs_check, zs_state_size, zs_step};
+pub use exports::{
+    zs_answer, zs_begin, zs_check, zs_fault_text, zs_state_size, zs_step, zs_version,
+};
 pub use reply::Reply;
 pub use seen::Seen;

@@ -8,7 +8,7 @@ use Rattle.zs_effect.specs.Attempts.{AttemptValue}
 use Rattle.zs_effect.specs.declared.script.Beat.{Beat}
 use Rattle.zs_term.specs.declared.outputs.Out.{Out}
 use Rattle.zs_drive.specs.declared.log.Log.{Log}
-use Rattle.zs_drive.specs.Log.{IsLog, log_count, log_moments}
+use Rattle.zs_drive.specs.Log.{IsLog, keeping_of, log_count, log_moments}
 use Rattle.zs_drive.specs.declared.progress.Phase.{Phase}
 use Rattle.zs_drive.specs.declared.progress.Phase.TheVariants.{Waiting, Running, Over}
 use Rattle.zs_drive.specs.declared.progress.Progress.{Progress}
@@ -41,6 +41,14 @@ attempts-fit p progress =
     let few = progress.on_timeline.few in
     omega (arith, log-count p.log (attempts_of p) progress.log)
 
+-- while an attempt runs there is one
+pub has-last : (p : Progress) (outcome : Outcome) (phase : Phase) → p.phase ≡ phase → IsProgress p → HasRunTo p.seen outcome p.phase → 0 < log_count p.log
+has-last p outcome (Running attempt) is progress run =
+    let phase = rw is at progress.phase in
+    omega (arith, log-count p.log (attempts_of p) progress.log, ap (λ (xs : List AttemptedValue). length xs) phase.2.last, length-append phase.0 (runs phase.1 ∷ []))
+has-last p outcome (Waiting x) is progress run = absurd (rw is at run)
+has-last p outcome (Over ending) is progress run = absurd (rw is at run)
+
 -- a log has the attempts of a timeline, where it has those of the clock of their moments
 from-log : (job : JobRecord) (log : Log) (timeline : Timeline) (polls : ℕ) → IsLog log timeline.attempts → IsOnTimeline job timeline polls
     → timeline_of job (log_moments log) ≡ timeline
@@ -62,7 +70,7 @@ moments-in p progress = log-moments p.log (attempts_of p) progress.log
 
 pub begin-advances : (p : Progress) (log : Log) (spare : Out) (beat : Beat) (attempt : AttemptValue) (phase : Phase) → p.phase ≡ phase
     → IsProgress p → HasState p → IsWaitingTo p.seen p.phase → beat ≡ entry_at p.script (log_count p.log + 1) → IsScript p.script
-    → log.keeps ≡ p.log.keeps
+    → keeping_of log ≡ keeping_of p.log
     → ((attempts : List AttemptedValue) → IsLog p.log attempts → IsLog log (attempts ++ runs p.seen ∷ []))
     → attempt ≡ record { outcome = beat.outcome; end = saturated (p.seen + beat.ms); seen = p.seen }
     → Advances p (record p { log = log; spare = spare; phase = Running attempt; polls = p.polls + 1 })
@@ -97,7 +105,8 @@ begin-advances p log spare beat attempt (Waiting x) is progress state waits next
       };
       state = record { stands = rw (grown, history_after-running attempts p.seen) kept.stands; past = kept.past };
       moments = moments-more p.log log attempts (attempts ++ runs p.seen ∷ []) p.seen progress.log logged steps.1;
-      job = rw keeps refl;
+      job = refl;
+      keeps = keeps;
       seen = refl;
     }
 begin-advances p log spare beat attempt (Running other) is progress state waits next script keeps begun started = absurd (rw is at waits)
@@ -111,7 +120,7 @@ asked-history p outcome others s last = ap (λ (h : History). (p.seen, number_of
 -- the attempt that ran ends, and none begins
 pub end_attempt-advances : (p q : Progress) (outcome : Outcome) (step : Option Answer) (now later : Phase) → p.phase ≡ now
     → IsProgress p → HasRunTo p.seen outcome p.phase → IsScript p.script
-    → q ≡ record p { log = q.log; phase = later; polls = p.polls + 1 } → q.log.keeps ≡ p.log.keeps
+    → q ≡ record p { log = q.log; phase = later; polls = p.polls + 1 } → keeping_of q.log ≡ keeping_of p.log
     → ((others : List AttemptedValue) (s : ℕ) → IsLog p.log (others ++ runs s ∷ []) → IsLog q.log (others ++ ended_attempt s p.seen outcome step ∷ []))
     → ((others : List AttemptedValue) (s w : ℕ) → attempts_of p ≡ others ++ runs s ∷ [] → AllEnded others → w ≤ p.seen → outcome ≡ (beat_after (job_in p) (history_after others)).outcome
     → record { attempts = others ++ ended_attempt s p.seen outcome step ∷ []; due = due_of later; ending = ending_of later }
@@ -151,7 +160,8 @@ end_attempt-advances p q outcome step (Running attempt) later is progress run sc
       };
       state = rw grown keep.1;
       moments = moments-more p.log q.log (others ++ runs s ∷ []) (others ++ ended_attempt s p.seen outcome step ∷ []) p.seen logs logged steps.1;
-      job = rw keeps refl;
+      job = refl;
+      keeps = keeps;
       seen = refl;
     } in
     subst (Advances p) (sym rest) whole
@@ -162,7 +172,7 @@ end_attempt-advances p q outcome step (Over ending) later is progress run script
 pub restart-advances : (p q : Progress) (outcome : Outcome) (step : Option Answer) (beat : Beat) (attempt : AttemptValue) (now : Phase) → p.phase ≡ now
     → IsProgress p → HasRunTo p.seen outcome p.phase → IsScript p.script → WasAsked p outcome
     → beat ≡ entry_at p.script (log_count p.log + 1)
-    → q ≡ record p { log = q.log; spare = q.spare; phase = Running attempt; polls = p.polls + 1 } → q.log.keeps ≡ p.log.keeps
+    → q ≡ record p { log = q.log; spare = q.spare; phase = Running attempt; polls = p.polls + 1 } → keeping_of q.log ≡ keeping_of p.log
     → attempt ≡ record { outcome = beat.outcome; end = saturated (p.seen + beat.ms); seen = p.seen }
     → ((others : List AttemptedValue) (s : ℕ) → IsLog p.log (others ++ runs s ∷ []) → IsLog q.log (others ++ ended_attempt s p.seen outcome step ∷ runs p.seen ∷ []))
     → ((others : List AttemptedValue) (s w : ℕ) → AllEnded others → w ≤ p.seen → outcome ≡ (beat_after (job_in p) (history_after others)).outcome
@@ -216,7 +226,8 @@ restart-advances p q outcome step beat attempt (Running old) is progress run scr
         past = let seen = asked.last in omega arith;
       };
       moments = moments-more p.log q.log (others ++ runs s ∷ []) (others ++ ended_attempt s p.seen outcome step ∷ runs p.seen ∷ []) p.seen logs logged steps.1;
-      job = rw keeps refl;
+      job = refl;
+      keeps = keeps;
       seen = refl;
     } in
     subst (Advances p) (sym rest) whole
@@ -250,6 +261,7 @@ StandsStill-stays p q progress stays =
       };
       moments = moments;
       job = stays.job;
+      keeps = stays.keeps;
       seen = stays.seen;
       due = ap due_of stays.phase;
       ending = ap ending_of stays.phase;

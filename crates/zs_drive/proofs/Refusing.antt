@@ -1,6 +1,6 @@
 -- Where a due poll takes memory, it comes to no ending that an outcome itself gives.
 use Rattle.std.proofs.Common.{◌≡◌, ℕ, ◌+◌, ◌≤◌, max, List, [], ◌∷◌, ◌++◌, if◌then◌else◌, refl, sym, ◌∙◌, ap, arith}
-use Rattle.std.specs.Prelude.{Some, None, Result, Ok, Err, OnErr}
+use Rattle.std.specs.Prelude.{Some, None, Result, Ok, Err, OnOk, OnErr}
 use Rattle.futures.specs.Poll.{IfReady}
 use Rattle.futures.specs.declared.task.Poll.{Poll}
 use Rattle.futures.specs.declared.task.Poll.TheVariants.{Ready, Pending}
@@ -24,8 +24,8 @@ use Rattle.zs_drive.specs.Values.{JobRecord, AttemptedValue}
 use Rattle.zs_drive.specs.Timeline.{Timeline, waiting, running, number_of, ending_by_outcome, ending_by_schedule, beat_after, by_answer, by_outcome, timeline_of, poll_moments}
 use Rattle.zs_drive.specs.Recorded.{AllEnded, IsOnTimeline}
 use Rattle.zs_drive.specs.DriverRules.{history_after}
-use Rattle.zs_drive.specs.Progress.{IsProgress, job_in, attempts_of, moments_in, due_of}
-use Rattle.zs_drive.specs.Turns.{IsOver, IsEarly, IsDuePhase, TakesMemory}
+use Rattle.zs_drive.specs.Progress.{IsProgress, HasState, job_in, job_value_in, attempts_of, moments_in, due_of}
+use Rattle.zs_drive.specs.Turns.{Advances, StandsStill, IsSame, IsOver, IsEarly, IsDuePhase, TakesMemory}
 use Rattle.zs_drive.specs.Tasks.{TaskValue, current_timeline, polled, EndsByOutcome}
 use Rattle.zs_drive.specs.Fields.{task_of, IsTask}
 use Rattle.zs_drive.proofs.Ticks.{lt_cases}
@@ -101,6 +101,23 @@ asked-unlike p (Running attempt) is progress script due takes outcome ending giv
     let ends_so : (by_outcome job (resume job p.seen) (history_after others) s p.seen asked (ending_by_outcome job.mode asked)).ending ≡ Some ending = sym by ∙ ends in
     outcome-unlike job p.seen (history_after others) s asked outcome ending none_asked gives (rw none_asked at ends_so)
 asked-unlike p (Over over) is progress script due takes outcome ending gives ends = absurd (rw is at due)
+
+-- a phase is over, waits for what comes later, or is due
+phase_cases : (seen : ℕ) (phase : Phase) (P : Type 0) → (IsOver phase → P) → (IsEarly seen phase → P) → (IsDuePhase seen phase → P) → P
+phase_cases seen (Waiting due) P over early now = lt_cases seen due (λ _. P) (λ l. early l) (λ l. now l)
+phase_cases seen (Running attempt) P over early now = lt_cases seen attempt.end (λ _. P) (λ l. early l) (λ l. now l)
+phase_cases seen (Over ending) P over early now = over tt
+
+-- what a task has after a turn that was done
+pub done-whole : {A T E : Type 0} (old new : Progress) (turn : Poll (Result T E)) (done : T) → turn ≡ Ready (Ok done)
+    → (IsOver old.phase → A × IsSame old new) → (IsEarly old.seen old.phase → (turn ≡ Pending) × IsSame old new)
+    → (IsDuePhase old.seen old.phase → IfReady turn (λ answer. OnOk answer (Advances old new) × OnErr answer (StandsStill old new)))
+    → IsProgress new × HasState new × (job_value_in new ≡ job_value_in old)
+done-whole old new turn done is over early due =
+    phase_cases old.seen old.phase (IsProgress new × HasState new × (job_value_in new ≡ job_value_in old))
+    (λ o. let same = (over o).1 in (same.0.progress, same.1, same.0.job))
+    (λ e. let other = (early e).0 in cc)
+    (λ d. let all = rw is at (due d) in (all.0.progress, all.0.state, all.0.job))
 
 -- what is waited for has come, where it is neither early nor over
 due-phase : (seen : ℕ) (phase : Phase) → (IsEarly seen phase → ⊥) → (IsOver phase → ⊥) → IsDuePhase seen phase

@@ -3,11 +3,12 @@ use Rattle.std.specs.Prelude.{◌≡◌, false, true, None}
 use Rattle.zs_effect.specs.Scripts.{IsScript}
 use Rattle.zs_drive.specs.declared.task.Task.TheInside.{Inside}
 use Rattle.zs_drive.specs.Tasks.{TaskValue}
+use Rattle.zs_drive.specs.Log.{keeping_of}
 use Rattle.zs_drive.specs.Progress.{moments_in, job_value_in, ending_of, IsProgress, HasState}
 
 -- the value that contracts see
 abbrev pub task_of : Inside → TaskValue
-task_of t = record { number = t.number; job = job_value_in t.progress.value; moments = moments_in t.progress.value; seen = t.progress.value.seen; broken = t.broken }
+task_of t = record { number = t.number; job = job_value_in t.progress.value; keeps = keeping_of t.progress.value.log; moments = moments_in t.progress.value; seen = t.progress.value.seen; broken = t.broken }
 
 -- a broken task may have lost its schedule's state, and has not ended
 pub record IsTask (t : Inside) : Type 0 where

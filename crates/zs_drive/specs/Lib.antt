@@ -8,6 +8,8 @@ pub mod Lines
 pub mod Tasks
 pub mod DriverRules
 pub mod DriverLaws
+-- What calls that no headline needs promise.
+pub mod Told
 -- What the bodies keep: private contracts, and the views and invariants of models, alone name these.
 pub mod Recorded
 pub mod Log

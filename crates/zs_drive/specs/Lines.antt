@@ -1,13 +1,11 @@
--- The lines that tell attempts, and which attempts a task tells.
-use Rattle.std.specs.Prelude.{ℕ, ◌+◌, ◌-◌, List, [], ◌∷◌, ◌++◌, length, take, drop, Option, Some, None, codes, decimal}
+-- The lines that tell attempts.
+use Rattle.std.specs.Prelude.{ℕ, ◌+◌, List, [], ◌∷◌, ◌++◌, Option, Some, None, codes, decimal}
 use Rattle.zs_term.specs.OutputText.{output_text}
 use Rattle.zs_effect.specs.declared.script.Outcome.{Outcome}
 use Rattle.zs_effect.specs.declared.script.Outcome.TheVariants.{Good, Bad}
 use Rattle.zs_step.specs.declared.decision.Decision.{Decision}
 use Rattle.zs_step.specs.declared.decision.Decision.TheVariants.{Stop, Next}
 use Rattle.zs_step.specs.Answer.{Answer}
-use Rattle.zs_drive.specs.declared.record.Keeping.{Keeping}
-use Rattle.zs_drive.specs.declared.record.Keeping.TheVariants.{Records, Lines}
 use Rattle.zs_drive.specs.Values.{AttemptedValue, EndedValue}
 
 -- how an attempt ended
@@ -42,13 +40,3 @@ attempt_lines number attempt = codes "attempt " ++ decimal number ++ codes " " +
 abbrev pub attempts_lines : ℕ → List AttemptedValue → List ℕ
 attempts_lines number [] = []
 attempts_lines number (attempt ∷ attempts) = attempt_lines number attempt ++ attempts_lines (number + 1) attempts
-
--- of these attempts those that a task keeps as lines: all but the last, if it keeps lines
-abbrev pub told_of : Keeping → List AttemptedValue → List AttemptedValue
-told_of Records attempts = []
-told_of Lines attempts = take (length attempts - 1) attempts
-
--- and those that it keeps as records
-abbrev pub recorded_of : Keeping → List AttemptedValue → List AttemptedValue
-recorded_of Records attempts = attempts
-recorded_of Lines attempts = drop (length attempts - 1) attempts

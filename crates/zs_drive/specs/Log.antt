@@ -1,38 +1,73 @@
--- What a log keeps of attempts: those that it told as lines, with their moments, and the records of the others.
-use Rattle.std.specs.Prelude.{◌≡◌, ℕ, ◌+◌, List, [], ◌∷◌, ◌++◌, length, map, flat_map, fold, string_bytes}
+-- What a log has of attempts: those that it has as lines, with their moments, and the records of the others.
+use Rattle.std.specs.Prelude.{◌≡◌, ℕ, ◌+◌, ◌≤◌, ⊤, List, [], ◌∷◌, ◌++◌, length, map, flat_map, fold, option_to_list, string_bytes, Some, vec_len}
+use Rattle.std.specs.Vec.{vec_capacity}
 use Rattle.zs_drive.specs.declared.record.Attempted.{Attempted}
+use Rattle.zs_drive.specs.declared.record.Keeping.{Keeping}
+use Rattle.zs_drive.specs.declared.record.Keeping.TheVariants.{Records, Lines}
+use Rattle.zs_drive.specs.declared.log.Told.{Told}
 use Rattle.zs_drive.specs.declared.log.Log.{Log}
+use Rattle.zs_drive.specs.declared.log.Log.TheVariants.{Recorded, Written}
 use Rattle.zs_drive.specs.Values.{AttemptedValue, attempted_of}
 use Rattle.zs_drive.specs.PollMoments.{moments_of, with_moment}
-use Rattle.zs_drive.specs.Lines.{attempt_lines, attempts_lines, told_of, recorded_of}
+use Rattle.zs_drive.specs.Lines.{attempts_lines}
+use Rattle.zs_drive.specs.Told.{told_of, recorded_of}
+
+-- how it stores attempts
+abbrev pub keeping_of : Log → Keeping
+keeping_of (Recorded records) = Records
+keeping_of (Written told) = Lines
+
+-- the lines
+abbrev pub lines_in : Log → List ℕ
+lines_in (Recorded records) = []
+lines_in (Written told) = string_bytes told.lines
+
+-- the number of attempts that these tell
+abbrev pub told_in : Log → ℕ
+told_in (Recorded records) = 0
+told_in (Written told) = told.count
+
+-- the moments at which those began and ended
+abbrev pub moments_told : Log → List ℕ
+moments_told (Recorded records) = []
+moments_told (Written told) = told.moments.items
+
+-- the records of the others
+abbrev pub records_in : Log → List Attempted
+records_in (Recorded records) = records.items
+records_in (Written told) = option_to_list told.last
 
 -- how many attempts it has
 abbrev pub log_count : Log → ℕ
-log_count log = log.told + length log.records.items
+log_count log = told_in log + length (records_in log)
 
 -- the set of all moments at which one of them begins or ends
 abbrev pub log_moments : Log → List ℕ
-log_moments log = fold with_moment [] (log.moments.items ++ flat_map moments_of (map attempted_of log.records.items))
+log_moments log = fold with_moment [] (moments_told log ++ flat_map moments_of (map attempted_of (records_in log)))
 
 -- its attempts are these
 pub record IsLog (log : Log) (attempts : List AttemptedValue) : Type 0 where
-  pub lines : string_bytes log.lines ≡ attempts_lines 1 (told_of log.keeps attempts)
-  pub told : log.told ≡ length (told_of log.keeps attempts)
-  pub moments : log.moments.items ≡ flat_map moments_of (told_of log.keeps attempts)
-  pub records : map attempted_of log.records.items ≡ recorded_of log.keeps attempts
+  pub lines : lines_in log ≡ attempts_lines 1 (told_of (keeping_of log) attempts)
+  pub told : told_in log ≡ length (told_of (keeping_of log) attempts)
+  pub moments : moments_told log ≡ flat_map moments_of (told_of (keeping_of log) attempts)
+  pub records : map attempted_of (records_in log) ≡ recorded_of (keeping_of log) attempts
 
 -- nothing of its attempts has changed
 pub record IsSameLog (old new : Log) : Type 0 where
-  pub keeps : new.keeps ≡ old.keeps
-  pub lines : string_bytes new.lines ≡ string_bytes old.lines
-  pub told : new.told ≡ old.told
-  pub moments : new.moments.items ≡ old.moments.items
-  pub records : map attempted_of new.records.items ≡ map attempted_of old.records.items
+  pub keeps : keeping_of new ≡ keeping_of old
+  pub lines : lines_in new ≡ lines_in old
+  pub told : told_in new ≡ told_in old
+  pub moments : moments_told new ≡ moments_told old
+  pub records : map attempted_of (records_in new) ≡ map attempted_of (records_in old)
 
--- its only record was told, and another has its place
-pub record IsTold (old new : Log) (last next : Attempted) : Type 0 where
-  pub keeps : new.keeps ≡ old.keeps
-  pub lines : string_bytes new.lines ≡ string_bytes old.lines ++ attempt_lines (old.told + 1) (attempted_of last)
-  pub told : new.told ≡ old.told + 1
-  pub moments : new.moments.items ≡ old.moments.items ++ moments_of (attempted_of last)
-  pub records : new.records.items ≡ next ∷ []
+-- an attempt begins, and the one before it, if there is one, was added to the lines
+pub record BeginsNext (old new : Told) (next : Attempted) : Type 0 where
+  pub lines : string_bytes new.lines ≡ string_bytes old.lines ++ attempts_lines (old.count + 1) (map attempted_of (option_to_list old.last))
+  pub count : new.count ≡ old.count + length (option_to_list old.last)
+  pub moments : new.moments.items ≡ old.moments.items ++ flat_map moments_of (map attempted_of (option_to_list old.last))
+  pub last : new.last ≡ Some next
+
+-- if it stores records, its list of them is full
+abbrev pub IsFull : Log → Type 0
+IsFull (Recorded records) = vec_capacity records ≤ vec_len records
+IsFull (Written told) = ⊤

@@ -26,7 +26,7 @@ ending_of (Over ending) = Some ending
 
 -- the job that it is about, by what its fields stand for
 abbrev pub job_value_in : Progress → JobValue
-job_value_in p = record { name = string_bytes p.name; mode = p.mode; schedule = compiled_term p.compiled; start = p.start; script = p.script; keeps = p.log.keeps }
+job_value_in p = record { name = string_bytes p.name; mode = p.mode; schedule = compiled_term p.compiled; start = p.start; script = p.script }
 
 -- the same as plain mathematics
 abbrev pub job_in : Progress → JobRecord

@@ -4,14 +4,16 @@ use Rattle.futures.specs.declared.task.Poll.{Poll}
 use Rattle.futures.specs.declared.task.Poll.TheVariants.{Ready, Pending}
 use Rattle.zs_effect.specs.declared.script.Outcome.{Outcome}
 use Rattle.zs_drive.specs.declared.record.Ending.{Ending}
+use Rattle.zs_drive.specs.declared.record.Keeping.{Keeping}
 use Rattle.zs_drive.specs.declared.fault.DriveFault.{DriveFault}
 use Rattle.zs_drive.specs.Values.{JobValue, JobRecord, record_of}
 use Rattle.zs_drive.specs.Timeline.{Timeline, timeline_of, ending_by_outcome}
 
--- a job with the moments at which it was polled while it was due
+-- a job, how its attempts are stored, and the moments at which it was polled while it was due
 pub record TaskValue : Type 0 where
   pub number : ℕ
   pub job : JobValue
+  pub keeps : Keeping
   pub moments : List ℕ
   pub seen : ℕ
   pub broken : Bool

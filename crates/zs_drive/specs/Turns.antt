@@ -8,7 +8,7 @@ use Rattle.zs_drive.specs.declared.progress.Phase.TheVariants.{Waiting, Running,
 use Rattle.zs_drive.specs.declared.progress.Progress.{Progress}
 use Rattle.zs_drive.specs.Timeline.{number_of, ending_by_outcome}
 use Rattle.zs_drive.specs.DriverRules.{history_after}
-use Rattle.zs_drive.specs.Log.{IsLog}
+use Rattle.zs_drive.specs.Log.{IsLog, keeping_of}
 use Rattle.zs_drive.specs.Progress.{due_of, ending_of, job_value_in, attempts_of, moments_in, IsProgress, HasState}
 
 -- one due poll was done at the moment seen
@@ -17,6 +17,7 @@ pub record Advances (old new : Progress) : Type 0 where
   pub state : HasState new
   pub moments : moments_in new ≡ moments_in old ++ old.seen ∷ []
   pub job : job_value_in new ≡ job_value_in old
+  pub keeps : keeping_of new.log ≡ keeping_of old.log
   pub seen : new.seen ≡ old.seen
 
 -- it waits to begin an attempt, at or before the moment seen
@@ -30,6 +31,7 @@ pub record Stays (old new : Progress) : Type 0 where
   pub log : IsLog old.log (attempts_of old) → IsLog new.log (attempts_of old)
   pub phase : new.phase ≡ old.phase
   pub job : job_value_in new ≡ job_value_in old
+  pub keeps : keeping_of new.log ≡ keeping_of old.log
   pub seen : new.seen ≡ old.seen
   pub polls : new.polls ≡ old.polls
 
@@ -72,6 +74,7 @@ pub record StandsStill (old new : Progress) : Type 0 where
   pub progress : IsProgress new
   pub moments : moments_in new ≡ moments_in old
   pub job : job_value_in new ≡ job_value_in old
+  pub keeps : keeping_of new.log ≡ keeping_of old.log
   pub seen : new.seen ≡ old.seen
   pub due : due_of new.phase ≡ due_of old.phase
   pub ending : ending_of new.phase ≡ ending_of old.phase

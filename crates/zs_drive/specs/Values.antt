@@ -12,25 +12,18 @@ use Rattle.zs_drive.specs.declared.job.Mode.{Mode}
 use Rattle.zs_drive.specs.declared.job.Job.{Job}
 use Rattle.zs_drive.specs.declared.record.Attempted.{Attempted}
 use Rattle.zs_drive.specs.declared.record.Ended.{Ended}
-use Rattle.zs_drive.specs.declared.record.Keeping.{Keeping}
-use Rattle.zs_drive.specs.declared.record.Keeping.TheVariants.{Records}
 
--- a job, by what its fields stand for, and what its task keeps of its attempts
+-- a job, by what its fields stand for
 pub record JobValue : Type 0 where
   pub name : List ℕ
   pub mode : Mode
   pub schedule : Term
   pub start : ℕ
   pub script : List Beat
-  pub keeps : Keeping
 
--- what a job stands for whose task keeps its attempts so
-abbrev pub job_kept : Keeping → Job → JobValue
-job_kept keeps job = record { name = string_bytes job.name; mode = job.mode; schedule = job.schedule; start = job.start; script = job.script; keeps = keeps }
-
--- what a job stands for whose task keeps all its records
+-- what a job stands for
 abbrev pub job_value : Job → JobValue
-job_value = job_kept Records
+job_value job = record { name = string_bytes job.name; mode = job.mode; schedule = job.schedule; start = job.start; script = job.script }
 
 -- a job as plain mathematics: its schedule is a tree with no places in memory
 pub record JobRecord : Type 0 where

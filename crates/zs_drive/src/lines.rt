@@ -1,5 +1,5 @@
 //! Attempts as lines of text.
-ghost use Rattle.std.specs.Prelude.{◌≡◌, ◌++◌, codes, OnOk, string_bytes};
+ghost use Rattle.std.specs.Prelude.{◌≡◌, ◌++◌, codes, OnOk, OnErr, string_bytes};
 ghost use Rattle.std.specs.Fmt.{decimal};
 ghost use Rattle.zs_term.specs.OutputText.{IsBeginning};
 ghost use Rattle.zs_drive.specs.Values.{attempted_of, ended_of, step_of};
@@ -95,9 +95,23 @@ fn append_ended(text: &mut String, number: u64, ended: &Option<Ended>) -> Result
     }
 }
 
-/// Adds the lines of the attempt with this number, counted from 1. After a refusal some of them may stand there.
-#[tactic(auto, using(zs_term::proofs::Texts::begins_with_itself, zs_term::proofs::Texts::begins_pushed, zs_term::proofs::Texts::begins_both))]
+/// Adds the lines of the attempt with this number, counted from 1. If that fails, the text is unchanged.
 pub fn append_attempt(text: &mut String, number: u64, attempt: &Attempted) -> Result<(), AllocError>
+    ensures text { OnOk result (string_bytes text.new ≡ string_bytes text.old ++ attempt_lines number (attempted_of attempt.now)) }
+    ensures err { OnErr result (string_bytes text.new ≡ string_bytes text.old) }
+    ensures kept { IsBeginning (string_bytes text.old) (string_bytes text.new) }
+{
+    let len = text.len();
+    let added = push_attempt(text, number, attempt);
+    if added.is_err() {
+        text.truncate(len);
+    }
+    added
+}
+
+// Adds the lines of an attempt. If that fails, the text may end with some of them.
+#[tactic(auto, using(zs_term::proofs::Texts::begins_with_itself, zs_term::proofs::Texts::begins_pushed, zs_term::proofs::Texts::begins_both))]
+fn push_attempt(text: &mut String, number: u64, attempt: &Attempted) -> Result<(), AllocError>
     ensures text { OnOk result (string_bytes text.new ≡ string_bytes text.old ++ attempt_lines number (attempted_of attempt.now)) }
     ensures kept { IsBeginning (string_bytes text.old) (string_bytes text.new) }
 {

@@ -1,40 +1,49 @@
-//! What a task keeps of its attempts.
-ghost use Rattle.std.specs.Prelude.{◌≡◌, ℕ, ◌+◌, ◌≤◌, ◌<◌, ◌^◌, List, [], ◌∷◌, ◌++◌, map, length, string_bytes, None, OnOk, OnErr, vec_len};
+//! What a task stores of its attempts.
+ghost use Rattle.std.specs.Prelude.{◌≡◌, ℕ, ◌+◌, ◌≤◌, ◌<◌, ◌^◌, List, [], ◌∷◌, ◌++◌, map, string_bytes, Some, None, OnOk, OnErr, vec_len};
 ghost use Rattle.std.specs.Vec.{vec_capacity};
 ghost use Rattle.zs_drive.specs.Values.{AttemptedValue, attempted_of, ended_of};
-ghost use Rattle.zs_drive.specs.Log.{IsLog, IsSameLog, IsTold, log_count};
+ghost use Rattle.zs_drive.specs.PollMoments.{moments_of};
+ghost use Rattle.zs_drive.specs.Lines.{attempt_lines};
+ghost use Rattle.zs_drive.specs.Log.{BeginsNext, IsFull, IsLog, IsSameLog, keeping_of, lines_in, log_count, records_in, told_in};
 
 use crate::fault::DriveFault;
 use crate::lines::append_attempt;
 use crate::record::{Attempted, Ended, Keeping};
 use std::alloc::{AllocError, Global};
-use std::mem::swap;
+use std::mem::{drop, swap};
 use zs_term::Out;
 
-// How many records a full list has room for next, at least, where all are kept.
+// The records that a full list gets room for next, at least.
 const LEAST_ROOM: usize = 4;
 
-// How many bytes of lines and how many moments there is room for first, where attempts are told.
+// The bytes of lines and the moments that the first attempt of a log of lines makes room for.
 const FIRST_LINES: usize = 512;
 
 const FIRST_MOMENTS: usize = 16;
 
-/// The attempts so far: those that were told as lines, and then those that are kept as records.
+/// Attempts as lines of text, and the last one as a record.
 #[derive(Drop)]
-pub struct Log {
-    /// Which of them are told.
-    pub keeps: Keeping,
-    /// The lines of those that were told.
+pub struct Told {
+    /// The lines of all attempts but the last.
     pub lines: String,
-    /// How many these are.
-    pub told: u64,
-    /// The moments at which they began and ended, in order.
+    /// The number of these attempts.
+    pub count: u64,
+    /// The moments at which they began and ended, in order, in milliseconds.
     pub moments: Vec<u64>,
-    /// The records of the others.
-    pub records: Vec<Attempted>,
+    /// The last attempt.
+    pub last: Option<Attempted>,
 }
 
-// Makes room for one more item. A full list grows by a quarter, since many tasks keep theirs at once.
+/// The attempts so far.
+#[derive(Drop)]
+pub enum Log {
+    /// The record of each.
+    Recorded(Vec<Attempted>),
+    /// Lines of text, and the record of the last.
+    Written(Told),
+}
+
+// Makes room for one more item. A full list grows by a quarter, since many tasks have one at once.
 fn make_room<T: Drop>(list: &mut Vec<T>, least: usize) -> Result<(), AllocError>
     requires least { 0 < least }
     ensures items { list.new.items ≡ list.old.items }
@@ -47,7 +56,7 @@ fn make_room<T: Drop>(list: &mut Vec<T>, least: usize) -> Result<(), AllocError>
     list.reserve_exact(least.max(list.len() / 4))
 }
 
-// Of a refusal the list is as it was. Only a full one is refused.
+// Adds an item at the end. If that fails, the list is unchanged and was full.
 fn add<T: Drop>(list: &mut Vec<T>, item: T, least: usize) -> Result<(), AllocError>
     requires least { 0 < least }
     ensures ok { OnOk result (list.new.items ≡ list.old.items ++ item ∷ []) }
@@ -72,86 +81,154 @@ fn take_end(ended: &mut Option<Ended>, spare: &mut Out)
     *ended = None;
 }
 
+// Adds an attempt to the lines and to the moments. If that fails, both are unchanged.
+fn tell(
+    lines: &mut String,
+    moments: &mut Vec<u64>,
+    number: u64,
+    attempt: &Attempted,
+) -> Result<(), AllocError>
+    ensures lines { OnOk result (string_bytes lines.new ≡ string_bytes lines.old ++ attempt_lines number (attempted_of attempt.now)) }
+    ensures moments { OnOk result (moments.new.items ≡ moments.old.items ++ moments_of (attempted_of attempt.now)) }
+    ensures err { OnErr result (string_bytes lines.new ≡ string_bytes lines.old) }
+    ensures kept { OnErr result (moments.new.items ≡ moments.old.items) }
+{
+    let count = moments.len();
+    match &attempt.ended {
+        Some(ended) => moments.extend_from_slice(&[attempt.begun, ended.at])?,
+        None => moments.push(attempt.begun)?,
+    }
+    let told = append_attempt(lines, number, attempt);
+    if told.is_err() {
+        moments.truncate(count);
+    }
+    told
+}
+
+impl Told {
+    // The first attempt begins.
+    fn begin_first(&mut self, begun: u64) -> Result<(), AllocError>
+        ensures ok { OnOk result (self.new.last ≡ Some (record { begun = begun; ended = None })) }
+        ensures err { OnErr result (self.new.last ≡ self.old.last) }
+        ensures lines { string_bytes self.new.lines ≡ string_bytes self.old.lines }
+        ensures moments { self.new.moments.items ≡ self.old.moments.items }
+        ensures count { self.new.count ≡ self.old.count }
+    {
+        self.lines.reserve_exact(FIRST_LINES)?;
+        self.moments.reserve_exact(FIRST_MOMENTS)?;
+        self.last = Some(Attempted { begun, ended: None });
+        Ok(())
+    }
+
+    // Another attempt begins. The output of the one before it is given to the caller.
+    fn begin(&mut self, begun: u64, spare: &mut Out) -> Result<(), AllocError>
+        requires few { self.old.count + 1 < 2 ^ 64 }
+        ensures ok { OnOk result (BeginsNext self.old self.new (record { begun = begun; ended = None })) }
+        ensures lines { OnErr result (string_bytes self.new.lines ≡ string_bytes self.old.lines) }
+        ensures count { OnErr result (self.new.count ≡ self.old.count) }
+        ensures moments { OnErr result (self.new.moments.items ≡ self.old.moments.items) }
+        ensures last { OnErr result (self.new.last ≡ self.old.last) }
+    {
+        match &mut self.last {
+            None => self.begin_first(begun),
+            Some(last) => {
+                tell(&mut self.lines, &mut self.moments, self.count + 1, last)?;
+                take_end(&mut last.ended, spare);
+                last.begun = begun;
+                self.count += 1;
+                Ok(())
+            }
+        }
+    }
+}
+
 impl Log {
     /// No attempt yet.
     pub fn new(alloc: Global, keeps: Keeping) -> Log
         ensures none { IsLog result [] }
-        ensures keeps { result.keeps ≡ keeps }
+        ensures keeps { keeping_of result ≡ keeps }
     {
-        Log {
-            keeps,
-            lines: String::new(alloc),
-            told: 0,
-            moments: Vec::new(alloc),
-            records: Vec::new(alloc),
+        match keeps {
+            Keeping::Records => Log::Recorded(Vec::new(alloc)),
+            Keeping::Lines => Log::Written(Told {
+                lines: String::new(alloc),
+                count: 0,
+                moments: Vec::new(alloc),
+                last: None,
+            }),
         }
     }
 
-    /// How many attempts there are.
+    /// How it stores attempts.
+    pub fn keeps(&self) -> Keeping
+        ensures value { result ≡ keeping_of self.now }
+    {
+        match self {
+            Log::Recorded(_) => Keeping::Records,
+            Log::Written(_) => Keeping::Lines,
+        }
+    }
+
+    /// The records of the attempts that are not lines, in order.
+    pub fn records(&self) -> &[Attempted]
+        ensures value { result.now ≡ records_in self.now }
+    {
+        match self {
+            Log::Recorded(records) => records.as_slice(),
+            Log::Written(told) => told.last.as_slice(),
+        }
+    }
+
+    /// The lines.
+    pub fn lines(&self) -> &str
+        ensures value { result.now ≡ lines_in self.now }
+    {
+        match self {
+            Log::Recorded(_) => "",
+            Log::Written(told) => told.lines.as_str(),
+        }
+    }
+
+    /// The lines, in the memory in which they are stored. The log is dropped.
+    pub fn into_lines(self) -> String
+        ensures value { string_bytes result ≡ lines_in self }
+    {
+        match self {
+            Log::Recorded(records) => String::new(*records.allocator()),
+            Log::Written(Told { lines, .. }) => lines,
+        }
+    }
+
+    /// The number of attempts that are lines.
+    pub fn told(&self) -> u64
+        ensures value { result ≡ told_in self.now }
+    {
+        match self {
+            Log::Recorded(_) => 0,
+            Log::Written(told) => told.count,
+        }
+    }
+
+    /// The number of attempts.
     pub fn count(&self) -> u64
         requires few { log_count self.now < 2 ^ 64 }
         ensures value { result ≡ log_count self.now }
     {
-        self.told + self.records.len() as u64
+        self.told() + self.records().len() as u64
     }
 
-    // The first attempt begins of those that will be told.
-    fn begin_first(&mut self, begun: u64) -> Result<(), AllocError>
-        ensures ok { OnOk result (self.new.records.items ≡ self.old.records.items ++ record { begun = begun; ended = None } ∷ []) }
-        ensures err { OnErr result (self.new.records.items ≡ self.old.records.items) }
-        ensures lines { string_bytes self.new.lines ≡ string_bytes self.old.lines }
-        ensures moments { self.new.moments.items ≡ self.old.moments.items }
-        ensures rest { (self.new.told ≡ self.old.told) × (self.new.keeps ≡ self.old.keeps) }
-    {
-        self.lines.reserve_exact(FIRST_LINES)?;
-        self.moments.reserve_exact(FIRST_MOMENTS)?;
-        add(&mut self.records, Attempted { begun, ended: None }, 1)
-    }
-
-    // Tells the only record, which another follows. Its output is given to the caller.
-    fn tell(&mut self, begun: u64, spare: &mut Out) -> Result<(), AllocError>
-        requires some { 0 < length self.old.records.items }
-        requires few { self.old.told + 1 < 2 ^ 64 }
-        ensures ok { OnOk result ((last : Attempted) → self.old.records.items ≡ last ∷ [] → IsTold self.old self.new last (record { begun = begun; ended = None })) }
-        ensures err { OnErr result (IsSameLog self.old self.new) }
-        ensures keeps { self.new.keeps ≡ self.old.keeps }
-    {
-        let last = &mut self.records[0];
-        let (lines, moments) = (self.lines.len(), self.moments.len());
-        match &last.ended {
-            Some(ended) => self.moments.extend_from_slice(&[last.begun, ended.at])?,
-            None => self.moments.push(last.begun)?,
-        }
-        match append_attempt(&mut self.lines, self.told + 1, last) {
-            Ok(()) => {}
-            Err(refused) => {
-                self.lines.truncate(lines);
-                self.moments.truncate(moments);
-                return Err(refused);
-            }
-        }
-        take_end(&mut last.ended, spare);
-        last.begun = begun;
-        self.told += 1;
-        Ok(())
-    }
-
-    /// Another attempt begins. Where one is told, its output is given to the caller.
+    /// Another attempt begins. If the one before it becomes lines, its output is given to the caller.
     pub fn begin(&mut self, begun: u64, spare: &mut Out) -> Result<(), DriveFault>
         requires few { log_count self.old + 1 < 2 ^ 64 }
         ensures begun { OnOk result ((attempts : List AttemptedValue) → IsLog self.old attempts
             → IsLog self.new (attempts ++ record { begun = begun; ended = None } ∷ [])) }
         ensures same { OnErr result (IsSameLog self.old self.new) }
-        ensures full { self.old.keeps ≡ Keeping.Records → OnErr result (vec_capacity self.old.records ≤ vec_len self.old.records) }
-        ensures keeps { self.new.keeps ≡ self.old.keeps }
+        ensures full { OnErr result (IsFull self.old) }
+        ensures keeps { keeping_of self.new ≡ keeping_of self.old }
     {
-        let begun = match self.keeps {
-            Keeping::Records => {
-                let next = Attempted { begun, ended: None };
-                add(&mut self.records, next, LEAST_ROOM)
-            }
-            Keeping::Lines if self.records.is_empty() => self.begin_first(begun),
-            Keeping::Lines => self.tell(begun, spare),
+        let begun = match self {
+            Log::Recorded(records) => add(records, Attempted { begun, ended: None }, LEAST_ROOM),
+            Log::Written(told) => told.begin(begun, spare),
         };
         match begun {
             Ok(()) => Ok(()),
@@ -161,38 +238,46 @@ impl Log {
 
     // The last attempt has this end, or none.
     fn set_end(&mut self, ended: Option<Ended>)
-        requires last { 0 < length self.old.records.items }
+        requires last { 0 < log_count self.old }
         ensures ended { (others : List AttemptedValue) (last : AttemptedValue) → IsLog self.old (others ++ last ∷ [])
             → IsLog self.new (others ++ record { begun = last.begun; ended = ended_of ended } ∷ []) }
-        ensures keeps { self.new.keeps ≡ self.old.keeps }
+        ensures keeps { keeping_of self.new ≡ keeping_of self.old }
         ensures count { log_count self.new ≡ log_count self.old }
-        ensures room { (vec_capacity self.new.records ≡ vec_capacity self.old.records) × (vec_len self.new.records ≡ vec_len self.old.records) }
+        ensures full { IsFull self.new → IsFull self.old }
     {
-        let index = self.records.len() - 1;
-        let last = &mut self.records[index];
-        last.ended = ended;
+        match self {
+            Log::Recorded(records) => {
+                let index = records.len() - 1;
+                let last = &mut records[index];
+                last.ended = ended;
+            }
+            Log::Written(told) => match &mut told.last {
+                Some(last) => last.ended = ended,
+                None => drop(ended),
+            },
+        }
     }
 
     /// The last attempt ends.
     pub fn end(&mut self, ended: Ended)
-        requires last { 0 < length self.old.records.items }
+        requires last { 0 < log_count self.old }
         ensures ended { (others : List AttemptedValue) (last : AttemptedValue) → IsLog self.old (others ++ last ∷ [])
             → IsLog self.new (others ++ record { begun = last.begun; ended = ended_of (Some ended) } ∷ []) }
-        ensures keeps { self.new.keeps ≡ self.old.keeps }
+        ensures keeps { keeping_of self.new ≡ keeping_of self.old }
     {
         self.set_end(Some(ended));
     }
 
-    /// The last attempt ends, and another begins at that moment. Where one is told, its output is given to the caller.
+    /// The last attempt ends, and another begins at that moment. If the former becomes lines, its output is given to the caller.
     pub fn restart(&mut self, ended: Ended, spare: &mut Out) -> Result<(), DriveFault>
-        requires last { 0 < length self.old.records.items }
+        requires last { 0 < log_count self.old }
         requires few { log_count self.old + 1 < 2 ^ 64 }
         ensures restarted { OnOk result ((others : List AttemptedValue) (s : ℕ) → IsLog self.old (others ++ record { begun = s; ended = None } ∷ [])
             → IsLog self.new (others ++ record { begun = s; ended = ended_of (Some ended) } ∷ record { begun = ended.at; ended = None } ∷ [])) }
         ensures same { OnErr result ((others : List AttemptedValue) (s : ℕ) → IsLog self.old (others ++ record { begun = s; ended = None } ∷ [])
             → IsLog self.new (others ++ record { begun = s; ended = None } ∷ [])) }
-        ensures full { self.old.keeps ≡ Keeping.Records → OnErr result (vec_capacity self.old.records ≤ vec_len self.old.records) }
-        ensures keeps { self.new.keeps ≡ self.old.keeps }
+        ensures full { OnErr result (IsFull self.old) }
+        ensures keeps { keeping_of self.new ≡ keeping_of self.old }
     {
         let at = ended.at;
         self.set_end(Some(ended));

@@ -1,6 +1,5 @@
 //! The steps of a task, over its fields.
-ghost use Rattle.std.specs.Prelude.{◌≡◌, ℕ, ◌+◌, ◌≤◌, List, [], ◌∷◌, ◌++◌, None, OnOk, OnErr, IfOk, vec_len};
-ghost use Rattle.std.specs.Vec.{vec_capacity};
+ghost use Rattle.std.specs.Prelude.{◌≡◌, ℕ, ◌+◌, ◌≤◌, List, [], ◌∷◌, ◌++◌, None, OnOk, OnErr, IfOk};
 ghost use Rattle.futures.specs.Poll.{IfReady, OnPending};
 ghost use Rattle.futures.specs.Task.{IsArmed, Keeps};
 ghost use Rattle.zs_term.specs.Saturating.{saturated};
@@ -10,7 +9,7 @@ ghost use Rattle.zs_term.specs.Output.{output_of};
 ghost use Rattle.zs_step.specs.History.{History};
 ghost use Rattle.zs_step.specs.Answer.{answer, answer_of};
 ghost use Rattle.zs_step.specs.Compiled.{StandsFor, last_seen, compiled_term, compiled_schedule};
-ghost use Rattle.zs_drive.specs.Log.{IsLog, log_count};
+ghost use Rattle.zs_drive.specs.Log.{IsFull, IsLog, keeping_of, log_count};
 ghost use Rattle.zs_drive.specs.Values.{AttemptedValue, step_of};
 ghost use Rattle.zs_drive.specs.DriverRules.{history_after};
 ghost use Rattle.zs_drive.specs.Progress.{IsProgress, HasState, attempts_of, due_of, ending_of};
@@ -19,7 +18,7 @@ ghost use Rattle.zs_drive.specs.Turns.{Advances, Stays, IsWaitingTo, HasRunTo, W
 use crate::fault::DriveFault;
 use crate::job::Mode;
 use crate::log::Log;
-use crate::record::{Ended, Ending, Keeping};
+use crate::record::{Ended, Ending};
 use futures::task::{Context, Poll};
 use futures::{Future, ready};
 use std::mem::replace;
@@ -134,7 +133,7 @@ impl Progress {
         requires script { IsScript self.old.script }
         ensures ok { OnOk result (Advances self.old self.new) }
         ensures err { OnErr result (Stays self.old self.new) }
-        ensures full { self.old.log.keeps ≡ Keeping.Records → OnErr result (vec_capacity self.old.log.records ≤ vec_len self.old.log.records) }
+        ensures full { OnErr result (IsFull self.old.log) }
     {
         let begun = self.seen;
         let beat = self.next_beat();
@@ -203,7 +202,7 @@ impl Progress {
         requires script { IsScript self.old.script }
         ensures ok { OnOk result (Advances self.old self.new) }
         ensures err { OnErr result (Stays self.old self.new) }
-        ensures full { self.old.log.keeps ≡ Keeping.Records → OnErr result (vec_capacity self.old.log.records ≤ vec_len self.old.log.records) }
+        ensures full { OnErr result (IsFull self.old.log) }
     {
         match decision {
             Decision::Stop => {
@@ -227,7 +226,7 @@ impl Progress {
         requires progress { IsProgress self.old }
         requires running { HasRunTo self.old.seen outcome self.old.phase }
         ensures rest { self.new ≡ record self.old { log = self.new.log; phase = phase; polls = self.old.polls + 1 } }
-        ensures keeps { self.new.log.keeps ≡ self.old.log.keeps }
+        ensures keeps { keeping_of self.new.log ≡ keeping_of self.old.log }
         ensures ended { (others : List AttemptedValue) (s : ℕ)
             → IsLog self.old.log (others ++ record { begun = s; ended = None } ∷ [])
             → IsLog self.new.log (others ++ ended_attempt s self.old.seen outcome (step_of step) ∷ []) }
@@ -253,12 +252,12 @@ impl Progress {
           phase = Phase.Running (record { outcome = next.outcome; end = saturated (self.old.seen + next.ms); seen = self.old.seen });
           polls = self.old.polls + 1;
         }) }
-        ensures keeps { self.new.log.keeps ≡ self.old.log.keeps }
+        ensures keeps { keeping_of self.new.log ≡ keeping_of self.old.log }
         ensures ended { OnOk result ((others : List AttemptedValue) (s : ℕ)
             → IsLog self.old.log (others ++ record { begun = s; ended = None } ∷ [])
             → IsLog self.new.log (others ++ ended_attempt s self.old.seen outcome (step_of (Some step)) ∷ record { begun = self.old.seen; ended = None } ∷ [])) }
         ensures err { OnErr result (Stays self.old self.new) }
-        ensures full { self.old.log.keeps ≡ Keeping.Records → OnErr result (vec_capacity self.old.log.records ≤ vec_len self.old.log.records) }
+        ensures full { OnErr result (IsFull self.old.log) }
     {
         let at = self.seen;
         let step = Some(step);

@@ -4,8 +4,9 @@ ghost use Rattle.futures.specs.Poll.{OnPending};
 ghost use Rattle.futures.specs.Task.{IsArmed, Keeps};
 ghost use Rattle.zs_effect.specs.Scripts.{IsScript};
 ghost use Rattle.zs_drive.specs.Clocks.{AreTicks, max_tick};
-ghost use Rattle.zs_drive.specs.Lines.{attempts_lines, told_of, recorded_of};
-ghost use Rattle.zs_drive.specs.Values.{job_value, job_kept, attempted_of};
+ghost use Rattle.zs_drive.specs.Lines.{attempts_lines};
+ghost use Rattle.zs_drive.specs.Told.{told_of, recorded_of};
+ghost use Rattle.zs_drive.specs.Values.{job_value, attempted_of};
 ghost use Rattle.zs_drive.specs.Timeline.{poll_moments};
 ghost use Rattle.zs_drive.specs.Tasks.{current_timeline, timeline_at, polled, reply_of, MatchMemory, IsDue, EndsByOutcome};
 
@@ -57,19 +58,19 @@ impl Model for Task {
 }
 
 impl Task {
-    /// The task of a job, which has seen moment 0 and keeps the record of each attempt. For want of memory it answers `Memory`, and
-    /// the job is given up.
+    /// The task of a job, which has seen moment 0 and stores the record of each attempt. If memory runs out, it returns `Memory`,
+    /// and the job is dropped.
     pub fn new(alloc: Global, number: u64, job: Job) -> Result<Task, DriveFault>
-        ensures made { IfOk result (λ task. task ≡ record { number = number; job = job_value job; moments = []; seen = 0; broken = false }) }
+        ensures made { IfOk result (λ task. task ≡ record { number = number; job = job_value job; keeps = Keeping.Records; moments = []; seen = 0; broken = false }) }
         ensures script { IfOk result (λ task. IsScript task.job.script) }
         ensures memory { IfErr result (λ fault. fault ≡ DriveFault.Memory) }
     {
         Task::keeping(alloc, number, job, Keeping::Records)
     }
 
-    /// The same, of a task that keeps its attempts so.
+    /// The same, of a task that stores its attempts so.
     pub fn keeping(alloc: Global, number: u64, job: Job, keeps: Keeping) -> Result<Task, DriveFault>
-        ensures made { IfOk result (λ task. task ≡ record { number = number; job = job_kept keeps job; moments = []; seen = 0; broken = false }) }
+        ensures made { IfOk result (λ task. task ≡ record { number = number; job = job_value job; keeps = keeps; moments = []; seen = 0; broken = false }) }
         ensures script { IfOk result (λ task. IsScript task.job.script) }
         ensures memory { IfErr result (λ fault. fault ≡ DriveFault.Memory) }
     {
@@ -133,34 +134,33 @@ impl Task {
         self.progress.polls
     }
 
-    /// What it keeps of its attempts.
+    /// How it stores its attempts: `Records` if it was made by `new`.
     pub fn keeps(&self) -> Keeping
-        ensures value { result ≡ self.now.job.keeps }
+        ensures value { result ≡ self.now.keeps }
     {
-        self.progress.log.keeps
+        self.progress.log.keeps()
     }
 
-    /// The records of its attempts so far, in order: of all, or of the last one where the others are kept as lines.
+    /// The records of its attempts so far, in order: of all if it stores records, else of the last.
     pub fn records(&self) -> &[Attempted]
-        ensures attempts { self.now.job.keeps ≡ Keeping.Records → map attempted_of result.now ≡ (current_timeline self.now).attempts }
-        ensures recorded { map attempted_of result.now ≡ recorded_of self.now.job.keeps (current_timeline self.now).attempts }
+        ensures attempts { map attempted_of result.now ≡ recorded_of self.now.keeps (current_timeline self.now).attempts }
         ensures moments { self.now.moments ≡ poll_moments (current_timeline self.now).attempts }
         ensures clock { AreTicks self.now.moments }
         ensures script { IsScript self.now.job.script }
     {
-        self.progress.log.records.as_slice()
+        self.progress.log.records()
     }
 
-    /// The lines that tell the attempts of which it keeps no records.
+    /// The lines of the attempts of which it stores no records.
     pub fn lines(&self) -> &str
-        ensures told { result.now ≡ attempts_lines 1 (told_of self.now.job.keeps (current_timeline self.now).attempts) }
+        ensures told { result.now ≡ attempts_lines 1 (told_of self.now.keeps (current_timeline self.now).attempts) }
     {
-        self.progress.log.lines.as_str()
+        self.progress.log.lines()
     }
 
-    /// The same lines, in the memory in which they lie. The task is given up.
+    /// The same lines, in the memory in which they are stored. The task is dropped.
     pub fn into_lines(self) -> String
-        ensures told { string_bytes result ≡ attempts_lines 1 (told_of self.job.keeps (current_timeline self).attempts) }
+        ensures told { string_bytes result ≡ attempts_lines 1 (told_of self.keeps (current_timeline self).attempts) }
     {
         let Task {
             number: _,
@@ -168,17 +168,16 @@ impl Task {
             broken: _,
         } = self;
         let Progress { log, .. } = Box::into_inner(progress);
-        let Log { lines, .. } = log;
-        lines
+        log.into_lines()
     }
 
-    /// How many attempts these lines tell.
+    /// The number of attempts that these lines tell.
     pub fn told(&self) -> u64
-        ensures value { result ≡ length (told_of self.now.job.keeps (current_timeline self.now).attempts) }
+        ensures value { result ≡ length (told_of self.now.keeps (current_timeline self.now).attempts) }
         // At each tick at most one attempt begins.
         ensures few { length (current_timeline self.now).attempts ≤ max_tick + 1 }
     {
-        self.progress.log.told
+        self.progress.log.told()
     }
 
     /// How the job ended, if it has. A broken task has not.
@@ -231,6 +230,7 @@ impl Future for Task {
         ensures outcome { self.old.broken ≡ false → (ending : Ending) → EndsByOutcome self.old ending
             → result ≡ Poll.Ready (Ok ending) }
         ensures same { (self.new.number ≡ self.old.number) × (self.new.job ≡ self.old.job) × (self.new.seen ≡ self.old.seen) }
+        ensures keeps { self.new.keeps ≡ self.old.keeps }
         ensures armed { OnPending result (IsArmed cx.new) }
         ensures kept { Keeps cx.old cx.new }
     {

@@ -1,24 +1,23 @@
 -- An engine before the first round, in a round, and after the last one.
-use Rattle.std.proofs.Common.{◌≡◌, ◌<◌, ◌≤◌, ◌+◌, ◌*◌, ◌++◌, ◌∷◌, [], ℕ, All, List, Some, None, length, map, refl, sym, ap, ◌∙◌, subst, arith}
+use Rattle.std.proofs.Common.{◌≡◌, ◌≤◌, ◌+◌, ◌*◌, ◌++◌, ◌∷◌, [], ℕ, false, All, List, Some, None, length, map, refl, sym, ap, ◌∙◌, subst, arith}
 use Rattle.std.specs.List.Sorted.{IsStrictlyIncreasing}
 use Rattle.std.specs.FinMap as map_of
 use Rattle.zs_agenda.specs.Ticks.{Ticks, IsTick, IsClock, horizon, max_horizon}
 use Rattle.zs_agenda.specs.Timers.{Timers, Takes}
 use Rattle.zs_term.specs.Saturating.{max_moment}
-use Rattle.zs_drive.specs.Values.{JobValue}
+use Rattle.zs_effect.specs.Scripts.{IsScript}
 use Rattle.zs_drive.specs.Tasks.{TaskValue, current_timeline}
 use Rattle.zs_pool.specs.Tally.{Seating}
-use Rattle.zs_pool.specs.Shares.{HasCounted}
 use Rattle.zs_engine.specs.declared.engine.Engine.{Engine}
 use Rattle.zs_engine.specs.Times.{ticks_of, next_of}
 use Rattle.zs_engine.specs.Slots.{Slots, Picks, emptied, IsDistinct}
-use Rattle.zs_engine.specs.Rounds.{KeepsUp, Rests, jobs_in, set_next}
+use Rattle.zs_engine.specs.Rounds.{Rests, KeptJob, kept_of, jobs_in, set_next}
 use Rattle.zs_pool.specs.Rounds.{polled_at, IsPollable}
 use Rattle.zs_engine.specs.Engine.{Runs, RestsWith, IsNew, IsDueWith}
 use Rattle.zs_engine.proofs.ClockTicks.{ticks-clock, ticks-end}
 use Rattle.zs_engine.proofs.RoundLemmas.{taken-set_next, IsDistinct-increasing}
 use Rattle.zs_engine.proofs.SlotLemmas.{jobs_in-push}
-use Rattle.zs_engine.proofs.Settling.{Settling, rests-push, rests-room, begins-filled, begins-few, begins-rising, begins-all, begins-room, room-enough, settling-start, settling-end}
+use Rattle.zs_engine.proofs.Settling.{Settling, rests-push, begins-filled, begins-few, begins-rising, begins-all, begins-room, room-enough, settling-start, settling-end}
 use Rattle.zs_engine.proofs.Finishing.{rests-none, begins, begins-within, length-slots}
 
 -- an engine of no jobs
@@ -43,6 +42,7 @@ IsNew-none engine lawful last limit is_horizon none unset seat =
         rests = rw uncounted (rests-none (ticks_of engine.clock) engine.slots.items engine.agenda none (ap (λ (t : Timers). t.moments) unset));
       };
       untaken = ap (λ (t : Timers). t.last_taken) unset;
+      uncounted = uncounted;
     }
 
 -- other slots and other timers, and the rest as it was
@@ -51,7 +51,7 @@ pub record Keeps (old new : Engine) : Type 0 where
   pub horizon : new.horizon ≡ old.horizon
   pub tally : new.tally ≡ old.tally
 
-pub Runs-kept : (clock : Ticks) (jobs others : List JobValue) (old new : Engine) → Runs clock jobs old → Keeps old new → jobs_in new.slots.items ≡ others
+pub Runs-kept : (clock : Ticks) (jobs others : List KeptJob) (old new : Engine) → Runs clock jobs old → Keeps old new → jobs_in new.slots.items ≡ others
     → new.seat.tally ≡ new.tally → new.seat.count + new.seat.allowance ≡ max_moment → Runs clock others new
 Runs-kept clock jobs others old new runs keeps same seated sum = record {
   same_clock = keeps.clock ∙ runs.same_clock;
@@ -63,34 +63,30 @@ Runs-kept clock jobs others old new runs keeps same seated sum = record {
   sum = sum;
 }
 
--- the seat may count all polls of one more task
-pub IsNew-room : (engine : Engine) → IsNew engine.clock (jobs_in engine.slots.items) engine → length (jobs_in engine.slots.items) < 10000 → length (ticks_of engine.clock) ≤ engine.seat.allowance
-IsNew-room engine h few =
-    let rests = h.rests.rests in
-    let slots : length engine.slots.items < 10000 = omega (arith, few, length-slots engine.slots.items rests.tasks rests.same) in
-    let room = rests-room (ticks_of engine.clock) engine.slots.items engine.agenda engine.seat.count h.rests.runs.rising rests slots in
-    omega (arith, room, h.rests.runs.sum)
-
 -- one more job
-pub IsNew-add : (old new : Engine) (job : JobValue) (task : TaskValue) → IsNew old.clock (jobs_in old.slots.items) old → Keeps old new → HasCounted old.seat (length task.moments) new.seat
-    → task.number ≡ length old.slots.items → task.job ≡ job → KeepsUp (ticks_of old.clock) task
+pub IsNew-add : (old new : Engine) (job : KeptJob) (task : TaskValue) (n : ℕ) → IsNew old.clock (jobs_in old.slots.items) old → Keeps old new → new.seat ≡ old.seat
+    → n ≡ length old.slots.items → task ≡ record { number = n; job = job.0; keeps = job.1; moments = []; seen = 0; broken = false } → IsScript task.job.script
     → new.slots.items ≡ old.slots.items ++ Some task ∷ [] → new.agenda ≡ set_next old.agenda task.number (next_of (ticks_of old.clock) (current_timeline task).due)
     → IsNew old.clock (jobs_in old.slots.items ++ job ∷ []) new
-IsNew-add old new job task h keeps counts place made keeps_up pushed set =
+IsNew-add old new job task n h keeps seat place made script pushed set =
     let ticks : List ℕ = ticks_of old.clock in
+    let uncounted : new.seat.count ≡ 0 = ap (λ (s : Seating). s.count) seat ∙ h.uncounted in
     let jobs : jobs_in new.slots.items ≡ jobs_in old.slots.items ++ job ∷ [] =
-    ap jobs_in pushed ∙ jobs_in-push old.slots.items task ∙ ap (λ (j : JobValue). jobs_in old.slots.items ++ j ∷ []) made in
-    let after : Rests ticks (old.slots.items ++ Some task ∷ []) (set_next old.agenda task.number (next_of ticks (current_timeline task).due)) (old.seat.count + length task.moments) =
-    rests-push ticks old.slots.items old.agenda old.seat.count task h.rests.rests place keeps_up in
+    ap jobs_in pushed ∙ jobs_in-push old.slots.items task ∙ ap (λ (t : TaskValue). jobs_in old.slots.items ++ kept_of t ∷ []) made in
+    let before : Rests ticks old.slots.items old.agenda 0 = rw h.uncounted at h.rests.rests in
+    let after : Rests ticks (old.slots.items ++ Some task ∷ []) (set_next old.agenda task.number (next_of ticks (current_timeline task).due)) 0 =
+    rests-push ticks old.slots.items old.agenda task h.rests.runs.rising before (ap (λ (t : TaskValue). t.number) made ∙ place) (ap (λ (t : TaskValue). t.moments) made)
+    (ap (λ (t : TaskValue). t.seen) made) (ap (λ (t : TaskValue). t.broken) made) script in
     let runs = h.rests.runs in
     record {
       rests = record {
         runs =
             Runs-kept old.clock (jobs_in old.slots.items) (jobs_in old.slots.items ++ job ∷ []) old new runs keeps jobs
-            (counts.0 ∙ runs.seated ∙ sym keeps.tally) (omega (arith, counts.1, counts.2, runs.sum));
-        rests = rw (counts.1, pushed, set) after;
+            (ap (λ (s : Seating). s.tally) seat ∙ runs.seated ∙ sym keeps.tally) (rw seat runs.sum);
+        rests = rw (uncounted, pushed, set) after;
       };
       untaken = ap (λ (t : Timers). t.last_taken) set ∙ taken-set_next old.agenda task.number (next_of ticks (current_timeline task).due) ∙ h.untaken;
+      uncounted = uncounted;
     }
 
 -- a round begins
@@ -107,7 +103,7 @@ IsDueWith-taken old new now numbers h keeps slots seat takes =
     }
 
 -- it is not past the horizon
-pub taken-within : (clock : Ticks) (jobs : List JobValue) (old : Engine) (after : Timers) (now : ℕ) (numbers : List ℕ) → RestsWith clock jobs old → Takes old.agenda after now numbers → now ≤ horizon clock
+pub taken-within : (clock : Ticks) (jobs : List KeptJob) (old : Engine) (after : Timers) (now : ℕ) (numbers : List ℕ) → RestsWith clock jobs old → Takes old.agenda after now numbers → now ≤ horizon clock
 taken-within clock jobs old after now numbers h takes =
     let within : now ≤ old.horizon = begins-within (ticks_of clock) old.horizon old.slots.items old.agenda after old.seat.count now numbers h.rests takes h.runs.last in
     omega (arith, within, h.runs.is_horizon)
@@ -155,14 +151,14 @@ module _ (old : Engine) (now : ℕ) (numbers : List ℕ) (h : IsDueWith old.cloc
       record { runs = Runs-kept old.clock (jobs_in old.slots.items) (jobs_in old.slots.items) old new h.runs keeps end.1 seated sum; rests = end.0 }
 
 -- ---- the same, told of another clock or other jobs that are equal
-pub RestsWith-own : (clock : Ticks) (jobs : List JobValue) (engine : Engine) → RestsWith clock jobs engine → RestsWith engine.clock (jobs_in engine.slots.items) engine
+pub RestsWith-own : (clock : Ticks) (jobs : List KeptJob) (engine : Engine) → RestsWith clock jobs engine → RestsWith engine.clock (jobs_in engine.slots.items) engine
 RestsWith-own clock jobs engine h =
-    subst (λ (c : Ticks). RestsWith c (jobs_in engine.slots.items) engine) (sym h.runs.same_clock) (subst (λ (js : List JobValue). RestsWith clock js engine) (sym h.runs.same_jobs) h)
+    subst (λ (c : Ticks). RestsWith c (jobs_in engine.slots.items) engine) (sym h.runs.same_clock) (subst (λ (js : List KeptJob). RestsWith clock js engine) (sym h.runs.same_jobs) h)
 
-pub RestsWith-as : (clock other : Ticks) (jobs others : List JobValue) (engine : Engine) → clock ≡ other → jobs ≡ others → RestsWith clock jobs engine → RestsWith other others engine
+pub RestsWith-as : (clock other : Ticks) (jobs others : List KeptJob) (engine : Engine) → clock ≡ other → jobs ≡ others → RestsWith clock jobs engine → RestsWith other others engine
 RestsWith-as clock other jobs others engine c js h =
-    subst (λ (k : Ticks). RestsWith k others engine) c (subst (λ (ks : List JobValue). RestsWith clock ks engine) js h)
+    subst (λ (k : Ticks). RestsWith k others engine) c (subst (λ (ks : List KeptJob). RestsWith clock ks engine) js h)
 
-pub IsNew-as : (clock other : Ticks) (jobs others : List JobValue) (engine : Engine) → clock ≡ other → jobs ≡ others → IsNew clock jobs engine → IsNew other others engine
+pub IsNew-as : (clock other : Ticks) (jobs others : List KeptJob) (engine : Engine) → clock ≡ other → jobs ≡ others → IsNew clock jobs engine → IsNew other others engine
 IsNew-as clock other jobs others engine c js h =
-    subst (λ (k : Ticks). IsNew k others engine) c (subst (λ (ks : List JobValue). IsNew clock ks engine) js h)
+    subst (λ (k : Ticks). IsNew k others engine) c (subst (λ (ks : List KeptJob). IsNew clock ks engine) js h)

@@ -1,7 +1,6 @@
 pub mod ClockTicks
 pub mod DuePolls
 pub mod KeepingUp
-pub mod LightTasks
 pub mod RoundLemmas
 pub mod SlotLemmas
 pub mod Settling

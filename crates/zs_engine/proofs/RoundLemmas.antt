@@ -11,12 +11,11 @@ use Rattle.std.specs.Cmp.{nat_cmp_total, unsigned_tied}
 use Rattle.std.specs.FinMap as map_of
 use Rattle.zs_agenda.specs.Timers.{Timers, Moments, IsAfter, Takes}
 use Rattle.zs_drive.specs.Clocks.{first_tick_from}
-use Rattle.zs_drive.specs.Values.{JobValue}
 use Rattle.zs_drive.specs.Tasks.{TaskValue, current_timeline}
 use Rattle.zs_engine.specs.Times.{next_of, IsLater}
 use Rattle.zs_engine.specs.Slots.{has, IsDistinct}
 use Rattle.zs_pool.specs.Rounds.{polled_at}
-use Rattle.zs_engine.specs.Rounds.{KeepsUp, IsWaiting, IsPending, AllWait, AllWaitBut, set_next, polls_of}
+use Rattle.zs_engine.specs.Rounds.{KeepsUp, IsWaiting, IsPending, AllWait, AllWaitBut, set_next, KeptJob, kept_of, polls_of}
 use Rattle.zs_engine.proofs.KeepingUp.{next-due, keeps_up-on, keeps_up-later}
 
 -- ---- lists
@@ -58,22 +57,22 @@ module _ {X : Type 0} where
         | inr h ↦ inr (ap suc h.0, h.1)
       ]
 
-abbrev pub jobs_of : List TaskValue → List JobValue
-jobs_of ts = map (λ (t : TaskValue). t.job) ts
+abbrev pub jobs_of : List TaskValue → List KeptJob
+jobs_of ts = map kept_of ts
 
-pub jobs_of-set : (ts : List TaskValue) (x : ℕ) (t u : TaskValue) → slice_get ts x ≡ Some t → u.job ≡ t.job → jobs_of (slice_set ts x u) ≡ jobs_of ts
+pub jobs_of-set : (ts : List TaskValue) (x : ℕ) (t u : TaskValue) → slice_get ts x ≡ Some t → kept_of u ≡ kept_of t → jobs_of (slice_set ts x u) ≡ jobs_of ts
 jobs_of-set [] x t u e s = refl
-jobs_of-set (y ∷ ts) zero t u e s = let same : y ≡ t = cc in ap (λ (j : JobValue). j ∷ jobs_of ts) (s ∙ sym (ap (λ (w : TaskValue). w.job) same))
-jobs_of-set (y ∷ ts) (suc x) t u e s = ap (λ (js : List JobValue). y.job ∷ js) (jobs_of-set ts x t u e s)
+jobs_of-set (y ∷ ts) zero t u e s = let same : y ≡ t = cc in ap (λ (j : KeptJob). j ∷ jobs_of ts) (s ∙ sym (ap kept_of same))
+jobs_of-set (y ∷ ts) (suc x) t u e s = ap (λ (js : List KeptJob). kept_of y ∷ js) (jobs_of-set ts x t u e s)
 
 pub polls_of-set : (ts : List TaskValue) (x now : ℕ) (t : TaskValue) → slice_get ts x ≡ Some t → polls_of (slice_set ts x (polled_at now t)) ≡ polls_of ts + 1
 polls_of-set [] x now t e = let no : None ≡ Some t = e in cc
 polls_of-set (y ∷ ts) zero now t e = let same : y ≡ t = cc in rw same (omega (arith, length-append t.moments (now ∷ [])))
 polls_of-set (y ∷ ts) (suc x) now t e = let rest : polls_of (slice_set ts x (polled_at now t)) ≡ polls_of ts + 1 = polls_of-set ts x now t e in omega arith
 
-pub polls_of-push : (ts : List TaskValue) (t : TaskValue) → polls_of (ts ++ t ∷ []) ≡ polls_of ts + length t.moments
-polls_of-push [] t = omega arith
-polls_of-push (y ∷ ts) t = let rest : polls_of (ts ++ t ∷ []) ≡ polls_of ts + length t.moments = polls_of-push ts t in omega arith
+pub polls_of-push : (ts : List TaskValue) (t : TaskValue) → t.moments ≡ [] → polls_of (ts ++ t ∷ []) ≡ polls_of ts
+polls_of-push [] t e = rw e refl
+polls_of-push (y ∷ ts) t e = ap (λ (n : ℕ). length y.moments + n) (polls_of-push ts t e)
 
 -- what a task set again leaves
 pub get-set_next : (a : Timers) (x i : ℕ) (o : Option ℕ) → map_of.get a.moments x ≡ None → map_of.get (set_next a x o).moments i ≡ cond (i == x) o (map_of.get a.moments i)

@@ -5,45 +5,32 @@ use Rattle.std.specs.List.Sorted.{IsStrictlyIncreasing}
 use Rattle.std.proofs.lemmas.List.{length-map}
 use Rattle.std.proofs.lemmas.Bool.Decides.{nat_tests, Decides-eqb}
 use Rattle.std.proofs.lemmas.List.Elements.{All-from_recursion}
+use Rattle.zs_effect.specs.Scripts.{IsScript}
 use Rattle.zs_agenda.specs.Timers.{Timers}
 use Rattle.zs_drive.specs.Clocks.{AreTicks}
-use Rattle.zs_drive.specs.Values.{JobValue}
 use Rattle.zs_drive.specs.Tasks.{TaskValue, current_timeline}
 use Rattle.zs_drive.proofs.Moments.{length-rises, length-clock}
 use Rattle.zs_engine.specs.Times.{next_of, IsLater}
 use Rattle.zs_engine.specs.Slots.{Slots, Picks, emptied, has, IsDistinct}
 use Rattle.zs_pool.specs.Rounds.{polled_at, IsPollable}
-use Rattle.zs_engine.specs.Rounds.{KeepsUp, IsPending, AllWaitBut, Rests, Begins, jobs_in, set_next, polls_of}
+use Rattle.zs_engine.specs.Rounds.{KeepsUp, IsPending, AllWaitBut, Rests, Begins, KeptJob, jobs_in, set_next, polls_of}
 use Rattle.zs_engine.proofs.ClockTicks.{RisesFrom-increasing}
-use Rattle.zs_engine.proofs.KeepingUp.{next-due, due-seen}
+use Rattle.zs_engine.proofs.KeepingUp.{keeps_up-first, next-due, due-seen}
 use Rattle.zs_engine.proofs.RoundLemmas.{jobs_of, jobs_of-set, polls_of-set, polls_of-push, slice_get-set_same, slice_get-set_other, slice_get-below, length-slice_set, some_at, pending-keeps_up, polled-later, due, AllWaitBut-step, AllWaitBut-end, AllWait-push, unset-past, IsDistinct-increasing}
 use Rattle.zs_engine.proofs.SlotLemmas.{full, full-set, full-get, get-full, full-all, full-push, length-full, jobs_in-full, Picks-set, Picks-length, Picks-all, Picks-numbers, AllBefore-range, length-emptied, get-emptied}
 
 -- one more task before the first round
-pub rests-unset : (ticks : List ℕ) (slots : Slots) (a : Timers) (count n : ℕ) → Rests ticks slots a count → n ≡ length slots → get a.moments n ≡ None
-rests-unset ticks slots a count n r l = unset-past ticks r.tasks a n (l ∙ ap (λ (ps : Slots). length ps) r.same ∙ length-full r.tasks) r.all_wait
+pub rests-unset : (ticks : List ℕ) (slots : Slots) (a : Timers) (n : ℕ) → Rests ticks slots a 0 → n ≡ length slots → get a.moments n ≡ None
+rests-unset ticks slots a n r l = unset-past ticks r.tasks a n (l ∙ ap (λ (ps : Slots). length ps) r.same ∙ length-full r.tasks) r.all_wait
 
-pub rests-push : (ticks : List ℕ) (slots : Slots) (a : Timers) (count : ℕ) (t : TaskValue) → Rests ticks slots a count → t.number ≡ length slots → KeepsUp ticks t
-    → Rests ticks (slots ++ Some t ∷ []) (set_next a t.number (next_of ticks (current_timeline t).due)) (count + length t.moments)
-rests-push ticks slots a count t r l keeps_up = record {
+pub rests-push : (ticks : List ℕ) (slots : Slots) (a : Timers) (t : TaskValue) → AreTicks ticks → Rests ticks slots a 0 → t.number ≡ length slots
+    → t.moments ≡ [] → t.seen ≡ 0 → t.broken ≡ false → IsScript t.job.script → Rests ticks (slots ++ Some t ∷ []) (set_next a t.number (next_of ticks (current_timeline t).due)) 0
+rests-push ticks slots a t clock r l fresh unseen whole script = record {
   tasks = r.tasks ++ t ∷ [];
   same = ap (λ (ps : Slots). ps ++ Some t ∷ []) r.same ∙ sym (full-push r.tasks t);
-  all_wait = AllWait-push ticks r.tasks a t.number t (l ∙ ap (λ (ps : Slots). length ps) r.same ∙ length-full r.tasks) refl keeps_up r.all_wait;
-  counted = omega (arith, r.counted, polls_of-push r.tasks t);
+  all_wait = AllWait-push ticks r.tasks a t.number t (l ∙ ap (λ (ps : Slots). length ps) r.same ∙ length-full r.tasks) refl (keeps_up-first ticks t clock fresh unseen whole script) r.all_wait;
+  counted = r.counted ∙ sym (polls_of-push r.tasks t fresh);
 }
-
-polls-bound : (ticks : List ℕ) (ts : List TaskValue) → AreTicks ticks → ((i : ℕ) (t : TaskValue) → slice_get ts i ≡ Some t → KeepsUp ticks t) → polls_of ts ≤ length ts * 1000000000000000
-polls-bound ticks [] clock each = omega arith
-polls-bound ticks (t ∷ ts) clock each =
-    let rest : polls_of ts ≤ length ts * 1000000000000000 = polls-bound ticks ts clock (λ i u e. each (suc i) u e) in
-    let l : KeepsUp ticks t = each 0 t refl in
-    omega (arith, l.few, length-clock ticks clock, ap (λ (us : List ℕ). length us) l.split, length-append l.past l.rest)
-
--- there is room for the polls of one more task
-pub rests-room : (ticks : List ℕ) (slots : Slots) (a : Timers) (count : ℕ) → AreTicks ticks → Rests ticks slots a count → length slots < 10000 → count + length ticks ≤ 10000 * 1000000000000000
-rests-room ticks slots a count clock r few =
-    let bound = polls-bound ticks r.tasks clock (λ i t e. (r.all_wait.each i t e).keeps_up) in
-    omega (arith, bound, r.counted, ap (λ (ps : Slots). length ps) r.same, length-full r.tasks, length-clock ticks clock)
 
 -- ---- what the pool asks for
 module _ (ticks : List ℕ) (slots : Slots) (a : Timers) (count now : ℕ) (numbers : List ℕ) (b : Begins ticks slots a count now numbers) where
@@ -92,7 +79,14 @@ module _ (ticks : List ℕ) (slots : Slots) (a : Timers) (count now : ℕ) (numb
   -- there is room for the polls of a round
   pub begins-room : AreTicks ticks → length slots ≤ 10000 → count ≤ 10000 * 1000000000000000
   begins-room clock few =
-      let bound = polls-bound ticks b.tasks clock keeps_up-each in omega (arith, bound, b.counted, ap (λ (ps : Slots). length ps) b.same, length-full b.tasks)
+      let bound = polls-bound b.tasks keeps_up-each in omega (arith, bound, b.counted, ap (λ (ps : Slots). length ps) b.same, length-full b.tasks)
+    where
+      polls-bound : (ts : List TaskValue) → ((i : ℕ) (t : TaskValue) → slice_get ts i ≡ Some t → KeepsUp ticks t) → polls_of ts ≤ length ts * 1000000000000000
+      polls-bound [] each = omega arith
+      polls-bound (t ∷ ts) each =
+          let rest : polls_of ts ≤ length ts * 1000000000000000 = polls-bound ts (λ i u e. each (suc i) u e) in
+          let l : KeepsUp ticks t = each 0 t refl in
+          omega (arith, l.few, length-clock ticks clock, ap (λ (us : List ℕ). length us) l.split, length-append l.past l.rest)
 
 times : (a b n : ℕ) → a ≤ b → a * n ≤ b * n
 times zero b n h = omega arith
@@ -100,7 +94,7 @@ times (suc a) zero n h = absurd (omega arith)
 times (suc a) (suc b) n h = let rest : a * n ≤ b * n = times a b n (omega arith) in omega (arith, rest)
 
 -- ---- while the tasks are put back: these are left
-pub record Settling (ticks : List ℕ) (now : ℕ) (jobs : List JobValue) (slots : Slots) (a : Timers) (rest : List TaskValue) (count : ℕ) : Type 0 where
+pub record Settling (ticks : List ℕ) (now : ℕ) (jobs : List KeptJob) (slots : Slots) (a : Timers) (rest : List TaskValue) (count : ℕ) : Type 0 where
   pub tasks : List TaskValue
   pub left : List ℕ
   pub waits : List TaskValue
@@ -131,13 +125,13 @@ settling-start ticks slots slots' a count count' now numbers due polled b rising
 }
 
 -- the next task that is put back
-pub record Next (ticks : List ℕ) (now : ℕ) (jobs : List JobValue) (slots : Slots) (a : Timers) (t' : TaskValue) (more : List TaskValue) (count : ℕ) : Type 0 where
+pub record Next (ticks : List ℕ) (now : ℕ) (jobs : List KeptJob) (slots : Slots) (a : Timers) (t' : TaskValue) (more : List TaskValue) (count : ℕ) : Type 0 where
   pub in_range : t'.number < length slots
   pub unset : get a.moments t'.number ≡ None
   pub later : IsLater a.last_taken (next_of ticks (current_timeline t').due)
   pub onward : Settling ticks now jobs (slice_set slots t'.number (Some t')) (set_next a t'.number (next_of ticks (current_timeline t').due)) more count
 
-module _ (ticks : List ℕ) (now : ℕ) (jobs : List JobValue) (slots : Slots) (a : Timers) (count : ℕ) where
+module _ (ticks : List ℕ) (now : ℕ) (jobs : List KeptJob) (slots : Slots) (a : Timers) (count : ℕ) where
   next_of_one : (tasks : List TaskValue) (n : ℕ) (left : List ℕ) (t : TaskValue) (waits : List TaskValue) → AllWaitBut ticks tasks a now (n ∷ left) → IsDistinct (n ∷ left) → Picks (full tasks) (n ∷ left) (t ∷ waits)
       → length slots ≡ length tasks → ((i : ℕ) (u : TaskValue) → slice_get tasks i ≡ Some u → has i (n ∷ left) ≡ false → slice_get slots i ≡ Some (Some u))
       → jobs_of tasks ≡ jobs → count ≡ polls_of tasks + length (map (polled_at now) (t ∷ waits))

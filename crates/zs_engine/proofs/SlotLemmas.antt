@@ -3,10 +3,9 @@ use Rattle.std.proofs.Common.{◌≡◌, ◌≢◌, ◌<◌, ◌||◌, ℕ, zero
 use Rattle.std.proofs.lemmas.Bool.Decides.{nat_tests, Decides-eqb}
 use Rattle.std.specs.List.{AllByRecursion}
 use Rattle.zs_drive.specs.Clocks.{AllBefore}
-use Rattle.zs_drive.specs.Values.{JobValue}
 use Rattle.zs_drive.specs.Tasks.{TaskValue}
 use Rattle.zs_engine.specs.Slots.{Slots, Picks, emptied, has, IsDistinct}
-use Rattle.zs_engine.specs.Rounds.{jobs_in}
+use Rattle.zs_engine.specs.Rounds.{KeptJob, kept_of, jobs_in}
 use Rattle.zs_engine.proofs.RoundLemmas.{jobs_of, slice_get-set_other, length-slice_set}
 
 abbrev pub full : List TaskValue → Slots
@@ -110,12 +109,12 @@ full-all (p ∷ slots) (t ∷ ts) l shown =
 
 pub jobs_in-full : (ts : List TaskValue) → jobs_in (full ts) ≡ jobs_of ts
 jobs_in-full [] = refl
-jobs_in-full (t ∷ ts) = ap (λ (js : List JobValue). t.job ∷ js) (jobs_in-full ts)
+jobs_in-full (t ∷ ts) = ap (λ (js : List KeptJob). kept_of t ∷ js) (jobs_in-full ts)
 
-pub jobs_in-push : (slots : Slots) (t : TaskValue) → jobs_in (slots ++ Some t ∷ []) ≡ jobs_in slots ++ t.job ∷ []
+pub jobs_in-push : (slots : Slots) (t : TaskValue) → jobs_in (slots ++ Some t ∷ []) ≡ jobs_in slots ++ kept_of t ∷ []
 jobs_in-push [] t = refl
 jobs_in-push (None ∷ slots) t = jobs_in-push slots t
-jobs_in-push (Some u ∷ slots) t = ap (λ (js : List JobValue). u.job ∷ js) (jobs_in-push slots t)
+jobs_in-push (Some u ∷ slots) t = ap (λ (js : List KeptJob). kept_of u ∷ js) (jobs_in-push slots t)
 
 pub full-push : (ts : List TaskValue) (t : TaskValue) → full (ts ++ t ∷ []) ≡ full ts ++ Some t ∷ []
 full-push [] t = refl

@@ -5,7 +5,6 @@ use Rattle.std.proofs.lemmas.Bool.Decides.{Decides-eqb}
 use Rattle.std.proofs.lemmas.Map.Keys.{sorted_from_strictly_increasing, IsStrictlyIncreasing-from_sorted}
 use Rattle.zs_agenda.specs.Timers.{Timers}
 use Rattle.zs_agenda.specs.Ticks.{Ticks}
-use Rattle.zs_drive.specs.Values.{JobValue}
 use Rattle.zs_drive.specs.Tasks.{TaskValue, current_timeline}
 use Rattle.std.specs.FinMap.{get}
 use Rattle.zs_pool.specs.Rounds.{polled_at, IsPolled, IsPollable}
@@ -13,7 +12,7 @@ use Rattle.zs_pool.specs.Shares.{HasCounted}
 use Rattle.zs_engine.specs.declared.engine.Engine.{Engine}
 use Rattle.zs_engine.specs.Times.{ticks_of, next_of, IsLater}
 use Rattle.zs_engine.specs.Slots.{Slots, has}
-use Rattle.zs_engine.specs.Rounds.{IsPending, Begins, jobs_in, set_next}
+use Rattle.zs_engine.specs.Rounds.{IsPending, Begins, KeptJob, jobs_in, set_next}
 use Rattle.zs_engine.specs.Engine.{RestsWith, IsDueWith}
 use Rattle.zs_engine.proofs.RoundLemmas.{jobs_of-set, polls_of-set, some_at, pending-keeps_up, polled-later, due, AllWaitBut-step, AllWaitBut-end, IsDistinct-increasing}
 use Rattle.zs_engine.proofs.SlotLemmas.{full, full-set, full-get, get-full, jobs_in-full}
@@ -129,7 +128,7 @@ module _ (old : Engine) (now n : ℕ) (left : List ℕ) (h : IsDueWith old.clock
           }
 
 -- all were polled
-pub due-none : (clock : Ticks) (jobs : List JobValue) (now : ℕ) (engine : Engine) → IsDueWith clock jobs now [] engine → RestsWith clock jobs engine
+pub due-none : (clock : Ticks) (jobs : List KeptJob) (now : ℕ) (engine : Engine) → IsDueWith clock jobs now [] engine → RestsWith clock jobs engine
 due-none clock jobs now engine h = record {
   runs = h.runs;
   rests = record {
@@ -141,10 +140,10 @@ due-none clock jobs now engine h = record {
 }
 
 -- the same, told of the engine's own clock and jobs
-pub IsDueWith-own : (clock : Ticks) (jobs : List JobValue) (now : ℕ) (numbers : List ℕ) (engine : Engine) → IsDueWith clock jobs now numbers engine → IsDueWith engine.clock (jobs_in engine.slots.items) now numbers engine
+pub IsDueWith-own : (clock : Ticks) (jobs : List KeptJob) (now : ℕ) (numbers : List ℕ) (engine : Engine) → IsDueWith clock jobs now numbers engine → IsDueWith engine.clock (jobs_in engine.slots.items) now numbers engine
 IsDueWith-own clock jobs now numbers engine h =
-    subst (λ (c : Ticks). IsDueWith c (jobs_in engine.slots.items) now numbers engine) (sym h.runs.same_clock) (subst (λ (js : List JobValue). IsDueWith clock js now numbers engine) (sym h.runs.same_jobs) h)
+    subst (λ (c : Ticks). IsDueWith c (jobs_in engine.slots.items) now numbers engine) (sym h.runs.same_clock) (subst (λ (js : List KeptJob). IsDueWith clock js now numbers engine) (sym h.runs.same_jobs) h)
 
-pub IsDueWith-as : (clock other : Ticks) (jobs others : List JobValue) (now : ℕ) (numbers : List ℕ) (engine : Engine) → clock ≡ other → jobs ≡ others → IsDueWith clock jobs now numbers engine → IsDueWith other others now numbers engine
+pub IsDueWith-as : (clock other : Ticks) (jobs others : List KeptJob) (now : ℕ) (numbers : List ℕ) (engine : Engine) → clock ≡ other → jobs ≡ others → IsDueWith clock jobs now numbers engine → IsDueWith other others now numbers engine
 IsDueWith-as clock other jobs others now numbers engine c js h =
-    subst (λ (k : Ticks). IsDueWith k others now numbers engine) c (subst (λ (ks : List JobValue). IsDueWith clock ks now numbers engine) js h)
+    subst (λ (k : Ticks). IsDueWith k others now numbers engine) c (subst (λ (ks : List KeptJob). IsDueWith clock ks now numbers engine) js h)

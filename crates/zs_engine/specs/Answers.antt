@@ -1,6 +1,7 @@
 -- What a run answers. Each task stands where its job alone stands on the whole clock: nothing of workers, batches, gates or
 -- timers shows. Readers of `run_jobs` trust this file and what it names of zs_drive.
 use Rattle.std.specs.Prelude.{◌≡◌, ℕ, ◌+◌, false, List, [], ◌∷◌, All, length, map}
+use Rattle.zs_drive.specs.declared.record.Keeping.{Keeping}
 use Rattle.zs_drive.specs.Values.{JobValue, JobRecord, record_of}
 use Rattle.zs_drive.specs.Timeline.{timeline_of, poll_moments}
 use Rattle.zs_drive.specs.Tasks.{TaskValue, current_timeline}
@@ -27,3 +28,7 @@ pub record IsAnswer (clock : Ticks) (jobs : List JobValue) (answer : Answer) : T
   pub moments : map (λ task. task.moments) answer.tasks.items ≡ map (λ job. poll_moments_of (ticks_of clock) (record_of job)) jobs
   pub polls : answer.polls ≡ poll_count_of (ticks_of clock) (map record_of jobs)
   pub last : answer.horizon ≡ horizon clock
+
+-- each task stores its attempts so
+abbrev pub AllKeep : Keeping → Answer → Type 0
+AllKeep keeps answer = All (λ (task : TaskValue). task.keeps ≡ keeps) answer.tasks.items

@@ -5,4 +5,3 @@ pub mod Answers
 pub mod Slots
 pub mod Rounds
 pub mod Engine
-pub mod Effort

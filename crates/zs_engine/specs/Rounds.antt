@@ -6,7 +6,9 @@ use Rattle.std.specs.FinMap.{get, insert}
 use Rattle.zs_agenda.specs.Timers.{Timers}
 use Rattle.zs_effect.specs.Scripts.{IsScript}
 use Rattle.zs_drive.specs.Clocks.{RisesFrom, AllBefore, max_tick}
-use Rattle.zs_drive.specs.Values.{JobValue, record_of}
+use Rattle.zs_drive.specs.declared.job.Job.{Job}
+use Rattle.zs_drive.specs.declared.record.Keeping.{Keeping}
+use Rattle.zs_drive.specs.Values.{JobValue, record_of, job_value}
 use Rattle.zs_drive.specs.Timeline.{timeline_of, poll_moments}
 use Rattle.zs_drive.specs.Tasks.{TaskValue, current_timeline}
 use Rattle.zs_engine.specs.Times.{next_of}
@@ -76,10 +78,26 @@ pub record Begins (ticks : List ℕ) (slots : Slots) (timers : Timers) (count no
   pub all_wait : AllWaitBut ticks tasks timers now numbers
   pub counted : count ≡ polls_of tasks
 
+-- a job, and how its task stores its attempts
+abbrev pub KeptJob : Type 0
+KeptJob = JobValue × Keeping
+
+-- what a job stands for whose task stores its attempts so
+abbrev pub job_kept : Keeping → Job → KeptJob
+job_kept keeps job = (job_value job, keeps)
+
+-- the job alone
+abbrev pub job_alone : KeptJob → JobValue
+job_alone kept = kept.0
+
+-- the job of a task
+abbrev pub kept_of : TaskValue → KeptJob
+kept_of task = (task.job, task.keeps)
+
 -- the jobs of the tasks in the slots
-abbrev pub jobs_in : Slots → List JobValue
+abbrev pub jobs_in : Slots → List KeptJob
 jobs_in [] = []
-jobs_in (slot ∷ slots) = option_to_list (option_map (λ (task : TaskValue). task.job) slot) ++ jobs_in slots
+jobs_in (slot ∷ slots) = option_to_list (option_map kept_of slot) ++ jobs_in slots
 
 -- the timers with a job set, where there is a tick for it
 abbrev pub set_next : Timers → ℕ → Option ℕ → Timers

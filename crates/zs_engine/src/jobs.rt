@@ -1,7 +1,7 @@
 ghost use Rattle.std.specs.Prelude.{◌≤◌, length, map, IfOk};
-ghost use Rattle.zs_drive.specs.Values.{job_kept, job_value};
+ghost use Rattle.zs_drive.specs.Values.{job_value};
 ghost use Rattle.zs_pool.specs.Limits.{max_tasks};
-ghost use Rattle.zs_engine.specs.Answers.{IsAnswer};
+ghost use Rattle.zs_engine.specs.Answers.{AllKeep, IsAnswer};
 
 use crate::answer::Answer;
 use crate::engine::Engine;
@@ -13,7 +13,7 @@ use zs_agenda::Clock;
 use zs_drive::{Job, Keeping};
 use zs_pool::{Cut, Gate};
 
-// Runs the jobs, whose tasks keep their attempts so.
+// Runs the jobs, whose tasks store their attempts so.
 fn run_keeping<G: Gate, R: Threads + Wait + Sync>(
     rt: &R,
     alloc: Global,
@@ -24,14 +24,15 @@ fn run_keeping<G: Gate, R: Threads + Wait + Sync>(
     keeps: Keeping,
 ) -> Result<Answer, EngineFault>
     requires few { length jobs.items ≤ max_tasks }
-    ensures answer { IfOk result (IsAnswer clock (map (job_kept keeps) jobs.items)) }
+    ensures answer { IfOk result (IsAnswer clock (map job_value jobs.items)) }
+    ensures keeps { IfOk result (AllKeep keeps) }
 {
     let mut engine = Engine::new(alloc, clock)?;
     engine.run(rt, cut, gate, jobs, keeps)?;
     engine.finish()
 }
 
-/// Runs the jobs up to the clock's horizon. A job's number is its place in the list, from 0. Each task keeps all its records.
+/// Runs the jobs up to the clock's horizon. A job's number is its place in the list, from 0. Each task stores the record of each attempt.
 pub fn run_jobs<G: Gate, R: Threads + Wait + Sync>(
     rt: &R,
     alloc: Global,
@@ -42,11 +43,12 @@ pub fn run_jobs<G: Gate, R: Threads + Wait + Sync>(
 ) -> Result<Answer, EngineFault>
     requires few { length jobs.items ≤ max_tasks }
     ensures answer { IfOk result (IsAnswer clock (map job_value jobs.items)) }
+    ensures keeps { IfOk result (AllKeep Keeping.Records) }
 {
     run_keeping(rt, alloc, cut, gate, clock, jobs, Keeping::Records)
 }
 
-/// The same, with tasks that keep lines in place of all records but the last, which takes less memory.
+/// The same, with tasks that store lines in place of all records but the last, which takes less memory.
 pub fn run_to_lines<G: Gate, R: Threads + Wait + Sync>(
     rt: &R,
     alloc: Global,
@@ -56,7 +58,8 @@ pub fn run_to_lines<G: Gate, R: Threads + Wait + Sync>(
     jobs: Vec<Job>,
 ) -> Result<Answer, EngineFault>
     requires few { length jobs.items ≤ max_tasks }
-    ensures answer { IfOk result (IsAnswer clock (map (job_kept Keeping.Lines) jobs.items)) }
+    ensures answer { IfOk result (IsAnswer clock (map job_value jobs.items)) }
+    ensures keeps { IfOk result (AllKeep Keeping.Lines) }
 {
     run_keeping(rt, alloc, cut, gate, clock, jobs, Keeping::Lines)
 }

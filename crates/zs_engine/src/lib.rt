@@ -1,4 +1,4 @@
-//! Runs many jobs at once, up to a clock's horizon: light ones alone, the others by rounds over a timer queue.
+//! Runs many jobs at once, up to a clock's horizon, by rounds over a timer queue.
 //!
 //! Each task of the answer stands where its job alone stands at the horizon (`specs/Answers.antt`), for every cut of the
 //! rounds and every gate, on a clock of every millisecond and on listed ticks.
@@ -11,9 +11,7 @@
 //! ```
 #![tactic(auto)]
 
-mod alone;
 mod answer;
-mod effort;
 mod engine;
 mod fault;
 mod jobs;

@@ -10,7 +10,7 @@ use zs_agenda::{Agenda, Clock};
 use zs_drive::Task;
 
 // The tick at which the task is due.
-pub fn next_tick(clock: &Clock, task: &Task) -> Option<u64>
+fn next_tick(clock: &Clock, task: &Task) -> Option<u64>
     ensures value { result ≡ next_of (ticks_of clock.now) (current_timeline task.now).due }
 {
     clock.tick(task.due()?)

@@ -2,6 +2,7 @@
 //! wrong, and gives up waiting at last.
 #![tactic(auto)]
 
+use std::alloc::{AllocError, Global};
 use std::sync::atomic::{AtomicU64, Ordering};
 use std::thread;
 use zs_pool::Gate;
@@ -49,48 +50,18 @@ impl Moments {
     }
 }
 
-/// Holds nobody and doesn't say so, so that a run under it starts as many threads as its cut says.
-#[derive(Clone, Copy)]
-pub struct Silent;
-
-impl Gate for Silent {
-    fn pass(&self, _job: u64, _now: u64, _done: u64) {}
-}
-
-/// A gate that says it is open, whatever the gate in it does.
-#[derive(Drop)]
-pub struct Posing<G> {
-    pub gate: G,
-}
-
-impl<G: Gate> Gate for Posing<G> {
-    fn pass(&self, job: u64, now: u64, done: u64) {
-        self.gate.pass(job, now, done);
-    }
-
-    fn is_open(&self) -> bool {
-        true
-    }
-}
-
-/// Holds each pass from a moment on until as many passes of its moment were entered, and counts those that gave up.
+/// Holds each pass until as many passes of its moment were entered, and counts those that gave up.
 #[derive(Drop)]
 pub struct Meeting {
     wanted: u64,
-    first: u64,
     entered: Moments,
     alone: AtomicU64,
 }
 
 impl Meeting {
     pub fn of(wanted: u64) -> Meeting {
-        Meeting::from_moment(0, wanted)
-    }
-
-    pub fn from_moment(first: u64, wanted: u64) -> Meeting {
         Meeting {
             wanted,
-            first,
             entered: Moments::new(),
             alone: AtomicU64::new(0),
         }
@@ -105,7 +76,7 @@ impl Meeting {
 impl Gate for Meeting {
     fn pass(&self, _job: u64, now: u64, _done: u64) {
         self.entered.count(now);
-        if now >= self.first && !self.entered.come_to(now, self.wanted) {
+        if !self.entered.come_to(now, self.wanted) {
             self.alone.fetch_add(1, Ordering::SeqCst);
         }
     }
@@ -201,26 +172,18 @@ impl Gate for Slow {
     }
 }
 
-/// Counts its passes. Each has to be of the next of so many jobs in turn, or of the same job until its turn is over, and be
-/// told of as many polls as passes before.
+/// Counts its passes. Each has to be of the next of so many jobs in turn, and be told of as many polls as passes before.
 #[derive(Drop)]
 pub struct InTurn {
     jobs: u64,
-    turn: u64,
     passes: AtomicU64,
     wrong: AtomicU64,
 }
 
 impl InTurn {
     pub fn of(jobs: u64) -> InTurn {
-        InTurn::with_turns(jobs, 1)
-    }
-
-    /// A job's turn is so many passes.
-    pub fn with_turns(jobs: u64, turn: u64) -> InTurn {
         InTurn {
             jobs,
-            turn,
             passes: AtomicU64::new(0),
             wrong: AtomicU64::new(0),
         }
@@ -233,17 +196,12 @@ impl InTurn {
     pub fn wrong(&self) -> u64 {
         self.wrong.load(Ordering::SeqCst)
     }
-
-    // The job whose turn it is after so many passes.
-    fn job_after(&self, passes: u64) -> Option<u64> {
-        passes.checked_div(self.turn)?.checked_rem(self.jobs)
-    }
 }
 
 impl Gate for InTurn {
     fn pass(&self, job: u64, _now: u64, done: u64) {
         let before = self.passes.fetch_add(1, Ordering::SeqCst);
-        if Some(job) != self.job_after(before) || done != before {
+        if Some(job) != before.checked_rem(self.jobs) || done != before {
             self.wrong.fetch_add(1, Ordering::SeqCst);
         }
     }
@@ -436,6 +394,85 @@ impl Gate for Chained {
                 self.done.store(done, Ordering::SeqCst);
                 self.two.store(1, Ordering::SeqCst);
             }
+        }
+    }
+}
+
+// What one pass was told. The job is the greatest number until the pass is entered.
+#[derive(Drop)]
+struct Entry {
+    job: AtomicU64,
+    now: AtomicU64,
+    done: AtomicU64,
+}
+
+/// Records what each pass is told, in the order in which the passes are entered.
+#[derive(Drop)]
+pub struct Record {
+    entered: AtomicU64,
+    entries: Vec<Entry>,
+}
+
+impl Record {
+    /// A record with room for this number of passes.
+    pub fn of(alloc: Global, passes: u64) -> Result<Record, AllocError> {
+        let mut entries = Vec::new(alloc);
+        for _ in 0..passes {
+            entries.push(Entry {
+                job: AtomicU64::new(u64::MAX),
+                now: AtomicU64::new(0),
+                done: AtomicU64::new(0),
+            })?;
+        }
+        Ok(Record {
+            entered: AtomicU64::new(0),
+            entries,
+        })
+    }
+
+    /// The number of passes, with those for which there was no room.
+    pub fn passes(&self) -> u64 {
+        self.entered.load(Ordering::SeqCst)
+    }
+
+    /// The job, the moment and the number of polls that each pass was told, in order.
+    pub fn told(&self, alloc: Global) -> Result<Vec<(u64, u64, u64)>, AllocError> {
+        let mut told = Vec::new(alloc);
+        for entry in self.entries.iter() {
+            let job = entry.job.load(Ordering::SeqCst);
+            let now = entry.now.load(Ordering::SeqCst);
+            let done = entry.done.load(Ordering::SeqCst);
+            told.push((job, now, done))?;
+        }
+        Ok(told)
+    }
+
+    /// The number of passes that came at an earlier moment than a pass before them, or were told of fewer polls than there
+    /// were passes at earlier moments, or of more than there were passes.
+    pub fn wrong(&self) -> u64 {
+        let (mut wrong, mut latest, mut earlier) = (0u64, 0u64, 0u64);
+        for (place, entry) in self.entries.iter().enumerate() {
+            let now = entry.now.load(Ordering::SeqCst);
+            let done = entry.done.load(Ordering::SeqCst);
+            if now > latest {
+                latest = now;
+                earlier = place as u64;
+            }
+            if now < latest || done < earlier || done > place as u64 {
+                wrong = wrong.wrapping_add(1);
+            }
+        }
+        wrong
+    }
+}
+
+impl Gate for Record {
+    fn pass(&self, job: u64, now: u64, done: u64) {
+        let place = self.entered.fetch_add(1, Ordering::SeqCst);
+        if let Some(entry) = self.entries.get(place as usize) {
+            entry.job.store(job, Ordering::SeqCst);
+            entry.now.store(now, Ordering::SeqCst);
+            entry.done.store(done, Ordering::SeqCst);
         }
     }
 }

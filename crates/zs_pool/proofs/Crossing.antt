@@ -1,16 +1,20 @@
 -- What a worker is handed and hands back may go to another thread, though terms, outputs, kinds and states hold themselves.
 use Rattle.std.proofs.Common.{rules}
-use denote.Param.Send.{IsSend, IsSync, sendable, shr_send, view_send, view_sync}
-use mathlib.Core.List.{[], ◌∷◌}
+use denote.Param.Send.{IsSend, IsSync, SendAt, FieldsAt, LiveAt, sendable, shr_send, view_send, view_sync, recorded_send_of, recorded_send_at, enum_send_at}
+use mathlib.Core.Logic.{inl, inr}
+use mathlib.Core.List.{List, [], ◌∷◌}
 use mir.Syntax.{Sym, w64}
 use denote.Plain.{UInt}
 use denote.RattleType.{RattleType}
 use denote.Builtin.{One}
 use denote.Hole.{as_row}
+use denote.Enum.Enum.{Enum}
+use denote.Enum.Declared.{Choice, intoss, rowss, shape}
 use denote.Ref.{NamedLft}
-use denote.Struct.Field.{row_field, shr_ref_field}
+use denote.Struct.Field.{Field, rows, row_field, shr_ref_field}
+use denote.Struct.Values.{Values, intos}
 use denote.Struct.Tuple.{TupleAt, type_at}
-use denote.Param.SendFields.{declared_send, declared_sync, as_row_send}
+use denote.Param.SendFields.{FieldsHave, VariantsHave, declared_send, declared_sync, as_row_send}
 use Rattle.std.proofs.Crossing.{Box-send, Vec-send, crosses, send as heap_send, sync as heap_sync, frees}
 use Rattle.std.specs.contracts.impls.GlobalAllocator.TheImpl as heap
 use Rattle.std.proofs.option.Option.TheSendSync as option
@@ -40,7 +44,10 @@ use Rattle.zs_step.specs.contracts.state.State as state
 use Rattle.zs_step.specs.contracts.compiled.Compiled as compiled
 use Rattle.zs_drive.specs.contracts.record.Ended as ended
 use Rattle.zs_drive.specs.contracts.record.Attempted as attempted
+use Rattle.zs_drive.specs.contracts.log.Told as told
 use Rattle.zs_drive.specs.contracts.log.Log as log
+use Rattle.zs_drive.specs.declared.log.Log.{Log}
+use Rattle.zs_drive.specs.declared.log.Log.TheVariants.{Recorded, Written}
 use Rattle.zs_drive.specs.contracts.progress.Progress as progress
 use Rattle.zs_drive.specs.contracts.task.Task as task
 use Rattle.zs_drive.specs.contracts.task.Task.TheInside as task_inside
@@ -100,8 +107,26 @@ ended_sent o = declared_send ended.the_type (search sendable, (search (rules, se
 attempted_sent : IsSend ended.the_row → IsSend attempted.the_row
 attempted_sent e = declared_send attempted.the_type (search sendable, (option.the_send ended.the_row e, tt))
 
-log_sent : IsSend attempted.the_row → IsSend log.the_row
-log_sent a = declared_send log.the_type (search (rules, sendable), (search (rules, sendable, crosses) depth 20, (search sendable, (search (rules, sendable, crosses) depth 20, (Vec-send attempted.the_row a, tt)))))
+told_sent : IsSend attempted.the_row → IsSend told.the_row
+told_sent a = declared_send told.the_type (search (rules, sendable, crosses) depth 20, (search sendable, (search (rules, sendable, crosses) depth 20, (option.the_send attempted.the_row a, tt))))
+
+-- an enum whose variants' fields may go to another thread, at each of its values
+values_live : (Fs : List Field) → FieldsHave IsSend Fs → (v : Values Fs) → FieldsAt SendAt (rows Fs) (intos Fs v)
+values_live [] s v = tt
+values_live (F ∷ Fs) s v = (recorded_send_at F.row F.Value F.into F.into_one s.0 v.0, values_live Fs s.1 v.1)
+
+choice_live : (Fss : List (List Field)) → VariantsHave IsSend Fss → (c : Choice Fss) → LiveAt SendAt (rowss Fss) (intoss Fss c)
+choice_live [] s c = tt
+choice_live (Fs ∷ Fss) s (inl v) = values_live Fs s.0 v
+choice_live (Fs ∷ Fss) s (inr c) = choice_live Fss s.1 c
+
+log_live : VariantsHave IsSend log.the_type.parts → (d : Log) → LiveAt SendAt (rowss log.the_type.parts) (log.the_type.to d)
+log_live s (Recorded records) = choice_live log.the_type.parts s (inl (records, tt))
+log_live s (Written lines) = choice_live log.the_type.parts s (inr (inl (lines, tt)))
+
+log_sent : IsSend attempted.the_row → IsSend told.the_row → IsSend log.the_row
+log_sent a t = recorded_send_of (Enum (shape log.the_type)) log.the_type.D log.the_type.to log.the_type.to_one
+    (λ d. enum_send_at (shape log.the_type) (log.the_type.to d) (log_live ((Vec-send attempted.the_row a, tt), ((t, tt), tt)) d))
 
 progress_sent : IsSend compiled.the_row → IsSend log.the_row → IsSend out.the_row → IsSend progress.the_row
 progress_sent c l o = declared_send progress.the_type (search (rules, sendable, crosses) depth 20, (search (rules, sendable), (search sendable, (search (rules, sendable, crosses) depth 20, (c, (l, (o, (search (rules, sendable), (search sendable, (search sendable, tt))))))))))
@@ -154,8 +179,14 @@ shelf_fields p = declared_sync shelf_inside.the_type (slotted.the_sync (option_t
 shelf_shared : IsSync shelf_inside.the_row → IsSync shelf.the_row
 shelf_shared f = view_sync shelf_inside.the_row _ _ _ _ f
 
+attempted_send : IsSend attempted.the_row
+attempted_send = attempted_sent (ended_sent out_send)
+
+log_send : IsSend log.the_row
+log_send = log_sent attempted_send (told_sent attempted_send)
+
 task_send : IsSend task.the_row
-task_send = task_sent (task_fields (progress_sent (compiled_sent (checked_sent (checked_fields term_send kind_send)) state_send) (log_sent (attempted_sent (ended_sent out_send))) out_send))
+task_send = task_sent (task_fields (progress_sent (compiled_sent (checked_sent (checked_fields term_send kind_send)) state_send) log_send out_send))
 
 batch_send : IsSend batch.the_row
 batch_send = batch_sent (batch_fields task_send)
@@ -185,11 +216,11 @@ shelf_sync = shelf_shared (shelf_fields polled_send)
 pub reference_send : (l : NamedLft) (R : RattleType) (one : One R.mir) → IsSync R → IsSend (as_row (shr_ref_field l R one))
 reference_send l R one s = as_row_send (shr_ref_field l R one) (shr_send l.mir l.lft R s)
 
--- what a closure captures, nine values of it
-pub captured_send : (ν : Sym) (A B C D E F G H I : RattleType) → IsSend A → IsSend B → IsSend C → IsSend D → IsSend E → IsSend F → IsSend G → IsSend H → IsSend I
-    → IsSend (TupleAt ν (A ∷ B ∷ C ∷ D ∷ E ∷ F ∷ G ∷ H ∷ I ∷ []))
-captured_send ν A B C D E F G H I a b c d e f g h i =
-    declared_send (type_at ν (A ∷ B ∷ C ∷ D ∷ E ∷ F ∷ G ∷ H ∷ I ∷ [])) (
+-- what a closure captures, ten values of it
+pub captured_send : (ν : Sym) (A B C D E F G H I J : RattleType) → IsSend A → IsSend B → IsSend C → IsSend D → IsSend E → IsSend F → IsSend G → IsSend H → IsSend I → IsSend J
+    → IsSend (TupleAt ν (A ∷ B ∷ C ∷ D ∷ E ∷ F ∷ G ∷ H ∷ I ∷ J ∷ []))
+captured_send ν A B C D E F G H I J a b c d e f g h i j =
+    declared_send (type_at ν (A ∷ B ∷ C ∷ D ∷ E ∷ F ∷ G ∷ H ∷ I ∷ J ∷ [])) (
       as_row_send (row_field A) a,
       (
         as_row_send (row_field B) b,
@@ -197,7 +228,7 @@ captured_send ν A B C D E F G H I a b c d e f g h i =
           as_row_send (row_field C) c,
           (
             as_row_send (row_field D) d,
-            (as_row_send (row_field E) e, (as_row_send (row_field F) f, (as_row_send (row_field G) g, (as_row_send (row_field H) h, (as_row_send (row_field I) i, tt))))),
+            (as_row_send (row_field E) e, (as_row_send (row_field F) f, (as_row_send (row_field G) g, (as_row_send (row_field H) h, (as_row_send (row_field I) i, (as_row_send (row_field J) j, tt)))))),
           ),
         ),
       ),

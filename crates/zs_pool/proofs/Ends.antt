@@ -26,19 +26,19 @@ pub record Ended (now : ℕ) (all : List BatchValue) (first : ℕ) (room : ℕ) 
   pub count : r.seat.count ≡ first + length (tasks_of all)
   pub left : r.seat.allowance + length (tasks_of all) ≡ room
 
-pub ended : (now : ℕ) (all : List BatchValue) (first r : Rights) (kept : Overflow) (left : List PolledValue) (k : Vec PolledValue Global)
-    → IsWhole now first r kept → first.board_pass.batches ≡ all → kept ≡ Ok k → IsPermutation (range_with_len 0 (length r.board_pass.taken)) r.board_pass.taken
+pub ended : (now : ℕ) (all : List BatchValue) (first r : Rights) (kept : Overflow) (messages left : List PolledValue) (k : Vec PolledValue Global)
+    → IsWhole now first r kept messages → first.board_pass.batches ≡ all → kept ≡ Ok k → IsPermutation (range_with_len 0 (length r.board_pass.taken)) r.board_pass.taken
     → (r.board_pass.none ≡ true → length r.board_pass.taken ≡ length r.board_pass.batches) → IsPermutation r.shelf_pass.put (r.shelf_pass.taken ++ left)
-    → Ended now all first.seat.count first.seat.allowance r (left ++ k.items)
-ended now all first r kept left k w same is some whole moved =
+    → Ended now all first.seat.count first.seat.allowance r ((messages ++ left) ++ k.items)
+ended now all first r kept messages left k w same is some whole moved =
     let bs = first.board_pass.batches in let count = first.seat.count in let room = first.seat.allowance in
-    let E : List BatchValue → Type 0 = λ l. Ended now l count room r (left ++ k.items) in
+    let E : List BatchValue → Type 0 = λ l. Ended now l count room r ((messages ++ left) ++ k.items) in
     let p : IsPart now bs count room 0 r k.items = at_ok (λ ps. IsPart now bs count room 0 r ps.items) kept k is w.part in
     let every : length r.board_pass.taken ≡ length bs = whole p.none ∙ ap length w.same in
     let N : ℕ → Type 0 = λ n. IsPermutation (range_with_len 0 n) r.board_pass.taken in
     let taken : N (length bs) = subst N every some in
     let P : List PolledValue → Type 0 = λ l. IsPermutation r.shelf_pass.put (l ++ left) in
-    let ends = collected now bs r.board_pass.taken r.shelf_pass.put k.items left taken (subst P w.taken moved) p.served in
+    let ends = collected now bs r.board_pass.taken r.shelf_pass.put k.items messages left taken (subst P w.taken moved) p.served in
     let size = counted_all bs r.board_pass.taken taken in
     let here : E bs = record {
       each = ends.0;

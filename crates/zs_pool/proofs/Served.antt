@@ -108,14 +108,14 @@ serves_both now bs t u p k q l one two =
 pub sizes_both : (bs : List BatchValue) (t u : List ℕ) → sizes bs (t ++ u) ≡ sizes bs t + sizes bs u
 sizes_both bs t u = sum_by-append (size_at bs) t u
 
--- what is left on the shelf is what the workers put; with what they kept it is all batches, polled
-pub collected : (now : ℕ) (bs : List BatchValue) (taken : List ℕ) (put kept left : List PolledValue) → IsPermutation (range_with_len 0 (length bs)) taken → IsPermutation put left → Serves now bs taken (put ++ kept)
-    → All (IsPollAmong now bs) (left ++ kept) × IsPermutation (range_with_len 0 (length bs)) (numbers_of (left ++ kept))
-collected now bs taken put kept left whole moved served =
-    let all = IsPermutation-append_left kept put left moved in
-    let numbers = IsPermutation-map (λ m. m.number) (put ++ kept) (left ++ kept) all in (
-      All-permutation (IsPollAmong now bs) (put ++ kept) (left ++ kept) all served.0,
-      IsPermutation-trans (range_with_len 0 (length bs)) taken (numbers_of (left ++ kept)) whole (IsPermutation-trans taken (numbers_of (put ++ kept)) (numbers_of (left ++ kept)) served.1 numbers),
+-- what was collected is what the workers put; with what they kept it is all batches, polled
+pub collected : (now : ℕ) (bs : List BatchValue) (taken : List ℕ) (put kept got left : List PolledValue) → IsPermutation (range_with_len 0 (length bs)) taken → IsPermutation put (got ++ left) → Serves now bs taken (put ++ kept)
+    → All (IsPollAmong now bs) ((got ++ left) ++ kept) × IsPermutation (range_with_len 0 (length bs)) (numbers_of ((got ++ left) ++ kept))
+collected now bs taken put kept got left whole moved served =
+    let all = IsPermutation-append_left kept put (got ++ left) moved in
+    let numbers = IsPermutation-map (λ m. m.number) (put ++ kept) ((got ++ left) ++ kept) all in (
+      All-permutation (IsPollAmong now bs) (put ++ kept) ((got ++ left) ++ kept) all served.0,
+      IsPermutation-trans (range_with_len 0 (length bs)) taken (numbers_of ((got ++ left) ++ kept)) whole (IsPermutation-trans taken (numbers_of (put ++ kept)) (numbers_of ((got ++ left) ++ kept)) served.1 numbers),
     )
 
 sizes_next : (b : BatchValue) (bs : List BatchValue) (a n : ℕ) → sizes (b ∷ bs) (range_with_len (suc a) n) ≡ sizes bs (range_with_len a n)

@@ -1,5 +1,5 @@
 -- What the calling thread has, while it joins the workers.
-use Rattle.std.specs.Prelude.{◌≡◌, ℕ, ◌+◌, true, List, [], ◌++◌, Ok, IfOk, Vec}
+use Rattle.std.specs.Prelude.{◌≡◌, ℕ, ◌+◌, true, List, ◌++◌, Ok, IfOk, Vec}
 use Rattle.std.specs.Global.{Global}
 use Rattle.std.specs.List.{sum_by}
 use Rattle.std.specs.declared.thread.PromisedHandle.{PromisedHandle}
@@ -34,10 +34,10 @@ pub record IsPart (now : ℕ) (batches : List BatchValue) (first : ℕ) (room : 
   pub count : r.seat.count ≡ first + sizes batches r.board_pass.taken
   pub left : r.seat.allowance + sizes batches r.board_pass.taken + spare ≡ room
 
--- all workers are joined into the rights with which the round began
-pub record IsWhole (moment : ℕ) (first : Rights) (r : Rights) (overflow : Overflow) : Type 0 where
+-- all workers are joined into the rights with which the round began, and these messages were taken from the shelf meanwhile
+pub record IsWhole (moment : ℕ) (first : Rights) (r : Rights) (overflow : Overflow) (messages : List PolledValue) : Type 0 where
   pub of : (r.board_pass.board ≡ first.board_pass.board) × (r.shelf_pass.shelf ≡ first.shelf_pass.shelf) × (r.seat.tally ≡ first.seat.tally)
   pub same : r.board_pass.batches ≡ first.board_pass.batches
   pub shares : (r.board_pass.share ≡ max_moment) × (r.shelf_pass.share ≡ max_moment)
-  pub taken : r.shelf_pass.taken ≡ []
+  pub taken : r.shelf_pass.taken ≡ messages
   pub part : IfOk overflow (λ ps. IsPart moment first.board_pass.batches first.seat.count first.seat.allowance 0 r ps.items)

@@ -2,12 +2,6 @@
 pub trait Gate: Sync {
     /// The task with the number `job` is about to be polled at `now`, and at least `done` polls were counted so far.
     fn pass(&self, job: u64, now: u64, done: u64);
-
-    /// Whether it never holds a thread. Only then a run may poll a moment's tasks on fewer threads than its cut allows, and
-    /// a light job at later moments before others at earlier ones.
-    fn is_open(&self) -> bool {
-        false
-    }
 }
 
 /// A gate that returns at once.
@@ -16,8 +10,4 @@ pub struct OpenGate;
 
 impl Gate for OpenGate {
     fn pass(&self, _job: u64, _now: u64, _done: u64) {}
-
-    fn is_open(&self) -> bool {
-        true
-    }
 }

@@ -2,8 +2,7 @@
 use Rattle.std.proofs.Common.{◌≡◌, ◌+◌, ℕ, List, [], ◌∷◌, length, map, refl, sym, ap, ◌∙◌, sum_by}
 use Rattle.std.proofs.lemmas.List.Sums.{sum_by-cons}
 use Rattle.zs_agenda.specs.Ticks.{Ticks, horizon}
-use Rattle.zs_drive.specs.declared.record.Keeping.{Keeping}
-use Rattle.zs_drive.specs.Values.{JobRecord, job_kept, record_of, job_record}
+use Rattle.zs_drive.specs.Values.{JobRecord, job_value, record_of, job_record}
 use Rattle.zs_drive.specs.Timeline.{Timeline, timeline_of}
 use Rattle.zs_drive.specs.Tasks.{TaskValue, current_timeline}
 use Rattle.zs_drive.specs.declared.job.Job.{Job}
@@ -50,24 +49,24 @@ count_told ticks (job ∷ jobs) =
     ap (λ n. length (poll_moments_of ticks job) + n) (count_told ticks jobs)
     ∙ sym (sum_by-cons (λ (job : JobReport). job.polls) (job_report ticks job) (map (job_report ticks) jobs))
 
-records_of : (keeps : Keeping) (jobs : List Job) → map record_of (map (job_kept keeps) jobs) ≡ map job_record jobs
-records_of keeps [] = refl
-records_of keeps (job ∷ jobs) = ap (λ rest. job_record job ∷ rest) (records_of keeps jobs)
+records_of : (jobs : List Job) → map record_of (map job_value jobs) ≡ map job_record jobs
+records_of [] = refl
+records_of (job ∷ jobs) = ap (λ rest. job_record job ∷ rest) (records_of jobs)
 
--- the report of an answer is that of the plan, whatever its tasks keep of their attempts
-pub report_of_answer : (keeps : Keeping) (clock : Ticks) (workers grain : ℕ) (jobs : List Job) (answer : Answer) → IsAnswer clock (map (job_kept keeps) jobs) answer
+-- the report of an answer is that of the plan
+pub report_of_answer : (clock : Ticks) (workers grain : ℕ) (jobs : List Job) (answer : Answer) → IsAnswer clock (map job_value jobs) answer
     → report_text answer.horizon (map task_report answer.tasks.items) answer.polls
     ≡ report_of (record { clock = clock; workers = workers; grain = grain; jobs = map job_record jobs })
-report_of_answer keeps clock workers grain jobs answer is =
+report_of_answer clock workers grain jobs answer is =
     let ticks : List ℕ = ticks_of clock in
     let tasks : List TaskValue = answer.tasks.items in
-    let values : map (λ task. task.job) tasks ≡ map (job_kept keeps) jobs = is.same_jobs in
+    let values : map (λ task. task.job) tasks ≡ map job_value jobs = is.same_jobs in
     let timelines : map current_timeline tasks ≡ map (λ job. timeline_of (record_of job) ticks) (map (λ task. task.job) tasks) = is.timelines ∙ ap (map (λ job. timeline_of (record_of job) ticks)) (sym values) in
     let moments : map (λ task. task.moments) tasks ≡ map (λ job. poll_moments_of ticks (record_of job)) (map (λ task. task.job) tasks) = is.moments ∙ ap (map (λ job. poll_moments_of ticks (record_of job))) (sym values) in
     let reports : map task_report tasks ≡ map (job_report ticks) (map job_record jobs) =
-    each_report ticks tasks timelines moments ∙ ap (λ vs. map (job_report ticks) (map record_of vs)) values ∙ ap (map (job_report ticks)) (records_of keeps jobs) in
+    each_report ticks tasks timelines moments ∙ ap (λ vs. map (job_report ticks) (map record_of vs)) values ∙ ap (map (job_report ticks)) (records_of jobs) in
     let polls : answer.polls ≡ sum_by (λ job. job.polls) (map (job_report ticks) (map job_record jobs)) =
-    is.polls ∙ count_told ticks (map record_of (map (job_kept keeps) jobs)) ∙ ap (λ rs. sum_by (λ job. job.polls) (map (job_report ticks) rs)) (records_of keeps jobs) in
+    is.polls ∙ count_told ticks (map record_of (map job_value jobs)) ∙ ap (λ rs. sum_by (λ job. job.polls) (map (job_report ticks) rs)) (records_of jobs) in
     ap (λ h. report_text h (map task_report tasks) answer.polls) is.last
     ∙ ap (λ rs. report_text (horizon clock) rs answer.polls) reports
     ∙ ap (report_text (horizon clock) (map (job_report ticks) (map job_record jobs))) polls

@@ -8,7 +8,8 @@ use Rattle.zs_drive.specs.declared.record.Attempted.{Attempted}
 use Rattle.zs_drive.specs.declared.record.Keeping.{Keeping}
 use Rattle.zs_drive.specs.declared.record.Keeping.TheVariants.{Records, Lines}
 use Rattle.zs_drive.specs.Values.{AttemptedValue, attempted_of, ended_of}
-use Rattle.zs_drive.specs.Lines.{attempts_lines, told_of, recorded_of}
+use Rattle.zs_drive.specs.Lines.{attempts_lines}
+use Rattle.zs_drive.specs.Told.{told_of, recorded_of}
 use Rattle.zs_drive.proofs.Logging.{told-recorded, attempts_lines-append}
 use Rattle.zs_run.specs.Report.{last_ended}
 

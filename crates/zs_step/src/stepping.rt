@@ -279,6 +279,8 @@ fn step_collect_all(
     let Some(x) = step_into(part, step, visits, &mut last).decision() else {
         return Turn::Refused;
     };
+    // `out` holds the list of the step before. Only after it is dropped can the list grow in place.
+    put(out, Out::Num(0));
     let Ok(list) = kept.step(step.alloc, last, x) else {
         return Turn::Refused;
     };
@@ -300,9 +302,64 @@ fn step_map(part: &mut State, func: Func, step: &Step, visits: &mut u64, out: &m
         out.put_number(n);
         return turn;
     }
+    if let Func::First = func {
+        return step_first(part, step, visits, out);
+    }
     let turn = step_into(part, step, visits, out);
     func.apply_in(out);
     turn
+}
+
+// One step of a part, and the first of its output's pair. If the part is `&&`, no pair is made.
+#[cycle(stepping)]
+fn step_first(part: &mut State, step: &Step, visits: &mut u64, out: &mut Out) -> Turn
+    requires within { visits.old + weight (state_schedule part.old) < 2 ^ 64 }
+    ensures answers { (p : _) → IfSome (decided result) (λ d. Answers (Map' p part.old Func.First) step.now.moment step.now.input (answer (output_of out.new) d)) }
+    ensures counts { (p : _) → IfSome (decided result) (λ d. CountsOn (Map' p part.old Func.First) (Map' p part.new Func.First) step.now.moment step.now.input visits.old visits.new) }
+    ensures same { state_schedule part.new ≡ state_schedule part.old }
+    ensures succeeds { is_bare (state_schedule part.old) ≡ true → IsSome (decided result) }
+{
+    match part {
+        State::Both { first, second } => first_of_both(first, second, step, visits, out),
+        State::Leaf(_)
+        | State::Either { .. }
+        | State::AndThen { .. }
+        | State::WhileInput { .. }
+        | State::WhileOutput { .. }
+        | State::CollectAll { .. }
+        | State::Map { .. }
+        | State::ResetWhen { .. } => {
+            let turn = step_into(part, step, visits, out);
+            Func::First.apply_in(out);
+            turn
+        }
+    }
+}
+
+// One step of both parts, and the first part's output. The second part's isn't made.
+#[cycle(stepping)]
+#[inline(never)]
+fn first_of_both(
+    first: &mut State,
+    second: &mut State,
+    step: &Step,
+    visits: &mut u64,
+    out: &mut Out,
+) -> Turn
+    requires within { visits.old + 1 + weight (state_schedule first.old) + weight (state_schedule second.old) < 2 ^ 64 }
+    ensures answers { (p q r : _) → IfSome (decided result) (λ d. Answers (Map' r (Both' p first.old q second.old) Func.First) step.now.moment step.now.input (answer (output_of out.new) d)) }
+    ensures counts { (p q r : _) → IfSome (decided result) (λ d. CountsOn (Map' r (Both' p first.old q second.old) Func.First) (Map' r (Both' p first.new q second.new) Func.First) step.now.moment step.now.input visits.old visits.new) }
+    ensures same { (state_schedule first.new ≡ state_schedule first.old) × (state_schedule second.new ≡ state_schedule second.old) }
+{
+    *visits += 1;
+    let Some(x) = step_into(first, step, visits, out).decision() else {
+        return Turn::Refused;
+    };
+    let Some(y) = step_unread(second, step, visits).decision() else {
+        return Turn::Refused;
+    };
+    let both = x.later(y);
+    Turn::of(both)
 }
 
 // One step of a part, which begins anew and is stepped again where its output passes.

@@ -1,7 +1,8 @@
 -- The text of a list of outputs, one output after another.
-use Rattle.std.proofs.Common.{◌≡◌, ℕ, zero, suc, List, [], ◌∷◌, ◌++◌, ◌<◌, ◌+◌, sym, ap, ◌∙◌, append_assoc, subst, take, drop, get_or, length, arith, length-take-le}
-use Rattle.std.specs.Prelude.{codes, Result, Ok, Err, OnOk, is_ok, if◌then◌else◌}
-use Rattle.std.proofs.lemmas.List.{take-append-drop}
+use Rattle.std.proofs.Common.{String, ◌≡◌, ◌≤◌, ℕ, zero, suc, List, [], ◌∷◌, ◌++◌, ◌<◌, ◌+◌, sym, ap, ◌∙◌, append_assoc, subst, take, drop, get_or, length, arith, length-take-le}
+use Rattle.std.specs.Prelude.{codes, Result, Ok, Err, OnOk, is_ok, if◌then◌else◌, string_bytes, IsUtf8, IsCharBoundary}
+use Rattle.std.proofs.lemmas.List.{take-append-drop, length-take}
+use Rattle.std.proofs.lemmas.Str.{IsUtf8-string_bytes, IsCharBoundary-from_take}
 use Rattle.std.proofs.Math.Seq.{take-length, take-append_seam}
 use Rattle.zs_term.specs.Output.{Output, Outputs, none, more, outputs_of, output_of, with_last}
 use Rattle.zs_term.specs.OutputText.{output_text, outputs_text, behind_text, comma_before, IsBeginning}
@@ -57,3 +58,11 @@ begins_both xs ys zs first second =
     let whole : zs ≡ ys ++ drop (length ys) zs = sym (take-append-drop (length ys) zs) ∙ ap (λ w. w ++ drop (length ys) zs) second in
     let grown = whole ∙ ap (λ w. w ++ drop (length ys) zs) middle ∙ append_assoc xs (drop (length xs) ys) (drop (length ys) zs) in
     subst (IsBeginning xs) (sym grown) (take-append_seam xs (drop (length xs) ys ++ drop (length ys) zs))
+
+-- a text that begins with another may be cut after it
+pub cut_after : {A B : Type 0} (old : String A) (new : String B) → IsBeginning (string_bytes old) (string_bytes new) → IsCharBoundary (string_bytes new) (length (string_bytes old))
+cut_after old new begins =
+    let bytes = string_bytes new in
+    let count = length (string_bytes old) in
+    let inside : count ≤ length bytes = omega (arith, length-take count bytes, ap (λ (xs : List ℕ). length xs) begins) in
+    IsCharBoundary-from_take bytes count (IsUtf8-string_bytes new) inside (subst IsUtf8 (sym begins) (IsUtf8-string_bytes old))

@@ -1,6 +1,6 @@
 // The text of outputs.
 
-ghost use Rattle.std.specs.Prelude.{◌≡◌, ◌++◌, IfOk, OnOk, string_bytes};
+ghost use Rattle.std.specs.Prelude.{◌≡◌, ◌++◌, IfOk, OnOk, OnErr, string_bytes};
 ghost use Rattle.std.specs.Fmt.{decimal};
 ghost use Rattle.zs_term.specs.Output.{output_of, outputs_of, outs_list};
 ghost use Rattle.zs_term.specs.OutputText.{output_text, outputs_text, comma_before, IsBeginning};
@@ -21,10 +21,24 @@ pub fn write_out(alloc: Global, out: &Out) -> Result<String, NoMemory>
     Ok(text)
 }
 
-/// Adds the text of an output behind a text. After a refusal a part of it may stand there.
+/// Adds the text of an output at the end of a text. If that fails, the text is unchanged.
+pub fn append_out(text: &mut String, out: &Out) -> Result<(), NoMemory>
+    ensures ok { OnOk result (string_bytes text.new ≡ string_bytes text.old ++ output_text (output_of out.now)) }
+    ensures err { OnErr result (string_bytes text.new ≡ string_bytes text.old) }
+    ensures kept { IsBeginning (string_bytes text.old) (string_bytes text.new) }
+{
+    let len = text.len();
+    let added = push_out(text, out);
+    if added.is_err() {
+        text.truncate(len);
+    }
+    added
+}
+
+// Adds the text of an output. If that fails, the text may end with a part of it.
 #[tactic(auto, using(crate::proofs::Texts::begins_with_itself, crate::proofs::Texts::begins_pushed, crate::proofs::Texts::begins_both))]
 #[cycle(texts)]
-pub fn append_out(text: &mut String, out: &Out) -> Result<(), NoMemory>
+fn push_out(text: &mut String, out: &Out) -> Result<(), NoMemory>
     ensures ok { OnOk result (string_bytes text.new ≡ string_bytes text.old ++ output_text (output_of out.now)) }
     ensures kept { IsBeginning (string_bytes text.old) (string_bytes text.new) }
 {
@@ -32,19 +46,19 @@ pub fn append_out(text: &mut String, out: &Out) -> Result<(), NoMemory>
         Out::Num(n) => append_number(text, *n),
         Out::Pair(a, b) => {
             text.push_str("(")?;
-            append_out(text, a)?;
+            push_out(text, a)?;
             text.push_str(",")?;
-            append_out(text, b)?;
+            push_out(text, b)?;
             text.push_str(")")
         }
         Out::Left(a) => {
             text.push_str("Left(")?;
-            append_out(text, a)?;
+            push_out(text, a)?;
             text.push_str(")")
         }
         Out::Right(a) => {
             text.push_str("Right(")?;
-            append_out(text, a)?;
+            push_out(text, a)?;
             text.push_str(")")
         }
         Out::Items(outs) => {
@@ -87,7 +101,7 @@ fn append_items(text: &mut String, items: &[Out]) -> Result<(), NoMemory>
 {
     for (i, item) in items.iter().enumerate() {
         append_comma(text, i)?;
-        append_out(text, item)?;
+        push_out(text, item)?;
     }
     Ok(())
 }

@@ -60,21 +60,27 @@ impl Outs {
         }
     }
 
-    /// The same list once more, in the same memory. Where that is refused, this one may have lost its outputs.
+    /// The same list once more, in the same memory. If that fails, this one is unchanged.
     pub fn share(&mut self, alloc: Global) -> Result<Outs, AllocError>
         ensures ok { IfOk result (λ r. outs_list r ≡ outs_list self.old) }
-        ensures same { OnOk result (outs_list self.new ≡ outs_list self.old) }
+        ensures same { outs_list self.new ≡ outs_list self.old }
     {
         match &mut self.storage {
             Storage::Shared(items) => Ok(Outs {
                 storage: Storage::Shared(Arc::try_clone(items)?),
             }),
             Storage::Own(items) => {
-                let items = Arc::new(alloc, replace(items, Vec::new(alloc)))?;
-                let other = Arc::try_clone(&items)?;
-                self.storage = Storage::Shared(items);
+                let shared = match Arc::new(alloc, replace(items, Vec::new(alloc))) {
+                    Ok(shared) => shared,
+                    Err(refused) => {
+                        *items = refused.value;
+                        return Err(AllocError);
+                    }
+                };
+                let other = Arc::try_clone(&shared);
+                self.storage = Storage::Shared(shared);
                 Ok(Outs {
-                    storage: Storage::Shared(other),
+                    storage: Storage::Shared(other?),
                 })
             }
         }

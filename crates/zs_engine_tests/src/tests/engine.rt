@@ -1,6 +1,6 @@
 //! Whole runs: the attempts of each job, how it ended, and the polls that were due.
 use super::support::expect_text;
-use super::support::jobs::{Given, bad, good, jobs_of, retried};
+use super::support::jobs::{Given, Listed, TWICE, good, job_of, jobs_of, listed_jobs, retried};
 use std::alloc::{AllocError, Global};
 use std::fmt::Write;
 use std::mem::drop;
@@ -10,8 +10,9 @@ use std::test::Fail;
 use std::thread::Threads;
 use zs_agenda::{AgendaFault, Clock};
 use zs_drive::{Attempted, DriveFault, Job, Mode, Task};
+use zs_effect::{Beat, Outcome};
 use zs_engine::{Answer, EngineFault, run_jobs};
-use zs_gates::{InTurn, Meeting, Posing, Silent};
+use zs_gates::{Crowd, InTurn, Meeting, Record};
 use zs_pool::{Cut, Gate, OpenGate};
 use zs_step::Decision;
 
@@ -114,213 +115,216 @@ fn expect_polls<G: Gate, R: Abort + Threads + Wait + Sync>(
     Ok(())
 }
 
-// The jobs come to this under the gate and each of these cuts.
-fn expect_under<G: Gate, R: Abort + Threads + Wait + Sync>(
+// The jobs come to this under each of these cuts.
+fn expect<R: Abort + Threads + Wait + Sync>(
     rt: &R,
     alloc: Global,
-    gate: &G,
+    of: &str,
     cuts: &[(u64, u64)],
     ticks: Ticks<'_>,
-    given: &[Given<'_>],
+    jobs: &[Listed<'_>],
     wanted: &str,
 ) -> Result<(), Fail> {
     for (workers, grain) in cuts {
         let mut text = String::new(alloc);
         let cut = Cut::new(*workers, *grain).expect(rt, "within the limits");
         let clock = clock_of(rt, alloc, ticks)?;
-        let jobs = jobs_of(alloc, given)?;
-        push_run(rt, &mut text, alloc, cut, gate, clock, jobs)?;
-        expect_text(rt, &text, wanted, "a run");
+        let jobs = listed_jobs(alloc, jobs)?;
+        push_run(rt, &mut text, alloc, cut, &OpenGate, clock, jobs)?;
+        expect_text(rt, &text, wanted, of);
     }
     Ok(())
 }
 
-// The jobs come to this under each of these cuts: where threads are started that pay, and where all are that may.
-fn expect<R: Abort + Threads + Wait + Sync>(
-    rt: &R,
-    alloc: Global,
-    cuts: &[(u64, u64)],
-    ticks: Ticks<'_>,
-    given: &[Given<'_>],
-    wanted: &str,
-) -> Result<(), Fail> {
-    expect_under(rt, alloc, &OpenGate, cuts, ticks, given, wanted)?;
-    expect_under(rt, alloc, &Silent, cuts, ticks, given, wanted)
-}
+// A retry that succeeds, one that fails, a repeat that finishes, one that runs at the horizon, and one that never begins.
+const FIVE: [Listed<'static>; 5] = [
+    ("succeeds", Mode::Retry, "recurs(3)", 0, &TWICE),
+    (
+        "fails",
+        Mode::Retry,
+        "recurs(0)",
+        1,
+        &[Beat {
+            ms: 1,
+            outcome: Outcome::Bad(4),
+        }],
+    ),
+    (
+        "finishes",
+        Mode::Repeat,
+        "recurs(1)",
+        0,
+        &[Beat {
+            ms: 4,
+            outcome: Outcome::Good(9),
+        }],
+    ),
+    (
+        "runs",
+        Mode::Repeat,
+        "spaced(10)",
+        20,
+        &[Beat {
+            ms: 7,
+            outcome: Outcome::Good(1),
+        }],
+    ),
+    ("waits", Mode::Retry, "recurs(3)", 41, &TWICE),
+];
 
-#[test]
-fn no_jobs_need_no_polls(rt: HostRuntime) -> Result<(), Fail> {
-    let wanted = "horizon 1000, 0 polls\n";
-    expect(&rt, rt.alloc(), &[(2, 1)], Ticks::Every(1000), &[], wanted)
-}
+// Seven equal jobs.
+const SEVEN: [Listed<'static>; 7] = [
+    ("a", Mode::Retry, "recurs(3)", 0, &TWICE),
+    ("b", Mode::Retry, "recurs(3)", 0, &TWICE),
+    ("c", Mode::Retry, "recurs(3)", 0, &TWICE),
+    ("d", Mode::Retry, "recurs(3)", 0, &TWICE),
+    ("e", Mode::Retry, "recurs(3)", 0, &TWICE),
+    ("f", Mode::Retry, "recurs(3)", 0, &TWICE),
+    ("g", Mode::Retry, "recurs(3)", 0, &TWICE),
+];
 
-#[test]
-fn jobs_that_begin_apart_are_polled_apart(rt: HostRuntime) -> Result<(), Fail> {
-    let jobs = [retried("a", 0), retried("b", 3)];
-    let wanted = "0 a: 0..5 next 5, 5..10 last, Some(Succeeded(1)), 3 polls
+// A name, the cuts, the ticks, the jobs, and what results under each cut.
+type Run<'a> = (
+    &'a str,
+    &'a [(u64, u64)],
+    Ticks<'a>,
+    &'a [Listed<'a>],
+    &'a str,
+);
+
+static RUNS: [Run<'static>; 9] = [
+    (
+        "no_jobs_need_no_polls",
+        &[(2, 1)],
+        Ticks::Every(1000),
+        &[],
+        "horizon 1000, 0 polls\n",
+    ),
+    (
+        "jobs_that_begin_apart_are_polled_apart",
+        &[(1, 1)],
+        Ticks::Every(1000),
+        &[
+            ("a", Mode::Retry, "recurs(3)", 0, &TWICE),
+            ("b", Mode::Retry, "recurs(3)", 3, &TWICE),
+        ],
+        "0 a: 0..5 next 5, 5..10 last, Some(Succeeded(1)), 3 polls
 1 b: 3..8 next 8, 8..13 last, Some(Succeeded(1)), 3 polls
 horizon 1000, 6 polls
-";
-    expect(
-        &rt,
-        rt.alloc(),
+",
+    ),
+    (
+        "a_job_that_starts_at_the_greatest_moment_never_begins",
         &[(1, 1)],
         Ticks::Every(1000),
-        &jobs,
-        wanted,
-    )
-}
-
-#[test]
-fn a_job_that_starts_at_the_greatest_moment_never_begins(rt: HostRuntime) -> Result<(), Fail> {
-    let jobs = [retried("a", u64::MAX)];
-    let wanted = "0 a: None, 0 polls\nhorizon 1000, 0 polls\n";
-    expect(
-        &rt,
-        rt.alloc(),
-        &[(1, 1)],
-        Ticks::Every(1000),
-        &jobs,
-        wanted,
-    )
-}
-
-// A retry that succeeds, one that fails, a repeat that finishes, one that runs at the horizon, and one that never begins.
-fn expect_five_fates<R: Abort + Threads + Wait + Sync>(
-    rt: &R,
-    alloc: Global,
-    ticks: Ticks<'_>,
-    wanted: &str,
-) -> Result<(), Fail> {
-    let jobs = [
-        retried("succeeds", 0),
-        Given {
-            name: "fails",
-            mode: Mode::Retry,
-            schedule: "recurs(0)",
-            start: 1,
-            beats: &[bad(1, 4)],
-        },
-        Given {
-            name: "finishes",
-            mode: Mode::Repeat,
-            schedule: "recurs(1)",
-            start: 0,
-            beats: &[good(4, 9)],
-        },
-        Given {
-            name: "runs",
-            mode: Mode::Repeat,
-            schedule: "spaced(10)",
-            start: 20,
-            beats: &[good(7, 1)],
-        },
-        retried("waits", 41),
-    ];
-    expect(rt, alloc, &CUTS, ticks, &jobs, wanted)
-}
-
-#[test]
-fn jobs_end_run_and_never_begin_side_by_side(rt: HostRuntime) -> Result<(), Fail> {
-    let wanted = "0 succeeds: 0..5 next 5, 5..10 last, Some(Succeeded(1)), 3 polls
+        &[("a", Mode::Retry, "recurs(3)", u64::MAX, &TWICE)],
+        "0 a: None, 0 polls\nhorizon 1000, 0 polls\n",
+    ),
+    (
+        "jobs_end_run_and_never_begin_side_by_side",
+        &CUTS,
+        Ticks::Every(40),
+        &FIVE,
+        "0 succeeds: 0..5 next 5, 5..10 last, Some(Succeeded(1)), 3 polls
 1 fails: 1..2 last, Some(Failed(4)), 2 polls
 2 finishes: 0..4 next 4, 4..8 last, Some(Finished), 3 polls
 3 runs: 20..27 next 37, 37.. running, None, 3 polls
 4 waits: None, 0 polls
 horizon 40, 11 polls
-";
-    expect_five_fates(&rt, rt.alloc(), Ticks::Every(40), wanted)
-}
-
-#[test]
-fn attempts_wait_for_listed_ticks_under_each_cut(rt: HostRuntime) -> Result<(), Fail> {
-    let wanted = "0 succeeds: 0..8 next 8, 8..20 last, Some(Succeeded(1)), 3 polls
+",
+    ),
+    (
+        "attempts_wait_for_listed_ticks_under_each_cut",
+        &CUTS,
+        Ticks::List(&[0, 8, 20, 40]),
+        &FIVE,
+        "0 succeeds: 0..8 next 8, 8..20 last, Some(Succeeded(1)), 3 polls
 1 fails: 8..20 last, Some(Failed(4)), 2 polls
 2 finishes: 0..8 next 8, 8..20 last, Some(Finished), 3 polls
 3 runs: 20..40 next 50, None, 2 polls
 4 waits: None, 0 polls
 horizon 40, 10 polls
-";
-    expect_five_fates(&rt, rt.alloc(), Ticks::List(&[0, 8, 20, 40]), wanted)
-}
-
-#[test]
-fn an_attempt_that_begins_at_the_last_tick_runs(rt: HostRuntime) -> Result<(), Fail> {
-    let jobs = [retried("a", 0)];
-    let wanted = "0 a: 3..10 next 10, 10.. running, None, 2 polls\nhorizon 10, 2 polls\n";
-    expect(
-        &rt,
-        rt.alloc(),
+",
+    ),
+    (
+        "an_attempt_that_begins_at_the_last_tick_runs",
         &[(1, 1)],
         Ticks::List(&[3, 10]),
-        &jobs,
-        wanted,
-    )
-}
+        &[("a", Mode::Retry, "recurs(3)", 0, &TWICE)],
+        "0 a: 3..10 next 10, 10.. running, None, 2 polls\nhorizon 10, 2 polls\n",
+    ),
+    (
+        "a_moment_between_ticks_waits_for_the_next",
+        &[(1, 1)],
+        Ticks::List(&[0, 5, 16, 30]),
+        &[(
+            "a",
+            Mode::Repeat,
+            "spaced(10)",
+            0,
+            &[Beat {
+                ms: 4,
+                outcome: Outcome::Good(1),
+            }],
+        )],
+        "0 a: 0..5 next 15, 16..30 next 40, None, 4 polls\nhorizon 30, 4 polls\n",
+    ),
+    (
+        "equal_jobs_come_to_the_same_under_each_cut",
+        &CUTS,
+        Ticks::Every(1000),
+        &SEVEN,
+        "0 a: 0..5 next 5, 5..10 last, Some(Succeeded(1)), 3 polls
+1 b: 0..5 next 5, 5..10 last, Some(Succeeded(1)), 3 polls
+2 c: 0..5 next 5, 5..10 last, Some(Succeeded(1)), 3 polls
+3 d: 0..5 next 5, 5..10 last, Some(Succeeded(1)), 3 polls
+4 e: 0..5 next 5, 5..10 last, Some(Succeeded(1)), 3 polls
+5 f: 0..5 next 5, 5..10 last, Some(Succeeded(1)), 3 polls
+6 g: 0..5 next 5, 5..10 last, Some(Succeeded(1)), 3 polls
+horizon 1000, 21 polls
+",
+    ),
+    (
+        "equal_jobs_come_to_the_same_on_listed_ticks_under_each_cut",
+        &CUTS,
+        Ticks::List(&[0, 8, 20, 40]),
+        &SEVEN,
+        "0 a: 0..8 next 8, 8..20 last, Some(Succeeded(1)), 3 polls
+1 b: 0..8 next 8, 8..20 last, Some(Succeeded(1)), 3 polls
+2 c: 0..8 next 8, 8..20 last, Some(Succeeded(1)), 3 polls
+3 d: 0..8 next 8, 8..20 last, Some(Succeeded(1)), 3 polls
+4 e: 0..8 next 8, 8..20 last, Some(Succeeded(1)), 3 polls
+5 f: 0..8 next 8, 8..20 last, Some(Succeeded(1)), 3 polls
+6 g: 0..8 next 8, 8..20 last, Some(Succeeded(1)), 3 polls
+horizon 40, 21 polls
+",
+    ),
+];
 
-#[test]
-fn a_moment_between_ticks_waits_for_the_next(rt: HostRuntime) -> Result<(), Fail> {
-    let jobs = [Given {
-        name: "a",
-        mode: Mode::Repeat,
-        schedule: "spaced(10)",
-        start: 0,
-        beats: &[good(4, 1)],
-    }];
-    let wanted = "0 a: 0..5 next 15, 16..30 next 40, None, 4 polls\nhorizon 30, 4 polls\n";
-    let ticks = Ticks::List(&[0, 5, 16, 30]);
-    expect(&rt, rt.alloc(), &[(1, 1)], ticks, &jobs, wanted)
-}
-
-// Seven equal jobs come to the same, polled three times each.
-fn expect_seven<R: Abort + Threads + Wait + Sync>(
+// Each run has the listed result under each of its cuts. A table without rows or cuts fails.
+fn expect_runs<R: Abort + Threads + Wait + Sync>(
     rt: &R,
     alloc: Global,
-    ticks: Ticks<'_>,
-    fate: &str,
-    last: &str,
+    rows: &[Run<'_>],
 ) -> Result<(), Fail> {
-    let jobs = [
-        retried("a", 0),
-        retried("b", 0),
-        retried("c", 0),
-        retried("d", 0),
-        retried("e", 0),
-        retried("f", 0),
-        retried("g", 0),
-    ];
-    let mut wanted = String::new(alloc);
-    for (number, job) in jobs.iter().enumerate() {
-        write!(wanted, "{number} {}: {fate}\n", job.name)?;
+    assert!(rt; !rows.is_empty(), "no rows");
+    for (name, cuts, ticks, jobs, wanted) in rows {
+        assert!(rt; !cuts.is_empty(), "{name}: no cuts");
+        expect(rt, alloc, name, cuts, *ticks, jobs, wanted)?;
     }
-    wanted.push_str(last)?;
-    expect(rt, alloc, &CUTS, ticks, &jobs, &wanted)
+    Ok(())
 }
 
 #[test]
-fn equal_jobs_come_to_the_same_under_each_cut(rt: HostRuntime) -> Result<(), Fail> {
-    let fate = "0..5 next 5, 5..10 last, Some(Succeeded(1)), 3 polls";
-    let last = "horizon 1000, 21 polls\n";
-    expect_seven(&rt, rt.alloc(), Ticks::Every(1000), fate, last)
-}
-
-#[test]
-fn equal_jobs_come_to_the_same_on_listed_ticks_under_each_cut(rt: HostRuntime) -> Result<(), Fail> {
-    let fate = "0..8 next 8, 8..20 last, Some(Succeeded(1)), 3 polls";
-    let last = "horizon 40, 21 polls\n";
-    expect_seven(&rt, rt.alloc(), Ticks::List(&[0, 8, 20, 40]), fate, last)
+fn each_run_has_the_listed_result(rt: HostRuntime) -> Result<(), Fail> {
+    expect_runs(&rt, rt.alloc(), &RUNS)
 }
 
 // As many jobs as a run may have, each of one attempt of a millisecond.
 #[test]
 fn ten_thousand_jobs_in_batches_of_one_of_seven_and_of_all(rt: HostRuntime) -> Result<(), Fail> {
-    let job = Given {
-        name: "j",
-        mode: Mode::Repeat,
-        schedule: "recurs(0)",
-        start: 0,
-        beats: &[good(1, 0)],
-    };
+    let beats = [good(1, 0)];
+    let job = ("j", Mode::Repeat, "recurs(0)", 0, beats.as_slice());
     let jobs = Vec::from_elem(rt.alloc(), job, 10_000)?;
     let mut wanted = String::new(rt.alloc());
     for number in 0..10_000u64 {
@@ -328,7 +332,7 @@ fn ten_thousand_jobs_in_batches_of_one_of_seven_and_of_all(rt: HostRuntime) -> R
     }
     wanted.push_str("horizon 1, 20000 polls\n")?;
     let cuts = [(64, 1), (3, 7), (64, 10_000)];
-    expect(&rt, rt.alloc(), &cuts, Ticks::Every(1), &jobs, &wanted)
+    expect(&rt, rt.alloc(), "j", &cuts, Ticks::Every(1), &jobs, &wanted)
 }
 
 #[test]
@@ -367,7 +371,7 @@ fn two_threads_meet_in_a_run_of_ten_thousand_jobs(rt: HostRuntime) -> Result<(),
     Ok(())
 }
 
-// So many jobs of one attempt of 5 ms, each with a schedule of 2^(doublings + 1) - 1 nodes.
+// This number of jobs of one attempt of 5 ms, each with a schedule of 2^(doublings + 1) - 1 nodes.
 fn heavy(alloc: Global, count: u64, doublings: u64) -> Result<Vec<Job>, Fail> {
     let mut schedule = String::from_str(alloc, "recurs(0)")?;
     for _ in 0..doublings {
@@ -384,73 +388,113 @@ fn heavy(alloc: Global, count: u64, doublings: u64) -> Result<Vec<Job>, Fail> {
     jobs_of(alloc, &given)
 }
 
-// The jobs need two polls each under a gate that says it is open, on 64 workers with one task to a batch.
-fn expect_posed<G: Gate, R: Abort + Threads + Wait + Sync>(
+// This number of such jobs, whose schedules have one node, need two polls each under the gate and the cut.
+fn expect_light<G: Gate, R: Abort + Threads + Wait + Sync>(
     rt: &R,
     alloc: Global,
-    gate: &Posing<G>,
-    jobs: Vec<Job>,
+    cut: (u64, u64),
+    gate: &G,
+    count: u64,
 ) -> Result<(), Fail> {
+    let jobs = heavy(alloc, count, 0)?;
     let polls = 2 * jobs.len() as u64;
     let clock = clock_of(rt, alloc, Ticks::Every(5))?;
-    let cut = Cut::new(64, 1).expect(rt, "within the limits");
+    let cut = Cut::new(cut.0, cut.1).expect(rt, "within the limits");
     expect_polls(rt, alloc, cut, gate, clock, jobs, polls)
 }
 
-// All attempts of 200 schedules of 511 nodes end at 5 ms, where two threads meet.
+// Two batches of jobs are due at each moment, of one job each or of three and one.
 #[test]
-fn two_threads_meet_where_they_pay(rt: HostRuntime) -> Result<(), Fail> {
-    let jobs = heavy(rt.alloc(), 200, 8)?;
-    let gate = Posing {
-        gate: Meeting::from_moment(5, 2),
-    };
-    expect_posed(&rt, rt.alloc(), &gate, jobs)?;
-    assert!(rt; gate.gate.alone() == 0);
+fn two_threads_meet_where_two_batches_are_due(rt: HostRuntime) -> Result<(), Fail> {
+    for (cut, jobs) in [((2, 1), 2u64), ((64, 1), 2), ((2, 3), 4), ((64, 3), 4)] {
+        let gate = Meeting::of(2);
+        expect_light(&rt, rt.alloc(), cut, &gate, jobs)?;
+        assert!(rt; gate.alone() == 0, "{jobs} jobs");
+    }
     Ok(())
 }
 
-// Schedules of 63 nodes each: a job has all its polls before the next one begins.
+// As many threads poll at once as there are workers, or batches where these are fewer: the calling thread is one of them.
 #[test]
-fn light_jobs_run_one_after_the_other_under_an_open_gate(rt: HostRuntime) -> Result<(), Fail> {
-    let jobs = heavy(rt.alloc(), 80, 5)?;
-    let gate = Posing {
-        gate: InTurn::with_turns(80, 2),
-    };
-    expect_posed(&rt, rt.alloc(), &gate, jobs)?;
-    assert!(rt; (gate.gate.passes(), gate.gate.wrong()) == (160, 0));
+fn a_moment_has_as_many_threads_as_workers_or_batches(rt: HostRuntime) -> Result<(), Fail> {
+    for (cut, jobs, threads) in [
+        ((1, 1), 10u64, 1u64),
+        ((64, 10), 10, 1),
+        ((64, 9), 10, 2),
+        ((7, 3), 10, 4),
+        ((3, 3), 10, 3),
+        ((2, 1), 10, 2),
+        ((64, 1), 10, 10),
+    ] {
+        let gate = Crowd::of(threads);
+        expect_light(&rt, rt.alloc(), cut, &gate, jobs)?;
+        assert!(rt; (gate.alone(), gate.most()) == (0, threads), "{threads}");
+    }
     Ok(())
 }
 
-// The same jobs, where the gate doesn't say that it holds no thread: all of a moment are polled before the next moment.
+// One worker, or one batch: the calling thread polls the due jobs of a moment in order, and then those of the next.
 #[test]
-fn light_jobs_are_polled_in_turn_under_a_gate_that_may_hold(rt: HostRuntime) -> Result<(), Fail> {
-    let jobs = heavy(rt.alloc(), 80, 5)?;
-    let clock = clock_of(&rt, rt.alloc(), Ticks::Every(5))?;
+fn one_thread_polls_the_jobs_of_a_moment_in_order(rt: HostRuntime) -> Result<(), Fail> {
+    for cut in [(1, 1), (1, 3), (64, 80), (64, 10_000)] {
+        let gate = InTurn::of(80);
+        expect_light(&rt, rt.alloc(), cut, &gate, 80)?;
+        assert!(rt; (gate.passes(), gate.wrong()) == (160, 0));
+    }
+    Ok(())
+}
+
+// Jobs that begin at 0 and 3, each polled at its begin, 5 ms later and 10 ms later, by one thread.
+#[test]
+fn a_moment_is_over_before_the_next(rt: HostRuntime) -> Result<(), Fail> {
+    let alloc = rt.alloc();
+    let given = [retried("a", 0), retried("b", 3), retried("c", 0)];
+    let gate = Record::of(alloc, 9)?;
+    let clock = clock_of(&rt, alloc, Ticks::Every(1000))?;
     let cut = Cut::new(1, 1).expect(&rt, "within the limits");
-    let gate = InTurn::of(80);
-    expect_polls(&rt, rt.alloc(), cut, &gate, clock, jobs, 160)?;
-    assert!(rt; (gate.passes(), gate.wrong()) == (160, 0));
+    expect_polls(&rt, alloc, cut, &gate, clock, jobs_of(alloc, &given)?, 9)?;
+    let told = gate.told(alloc)?;
+    let wanted = [
+        (0, 0, 0),
+        (2, 0, 1),
+        (1, 3, 2),
+        (0, 5, 3),
+        (2, 5, 4),
+        (1, 8, 5),
+        (0, 10, 6),
+        (2, 10, 7),
+        (1, 13, 8),
+    ];
+    assert!(rt; told.as_slice() == wanted.as_slice());
+    assert!(rt; (gate.passes(), gate.wrong()) == (9, 0));
     Ok(())
 }
 
-// Both moments are polled in turn where no attempt ends at the first and few at the second.
+// A hundred jobs that begin at each of ten moments, under each cut.
 #[test]
-fn few_heavy_jobs_are_polled_in_turn_under_an_open_gate(rt: HostRuntime) -> Result<(), Fail> {
-    let jobs = heavy(rt.alloc(), 3, 8)?;
-    let gate = Posing {
-        gate: InTurn::of(3),
-    };
-    expect_posed(&rt, rt.alloc(), &gate, jobs)?;
-    assert!(rt; (gate.gate.passes(), gate.gate.wrong()) == (6, 0));
+fn the_moments_of_a_run_of_jobs_never_fall(rt: HostRuntime) -> Result<(), Fail> {
+    let alloc = rt.alloc();
+    for (workers, grain) in CUTS {
+        let mut jobs = Vec::new(alloc);
+        for place in 0..100u64 {
+            jobs.push(job_of(alloc, retried("j", place % 10))?)?;
+        }
+        let gate = Record::of(alloc, 300)?;
+        let clock = clock_of(&rt, alloc, Ticks::Every(1000))?;
+        let cut = Cut::new(workers, grain).expect(&rt, "within the limits");
+        expect_polls(&rt, alloc, cut, &gate, clock, jobs, 300)?;
+        let found = (gate.passes(), gate.wrong());
+        assert!(rt; found == (300, 0), "{workers}, {grain}");
+    }
     Ok(())
 }
 
-// A light job between two heavy ones comes to the same whether it is run alone or waits for the rounds.
+// A job of one node between two of 127 comes to the same under each cut.
 #[test]
-fn light_and_heavy_jobs_come_to_the_same_under_each_gate(rt: HostRuntime) -> Result<(), Fail> {
+fn jobs_of_one_node_and_of_127_come_to_the_same(rt: HostRuntime) -> Result<(), Fail> {
     let wanted =
         "0 j: 0..5 last, Some(Finished), 2 polls\n1 j: 0..5 last, Some(Finished), 2 polls\n2 j: 0..5 last, Some(Finished), 2 polls\nhorizon 5, 6 polls\n";
-    for held in [false, true] {
+    for (workers, grain) in CUTS {
         let mut jobs = heavy(rt.alloc(), 1, 6)?;
         for others in [heavy(rt.alloc(), 1, 0)?, heavy(rt.alloc(), 1, 6)?] {
             for job in others {
@@ -458,21 +502,17 @@ fn light_and_heavy_jobs_come_to_the_same_under_each_gate(rt: HostRuntime) -> Res
             }
         }
         let mut text = String::new(rt.alloc());
-        let cut = Cut::new(2, 1).expect(&rt, "within the limits");
+        let cut = Cut::new(workers, grain).expect(&rt, "within the limits");
         let clock = clock_of(&rt, rt.alloc(), Ticks::Every(5))?;
-        if held {
-            push_run(&rt, &mut text, rt.alloc(), cut, &Silent, clock, jobs)?;
-        } else {
-            push_run(&rt, &mut text, rt.alloc(), cut, &OpenGate, clock, jobs)?;
-        }
+        push_run(&rt, &mut text, rt.alloc(), cut, &OpenGate, clock, jobs)?;
         expect_text(&rt, &text, wanted, "a run");
     }
     Ok(())
 }
 
-// Two hundred jobs with heavy schedules come to the same on one thread and where threads are started that pay.
+// Two hundred jobs whose schedules have 511 nodes come to the same on one thread and on several.
 #[test]
-fn heavy_jobs_come_to_the_same_under_each_cut(rt: HostRuntime) -> Result<(), Fail> {
+fn jobs_of_511_nodes_come_to_the_same_under_each_cut(rt: HostRuntime) -> Result<(), Fail> {
     let mut wanted = String::new(rt.alloc());
     for number in 0..200u64 {
         write!(wanted, "{number} j: 0..5 last, Some(Finished), 2 polls\n")?;

@@ -1,25 +1,122 @@
-//! Both sides of the limits of depth and weight, and texts that would exhaust the call stack of a reader that nests on it.
+//! Both sides of the limits of depth and weight, and texts that would exhaust the call stack of a recursive parser.
 use super::support::{expect_text, reading};
 use std::alloc::{Alloc, AllocError, Global};
 use std::process::Abort;
 use zs_term::{Kind, Term, check};
 
-// A part so many times, the text in which it stands for `#`, and what that text is read as, where `ok` is the text itself.
-type Row<'a> = (&'a str, usize, &'a str, &'a str);
+// A name, a part, how often it is repeated, a frame, and what the text is read as, where `ok` is the text itself. In the
+// frame `#` is the repeated part, and `~` that number of opening parentheses. The part `leaves` is a conjunction of 500.
+type Row<'a> = (&'a str, &'a str, usize, &'a str, &'a str);
 
-fn expect_limits<R: Abort + Alloc<A = Global>>(rt: &R, rows: &[Row<'_>]) {
-    for (part, times, frame, wanted) in rows {
-        let part = part.repeat(rt.alloc(), *times).expect(rt, "memory");
-        let text = frame.replace(rt.alloc(), '#', &part).expect(rt, "memory");
-        let found = reading(rt.alloc(), &text).expect(rt, "memory");
-        let wanted = if *wanted == "ok" {
-            text.as_str()
-        } else {
-            *wanted
-        };
-        expect_text(rt, &found, wanted, frame);
-    }
-}
+static LIMITS: [Row<'static>; 11] = [
+    ("a_weight_of_1000_is_read", "leaves", 1, "#", "ok"),
+    (
+        "a_weight_of_1000_is_read",
+        "leaves",
+        1,
+        "#.collectAll",
+        "ok",
+    ),
+    (
+        "a_weight_of_1000_is_read",
+        "leaves",
+        1,
+        "#.collectAll.collectAll",
+        "too big",
+    ),
+    (
+        "a_weight_of_1000_is_read",
+        "leaves",
+        1,
+        "(# && recurs(1))",
+        "too big",
+    ),
+    ("a_depth_of_64_is_read", ".collectAll", 63, "forever#", "ok"),
+    (
+        "a_depth_of_64_is_read",
+        ".collectAll",
+        64,
+        "forever#",
+        "too big",
+    ),
+    (
+        "a_depth_of_64_is_read",
+        ".collectAll",
+        62,
+        "forever#.resetWhen(size = 0)",
+        "ok",
+    ),
+    (
+        "a_depth_of_64_is_read",
+        ".collectAll",
+        63,
+        "forever#.resetWhen(size = 0)",
+        "too big",
+    ),
+    (
+        "a_reset_weighs_its_part_twice",
+        ".resetWhen(= 0)",
+        8,
+        "forever#",
+        "ok",
+    ),
+    (
+        "a_reset_weighs_its_part_twice",
+        ".resetWhen(= 0)",
+        9,
+        "forever#",
+        "too big",
+    ),
+    (
+        "a_reset_weighs_its_part_twice",
+        ".resetWhen(= 0)",
+        100,
+        "forever#",
+        "too big",
+    ),
+];
+
+static PARENTHESES: [Row<'static>; 2] = [
+    (
+        "open_parentheses_and_pending_left_parts_are_no_term",
+        "(",
+        100_000,
+        "#",
+        "no term at byte 100000",
+    ),
+    (
+        "open_parentheses_and_pending_left_parts_are_no_term",
+        "(forever && ",
+        100_000,
+        "#",
+        "no term at byte 1200000",
+    ),
+];
+
+static MEGABYTES: [Row<'static>; 1] = [(
+    "fifteen_megabytes_of_parentheses_are_no_term",
+    "((((((((((",
+    1_500_000,
+    "#",
+    "no term at byte 15000000",
+)];
+
+static DEEP: [Row<'static>; 2] = [
+    (
+        "deep_pairs_and_a_long_chain_are_too_big",
+        " && forever)",
+        100_000,
+        "~forever#",
+        "too big",
+    ),
+    (
+        "deep_pairs_and_a_long_chain_are_too_big",
+        ".collectAll",
+        100_000,
+        "forever#",
+        "too big",
+    ),
+];
 
 // The conjunction of 500 leaves, which is not deep.
 fn five_hundred_leaves(alloc: Global) -> Result<String, AllocError> {
@@ -31,122 +128,141 @@ fn five_hundred_leaves(alloc: Global) -> Result<String, AllocError> {
     Ok(text)
 }
 
-#[test]
-fn a_weight_of_1000_is_read(rt: HostRuntime) {
-    let leaves = five_hundred_leaves(rt.alloc()).expect(&rt, "memory");
-    let leaves = leaves.as_str();
-    let rows = [
-        (leaves, 1, "#", "ok"),
-        (leaves, 1, "#.collectAll", "ok"),
-        (leaves, 1, "#.collectAll.collectAll", "too big"),
-        (leaves, 1, "(# && recurs(1))", "too big"),
-    ];
-    expect_limits(&rt, &rows);
+// The text of a row.
+fn text_of(alloc: Global, part: &str, times: usize, frame: &str) -> Result<String, AllocError> {
+    let part = if part == "leaves" {
+        five_hundred_leaves(alloc)?
+    } else {
+        part.repeat(alloc, times)?
+    };
+    if let Some(rest) = frame.strip_prefix("~") {
+        let mut text = "(".repeat(alloc, times)?;
+        text.push_str(&rest.replace(alloc, '#', &part)?)?;
+        return Ok(text);
+    }
+    frame.replace(alloc, '#', &part)
+}
+
+// The text of each row is read as listed. A table without rows fails.
+fn expect_limits<R: Abort + Alloc<A = Global>>(rt: &R, rows: &[Row<'_>]) {
+    assert!(rt; !rows.is_empty(), "no rows");
+    for (name, part, times, frame, wanted) in rows {
+        let text = text_of(rt.alloc(), part, *times, frame).expect(rt, "memory");
+        let found = reading(rt.alloc(), &text).expect(rt, "memory");
+        let wanted = if *wanted == "ok" {
+            text.as_str()
+        } else {
+            *wanted
+        };
+        expect_text(rt, &found, wanted, name);
+    }
 }
 
 #[test]
-fn a_depth_of_64_is_read(rt: HostRuntime) {
-    let rows = [
-        (".collectAll", 63, "forever#", "ok"),
-        (".collectAll", 64, "forever#", "too big"),
-        (".collectAll", 62, "forever#.resetWhen(size = 0)", "ok"),
-        (".collectAll", 63, "forever#.resetWhen(size = 0)", "too big"),
-    ];
-    expect_limits(&rt, &rows);
+fn texts_are_read_up_to_their_limits(rt: HostRuntime) {
+    expect_limits(&rt, &LIMITS);
 }
 
-#[test]
-fn a_reset_weighs_its_part_twice(rt: HostRuntime) {
-    let rows = [
-        (".resetWhen(= 0)", 8, "forever#", "ok"),
-        (".resetWhen(= 0)", 9, "forever#", "too big"),
-        (".resetWhen(= 0)", 100, "forever#", "too big"),
-    ];
-    expect_limits(&rt, &rows);
-}
-
+// A test has a minute, so each of the long texts has a test.
 #[test]
 fn open_parentheses_and_pending_left_parts_are_no_term(rt: HostRuntime) {
-    let rows = [
-        ("(", 100_000, "#", "no term at byte 100000"),
-        ("(forever && ", 100_000, "#", "no term at byte 1200000"),
-    ];
-    expect_limits(&rt, &rows);
+    expect_limits(&rt, &PARENTHESES);
 }
 
 #[test]
 fn fifteen_megabytes_of_parentheses_are_no_term(rt: HostRuntime) {
-    let text = "(((((((((("
-        .repeat(rt.alloc(), 1_500_000)
-        .expect(&rt, "memory");
-    let found = reading(rt.alloc(), &text).expect(&rt, "memory");
-    expect_text(&rt, &found, "no term at byte 15000000", "fifteen megabytes");
+    expect_limits(&rt, &MEGABYTES);
 }
 
 #[test]
 fn deep_pairs_and_a_long_chain_are_too_big(rt: HostRuntime) {
-    let open = "(".repeat(rt.alloc(), 100_000).expect(&rt, "memory");
-    let deep = format!(in rt.alloc(); "{open}forever#").expect(&rt, "memory");
-    let rows = [
-        (" && forever)", 100_000, deep.as_str(), "too big"),
-        (".collectAll", 100_000, "forever#", "too big"),
-    ];
-    expect_limits(&rt, &rows);
+    expect_limits(&rt, &DEEP);
 }
 
-// What a caller's own term is checked as: the kind of its outputs, or the fault.
-fn expect_verdict<R: Abort + Alloc<A = Global>>(rt: &R, term: Term, wanted: &str) {
-    let found = match check(rt.alloc(), term) {
-        Ok(schedule) => match schedule.kind() {
-            Kind::Num => String::from_str(rt.alloc(), "numbers"),
-            _ => String::from_str(rt.alloc(), "others"),
-        },
-        Err(fault) => format!(in rt.alloc(); "{fault}"),
+// A name, the form of a term that a caller makes, how often it is nested, and the kind of its outputs or its fault.
+type Verdict<'a> = (&'a str, Form, u64, &'a str);
+
+// A term that a caller makes.
+enum Form {
+    Recurs,
+    NoFactor,
+    NoWindow,
+    // A leaf below this number of `collectAll`.
+    Lists,
+    // This number of conjunctions, each on the left of the next.
+    Pairs,
+}
+
+static VERDICTS: [Verdict<'static>; 7] = [
+    ("a_leaf_answers_numbers", Form::Recurs, 0, "numbers"),
+    (
+        "a_factor_and_a_window_are_at_least_1",
+        Form::NoFactor,
+        0,
+        "factor is 0",
+    ),
+    (
+        "a_factor_and_a_window_are_at_least_1",
+        Form::NoWindow,
+        0,
+        "window is 0",
+    ),
+    ("a_term_is_64_deep_at_most", Form::Lists, 63, "others"),
+    ("a_term_is_64_deep_at_most", Form::Lists, 64, "too big"),
+    (
+        "a_term_of_any_depth_is_given_up",
+        Form::Lists,
+        200_000,
+        "too big",
+    ),
+    (
+        "a_term_of_any_depth_is_given_up",
+        Form::Pairs,
+        200_000,
+        "too big",
+    ),
+];
+
+// The term of a row.
+fn term_of(alloc: Global, form: &Form, times: u64) -> Result<Term, AllocError> {
+    let mut term = match form {
+        Form::Recurs => Term::Recurs(3),
+        Form::NoFactor => Term::Exponential(1, 0),
+        Form::NoWindow => Term::Windowed(0),
+        Form::Lists | Form::Pairs => Term::Forever,
     };
-    expect_text(rt, &found.expect(rt, "memory"), wanted, "a term");
-}
-
-// A leaf and so many `collectAll` over it.
-fn chain(alloc: Global, times: u64) -> Result<Term, AllocError> {
-    let mut term = Term::Forever;
     for _ in 0..times {
-        term = Term::CollectAll(Box::new(alloc, term)?);
+        let part = Box::new(alloc, term)?;
+        term = match form {
+            Form::Pairs => Term::Both(part, Box::new(alloc, Term::Forever)?),
+            _ => Term::CollectAll(part),
+        };
     }
     Ok(term)
 }
 
-#[test]
-fn a_leaf_answers_numbers(rt: HostRuntime) {
-    expect_verdict(&rt, Term::Recurs(3), "numbers");
-}
-
-#[test]
-fn a_factor_and_a_window_are_at_least_1(rt: HostRuntime) {
-    expect_verdict(&rt, Term::Exponential(1, 0), "factor is 0");
-    expect_verdict(&rt, Term::Windowed(0), "window is 0");
-}
-
-#[test]
-fn a_term_is_64_deep_at_most(rt: HostRuntime) {
-    let deepest = chain(rt.alloc(), 63).expect(&rt, "memory");
-    expect_verdict(&rt, deepest, "others");
-    let deeper = chain(rt.alloc(), 64).expect(&rt, "memory");
-    expect_verdict(&rt, deeper, "too big");
-}
-
-// So many operators over leaves, each on the left of the next.
-fn pairs(alloc: Global, times: u64) -> Result<Term, AllocError> {
-    let mut term = Term::Forever;
-    for _ in 0..times {
-        term = Term::Both(Box::new(alloc, term)?, Box::new(alloc, Term::Forever)?);
+// What a term is checked as: the kind of its outputs, or the text of its fault.
+fn verdict(alloc: Global, term: Term) -> Result<String, AllocError> {
+    match check(alloc, term) {
+        Ok(schedule) => match schedule.kind() {
+            Kind::Num => String::from_str(alloc, "numbers"),
+            _ => String::from_str(alloc, "others"),
+        },
+        Err(fault) => format!(in alloc; "{fault}"),
     }
-    Ok(term)
+}
+
+// The term of each row is checked as listed. A table without rows fails.
+fn expect_verdicts<R: Abort + Alloc<A = Global>>(rt: &R, rows: &[Verdict<'_>]) {
+    assert!(rt; !rows.is_empty(), "no rows");
+    for (name, form, times, wanted) in rows {
+        let term = term_of(rt.alloc(), form, *times).expect(rt, "memory");
+        let found = verdict(rt.alloc(), term).expect(rt, "memory");
+        expect_text(rt, &found, wanted, name);
+    }
 }
 
 #[test]
-fn a_term_of_any_depth_is_given_up(rt: HostRuntime) {
-    let chain = chain(rt.alloc(), 200_000).expect(&rt, "memory");
-    expect_verdict(&rt, chain, "too big");
-    let pairs = pairs(rt.alloc(), 200_000).expect(&rt, "memory");
-    expect_verdict(&rt, pairs, "too big");
+fn terms_of_callers_are_checked(rt: HostRuntime) {
+    expect_verdicts(&rt, &VERDICTS);
 }

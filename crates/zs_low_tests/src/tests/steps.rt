@@ -13,6 +13,9 @@ use zs_term::{Checked, Out, append_out, read};
 // A schedule, its pairs of a moment and an input, the answers, and the visits that the steps take.
 type Row<'a> = (&'a str, &'a [(u64, u64)], &'a str, &'a str);
 
+// A name, and rows that belong to it.
+type Group<'a> = (&'a str, &'a [Row<'a>]);
+
 // Adds an output and a decision.
 fn push_step(text: &mut String, out: &Out, decision: Decision) -> Result<(), AllocError> {
     append_out(text, out)?;
@@ -88,7 +91,13 @@ fn push_both<R: Abort + Alloc<A = Global>>(
     push_followed(rt.alloc(), text, checked, &seen)
 }
 
-fn expect_answers<R: Abort + Alloc<A = Global>>(rt: &R, rows: &[Row<'_>]) -> Result<(), Fail> {
+// Both results of each row are as listed. A table without rows fails.
+fn expect_answers<R: Abort + Alloc<A = Global>>(
+    rt: &R,
+    of: &str,
+    rows: &[Row<'_>],
+) -> Result<(), Fail> {
+    assert!(rt; !rows.is_empty(), "{of}: no rows");
     for (schedule, pairs, answers, visits) in rows {
         let mut text = String::new(rt.alloc());
         push_both(rt, &mut text, schedule, pairs)?;
@@ -98,256 +107,285 @@ fn expect_answers<R: Abort + Alloc<A = Global>>(rt: &R, rows: &[Row<'_>]) -> Res
     Ok(())
 }
 
-#[test]
-fn counters_go_on_at_equal_moments(rt: HostRuntime) -> Result<(), Fail> {
-    let pairs: &[(u64, u64)] = &[(5, 0), (5, 1), (9, 0)];
-    let rows = [
-        ("forever", pairs, "0 5;1 5;2 9;", "1;1;1;"),
-        ("recurs(2)", pairs, "0 5;1 5;2 done;", "1;1;1;"),
-        ("identity", pairs, "0 5;1 5;0 9;", "1;1;1;"),
-        ("elapsed", pairs, "0 5;0 5;4 9;", "1;1;1;"),
-        ("forever", &[], "", ""),
-    ];
-    expect_answers(&rt, &rows)
+// The same for each group.
+fn expect_groups<R: Abort + Alloc<A = Global>>(rt: &R, groups: &[Group<'_>]) -> Result<(), Fail> {
+    assert!(rt; !groups.is_empty(), "no groups");
+    for (name, rows) in groups {
+        expect_answers(rt, name, rows)?;
+    }
+    Ok(())
 }
 
-#[test]
-fn delays_grow_by_their_rules(rt: HostRuntime) -> Result<(), Fail> {
-    let rows: [Row<'_>; 3] = [
-        (
-            "fibonacci(10)",
-            &[(5, 0), (5, 1), (9, 0)],
-            "10 15;10 15;20 29;",
-            "1;1;1;",
-        ),
-        (
-            "linear(10)",
-            &[(1, 0), (12, 0), (33, 0)],
-            "10 11;20 32;30 63;",
-            "1;1;1;",
-        ),
-        ("spaced(10)", &[(4, 1), (18, 1)], "0 14;1 28;", "1;1;"),
-    ];
-    expect_answers(&rt, &rows)
-}
-
-#[test]
-fn runs_keep_to_the_first_moment(rt: HostRuntime) -> Result<(), Fail> {
-    let rows: [Row<'_>; 4] = [
-        (
-            "fixed(100)",
-            &[(50, 1), (400, 1), (410, 1), (460, 1)],
-            "0 150;1 400;2 450;3 550;",
-            "1;1;1;1;",
-        ),
-        ("fixed(100)", &[(50, 1), (250, 1)], "0 150;1 350;", "1;1;"),
-        (
-            "fixed(0)",
-            &[(5, 0), (5, 1), (9, 0)],
-            "0 5;1 5;2 9;",
-            "1;1;1;",
-        ),
-        (
-            "windowed(100)",
-            &[(50, 1), (400, 1), (460, 1)],
-            "0 150;1 450;2 550;",
-            "1;1;1;",
-        ),
-    ];
-    expect_answers(&rt, &rows)
-}
-
-#[test]
-fn sums_and_products_are_cut_at_the_greatest_moment(rt: HostRuntime) -> Result<(), Fail> {
-    let pairs: &[(u64, u64)] = &[(1, 0), (2, 0)];
-    let always = "0 18446744073709551615;1 18446744073709551615;";
-    let rows = [
-        ("spaced(18446744073709551615)", pairs, always, "1;1;"),
-        ("fixed(18446744073709551615)", pairs, always, "1;1;"),
-        ("windowed(18446744073709551615)", pairs, always, "1;1;"),
-    ];
-    expect_answers(&rt, &rows)
-}
-
-#[test]
-fn delays_are_cut_at_the_greatest_moment(rt: HostRuntime) -> Result<(), Fail> {
-    let pairs: &[(u64, u64)] = &[(1, 0), (2, 0)];
-    let grown =
-        "9223372036854775808 9223372036854775809;18446744073709551615 18446744073709551615;";
-    let rows: [Row<'_>; 4] = [
-        (
-            "spaced(18446744073709551615)",
-            &[(5, 0), (5, 1), (9, 0)],
-            "0 18446744073709551615;1 18446744073709551615;2 18446744073709551615;",
-            "1;1;1;",
-        ),
-        ("exponential(9223372036854775808)", pairs, grown, "1;1;"),
-        ("linear(9223372036854775808)", pairs, grown, "1;1;"),
-        (
-            "fibonacci(9223372036854775808)",
-            &[(0, 0), (0, 0), (1, 0)],
-            "9223372036854775808 9223372036854775808;9223372036854775808 9223372036854775808;18446744073709551615 18446744073709551615;",
-            "1;1;1;",
-        ),
-    ];
-    expect_answers(&rt, &rows)
-}
-
-#[test]
-fn functions_are_cut_at_the_greatest_moment(rt: HostRuntime) -> Result<(), Fail> {
-    let pairs: &[(u64, u64)] = &[(1, 0), (2, 0)];
-    let rows = [
-        (
-            "forever.map(+ 18446744073709551615)",
-            pairs,
-            "18446744073709551615 1;18446744073709551615 2;",
-            "2;2;",
-        ),
-        (
-            "linear(2).map(* 9223372036854775808)",
-            pairs,
-            "18446744073709551615 3;18446744073709551615 6;",
-            "2;2;",
-        ),
-    ];
-    expect_answers(&rt, &rows)
-}
-
-#[test]
-fn both_wait_for_the_later_and_either_for_the_earlier(rt: HostRuntime) -> Result<(), Fail> {
-    let rows: [Row<'_>; 2] = [
-        (
-            "(exponential(10) && recurs(3))",
-            &[(1, 1), (12, 1), (33, 1), (74, 1)],
-            "(10,0) 11;(20,1) 32;(40,2) 73;(80,3) done;",
-            "3;3;3;3;",
-        ),
-        (
-            "(exponential(1, 4294967296) || spaced(1))",
-            &[(1, 0), (3, 0), (5, 0)],
-            "(1,0) 2;(4294967296,1) 4;(18446744073709551615,2) 6;",
-            "3;3;3;",
-        ),
-    ];
-    expect_answers(&rt, &rows)
-}
-
-#[test]
-fn a_done_part_goes_on_again(rt: HostRuntime) -> Result<(), Fail> {
-    let rows: [Row<'_>; 1] = [(
-        "(identity.whileInput(= 0) || recurs(3))",
-        &[(1, 0), (2, 1), (3, 0), (4, 0)],
-        "(0,0) 1;(1,1) 2;(0,2) 3;(0,3) 4;",
-        "4;4;4;4;",
-    )];
-    expect_answers(&rt, &rows)
-}
-
-#[test]
-fn the_second_begins_at_the_done_step(rt: HostRuntime) -> Result<(), Fail> {
-    let rows: [Row<'_>; 2] = [
-        (
-            "(recurs(2) andThenEither recurs(1))",
-            &[(1, 5), (2, 5), (3, 5), (4, 5)],
-            "Left(0) 1;Left(1) 2;Right(0) 3;Right(1) done;",
-            "2;2;3;2;",
-        ),
-        (
-            "(recurs(0) andThenEither linear(7)).map(merge)",
-            &[(1, 0), (2, 0)],
-            "7 8;14 16;",
-            "4;3;",
-        ),
-    ];
-    expect_answers(&rt, &rows)
-}
-
-#[test]
-fn a_list_leaves_out_the_done_steps(rt: HostRuntime) -> Result<(), Fail> {
-    let rows: [Row<'_>; 2] = [
-        (
-            "identity.whileInput(< 3).collectAll",
-            &[(1, 1), (2, 2), (3, 3)],
-            "[] 1;[1] 2;[1,2] done;",
-            "3;3;3;",
-        ),
-        (
-            "identity.whileInput(= 0).collectAll",
+static ANSWERS: [Group<'static>; 13] = [
+    (
+        "counters_go_on_at_equal_moments",
+        &[
+            (
+                "forever",
+                &[(5, 0), (5, 1), (9, 0)],
+                "0 5;1 5;2 9;",
+                "1;1;1;",
+            ),
+            (
+                "recurs(2)",
+                &[(5, 0), (5, 1), (9, 0)],
+                "0 5;1 5;2 done;",
+                "1;1;1;",
+            ),
+            (
+                "identity",
+                &[(5, 0), (5, 1), (9, 0)],
+                "0 5;1 5;0 9;",
+                "1;1;1;",
+            ),
+            (
+                "elapsed",
+                &[(5, 0), (5, 1), (9, 0)],
+                "0 5;0 5;4 9;",
+                "1;1;1;",
+            ),
+            ("forever", &[], "", ""),
+        ],
+    ),
+    (
+        "delays_grow_by_their_rules",
+        &[
+            (
+                "fibonacci(10)",
+                &[(5, 0), (5, 1), (9, 0)],
+                "10 15;10 15;20 29;",
+                "1;1;1;",
+            ),
+            (
+                "linear(10)",
+                &[(1, 0), (12, 0), (33, 0)],
+                "10 11;20 32;30 63;",
+                "1;1;1;",
+            ),
+            ("spaced(10)", &[(4, 1), (18, 1)], "0 14;1 28;", "1;1;"),
+        ],
+    ),
+    (
+        "runs_keep_to_the_first_moment",
+        &[
+            (
+                "fixed(100)",
+                &[(50, 1), (400, 1), (410, 1), (460, 1)],
+                "0 150;1 400;2 450;3 550;",
+                "1;1;1;1;",
+            ),
+            ("fixed(100)", &[(50, 1), (250, 1)], "0 150;1 350;", "1;1;"),
+            (
+                "fixed(0)",
+                &[(5, 0), (5, 1), (9, 0)],
+                "0 5;1 5;2 9;",
+                "1;1;1;",
+            ),
+            (
+                "windowed(100)",
+                &[(50, 1), (400, 1), (460, 1)],
+                "0 150;1 450;2 550;",
+                "1;1;1;",
+            ),
+        ],
+    ),
+    (
+        "sums_and_products_are_cut_at_the_greatest_moment",
+        &[
+            (
+                "spaced(18446744073709551615)",
+                &[(1, 0), (2, 0)],
+                "0 18446744073709551615;1 18446744073709551615;",
+                "1;1;",
+            ),
+            (
+                "fixed(18446744073709551615)",
+                &[(1, 0), (2, 0)],
+                "0 18446744073709551615;1 18446744073709551615;",
+                "1;1;",
+            ),
+            (
+                "windowed(18446744073709551615)",
+                &[(1, 0), (2, 0)],
+                "0 18446744073709551615;1 18446744073709551615;",
+                "1;1;",
+            ),
+        ],
+    ),
+    (
+        "delays_are_cut_at_the_greatest_moment",
+        &[
+            (
+                "spaced(18446744073709551615)",
+                &[(5, 0), (5, 1), (9, 0)],
+                "0 18446744073709551615;1 18446744073709551615;2 18446744073709551615;",
+                "1;1;1;",
+            ),
+            (
+                "exponential(9223372036854775808)",
+                &[(1, 0), (2, 0)],
+                "9223372036854775808 9223372036854775809;18446744073709551615 18446744073709551615;",
+                "1;1;",
+            ),
+            (
+                "linear(9223372036854775808)",
+                &[(1, 0), (2, 0)],
+                "9223372036854775808 9223372036854775809;18446744073709551615 18446744073709551615;",
+                "1;1;",
+            ),
+            (
+                "fibonacci(9223372036854775808)",
+                &[(0, 0), (0, 0), (1, 0)],
+                "9223372036854775808 9223372036854775808;9223372036854775808 9223372036854775808;18446744073709551615 18446744073709551615;",
+                "1;1;1;",
+            ),
+        ],
+    ),
+    (
+        "functions_are_cut_at_the_greatest_moment",
+        &[
+            (
+                "forever.map(+ 18446744073709551615)",
+                &[(1, 0), (2, 0)],
+                "18446744073709551615 1;18446744073709551615 2;",
+                "2;2;",
+            ),
+            (
+                "linear(2).map(* 9223372036854775808)",
+                &[(1, 0), (2, 0)],
+                "18446744073709551615 3;18446744073709551615 6;",
+                "2;2;",
+            ),
+        ],
+    ),
+    (
+        "both_wait_for_the_later_and_either_for_the_earlier",
+        &[
+            (
+                "(exponential(10) && recurs(3))",
+                &[(1, 1), (12, 1), (33, 1), (74, 1)],
+                "(10,0) 11;(20,1) 32;(40,2) 73;(80,3) done;",
+                "3;3;3;3;",
+            ),
+            (
+                "(exponential(1, 4294967296) || spaced(1))",
+                &[(1, 0), (3, 0), (5, 0)],
+                "(1,0) 2;(4294967296,1) 4;(18446744073709551615,2) 6;",
+                "3;3;3;",
+            ),
+        ],
+    ),
+    (
+        "a_done_part_goes_on_again",
+        &[(
+            "(identity.whileInput(= 0) || recurs(3))",
             &[(1, 0), (2, 1), (3, 0), (4, 0)],
-            "[] 1;[0] done;[0] 3;[0,0] 4;",
-            "3;3;3;3;",
-        ),
-    ];
-    expect_answers(&rt, &rows)
-}
+            "(0,0) 1;(1,1) 2;(0,2) 3;(0,3) 4;",
+            "4;4;4;4;",
+        )],
+    ),
+    (
+        "the_second_begins_at_the_done_step",
+        &[
+            (
+                "(recurs(2) andThenEither recurs(1))",
+                &[(1, 5), (2, 5), (3, 5), (4, 5)],
+                "Left(0) 1;Left(1) 2;Right(0) 3;Right(1) done;",
+                "2;2;3;2;",
+            ),
+            (
+                "(recurs(0) andThenEither linear(7)).map(merge)",
+                &[(1, 0), (2, 0)],
+                "7 8;14 16;",
+                "4;3;",
+            ),
+        ],
+    ),
+    (
+        "a_list_leaves_out_the_done_steps",
+        &[
+            (
+                "identity.whileInput(< 3).collectAll",
+                &[(1, 1), (2, 2), (3, 3)],
+                "[] 1;[1] 2;[1,2] done;",
+                "3;3;3;",
+            ),
+            (
+                "identity.whileInput(= 0).collectAll",
+                &[(1, 0), (2, 1), (3, 0), (4, 0)],
+                "[] 1;[0] done;[0] 3;[0,0] 4;",
+                "3;3;3;3;",
+            ),
+        ],
+    ),
+    (
+        "sizes_and_parts_are_tested",
+        &[
+            (
+                "forever.collectAll.whileOutput(size < 1).map(size)",
+                &[(1, 0), (2, 0)],
+                "0 1;1 done;",
+                "4;4;",
+            ),
+            (
+                "(elapsed && identity).whileOutput(_2 = 0).map(_1)",
+                &[(1, 0), (4, 7)],
+                "0 1;3 done;",
+                "5;5;",
+            ),
+        ],
+    ),
+    (
+        "a_reset_answers_anew",
+        &[
+            (
+                "recurs(5).resetWhen(= 2)",
+                &[(1, 0), (2, 0), (3, 0), (4, 0)],
+                "0 1;1 2;0 3;1 4;",
+                "2;2;3;2;",
+            ),
+            (
+                "elapsed.resetWhen(>= 5)",
+                &[(0, 0), (3, 0), (6, 0), (8, 0)],
+                "0 0;3 3;0 6;2 8;",
+                "2;2;3;2;",
+            ),
+            (
+                "forever.resetWhen(= 0)",
+                &[(1, 0), (2, 0)],
+                "0 1;1 2;",
+                "3;2;",
+            ),
+            (
+                "(recurs(9).resetWhen(= 2) && elapsed).resetWhen(_2 >= 5)",
+                &[(0, 0), (1, 0), (2, 0), (5, 0), (6, 0)],
+                "(0,0) 0;(1,1) 1;(0,2) 2;(0,0) 5;(1,1) 6;",
+                "5;5;6;9;5;",
+            ),
+        ],
+    ),
+    (
+        "a_reset_forgets_side_and_list",
+        &[
+            (
+                "((recurs(1) andThenEither forever) && forever).resetWhen(_2 = 2)",
+                &[(1, 0), (2, 0), (3, 0), (4, 0)],
+                "(Left(0),0) 1;(Right(0),1) 2;(Left(0),0) 3;(Right(0),1) 4;",
+                "5;6;9;6;",
+            ),
+            (
+                "identity.collectAll.resetWhen(size = 2)",
+                &[(1, 7), (2, 8), (3, 9), (4, 6)],
+                "[] 1;[7] 2;[] 3;[9] 4;",
+                "3;3;5;3;",
+            ),
+        ],
+    ),
+];
 
 #[test]
-fn sizes_and_parts_are_tested(rt: HostRuntime) -> Result<(), Fail> {
-    let rows: [Row<'_>; 2] = [
-        (
-            "forever.collectAll.whileOutput(size < 1).map(size)",
-            &[(1, 0), (2, 0)],
-            "0 1;1 done;",
-            "4;4;",
-        ),
-        (
-            "(elapsed && identity).whileOutput(_2 = 0).map(_1)",
-            &[(1, 0), (4, 7)],
-            "0 1;3 done;",
-            "5;5;",
-        ),
-    ];
-    expect_answers(&rt, &rows)
-}
-
-#[test]
-fn a_reset_answers_anew(rt: HostRuntime) -> Result<(), Fail> {
-    let rows: [Row<'_>; 4] = [
-        (
-            "recurs(5).resetWhen(= 2)",
-            &[(1, 0), (2, 0), (3, 0), (4, 0)],
-            "0 1;1 2;0 3;1 4;",
-            "2;2;3;2;",
-        ),
-        (
-            "elapsed.resetWhen(>= 5)",
-            &[(0, 0), (3, 0), (6, 0), (8, 0)],
-            "0 0;3 3;0 6;2 8;",
-            "2;2;3;2;",
-        ),
-        (
-            "forever.resetWhen(= 0)",
-            &[(1, 0), (2, 0)],
-            "0 1;1 2;",
-            "3;2;",
-        ),
-        (
-            "(recurs(9).resetWhen(= 2) && elapsed).resetWhen(_2 >= 5)",
-            &[(0, 0), (1, 0), (2, 0), (5, 0), (6, 0)],
-            "(0,0) 0;(1,1) 1;(0,2) 2;(0,0) 5;(1,1) 6;",
-            "5;5;6;9;5;",
-        ),
-    ];
-    expect_answers(&rt, &rows)
-}
-
-#[test]
-fn a_reset_forgets_side_and_list(rt: HostRuntime) -> Result<(), Fail> {
-    let rows: [Row<'_>; 2] = [
-        (
-            "((recurs(1) andThenEither forever) && forever).resetWhen(_2 = 2)",
-            &[(1, 0), (2, 0), (3, 0), (4, 0)],
-            "(Left(0),0) 1;(Right(0),1) 2;(Left(0),0) 3;(Right(0),1) 4;",
-            "5;6;9;6;",
-        ),
-        (
-            "identity.collectAll.resetWhen(size = 2)",
-            &[(1, 7), (2, 8), (3, 9), (4, 6)],
-            "[] 1;[7] 2;[] 3;[9] 4;",
-            "3;3;5;3;",
-        ),
-    ];
-    expect_answers(&rt, &rows)
+fn each_schedule_returns_what_is_listed(rt: HostRuntime) -> Result<(), Fail> {
+    expect_groups(&rt, &ANSWERS)
 }
 
 // Whether a new state of a schedule is whole, what its first step at 3 decides, and whether it is whole then.
@@ -414,7 +452,7 @@ fn a_hundred_pairs_are_answered(rt: HostRuntime) -> Result<(), Fail> {
         "elapsed",
         "spaced(0)",
     ] {
-        expect_answers(&rt, &[(schedule, &pairs, &answers, &visits)])?;
+        expect_answers(&rt, "a hundred", &[(schedule, &pairs, &answers, &visits)])?;
     }
     Ok(())
 }

@@ -80,181 +80,149 @@ fn standing(alloc: Global, task: &Task) -> Result<String, AllocError> {
     format!(in alloc; "{polls} polls, due {due:?}, ending {ending:?}, last {last:?}")
 }
 
-// Where a job stands once it was polled at each millisecond up to a horizon at which it was due.
-fn expect<R: Abort + Alloc<A = Global> + RandomSource>(
+// A job's mode, schedule and start, and the horizon.
+type Given<'a> = (Mode, &'a str, u64, u64);
+
+// Where a job is once it was polled at each millisecond up to the horizon at which it was due.
+fn end_of_run<R: Abort + Alloc<A = Global> + RandomSource>(
     rt: &R,
-    mode: Mode,
-    schedule: &str,
-    start: u64,
+    given: Given<'_>,
     beats: &[Beat],
-    horizon: u64,
-    wanted: &str,
-) -> Result<(), Fail>
-    requires bounded { horizon < 10000 }
-{
+) -> Result<String, Fail> {
+    let (mode, schedule, start, horizon) = given;
+    assert!(rt; horizon < 10000);
     let solo = Solo::new(rt, Doorbell::spinning())?;
     let mut task = task_of(rt.alloc(), mode, schedule, start, beats)?;
     run(&solo, &mut task, horizon);
     let found = standing(rt.alloc(), &task);
     drop(task);
     drop(solo);
-    expect_text(rt, &found?, wanted, schedule);
+    Ok(found?)
+}
+
+// A name, what is given, the entries, and where the job is in the end.
+type Run<'a> = (&'a str, Given<'a>, &'a [Beat], &'a str);
+
+#[test]
+fn each_job_ends_as_its_run_says(rt: HostRuntime) -> Result<(), Fail> {
+    let rows: [Run<'_>; 17] = [
+        (
+            "a_repeat_finishes_with_its_schedule",
+            (Mode::Repeat, "recurs(0)", 0, 1000),
+            &[good(3, 9)],
+            "2 polls, due None, ending Some(Finished), last Some((0, Some(3)))",
+        ),
+        (
+            "a_repeat_runs_behind",
+            (Mode::Repeat, "fixed(100)", 0, 500),
+            &[good(50, 1), good(250, 1), good(10, 1), good(10, 1)],
+            "7 polls, due Some(550), ending None, last Some((450, Some(460)))",
+        ),
+        (
+            "a_repeat_ends_on_a_boundary",
+            (Mode::Repeat, "fixed(100)", 0, 300),
+            &[good(50, 1), good(100, 1)],
+            "4 polls, due Some(350), ending None, last Some((150, Some(250)))",
+        ),
+        (
+            "an_attempt_runs_at_the_horizon",
+            (Mode::Repeat, "spaced(10)", 0, 16),
+            &[good(4, 1)],
+            "3 polls, due Some(18), ending None, last Some((14, None))",
+        ),
+        (
+            "an_end_at_the_horizon_counts",
+            (Mode::Repeat, "spaced(10)", 0, 18),
+            &[good(4, 1)],
+            "4 polls, due Some(28), ending None, last Some((14, Some(18)))",
+        ),
+        (
+            "a_failure_ends_a_repeat",
+            (Mode::Repeat, "recurs(5)", 0, 1000),
+            &[good(2, 1), bad(2, 4)],
+            "3 polls, due None, ending Some(Failed(4)), last Some((2, Some(4)))",
+        ),
+        (
+            "a_job_starts_past_the_horizon",
+            (Mode::Retry, "recurs(3)", 2000, 1000),
+            &[bad(5, 7)],
+            "0 polls, due Some(2000), ending None, last None",
+        ),
+        (
+            "a_retry_ends_with_a_success",
+            (Mode::Retry, "recurs(3)", 0, 1000),
+            &[bad(5, 7), good(5, 1)],
+            "3 polls, due None, ending Some(Succeeded(1)), last Some((5, Some(10)))",
+        ),
+        (
+            "one_schedule_comes_after_another",
+            (Mode::Repeat, "(recurs(2) andThenEither recurs(1))", 0, 1000),
+            &[good(1, 5)],
+            "5 polls, due None, ending Some(Finished), last Some((3, Some(4)))",
+        ),
+        (
+            "a_delay_saturates",
+            (
+                Mode::Repeat,
+                "(exponential(1, 4294967296) || spaced(1))",
+                0,
+                5,
+            ),
+            &[good(1, 0)],
+            "6 polls, due Some(6), ending None, last Some((4, Some(5)))",
+        ),
+        (
+            "a_done_part_goes_on_again",
+            (
+                Mode::Repeat,
+                "(identity.whileInput(= 0) || recurs(3))",
+                0,
+                4,
+            ),
+            &[good(1, 0), good(1, 1), good(1, 0)],
+            "5 polls, due Some(5), ending None, last Some((4, None))",
+        ),
+        (
+            "inputs_are_collected_while_they_pass",
+            (Mode::Repeat, "identity.whileInput(< 3).collectAll", 0, 1000),
+            &[good(1, 1), good(1, 2), good(1, 3)],
+            "4 polls, due None, ending Some(Finished), last Some((2, Some(3)))",
+        ),
+        (
+            "a_retry_goes_past_the_last_entry",
+            (Mode::Retry, "recurs(3)", 0, 1000),
+            &[bad(1, 11), bad(2, 12), bad(3, 13)],
+            "5 polls, due None, ending Some(Failed(13)), last Some((6, Some(9)))",
+        ),
+        (
+            "an_end_saturates",
+            (Mode::Repeat, "spaced(0)", 3, 20),
+            &[good(2, 4), good(u64::MAX, 9)],
+            "2 polls, due Some(18446744073709551615), ending None, last Some((5, None))",
+        ),
+        (
+            "a_job_may_make_1002_attempts",
+            (Mode::Repeat, "forever", 0, 1001),
+            &[good(1, 5)],
+            "1002 polls, due Some(1002), ending None, last Some((1001, None))",
+        ),
+        (
+            "a_job_may_wait_for_the_greatest_moment",
+            (Mode::Repeat, "spaced(18446744073709551615)", 0, 1000),
+            &[good(4, 1)],
+            "2 polls, due Some(18446744073709551615), ending None, last Some((0, Some(4)))",
+        ),
+        (
+            "a_job_may_start_at_the_greatest_moment",
+            (Mode::Retry, "recurs(3)", u64::MAX, 1000),
+            &[bad(5, 7)],
+            "0 polls, due Some(18446744073709551615), ending None, last None",
+        ),
+    ];
+    for (name, given, beats, wanted) in rows {
+        expect_text(&rt, &end_of_run(&rt, given, beats)?, wanted, name);
+    }
     Ok(())
-}
-
-#[test]
-fn a_repeat_finishes_with_its_schedule(rt: HostRuntime) -> Result<(), Fail> {
-    let wanted = "2 polls, due None, ending Some(Finished), last Some((0, Some(3)))";
-    expect(
-        &rt,
-        Mode::Repeat,
-        "recurs(0)",
-        0,
-        &[good(3, 9)],
-        1000,
-        wanted,
-    )
-}
-
-#[test]
-fn a_repeat_runs_behind(rt: HostRuntime) -> Result<(), Fail> {
-    let beats = [good(50, 1), good(250, 1), good(10, 1), good(10, 1)];
-    let wanted = "7 polls, due Some(550), ending None, last Some((450, Some(460)))";
-    expect(&rt, Mode::Repeat, "fixed(100)", 0, &beats, 500, wanted)
-}
-
-#[test]
-fn a_repeat_ends_on_a_boundary(rt: HostRuntime) -> Result<(), Fail> {
-    let beats = [good(50, 1), good(100, 1)];
-    let wanted = "4 polls, due Some(350), ending None, last Some((150, Some(250)))";
-    expect(&rt, Mode::Repeat, "fixed(100)", 0, &beats, 300, wanted)
-}
-
-#[test]
-fn an_attempt_runs_at_the_horizon(rt: HostRuntime) -> Result<(), Fail> {
-    let wanted = "3 polls, due Some(18), ending None, last Some((14, None))";
-    expect(
-        &rt,
-        Mode::Repeat,
-        "spaced(10)",
-        0,
-        &[good(4, 1)],
-        16,
-        wanted,
-    )
-}
-
-#[test]
-fn an_end_at_the_horizon_counts(rt: HostRuntime) -> Result<(), Fail> {
-    let wanted = "4 polls, due Some(28), ending None, last Some((14, Some(18)))";
-    expect(
-        &rt,
-        Mode::Repeat,
-        "spaced(10)",
-        0,
-        &[good(4, 1)],
-        18,
-        wanted,
-    )
-}
-
-#[test]
-fn a_failure_ends_a_repeat(rt: HostRuntime) -> Result<(), Fail> {
-    let beats = [good(2, 1), bad(2, 4)];
-    let wanted = "3 polls, due None, ending Some(Failed(4)), last Some((2, Some(4)))";
-    expect(&rt, Mode::Repeat, "recurs(5)", 0, &beats, 1000, wanted)
-}
-
-#[test]
-fn a_job_starts_past_the_horizon(rt: HostRuntime) -> Result<(), Fail> {
-    let wanted = "0 polls, due Some(2000), ending None, last None";
-    expect(
-        &rt,
-        Mode::Retry,
-        "recurs(3)",
-        2000,
-        &[bad(5, 7)],
-        1000,
-        wanted,
-    )
-}
-
-#[test]
-fn a_retry_ends_with_a_success(rt: HostRuntime) -> Result<(), Fail> {
-    let beats = [bad(5, 7), good(5, 1)];
-    let wanted = "3 polls, due None, ending Some(Succeeded(1)), last Some((5, Some(10)))";
-    expect(&rt, Mode::Retry, "recurs(3)", 0, &beats, 1000, wanted)
-}
-
-#[test]
-fn one_schedule_comes_after_another(rt: HostRuntime) -> Result<(), Fail> {
-    let schedule = "(recurs(2) andThenEither recurs(1))";
-    let wanted = "5 polls, due None, ending Some(Finished), last Some((3, Some(4)))";
-    expect(&rt, Mode::Repeat, schedule, 0, &[good(1, 5)], 1000, wanted)
-}
-
-#[test]
-fn a_delay_saturates(rt: HostRuntime) -> Result<(), Fail> {
-    let schedule = "(exponential(1, 4294967296) || spaced(1))";
-    let wanted = "6 polls, due Some(6), ending None, last Some((4, Some(5)))";
-    expect(&rt, Mode::Repeat, schedule, 0, &[good(1, 0)], 5, wanted)
-}
-
-#[test]
-fn a_done_part_goes_on_again(rt: HostRuntime) -> Result<(), Fail> {
-    let schedule = "(identity.whileInput(= 0) || recurs(3))";
-    let beats = [good(1, 0), good(1, 1), good(1, 0)];
-    let wanted = "5 polls, due Some(5), ending None, last Some((4, None))";
-    expect(&rt, Mode::Repeat, schedule, 0, &beats, 4, wanted)
-}
-
-#[test]
-fn inputs_are_collected_while_they_pass(rt: HostRuntime) -> Result<(), Fail> {
-    let schedule = "identity.whileInput(< 3).collectAll";
-    let beats = [good(1, 1), good(1, 2), good(1, 3)];
-    let wanted = "4 polls, due None, ending Some(Finished), last Some((2, Some(3)))";
-    expect(&rt, Mode::Repeat, schedule, 0, &beats, 1000, wanted)
-}
-
-#[test]
-fn a_retry_goes_past_the_last_entry(rt: HostRuntime) -> Result<(), Fail> {
-    let beats = [bad(1, 11), bad(2, 12), bad(3, 13)];
-    let wanted = "5 polls, due None, ending Some(Failed(13)), last Some((6, Some(9)))";
-    expect(&rt, Mode::Retry, "recurs(3)", 0, &beats, 1000, wanted)
-}
-
-#[test]
-fn an_end_saturates(rt: HostRuntime) -> Result<(), Fail> {
-    let beats = [good(2, 4), good(u64::MAX, 9)];
-    let wanted = "2 polls, due Some(18446744073709551615), ending None, last Some((5, None))";
-    expect(&rt, Mode::Repeat, "spaced(0)", 3, &beats, 20, wanted)
-}
-
-#[test]
-fn a_job_may_make_1002_attempts(rt: HostRuntime) -> Result<(), Fail> {
-    let wanted = "1002 polls, due Some(1002), ending None, last Some((1001, None))";
-    expect(&rt, Mode::Repeat, "forever", 0, &[good(1, 5)], 1001, wanted)
-}
-
-#[test]
-fn a_job_may_wait_for_the_greatest_moment(rt: HostRuntime) -> Result<(), Fail> {
-    let schedule = "spaced(18446744073709551615)";
-    let wanted = "2 polls, due Some(18446744073709551615), ending None, last Some((0, Some(4)))";
-    expect(&rt, Mode::Repeat, schedule, 0, &[good(4, 1)], 1000, wanted)
-}
-
-#[test]
-fn a_job_may_start_at_the_greatest_moment(rt: HostRuntime) -> Result<(), Fail> {
-    let wanted = "0 polls, due Some(18446744073709551615), ending None, last None";
-    expect(
-        &rt,
-        Mode::Retry,
-        "recurs(3)",
-        u64::MAX,
-        &[bad(5, 7)],
-        1000,
-        wanted,
-    )
 }
 
 // What a task is known by, and what it waits for.
@@ -313,58 +281,73 @@ fn poll_at_each<R: Abort + Alloc<A = Global>>(
     Ok(text)
 }
 
-// What comes of a retry with `recurs(3)` that is polled at these moments.
-fn expect_polls<R: Abort + Alloc<A = Global> + RandomSource>(
+// What results from polling a retry with `recurs(3)` at these moments.
+fn polls_of<R: Abort + Alloc<A = Global> + RandomSource>(
     rt: &R,
     start: u64,
     beats: &[Beat],
     moments: &[u64],
-    wanted: &str,
-) -> Result<(), Fail> {
+) -> Result<String, Fail> {
     let solo = Solo::new(rt, Doorbell::spinning())?;
     let mut task = task_of(rt.alloc(), Mode::Retry, "recurs(3)", start, beats)?;
     let found = poll_at_each(rt, &solo, &mut task, moments);
     drop(task);
     drop(solo);
-    expect_text(rt, &found?, wanted, "polls");
-    Ok(())
+    Ok(found?)
 }
 
+// A name, the start, the entries, the moments of the polls, and what results.
+type Polls<'a> = (&'a str, u64, &'a [Beat], &'a [u64], &'a str);
+
 #[test]
-fn a_task_is_known_by_its_job_and_polled_by_hand(rt: HostRuntime) -> Result<(), Fail> {
-    let wanted = "7 a Retry, broken false, due Some(0)
+fn each_poll_returns_what_is_listed(rt: HostRuntime) -> Result<(), Fail> {
+    let rows: [Polls<'_>; 4] = [
+        (
+            "a_task_is_known_by_its_job_and_polled_by_hand",
+            0,
+            &[bad(5, 7), good(5, 1)],
+            &[0, 5, 10, 10],
+            "7 a Retry, broken false, due Some(0)
 Pending, 1 polls, due Some(5)
 Pending, 2 polls, due Some(10)
 Ready(Ok(Succeeded(1))), 3 polls, due None
-";
-    expect_polls(&rt, 0, &[bad(5, 7), good(5, 1)], &[0, 5, 10], wanted)
-}
-
-#[test]
-fn an_early_poll_changes_nothing(rt: HostRuntime) -> Result<(), Fail> {
-    let wanted = "7 a Retry, broken false, due Some(5)
+Ready(Ok(Succeeded(1))), 3 polls, due None
+",
+        ),
+        (
+            "an_early_poll_changes_nothing",
+            5,
+            &[bad(5, 7)],
+            &[4],
+            "7 a Retry, broken false, due Some(5)
 Pending, 0 polls, due Some(5)
-";
-    expect_polls(&rt, 5, &[bad(5, 7)], &[4], wanted)
-}
-
-#[test]
-fn an_ended_task_answers_again(rt: HostRuntime) -> Result<(), Fail> {
-    let wanted = "7 a Retry, broken false, due Some(0)
+",
+        ),
+        (
+            "an_ended_task_answers_again",
+            0,
+            &[good(5, 1)],
+            &[0, 5, 5],
+            "7 a Retry, broken false, due Some(0)
 Pending, 1 polls, due Some(5)
 Ready(Ok(Succeeded(1))), 2 polls, due None
 Ready(Ok(Succeeded(1))), 2 polls, due None
-";
-    expect_polls(&rt, 0, &[good(5, 1)], &[0, 5, 5], wanted)
-}
-
-#[test]
-fn a_job_may_begin_at_the_last_moment_of_a_clock(rt: HostRuntime) -> Result<(), Fail> {
-    let last = 999_999_999_999_999;
-    let wanted = "7 a Retry, broken false, due Some(999999999999999)
+",
+        ),
+        (
+            "a_job_may_begin_at_the_last_moment_of_a_clock",
+            999_999_999_999_999,
+            &[bad(5, 7)],
+            &[999_999_999_999_999],
+            "7 a Retry, broken false, due Some(999999999999999)
 Pending, 1 polls, due Some(1000000000000004)
-";
-    expect_polls(&rt, last, &[bad(5, 7)], &[last], wanted)
+",
+        ),
+    ];
+    for (name, start, beats, moments, wanted) in rows {
+        expect_text(&rt, &polls_of(&rt, start, beats, moments)?, wanted, name);
+    }
+    Ok(())
 }
 
 // Adds the lines of the attempts that a task keeps as records.
@@ -409,14 +392,16 @@ fn told_at_each<R: Abort + Alloc<A = Global>>(
     Ok(text)
 }
 
-// What a task of a job that keeps its attempts so tells, before it is polled at these moments and after each poll.
-fn expect_told<R: Abort + Alloc<A = Global> + RandomSource>(
+// What a task that stores its attempts like this reports, before it is polled at these moments and after each poll.
+fn told_of<R: Abort + Alloc<A = Global> + RandomSource>(
     rt: &R,
+    given: (Mode, &str, u64),
+    beats: &[Beat],
     keeps: Keeping,
-    job: Job,
     moments: &[u64],
-    wanted: &str,
-) -> Result<(), Fail> {
+) -> Result<String, Fail> {
+    let (mode, schedule, start) = given;
+    let job = job(rt.alloc(), mode, schedule, start, beats)?;
     let solo = Solo::new(rt, Doorbell::spinning())?;
     let mut task = Task::keeping(rt.alloc(), 7, job, keeps)?;
     let kept = task.keeps();
@@ -424,15 +409,29 @@ fn expect_told<R: Abort + Alloc<A = Global> + RandomSource>(
     drop(task);
     drop(solo);
     assert!(rt; kept == keeps);
-    expect_text(rt, &found?, wanted, "what is told");
-    Ok(())
+    Ok(found?)
 }
 
+// A name, the job's mode, schedule and start, its entries, what the task stores, the moments of the polls, and the report.
+type Told<'a> = (
+    &'a str,
+    (Mode, &'a str, u64),
+    &'a [Beat],
+    Keeping,
+    &'a [u64],
+    &'a str,
+);
+
 #[test]
-fn a_task_that_keeps_lines_tells_all_attempts_but_the_last(rt: HostRuntime) -> Result<(), Fail> {
-    let beats = [bad(5, 7), bad(3, 8), good(4, 1)];
-    let job = job(rt.alloc(), Mode::Retry, "spaced(10)", 2, &beats)?;
-    let wanted = "0 polls, ending None, 0 told
+fn each_task_reports_the_attempts_that_are_listed(rt: HostRuntime) -> Result<(), Fail> {
+    let rows: [Told<'_>; 5] = [
+        (
+            "a_task_that_keeps_lines_tells_all_attempts_but_the_last",
+            (Mode::Retry, "spaced(10)", 2),
+            &[bad(5, 7), bad(3, 8), good(4, 1)],
+            Keeping::Lines,
+            &[2, 7, 17, 20, 30, 34],
+            "0 polls, ending None, 0 told
 0 recorded
 1 polls, ending None, 0 told
 1 recorded
@@ -466,18 +465,15 @@ attempt 2 17..20 err 8
 step 2 out 1 next 30
 1 recorded
 attempt 3 30..34 ok 1
-";
-    let moments = [2, 7, 17, 20, 30, 34];
-    expect_told(&rt, Keeping::Lines, job, &moments, wanted)
-}
-
-#[test]
-fn an_attempt_is_told_in_the_poll_that_ends_it_where_the_next_begins(
-    rt: HostRuntime,
-) -> Result<(), Fail> {
-    let beats = [good(2, 1), bad(3, 4)];
-    let job = job(rt.alloc(), Mode::Repeat, "recurs(5)", 0, &beats)?;
-    let wanted = "0 polls, ending None, 0 told
+",
+        ),
+        (
+            "an_attempt_is_told_in_the_poll_that_ends_it_where_the_next_begins",
+            (Mode::Repeat, "recurs(5)", 0),
+            &[good(2, 1), bad(3, 4)],
+            Keeping::Lines,
+            &[0, 2, 5],
+            "0 polls, ending None, 0 told
 0 recorded
 1 polls, ending None, 0 told
 1 recorded
@@ -492,14 +488,15 @@ attempt 1 0..2 ok 1
 step 1 out 0 next 2
 1 recorded
 attempt 2 2..5 err 4
-";
-    expect_told(&rt, Keeping::Lines, job, &[0, 2, 5], wanted)
-}
-
-#[test]
-fn the_step_that_is_done_is_told_of_the_last_record(rt: HostRuntime) -> Result<(), Fail> {
-    let job = job(rt.alloc(), Mode::Repeat, "recurs(1)", 0, &[good(3, 9)])?;
-    let wanted = "0 polls, ending None, 0 told
+",
+        ),
+        (
+            "the_step_that_is_done_is_told_of_the_last_record",
+            (Mode::Repeat, "recurs(1)", 0),
+            &[good(3, 9)],
+            Keeping::Lines,
+            &[0, 3, 6],
+            "0 polls, ending None, 0 told
 0 recorded
 1 polls, ending None, 0 told
 1 recorded
@@ -515,14 +512,15 @@ step 1 out 0 next 3
 1 recorded
 attempt 2 3..6 ok 9
 step 2 out 1 done
-";
-    expect_told(&rt, Keeping::Lines, job, &[0, 3, 6], wanted)
-}
-
-#[test]
-fn an_early_poll_and_one_of_an_ended_task_tell_nothing_new(rt: HostRuntime) -> Result<(), Fail> {
-    let job = job(rt.alloc(), Mode::Retry, "recurs(0)", 1, &[bad(4, 7)])?;
-    let wanted = "0 polls, ending None, 0 told
+",
+        ),
+        (
+            "an_early_poll_and_one_of_an_ended_task_tell_nothing_new",
+            (Mode::Retry, "recurs(0)", 1),
+            &[bad(4, 7)],
+            Keeping::Lines,
+            &[0, 2, 5, 8, 9],
+            "0 polls, ending None, 0 told
 0 recorded
 0 polls, ending None, 0 told
 0 recorded
@@ -540,15 +538,15 @@ step 1 out 0 done
 1 recorded
 attempt 1 2..8 err 7
 step 1 out 0 done
-";
-    expect_told(&rt, Keeping::Lines, job, &[0, 2, 5, 8, 9], wanted)
-}
-
-#[test]
-fn a_task_that_keeps_records_tells_no_lines(rt: HostRuntime) -> Result<(), Fail> {
-    let beats = [good(2, 1), bad(3, 4)];
-    let job = job(rt.alloc(), Mode::Repeat, "recurs(5)", 0, &beats)?;
-    let wanted = "0 polls, ending None, 0 told
+",
+        ),
+        (
+            "a_task_that_keeps_records_tells_no_lines",
+            (Mode::Repeat, "recurs(5)", 0),
+            &[good(2, 1), bad(3, 4)],
+            Keeping::Records,
+            &[0, 2, 5],
+            "0 polls, ending None, 0 told
 0 recorded
 1 polls, ending None, 0 told
 1 recorded
@@ -563,8 +561,18 @@ attempt 2 2.. running
 attempt 1 0..2 ok 1
 step 1 out 0 next 2
 attempt 2 2..5 err 4
-";
-    expect_told(&rt, Keeping::Records, job, &[0, 2, 5], wanted)
+",
+        ),
+    ];
+    for (name, given, beats, keeps, moments, wanted) in rows {
+        expect_text(
+            &rt,
+            &told_of(&rt, given, beats, keeps, moments)?,
+            wanted,
+            name,
+        );
+    }
+    Ok(())
 }
 
 #[test]

@@ -4,100 +4,212 @@ use std::alloc::{Alloc, AllocError, Global};
 use std::process::Abort;
 use zs_term::{Out, TermFault, make_left, make_list, make_pair, make_right, write_out};
 
-// Each text is read and spelled so, or refused so.
-fn expect_readings<R: Abort + Alloc<A = Global>>(rt: &R, rows: &[(&str, &str)]) {
+// A name, and texts, each with its spelling or with the text of its fault.
+type Group<'a> = (&'a str, &'a [(&'a str, &'a str)]);
+
+static READINGS: [Group<'static>; 5] = [
+    (
+        "each_form_is_read_and_has_one_spelling",
+        &[
+            ("forever", "forever"),
+            ("recurs(0)", "recurs(0)"),
+            ("spaced(10)", "spaced(10)"),
+            ("fixed(100)", "fixed(100)"),
+            ("exponential(10)", "exponential(10, 2)"),
+            ("exponential( 10 , 2 )", "exponential(10, 2)"),
+            ("fibonacci(10)", "fibonacci(10)"),
+            ("identity", "identity"),
+            ("elapsed", "elapsed"),
+            ("linear(10)", "linear(10)"),
+            ("windowed(1)", "windowed(1)"),
+            (" ( recurs( 3 )&&spaced(10) ) ", "(recurs(3) && spaced(10))"),
+            (
+                "(forever || (identity andThenEither elapsed))",
+                "(forever || (identity andThenEither elapsed))",
+            ),
+            (
+                "( recurs(3)&&spaced( 5 ) ).map( _1 )",
+                "(recurs(3) && spaced(5)).map(_1)",
+            ),
+        ],
+    ),
+    (
+        "tests_and_functions_are_read_and_have_one_spelling",
+        &[
+            (
+                "(fibonacci(3) || fixed(4)).whileInput(>=5)",
+                "(fibonacci(3) || fixed(4)).whileInput(>= 5)",
+            ),
+            ("identity.whileOutput(<5)", "identity.whileOutput(< 5)"),
+            (
+                "(identity && elapsed).whileOutput(_2 = 5)",
+                "(identity && elapsed).whileOutput(_2 = 5)",
+            ),
+            (
+                "identity.collectAll.whileOutput(size != 5)",
+                "identity.collectAll.whileOutput(size != 5)",
+            ),
+            (
+                "(forever||elapsed).whileOutput(_2>=7).collectAll",
+                "(forever || elapsed).whileOutput(_2 >= 7).collectAll",
+            ),
+            (
+                "(fixed(1)andThenEither fibonacci(2)).whileInput(!=0).map(as 3)",
+                "(fixed(1) andThenEither fibonacci(2)).whileInput(!= 0).map(as 3)",
+            ),
+            (
+                "(identity && elapsed).map(_1).map(+ 1).map(*2).map(as 7)",
+                "(identity && elapsed).map(_1).map(+ 1).map(* 2).map(as 7)",
+            ),
+            (
+                "(identity andThenEither elapsed).map(merge)",
+                "(identity andThenEither elapsed).map(merge)",
+            ),
+            (
+                "identity.collectAll.map(size)",
+                "identity.collectAll.map(size)",
+            ),
+            ("forever.resetWhen(= 0)", "forever.resetWhen(= 0)"),
+            (
+                "(identity && elapsed).resetWhen(_1 > 7)",
+                "(identity && elapsed).resetWhen(_1 > 7)",
+            ),
+            (
+                "identity.collectAll.resetWhen(size >= 3)",
+                "identity.collectAll.resetWhen(size >= 3)",
+            ),
+            (
+                "( linear( 3 )||windowed(4) ).resetWhen( _1 > 7 )",
+                "(linear(3) || windowed(4)).resetWhen(_1 > 7)",
+            ),
+            (
+                "identity.map(+1).map(* 2).resetWhen(<=4)",
+                "identity.map(+ 1).map(* 2).resetWhen(<= 4)",
+            ),
+        ],
+    ),
+    (
+        "a_text_that_is_no_term_goes_wrong_at_one_byte",
+        &[
+            ("", "no term at byte 0"),
+            ("   ", "no term at byte 3"),
+            ("(recurs(1) && recurs(2)", "no term at byte 23"),
+            ("(recurs(1) && recurs(2)  ", "no term at byte 25"),
+            ("recurs(1) && recurs(2)", "no term at byte 10"),
+            (
+                "(recurs(1) && recurs(2) && recurs(3))",
+                "no term at byte 24",
+            ),
+            ("recurs(01)", "no term at byte 7"),
+            ("recurs(1).map(_1", "no term at byte 16"),
+            ("exponential(10,)", "no term at byte 15"),
+            ("identity.whileInput(_1 < 5)", "no term at byte 20"),
+            ("identity.resetWhen(merge = 5)", "no term at byte 19"),
+            ("forever.", "no term at byte 8"),
+            ("forever.forever", "no term at byte 8"),
+            ("forever.map(as)", "no term at byte 14"),
+            ("((forever))", "no term at byte 9"),
+            ("forever &", "no term at byte 8"),
+            ("foreverforever", "no term at byte 0"),
+            ("Forever", "no term at byte 0"),
+            ("recurs ( 1 ", "no term at byte 11"),
+            ("recurs(1)\t", "no term at byte 9"),
+            ("recurs (\n", "no term at byte 8"),
+            ("(recurs(1) & recurs(2))", "no term at byte 11"),
+            (
+                "(spaced(99999999999999999999999) && recurs(18446744073709551616",
+                "no term at byte 63",
+            ),
+        ],
+    ),
+    (
+        "a_number_fits_64_bits",
+        &[
+            (
+                "recurs(18446744073709551615)",
+                "recurs(18446744073709551615)",
+            ),
+            ("recurs(18446744073709551616)", "number too large at byte 7"),
+            (
+                "(spaced(99999999999999999999999) && recurs(18446744073709551616))",
+                "number too large at byte 8",
+            ),
+        ],
+    ),
+    (
+        "of_two_faults_the_first_is_answered",
+        &[
+            ("exponential(1, 0)", "factor is 0"),
+            ("exponential(1, 0).resetWhen(= 0)", "factor is 0"),
+            ("recurs(1).map(_1)", "no kind"),
+            ("recurs(1).resetWhen(_1 = 0)", "no kind"),
+            ("(forever && forever).resetWhen(= 0)", "no kind"),
+            (
+                "(forever && forever.collectAll).resetWhen(size = 0)",
+                "no kind",
+            ),
+            (
+                "(identity andThenEither identity.collectAll).map(merge)",
+                "no kind",
+            ),
+            ("windowed(0)", "window is 0"),
+            ("windowed(0).resetWhen(= 0)", "window is 0"),
+            ("windowed(0).map(_1)", "no kind"),
+            ("(exponential(1, 0) && windowed(0))", "factor is 0"),
+            ("(windowed(0).map(_1) && exponential(1, 0))", "factor is 0"),
+            (
+                "(exponential(1, 0) && recurs(18446744073709551616))",
+                "number too large at byte 29",
+            ),
+            (
+                "(recurs(18446744073709551616) && exponential(1, 0)",
+                "no term at byte 50",
+            ),
+        ],
+    ),
+];
+
+// Each text is read and spelled as listed, or fails as listed. A table without rows fails.
+fn expect_readings<R: Abort + Alloc<A = Global>>(rt: &R, of: &str, rows: &[(&str, &str)]) {
+    assert!(rt; !rows.is_empty(), "{of}: no rows");
     for (text, wanted) in rows {
         let found = reading(rt.alloc(), text).expect(rt, "memory");
         expect_text(rt, &found, wanted, text);
     }
 }
 
-#[test]
-fn each_form_is_read_and_has_one_spelling(rt: HostRuntime) {
-    let rows = [
-        ("forever", "forever"),
-        ("recurs(0)", "recurs(0)"),
-        ("spaced(10)", "spaced(10)"),
-        ("fixed(100)", "fixed(100)"),
-        ("exponential(10)", "exponential(10, 2)"),
-        ("exponential( 10 , 2 )", "exponential(10, 2)"),
-        ("fibonacci(10)", "fibonacci(10)"),
-        ("identity", "identity"),
-        ("elapsed", "elapsed"),
-        ("linear(10)", "linear(10)"),
-        ("windowed(1)", "windowed(1)"),
-        (" ( recurs( 3 )&&spaced(10) ) ", "(recurs(3) && spaced(10))"),
-        (
-            "(forever || (identity andThenEither elapsed))",
-            "(forever || (identity andThenEither elapsed))",
-        ),
-        (
-            "( recurs(3)&&spaced( 5 ) ).map( _1 )",
-            "(recurs(3) && spaced(5)).map(_1)",
-        ),
-    ];
-    expect_readings(&rt, &rows);
+// The same for each group.
+fn expect_groups<R: Abort + Alloc<A = Global>>(rt: &R, groups: &[Group<'_>]) {
+    assert!(rt; !groups.is_empty(), "no groups");
+    for (name, rows) in groups {
+        expect_readings(rt, name, rows);
+    }
 }
 
 #[test]
-fn tests_and_functions_are_read_and_have_one_spelling(rt: HostRuntime) {
-    let rows = [
-        (
-            "(fibonacci(3) || fixed(4)).whileInput(>=5)",
-            "(fibonacci(3) || fixed(4)).whileInput(>= 5)",
-        ),
-        ("identity.whileOutput(<5)", "identity.whileOutput(< 5)"),
-        (
-            "(identity && elapsed).whileOutput(_2 = 5)",
-            "(identity && elapsed).whileOutput(_2 = 5)",
-        ),
-        (
-            "identity.collectAll.whileOutput(size != 5)",
-            "identity.collectAll.whileOutput(size != 5)",
-        ),
-        (
-            "(forever||elapsed).whileOutput(_2>=7).collectAll",
-            "(forever || elapsed).whileOutput(_2 >= 7).collectAll",
-        ),
-        (
-            "(fixed(1)andThenEither fibonacci(2)).whileInput(!=0).map(as 3)",
-            "(fixed(1) andThenEither fibonacci(2)).whileInput(!= 0).map(as 3)",
-        ),
-        (
-            "(identity && elapsed).map(_1).map(+ 1).map(*2).map(as 7)",
-            "(identity && elapsed).map(_1).map(+ 1).map(* 2).map(as 7)",
-        ),
-        (
-            "(identity andThenEither elapsed).map(merge)",
-            "(identity andThenEither elapsed).map(merge)",
-        ),
-        (
-            "identity.collectAll.map(size)",
-            "identity.collectAll.map(size)",
-        ),
-        ("forever.resetWhen(= 0)", "forever.resetWhen(= 0)"),
-        (
-            "(identity && elapsed).resetWhen(_1 > 7)",
-            "(identity && elapsed).resetWhen(_1 > 7)",
-        ),
-        (
-            "identity.collectAll.resetWhen(size >= 3)",
-            "identity.collectAll.resetWhen(size >= 3)",
-        ),
-        (
-            "( linear( 3 )||windowed(4) ).resetWhen( _1 > 7 )",
-            "(linear(3) || windowed(4)).resetWhen(_1 > 7)",
-        ),
-        (
-            "identity.map(+1).map(* 2).resetWhen(<=4)",
-            "identity.map(+ 1).map(* 2).resetWhen(<= 4)",
-        ),
-    ];
-    expect_readings(&rt, &rows);
+fn each_text_is_read_or_fails_as_listed(rt: HostRuntime) {
+    expect_groups(&rt, &READINGS);
 }
+
+static SPELLINGS: [&str; 13] = [
+    "identity.whileOutput(< 1)",
+    "(identity && elapsed).whileOutput(_1 <= 1)",
+    "(identity && elapsed).whileOutput(_2 = 1)",
+    "identity.collectAll.whileOutput(size != 1)",
+    "identity.resetWhen(> 1)",
+    "(identity && elapsed).resetWhen(_1 >= 1)",
+    "(identity && elapsed).resetWhen(_2 < 1)",
+    "identity.collectAll.resetWhen(size <= 1)",
+    "(identity && elapsed).map(_1)",
+    "(identity && elapsed).map(_2)",
+    "identity.collectAll.map(size)",
+    "(identity andThenEither elapsed).map(merge)",
+    "identity.map(as 1).map(+ 2).map(* 3)",
+];
 
 // Each text is read, and is its own spelling.
 fn expect_spellings<R: Abort + Alloc<A = Global>>(rt: &R, texts: &[&str]) {
+    assert!(rt; !texts.is_empty(), "no rows");
     for text in texts {
         let found = reading(rt.alloc(), text).expect(rt, "memory");
         expect_text(rt, &found, text, text);
@@ -106,22 +218,7 @@ fn expect_spellings<R: Abort + Alloc<A = Global>>(rt: &R, texts: &[&str]) {
 
 #[test]
 fn each_pick_function_and_comparison_is_written(rt: HostRuntime) {
-    let texts = [
-        "identity.whileOutput(< 1)",
-        "(identity && elapsed).whileOutput(_1 <= 1)",
-        "(identity && elapsed).whileOutput(_2 = 1)",
-        "identity.collectAll.whileOutput(size != 1)",
-        "identity.resetWhen(> 1)",
-        "(identity && elapsed).resetWhen(_1 >= 1)",
-        "(identity && elapsed).resetWhen(_2 < 1)",
-        "identity.collectAll.resetWhen(size <= 1)",
-        "(identity && elapsed).map(_1)",
-        "(identity && elapsed).map(_2)",
-        "identity.collectAll.map(size)",
-        "(identity andThenEither elapsed).map(merge)",
-        "identity.map(as 1).map(+ 2).map(* 3)",
-    ];
-    expect_spellings(&rt, &texts);
+    expect_spellings(&rt, &SPELLINGS);
 }
 
 #[test]
@@ -139,91 +236,6 @@ fn each_fault_has_its_text(rt: HostRuntime) {
         let text = format!(in rt.alloc(); "{fault}").expect(&rt, "memory");
         expect_text(&rt, &text, wanted, "a fault");
     }
-}
-
-#[test]
-fn a_text_that_is_no_term_goes_wrong_at_one_byte(rt: HostRuntime) {
-    let rows = [
-        ("", "no term at byte 0"),
-        ("   ", "no term at byte 3"),
-        ("(recurs(1) && recurs(2)", "no term at byte 23"),
-        ("(recurs(1) && recurs(2)  ", "no term at byte 25"),
-        ("recurs(1) && recurs(2)", "no term at byte 10"),
-        (
-            "(recurs(1) && recurs(2) && recurs(3))",
-            "no term at byte 24",
-        ),
-        ("recurs(01)", "no term at byte 7"),
-        ("recurs(1).map(_1", "no term at byte 16"),
-        ("exponential(10,)", "no term at byte 15"),
-        ("identity.whileInput(_1 < 5)", "no term at byte 20"),
-        ("identity.resetWhen(merge = 5)", "no term at byte 19"),
-        ("forever.", "no term at byte 8"),
-        ("forever.forever", "no term at byte 8"),
-        ("forever.map(as)", "no term at byte 14"),
-        ("((forever))", "no term at byte 9"),
-        ("forever &", "no term at byte 8"),
-        ("foreverforever", "no term at byte 0"),
-        ("Forever", "no term at byte 0"),
-        ("recurs ( 1 ", "no term at byte 11"),
-        ("recurs(1)\t", "no term at byte 9"),
-        ("recurs (\n", "no term at byte 8"),
-        ("(recurs(1) & recurs(2))", "no term at byte 11"),
-        (
-            "(spaced(99999999999999999999999) && recurs(18446744073709551616",
-            "no term at byte 63",
-        ),
-    ];
-    expect_readings(&rt, &rows);
-}
-
-#[test]
-fn a_number_fits_64_bits(rt: HostRuntime) {
-    let rows = [
-        (
-            "recurs(18446744073709551615)",
-            "recurs(18446744073709551615)",
-        ),
-        ("recurs(18446744073709551616)", "number too large at byte 7"),
-        (
-            "(spaced(99999999999999999999999) && recurs(18446744073709551616))",
-            "number too large at byte 8",
-        ),
-    ];
-    expect_readings(&rt, &rows);
-}
-
-#[test]
-fn of_two_faults_the_first_is_answered(rt: HostRuntime) {
-    let rows = [
-        ("exponential(1, 0)", "factor is 0"),
-        ("exponential(1, 0).resetWhen(= 0)", "factor is 0"),
-        ("recurs(1).map(_1)", "no kind"),
-        ("recurs(1).resetWhen(_1 = 0)", "no kind"),
-        ("(forever && forever).resetWhen(= 0)", "no kind"),
-        (
-            "(forever && forever.collectAll).resetWhen(size = 0)",
-            "no kind",
-        ),
-        (
-            "(identity andThenEither identity.collectAll).map(merge)",
-            "no kind",
-        ),
-        ("windowed(0)", "window is 0"),
-        ("windowed(0).resetWhen(= 0)", "window is 0"),
-        ("windowed(0).map(_1)", "no kind"),
-        ("(exponential(1, 0) && windowed(0))", "factor is 0"),
-        ("(windowed(0).map(_1) && exponential(1, 0))", "factor is 0"),
-        (
-            "(exponential(1, 0) && recurs(18446744073709551616))",
-            "number too large at byte 29",
-        ),
-        (
-            "(recurs(18446744073709551616) && exponential(1, 0)",
-            "no term at byte 50",
-        ),
-    ];
-    expect_readings(&rt, &rows);
 }
 
 // The text of an output.

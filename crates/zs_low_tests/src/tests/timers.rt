@@ -71,7 +71,14 @@ fn a_list_that_is_taken_back_serves_the_next_moment(rt: HostRuntime) {
 #[test]
 fn far_moments_fire_in_order(rt: HostRuntime) {
     let mut agenda = Agenda::new(rt.alloc()).expect(&rt, "memory");
-    let timers = [(0, u64::MAX), (1, 4096), (2, 4095), (3, 1), (4, 4096)];
+    let timers = [
+        (0, u64::MAX),
+        (1, 4096),
+        (2, 4095),
+        (3, 1),
+        (4, 4096),
+        (5, 1_000_000_000),
+    ];
     set_all(&rt, &mut agenda, &timers);
     let first = [
         "Ok(Some((1, [3])))",
@@ -82,6 +89,7 @@ fn far_moments_fire_in_order(rt: HostRuntime) {
     set_all(&rt, &mut agenda, &[(3, 4097)]);
     let last = [
         "Ok(Some((4097, [3])))",
+        "Ok(Some((1000000000, [5])))",
         "Ok(Some((18446744073709551615, [0])))",
         "Ok(None)",
     ];

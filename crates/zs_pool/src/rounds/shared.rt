@@ -18,8 +18,9 @@ pub struct Shared<'s, G> {
     pub tally: &'s Tally,
     // The moment of the round, in milliseconds.
     pub moment: u64,
-    // How many tasks the batches have.
+    // How many tasks the batches have, and how many batches there are.
     pub tasks: u64,
+    pub batches: usize,
 }
 
 // The right of one thread to claim, to hand in and to count.

@@ -1,5 +1,6 @@
 //! Has batches polled by several threads.
 ghost use Rattle.std.specs.Prelude.{◌≡◌, ◌≢◌, ◌+◌, ◌≤◌, All, IfOk, IfErr, length};
+ghost use Rattle.std.specs.Vec.{vec_capacity};
 ghost use Rattle.std.specs.List.{range_with_len};
 ghost use Rattle.std.specs.List.Sorted.{IsPermutation};
 ghost use Rattle.zs_pool.specs.Limits.{max_workers, max_tasks};
@@ -16,15 +17,49 @@ use crate::gate::Gate;
 use crate::polled::Polled;
 use crate::rounds::shared::{Rights, Shared};
 use crate::rounds::workers::Served;
-use crate::shelf::Shelf;
+use crate::shelf::{Shelf, ShelfPass};
 use crate::tally::{Tally, TallySeat};
 use std::alloc::Global;
 use std::sync::Wait;
 use std::thread;
 use std::thread::{Scope, Threads};
 
+// The calling thread waits for the helpers once it has found the shelf empty this often.
+const TRIES: u64 = 1000;
+
+// The result of a round whose helpers are joined, and the messages that were taken from the shelf meanwhile.
+#[derive(Drop)]
+struct Collected {
+    served: Served,
+    messages: Vec<Polled>,
+}
+
 impl<'s, G: Gate> Shared<'s, G> {
-    // Starts the helpers, works beside them, and joins them.
+    // Takes messages from the shelf while the helpers work, until all are there or too many tries found it empty.
+    fn collect<R: Wait>(self, rt: &R, pass: &mut ShelfPass, messages: &mut Vec<Polled>)
+        requires shelf { pass.old.shelf ≡ self.shelf.now }
+        requires messages { pass.old.taken ≡ messages.old.items }
+        requires room { (length messages.old.items ≤ self.batches) × (self.batches ≤ vec_capacity messages.old) }
+        ensures pass { (pass.new.shelf ≡ self.entry.shelf.now) × (pass.new.share ≡ pass.old.share) × (pass.new.put ≡ pass.old.put) }
+        ensures messages { pass.new.taken ≡ messages.new.items }
+    {
+        let mut empty = 0;
+        while empty < TRIES && messages.len() < self.batches {
+            match self.shelf.take(rt, pass) {
+                Some(message) => {
+                    let Ok(()) = messages.push(message) else {
+                        unreachable!()
+                    };
+                }
+                None => {
+                    empty += 1;
+                    thread::yield_now();
+                }
+            }
+        }
+    }
+
+    // Starts the helpers, works beside them, collects what they hand in, and joins them.
     fn run<E, R: Threads + Wait + Sync>(
         self,
         rt: &'s R,
@@ -32,14 +67,17 @@ impl<'s, G: Gate> Shared<'s, G> {
         alloc: Global,
         helpers: usize,
         rights: Rights,
-    ) -> Result<Served, PoolFault>
+    ) -> Result<Collected, PoolFault>
         requires first { IsFirst self helpers rights }
-        ensures whole { IfOk result (λ s. IsWhole self.entry.moment rights s.rights s.overflow) }
+        ensures whole { IfOk result (λ c. IsWhole self.entry.moment rights c.served.rights c.served.overflow c.messages.items) }
         ensures fault { IfErr result (λ e. e ≢ Full) }
     {
+        let mut messages = Vec::with_capacity(alloc, self.batches)?;
         let (rights, workers) = self.start_all(rt, scope, alloc, helpers, rights)?;
-        let served = self.serve(rt, alloc, rights);
-        Ok(self.join_all(rt, served, workers))
+        let mut served = self.serve(rt, alloc, rights);
+        self.collect(rt, &mut served.rights.shelf_pass, &mut messages);
+        let served = self.join_all(rt, served, workers);
+        Ok(Collected { served, messages })
     }
 }
 
@@ -50,18 +88,18 @@ fn run_scoped<G: Gate, R: Threads + Wait + Sync>(
     shared: Shared<'_, G>,
     helpers: usize,
     rights: Rights,
-) -> Result<Served, PoolFault>
+) -> Result<Collected, PoolFault>
     requires first { IsFirst shared helpers rights }
-    ensures whole { IfOk result (λ s. IsWhole shared.entry.moment rights s.rights s.overflow) }
+    ensures whole { IfOk result (λ c. IsWhole shared.entry.moment rights c.served.rights c.served.overflow c.messages.items) }
     ensures fault { IfErr result (λ e. e ≢ Full) }
 {
     let moment = shared.moment;
     thread::scope(
         thread::scope_env(),
         rt,
-        move |scope| -> Result<Served, PoolFault>
-            requires first { IsFirst (record { gate = shared.gate; board = shared.board; shelf = shared.shelf; tally = shared.tally; moment = moment; tasks = shared.tasks }) helpers rights }
-            ensures whole { IfOk result (λ s. IsWhole moment rights s.rights s.overflow) }
+        move |scope| -> Result<Collected, PoolFault>
+            requires first { IsFirst (record { gate = shared.gate; board = shared.board; shelf = shared.shelf; tally = shared.tally; moment = moment; tasks = shared.tasks; batches = shared.batches }) helpers rights }
+            ensures whole { IfOk result (λ c. IsWhole moment rights c.served.rights c.served.overflow c.messages.items) }
             ensures fault { IfErr result (λ e. e ≢ Full) }
         { Shared { moment, ..shared }.run(rt, scope, alloc, helpers, rights) },
     )
@@ -117,12 +155,19 @@ pub fn poll_shared<'s, G: Gate, R: Threads + Wait + Sync>(
         tally,
         moment: now,
         tasks: work.tasks,
+        batches: size,
     };
-    let Served { rights, overflow } = run_scoped(rt, alloc, shared, work.helpers, rights)?;
+    let collected = run_scoped(rt, alloc, shared, work.helpers, rights)?;
+    let Collected {
+        served,
+        mut messages,
+    } = collected;
+    let Served { rights, overflow } = served;
     tally.absorb(seat, rights.seat);
     let mut kept = overflow?;
     board.close(rt, alloc, rights.board_pass)?;
-    let mut messages = shelf.close(rt, alloc, rights.shelf_pass)?;
+    let mut left = shelf.close(rt, alloc, rights.shelf_pass)?;
+    messages.append(&mut left)?;
     messages.append(&mut kept)?;
     Ok(messages)
 }

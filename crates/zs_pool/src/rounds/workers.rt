@@ -132,7 +132,7 @@ impl<'s, G: Gate> Shared<'s, G> {
         let shared = self;
         let moment = self.moment;
         let run = move || -> Served
-            requires ready { IsReady (record { gate = shared.gate; board = shared.board; shelf = shared.shelf; tally = shared.tally; moment = moment; tasks = shared.tasks }) rights }
+            requires ready { IsReady (record { gate = shared.gate; board = shared.board; shelf = shared.shelf; tally = shared.tally; moment = moment; tasks = shared.tasks; batches = shared.batches }) rights }
             ensures served { IsSame rights result.rights × HasServed moment rights result.rights result.overflow }
         { Shared { moment, ..shared }.serve(rt, alloc, rights) };
         Ok(scope.spawn_with(promise, run)?)

@@ -24,45 +24,72 @@ fn plan_of_names(alloc: Global, names: &[&str], last: &str) -> Result<String, Al
     Ok(text)
 }
 
-// A plan in which each of these names comes after those others has this fault.
-fn expect_last<R: Abort + Alloc<A = Global>>(
-    rt: &R,
-    others: &[&str],
-    names: &[&str],
-    fault: Option<PlanFault>,
-) {
-    for name in names {
+// A name of the row, other names, names of a job after those, and the fault of each such plan.
+type Row<'a> = (&'a str, &'a [&'a str], &'a [&'a str], Option<PlanFault>);
+
+const LONGEST: &str = "abcdefghijklmnopqrstuvwxyz-0123456789-ABCDEFGHIJKLMNOPQRSTUVWXYZ";
+
+const LONGER: &str = "abcdefghijklmnopqrstuvwxyz-0123456789-ABCDEFGHIJKLMNOPQRSTUVWXYZ_";
+
+static NAMES: [Row<'static>; 6] = [
+    (
+        "a_name_has_letters_digits_and_three_marks",
+        &[],
+        &["a", "Z", "0", "-", "_", ".", "job-1_of.10", "AZaz09"],
+        None,
+    ),
+    (
+        "a_name_has_no_other_characters",
+        &[],
+        &[
+            "", " ", "a b", "a/b", "a,b", "@", "[", "`", "{", "/", ":", "\u{e9}", "a\\n",
+        ],
+        Some(PlanFault::Name { job: 0 }),
+    ),
+    ("a_name_may_have_64_bytes", &[], &[LONGEST], None),
+    (
+        "a_name_has_64_bytes_at_most",
+        &[],
+        &[LONGER],
+        Some(PlanFault::Name { job: 0 }),
+    ),
+    (
+        "a_name_is_told_from_those_like_it",
+        &["b", "a", "ab"],
+        &["c", "A", "aba", "ba"],
+        None,
+    ),
+    (
+        "a_name_was_used_before",
+        &["b", "a", "ab"],
+        &["b", "a", "ab"],
+        Some(PlanFault::SameName { job: 3 }),
+    ),
+];
+
+// A plan in which each of a row's names comes after its other names has the fault of the row.
+fn expect_last<R: Abort + Alloc<A = Global>>(rt: &R, row: &Row<'_>) {
+    let (of, others, names, fault) = row;
+    assert!(rt; !names.is_empty(), "{of}: no names");
+    for name in *names {
         let text = plan_of_names(rt.alloc(), others, name).expect(rt, "memory");
         let found = fault_of(rt.alloc(), &text);
-        assert!(rt; found == fault, "{name}: {found:?}");
+        assert!(rt; found == *fault, "{of}, {name}: {found:?}");
+    }
+}
+
+// The same for each row. A table without rows fails.
+fn expect_rows<R: Abort + Alloc<A = Global>>(rt: &R, rows: &[Row<'_>]) {
+    assert!(rt; !rows.is_empty(), "no rows");
+    for row in rows {
+        expect_last(rt, row);
     }
 }
 
 #[test]
-fn a_name_has_letters_digits_and_three_marks(rt: HostRuntime) {
-    let names = ["a", "Z", "0", "-", "_", ".", "job-1_of.10", "AZaz09"];
-    expect_last(&rt, &[], &names, None);
-    let others = [
-        "", " ", "a b", "a/b", "a,b", "@", "[", "`", "{", "/", ":", "\u{e9}", "a\\n",
-    ];
-    expect_last(&rt, &[], &others, Some(PlanFault::Name { job: 0 }));
-}
-
-#[test]
-fn a_name_has_64_bytes_at_most(rt: HostRuntime) {
-    let longest = "abcdefghijklmnopqrstuvwxyz-0123456789-ABCDEFGHIJKLMNOPQRSTUVWXYZ";
-    let longer = "abcdefghijklmnopqrstuvwxyz-0123456789-ABCDEFGHIJKLMNOPQRSTUVWXYZ_";
-    assert!(rt; longest.len() == 64 && longer.len() == 65);
-    expect_last(&rt, &[], &[longest], None);
-    expect_last(&rt, &[], &[longer], Some(PlanFault::Name { job: 0 }));
-}
-
-#[test]
-fn a_name_is_told_from_those_like_it(rt: HostRuntime) {
-    let others = ["b", "a", "ab"];
-    expect_last(&rt, &others, &["c", "A", "aba", "ba"], None);
-    let fault = Some(PlanFault::SameName { job: 3 });
-    expect_last(&rt, &others, &others, fault);
+fn each_name_is_read_or_fails_as_listed(rt: HostRuntime) {
+    assert!(rt; LONGEST.len() == 64 && LONGER.len() == 65);
+    expect_rows(&rt, &NAMES);
 }
 
 // A plan of jobs with the numbers below one as their names, and one more job.

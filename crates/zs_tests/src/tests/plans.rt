@@ -33,55 +33,61 @@ fn push_plan(text: &mut String, alloc: Global, plan: &Plan) -> Result<(), Fail> 
     Ok(())
 }
 
-// A text is the plan of this.
-fn expect_plan<R: Abort + Alloc<A = Global>>(
-    rt: &R,
-    bytes: &str,
-    wanted: &str,
-) -> Result<(), Fail> {
-    let mut text = String::new(rt.alloc());
-    let plan = read_plan(rt.alloc(), bytes.as_bytes())?;
-    push_plan(&mut text, rt.alloc(), &plan)?;
-    drop(plan);
-    expect_text(rt, &text, wanted, bytes);
-    Ok(())
-}
+// A name, the text of a plan, and what it represents.
+type Row<'a> = (&'a str, &'a str, &'a str);
 
-#[test]
-fn a_plan_of_one_job_has_its_parts(rt: HostRuntime) -> Result<(), Fail> {
-    let wanted = "horizon 1000: Some(1) Some(9) Some(999)
+static PLANS: [Row<'static>; 4] = [
+    (
+        "a_plan_of_one_job_has_its_parts",
+        PLAN,
+        "horizon 1000: Some(1) Some(9) Some(999)
 1 workers, grain 1
 a Retry recurs(3) from 0: 5 Bad(7) 5 Good(1) 5 Good(1)
-";
-    expect_plan(&rt, PLAN, wanted)
-}
-
-#[test]
-fn every_key_has_its_place(rt: HostRuntime) -> Result<(), Fail> {
-    let text =
-        r#" { "jobs" : [ { "script" : [ { "ok" : 18446744073709551615, "ms" : 2 } ], "start" : 18446744073709551615, "schedule" : "( exponential(10) && recurs(3) )", "mode" : "repeat", "name" : "nightly-1_b.c" } ], "grain" : 10000, "workers" : 64, "ticks" : [ 0, 8, 999999999999999 ] } "#;
-    let wanted = "horizon 999999999999999: Some(8) Some(999999999999999) Some(999999999999999)
+",
+    ),
+    (
+        "every_key_has_its_place",
+        r#" { "jobs" : [ { "script" : [ { "ok" : 18446744073709551615, "ms" : 2 } ], "start" : 18446744073709551615, "schedule" : "( exponential(10) && recurs(3) )", "mode" : "repeat", "name" : "nightly-1_b.c" } ], "grain" : 10000, "workers" : 64, "ticks" : [ 0, 8, 999999999999999 ] } "#,
+        "horizon 999999999999999: Some(8) Some(999999999999999) Some(999999999999999)
 64 workers, grain 10000
 nightly-1_b.c Repeat (exponential(10, 2) && recurs(3)) from 18446744073709551615: 2 Good(18446744073709551615) 2 Good(18446744073709551615) 2 Good(18446744073709551615)
-";
-    expect_plan(&rt, text, wanted)
-}
-
-#[test]
-fn a_plan_may_have_no_jobs(rt: HostRuntime) -> Result<(), Fail> {
-    let wanted = "horizon 0: None None None\n1 workers, grain 1\n";
-    expect_plan(&rt, r#"{"jobs":[],"horizon":0}"#, wanted)
-}
-
-#[test]
-fn jobs_stand_in_the_order_of_the_plan(rt: HostRuntime) -> Result<(), Fail> {
-    let text =
-        r#"{"horizon":1,"jobs":[{"name":"b","mode":"retry","schedule":"forever","script":[{"ms":1,"ok":0}]},{"name":"a","mode":"repeat","schedule":"identity","script":[{"ms":1,"ok":0}]},{"name":"B","mode":"retry","schedule":"elapsed","script":[{"ms":1,"ok":0}]}]}"#;
-    let wanted = "horizon 1: Some(1) None None
+",
+    ),
+    (
+        "a_plan_may_have_no_jobs",
+        r#"{"jobs":[],"horizon":0}"#,
+        "horizon 0: None None None\n1 workers, grain 1\n",
+    ),
+    (
+        "jobs_stand_in_the_order_of_the_plan",
+        r#"{"horizon":1,"jobs":[{"name":"b","mode":"retry","schedule":"forever","script":[{"ms":1,"ok":0}]},{"name":"a","mode":"repeat","schedule":"identity","script":[{"ms":1,"ok":0}]},{"name":"B","mode":"retry","schedule":"elapsed","script":[{"ms":1,"ok":0}]}]}"#,
+        "horizon 1: Some(1) None None
 1 workers, grain 1
 b Retry forever from 0: 1 Good(0) 1 Good(0) 1 Good(0)
 a Repeat identity from 0: 1 Good(0) 1 Good(0) 1 Good(0)
 B Retry elapsed from 0: 1 Good(0) 1 Good(0) 1 Good(0)
-";
-    expect_plan(&rt, text, wanted)
+",
+    ),
+];
+
+// The plan that is read from a text.
+fn plan_read(alloc: Global, bytes: &str) -> Result<String, Fail> {
+    let mut text = String::new(alloc);
+    let plan = read_plan(alloc, bytes.as_bytes())?;
+    push_plan(&mut text, alloc, &plan)?;
+    Ok(text)
+}
+
+// Each text is the plan that is listed. A table without rows fails.
+fn expect_plans<R: Abort + Alloc<A = Global>>(rt: &R, rows: &[Row<'_>]) -> Result<(), Fail> {
+    assert!(rt; !rows.is_empty(), "no rows");
+    for (name, bytes, wanted) in rows {
+        expect_text(rt, &plan_read(rt.alloc(), bytes)?, wanted, name);
+    }
+    Ok(())
+}
+
+#[test]
+fn each_text_is_the_plan_that_is_listed(rt: HostRuntime) -> Result<(), Fail> {
+    expect_plans(&rt, &PLANS)
 }

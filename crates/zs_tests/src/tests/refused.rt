@@ -14,18 +14,348 @@ fn expect_fault(rt: &impl Abort, alloc: Global, text: &str, fault: PlanFault) {
     assert!(rt; found == Some(fault), "{text}: {found:?}");
 }
 
-fn expect_faults(rt: &impl Abort, alloc: Global, faults: &[(&str, PlanFault)]) {
-    for (text, fault) in faults {
-        expect_fault(rt, alloc, text, *fault);
+// A name, what is before and after each text, and texts with the fault of the whole.
+type Group<'a> = (&'a str, &'a str, &'a str, &'a [(&'a str, PlanFault)]);
+
+static FAULTS: [Group<'static>; 7] = [
+    (
+        "a_document_has_its_first_fault",
+        "",
+        "",
+        &[
+            // Neither JSON nor an object with all that has to be there.
+            (r#""#, PlanFault::Json),
+            (r#"{"jobs":[]"#, PlanFault::Json),
+            (r#"{"jobs":[]}}"#, PlanFault::Json),
+            // A key is missing, and another is unknown.
+            (r#"{"horizon":1,"x":1}"#, PlanFault::Shape { job: None }),
+            (r#"{"jobs":[],"x":1}"#, PlanFault::Shape { job: None }),
+            (
+                r#"{"horizon":1,"ticks":[1],"jobs":[],"x":1}"#,
+                PlanFault::Shape { job: None },
+            ),
+            // A key is unknown, and a number is out of range.
+            (
+                r#"{"horizon":1,"workers":65,"jobs":[],"x":1}"#,
+                PlanFault::UnknownKey { job: None },
+            ),
+            (
+                r#"{"ticks":[],"jobs":[],"start":1}"#,
+                PlanFault::UnknownKey { job: None },
+            ),
+            // A number is out of range, and the first job has another shape.
+            (
+                r#"{"horizon":1,"workers":65,"jobs":[1]}"#,
+                PlanFault::Range { job: None },
+            ),
+            (
+                r#"{"ticks":[5,5],"jobs":[1]}"#,
+                PlanFault::Range { job: None },
+            ),
+        ],
+    ),
+    (
+        "a_document_has_its_shape",
+        "",
+        "",
+        &[
+            (r#"[]"#, PlanFault::Shape { job: None }),
+            (r#"null"#, PlanFault::Shape { job: None }),
+            (r#""plan""#, PlanFault::Shape { job: None }),
+            (r#"{}"#, PlanFault::Shape { job: None }),
+            (r#"{"horizon":1,"jobs":{}}"#, PlanFault::Shape { job: None }),
+            (
+                r#"{"horizon":"1","jobs":[]}"#,
+                PlanFault::Shape { job: None },
+            ),
+            (
+                r#"{"horizon":1.5,"jobs":[]}"#,
+                PlanFault::Shape { job: None },
+            ),
+            (
+                r#"{"horizon":1e3,"jobs":[]}"#,
+                PlanFault::Shape { job: None },
+            ),
+            (
+                r#"{"horizon":-1,"jobs":[]}"#,
+                PlanFault::Shape { job: None },
+            ),
+            (
+                r#"{"horizon":18446744073709551616,"jobs":[]}"#,
+                PlanFault::Shape { job: None },
+            ),
+            (
+                r#"{"horizon":null,"jobs":[]}"#,
+                PlanFault::Shape { job: None },
+            ),
+            (r#"{"ticks":5,"jobs":[]}"#, PlanFault::Shape { job: None }),
+            (
+                r#"{"ticks":[1,2.5],"jobs":[]}"#,
+                PlanFault::Shape { job: None },
+            ),
+            (
+                r#"{"horizon":1,"workers":"2","jobs":[]}"#,
+                PlanFault::Shape { job: None },
+            ),
+            (
+                r#"{"horizon":1,"grain":0.5,"jobs":[]}"#,
+                PlanFault::Shape { job: None },
+            ),
+        ],
+    ),
+    (
+        "a_document_is_in_range",
+        "",
+        "",
+        &[
+            (
+                r#"{"horizon":1000000000000000,"jobs":[]}"#,
+                PlanFault::Range { job: None },
+            ),
+            (
+                r#"{"horizon":1,"workers":0,"jobs":[]}"#,
+                PlanFault::Range { job: None },
+            ),
+            (
+                r#"{"horizon":1,"workers":65,"jobs":[]}"#,
+                PlanFault::Range { job: None },
+            ),
+            (
+                r#"{"horizon":1,"grain":0,"jobs":[]}"#,
+                PlanFault::Range { job: None },
+            ),
+            (
+                r#"{"horizon":1,"grain":10001,"jobs":[]}"#,
+                PlanFault::Range { job: None },
+            ),
+            (r#"{"ticks":[],"jobs":[]}"#, PlanFault::Range { job: None }),
+            (
+                r#"{"ticks":[5,4],"jobs":[]}"#,
+                PlanFault::Range { job: None },
+            ),
+            (
+                r#"{"ticks":[1000000000000000],"jobs":[]}"#,
+                PlanFault::Range { job: None },
+            ),
+        ],
+    ),
+    (
+        "a_job_has_its_first_fault",
+        r#"{"horizon":1000,"jobs":["#,
+        "]}",
+        &[
+            // Something is missing, and a key is unknown.
+            (
+                r#"{"mode":"retry","schedule":"forever","script":[],"x":1}"#,
+                PlanFault::Shape { job: Some(0) },
+            ),
+            // A key is unknown, and the mode is none.
+            (
+                r#"{"name":"a","mode":"loop","schedule":"forever","script":[],"x":1}"#,
+                PlanFault::UnknownKey { job: Some(0) },
+            ),
+            (
+                r#"{"name":"a","mode":"loop","schedule":"forever","script":[{"ms":1,"ok":1,"x":1}]}"#,
+                PlanFault::UnknownKey { job: Some(0) },
+            ),
+            // The mode is none, and the name is none.
+            (
+                r#"{"name":"","mode":"loop","schedule":"forever","script":[]}"#,
+                PlanFault::Range { job: Some(0) },
+            ),
+            // The name is none, and the schedule is none.
+            (
+                r#"{"name":"","mode":"retry","schedule":"recurs(1).map(_1)","script":[]}"#,
+                PlanFault::Name { job: 0 },
+            ),
+            // The schedule is none, and the script is none.
+            (
+                r#"{"name":"a","mode":"retry","schedule":"recurs(1).map(_1)","script":[]}"#,
+                PlanFault::Schedule {
+                    job: 0,
+                    fault: TermFault::NoKind,
+                },
+            ),
+            // The script is none, and the next job has another shape.
+            (
+                r#"{"name":"a","mode":"retry","schedule":"forever","script":[]},1"#,
+                PlanFault::Script {
+                    job: 0,
+                    fault: ScriptFault::Empty,
+                },
+            ),
+        ],
+    ),
+    (
+        "a_later_job_has_its_first_fault",
+        r#"{"horizon":1000,"jobs":[{"name":"a","mode":"retry","schedule":"forever","script":[{"ms":1,"ok":1}]},"#,
+        "]}",
+        &[
+            (r#"{"name":"b"}"#, PlanFault::Shape { job: Some(1) }),
+            // A mode is none, and an earlier job has the name.
+            (
+                r#"{"name":"a","mode":"Retry","schedule":"forever","script":[]}"#,
+                PlanFault::Range { job: Some(1) },
+            ),
+            // An earlier job has the name, and the schedule is none.
+            (
+                r#"{"name":"a","mode":"retry","schedule":"","script":[]}"#,
+                PlanFault::SameName { job: 1 },
+            ),
+            (
+                r#"{"name":"b","mode":"retry","schedule":"","script":[]}"#,
+                PlanFault::Schedule {
+                    job: 1,
+                    fault: TermFault::NoTerm { at: 0 },
+                },
+            ),
+            (
+                r#"{"name":"b","mode":"retry","schedule":"forever","script":[{"ms":1,"ok":1},{"ms":0,"ok":1}]}"#,
+                PlanFault::Script {
+                    job: 1,
+                    fault: ScriptFault::ZeroMs,
+                },
+            ),
+        ],
+    ),
+    (
+        "a_job_has_its_shape",
+        r#"{"horizon":1000,"jobs":["#,
+        "]}",
+        &[
+            (r#"1"#, PlanFault::Shape { job: Some(0) }),
+            (r#"null"#, PlanFault::Shape { job: Some(0) }),
+            (r#"[]"#, PlanFault::Shape { job: Some(0) }),
+            (
+                r#"{"name":"a","schedule":"forever","script":[]}"#,
+                PlanFault::Shape { job: Some(0) },
+            ),
+            (
+                r#"{"name":"a","mode":"retry","script":[]}"#,
+                PlanFault::Shape { job: Some(0) },
+            ),
+            (
+                r#"{"name":"a","mode":"retry","schedule":"forever"}"#,
+                PlanFault::Shape { job: Some(0) },
+            ),
+            (
+                r#"{"name":1,"mode":"retry","schedule":"forever","script":[]}"#,
+                PlanFault::Shape { job: Some(0) },
+            ),
+            (
+                r#"{"name":"a","mode":null,"schedule":"forever","script":[]}"#,
+                PlanFault::Shape { job: Some(0) },
+            ),
+            (
+                r#"{"name":"a","mode":"retry","schedule":[],"script":[]}"#,
+                PlanFault::Shape { job: Some(0) },
+            ),
+            (
+                r#"{"name":"a","mode":"retry","schedule":"forever","script":{}}"#,
+                PlanFault::Shape { job: Some(0) },
+            ),
+            (
+                r#"{"name":"a","mode":"retry","schedule":"forever","start":-1,"script":[]}"#,
+                PlanFault::Shape { job: Some(0) },
+            ),
+            (
+                r#"{"name":"a","mode":"retry","schedule":"forever","script":[5]}"#,
+                PlanFault::Shape { job: Some(0) },
+            ),
+            (
+                r#"{"name":"a","mode":"retry","schedule":"forever","script":[{"ok":1}]}"#,
+                PlanFault::Shape { job: Some(0) },
+            ),
+            (
+                r#"{"name":"a","mode":"retry","schedule":"forever","script":[{"ms":1}]}"#,
+                PlanFault::Shape { job: Some(0) },
+            ),
+            (
+                r#"{"name":"a","mode":"retry","schedule":"forever","script":[{"ms":1,"ok":1,"err":1}]}"#,
+                PlanFault::Shape { job: Some(0) },
+            ),
+            (
+                r#"{"name":"a","mode":"retry","schedule":"forever","script":[{"ms":1.5,"ok":1}]}"#,
+                PlanFault::Shape { job: Some(0) },
+            ),
+            (
+                r#"{"name":"a","mode":"retry","schedule":"forever","script":[{"ms":1,"err":"no"}]}"#,
+                PlanFault::Shape { job: Some(0) },
+            ),
+        ],
+    ),
+    (
+        "each_fault_of_a_schedule_is_told",
+        r#"{"horizon":1,"jobs":[{"name":"a","mode":"retry","schedule":""#,
+        r#"","script":[]}]}"#,
+        &[
+            (
+                "recurs(01)",
+                PlanFault::Schedule {
+                    job: 0,
+                    fault: TermFault::NoTerm { at: 7 },
+                },
+            ),
+            (
+                "forever.resetWhen(= 0).resetWhen(= 0).resetWhen(= 0).resetWhen(= 0).resetWhen(= 0).resetWhen(= 0).resetWhen(= 0).resetWhen(= 0).resetWhen(= 0)",
+                PlanFault::Schedule {
+                    job: 0,
+                    fault: TermFault::TooBig,
+                },
+            ),
+            (
+                "recurs(18446744073709551616)",
+                PlanFault::Schedule {
+                    job: 0,
+                    fault: TermFault::BadNumber { at: 7 },
+                },
+            ),
+            (
+                "exponential(1, 0)",
+                PlanFault::Schedule {
+                    job: 0,
+                    fault: TermFault::BadFactor,
+                },
+            ),
+            (
+                "recurs(1).map(_1)",
+                PlanFault::Schedule {
+                    job: 0,
+                    fault: TermFault::NoKind,
+                },
+            ),
+            (
+                "windowed(0)",
+                PlanFault::Schedule {
+                    job: 0,
+                    fault: TermFault::BadWindow,
+                },
+            ),
+        ],
+    ),
+];
+
+// Each text has the fault that is listed. A table without rows fails.
+fn expect_faults(rt: &impl Abort, alloc: Global, group: &Group<'_>) {
+    let (name, before, after, rows) = group;
+    assert!(rt; !rows.is_empty(), "{name}: no rows");
+    for (text, fault) in *rows {
+        let text = format!(in alloc; "{before}{text}{after}").expect(rt, "memory");
+        expect_fault(rt, alloc, &text, *fault);
     }
 }
 
-// The same for jobs: each text is what stands in a plan's list of jobs.
-fn expect_job_faults(rt: &impl Abort, alloc: Global, faults: &[(&str, PlanFault)]) {
-    for (jobs, fault) in faults {
-        let text = format!(in alloc; "{{\"horizon\":1000,\"jobs\":[{jobs}]}}");
-        expect_fault(rt, alloc, &text.expect(rt, "memory"), *fault);
+// The same for each group.
+fn expect_groups(rt: &impl Abort, alloc: Global, groups: &[Group<'_>]) {
+    assert!(rt; !groups.is_empty(), "no groups");
+    for group in groups {
+        expect_faults(rt, alloc, group);
     }
+}
+
+#[test]
+fn each_text_has_the_fault_that_is_listed(rt: HostRuntime) {
+    expect_groups(&rt, rt.alloc(), &FAULTS);
 }
 
 // So many spaces are no plan, for this fault.
@@ -57,79 +387,6 @@ fn bytes_that_are_no_text_are_not_json(rt: HostRuntime) {
     assert!(rt; matches!(&plan, Err(PlanFault::Json)));
 }
 
-#[test]
-fn a_document_has_its_first_fault(rt: HostRuntime) {
-    let job = DOCUMENT;
-    let faults = [
-        // Neither JSON nor an object with all that has to be there.
-        (r#""#, PlanFault::Json),
-        (r#"{"jobs":[]"#, PlanFault::Json),
-        (r#"{"jobs":[]}}"#, PlanFault::Json),
-        // A key is missing, and another is unknown.
-        (r#"{"horizon":1,"x":1}"#, PlanFault::Shape { job }),
-        (r#"{"jobs":[],"x":1}"#, PlanFault::Shape { job }),
-        (
-            r#"{"horizon":1,"ticks":[1],"jobs":[],"x":1}"#,
-            PlanFault::Shape { job },
-        ),
-        // A key is unknown, and a number is out of range.
-        (
-            r#"{"horizon":1,"workers":65,"jobs":[],"x":1}"#,
-            PlanFault::UnknownKey { job },
-        ),
-        (
-            r#"{"ticks":[],"jobs":[],"start":1}"#,
-            PlanFault::UnknownKey { job },
-        ),
-        // A number is out of range, and the first job has another shape.
-        (
-            r#"{"horizon":1,"workers":65,"jobs":[1]}"#,
-            PlanFault::Range { job },
-        ),
-        (r#"{"ticks":[5,5],"jobs":[1]}"#, PlanFault::Range { job }),
-    ];
-    expect_faults(&rt, rt.alloc(), &faults);
-}
-
-#[test]
-fn a_document_has_its_shape(rt: HostRuntime) {
-    let shape = PlanFault::Shape { job: DOCUMENT };
-    let faults = [
-        (r#"[]"#, shape),
-        (r#"null"#, shape),
-        (r#""plan""#, shape),
-        (r#"{}"#, shape),
-        (r#"{"horizon":1,"jobs":{}}"#, shape),
-        (r#"{"horizon":"1","jobs":[]}"#, shape),
-        (r#"{"horizon":1.5,"jobs":[]}"#, shape),
-        (r#"{"horizon":1e3,"jobs":[]}"#, shape),
-        (r#"{"horizon":-1,"jobs":[]}"#, shape),
-        (r#"{"horizon":18446744073709551616,"jobs":[]}"#, shape),
-        (r#"{"horizon":null,"jobs":[]}"#, shape),
-        (r#"{"ticks":5,"jobs":[]}"#, shape),
-        (r#"{"ticks":[1,2.5],"jobs":[]}"#, shape),
-        (r#"{"horizon":1,"workers":"2","jobs":[]}"#, shape),
-        (r#"{"horizon":1,"grain":0.5,"jobs":[]}"#, shape),
-    ];
-    expect_faults(&rt, rt.alloc(), &faults);
-}
-
-#[test]
-fn a_document_is_in_range(rt: HostRuntime) {
-    let range = PlanFault::Range { job: DOCUMENT };
-    let faults = [
-        (r#"{"horizon":1000000000000000,"jobs":[]}"#, range),
-        (r#"{"horizon":1,"workers":0,"jobs":[]}"#, range),
-        (r#"{"horizon":1,"workers":65,"jobs":[]}"#, range),
-        (r#"{"horizon":1,"grain":0,"jobs":[]}"#, range),
-        (r#"{"horizon":1,"grain":10001,"jobs":[]}"#, range),
-        (r#"{"ticks":[],"jobs":[]}"#, range),
-        (r#"{"ticks":[5,4],"jobs":[]}"#, range),
-        (r#"{"ticks":[1000000000000000],"jobs":[]}"#, range),
-    ];
-    expect_faults(&rt, rt.alloc(), &faults);
-}
-
 // A list of so many jobs, each of which is 0.
 fn plan_of_zeros(alloc: Global, count: usize) -> Result<String, AllocError> {
     let zeros = ",0".repeat(alloc, count.saturating_sub(1))?;
@@ -144,151 +401,6 @@ fn a_plan_has_ten_thousand_jobs_at_most(rt: HostRuntime) {
     let more = plan_of_zeros(rt.alloc(), 10_001).expect(&rt, "memory");
     let range = PlanFault::Range { job: DOCUMENT };
     expect_fault(&rt, rt.alloc(), &more, range);
-}
-
-#[test]
-fn a_job_has_its_first_fault(rt: HostRuntime) {
-    let (job, place) = (0, Some(0));
-    let faults = [
-        // Something is missing, and a key is unknown.
-        (
-            r#"{"mode":"retry","schedule":"forever","script":[],"x":1}"#,
-            PlanFault::Shape { job: place },
-        ),
-        // A key is unknown, and the mode is none.
-        (
-            r#"{"name":"a","mode":"loop","schedule":"forever","script":[],"x":1}"#,
-            PlanFault::UnknownKey { job: place },
-        ),
-        (
-            r#"{"name":"a","mode":"loop","schedule":"forever","script":[{"ms":1,"ok":1,"x":1}]}"#,
-            PlanFault::UnknownKey { job: place },
-        ),
-        // The mode is none, and the name is none.
-        (
-            r#"{"name":"","mode":"loop","schedule":"forever","script":[]}"#,
-            PlanFault::Range { job: place },
-        ),
-        // The name is none, and the schedule is none.
-        (
-            r#"{"name":"","mode":"retry","schedule":"recurs(1).map(_1)","script":[]}"#,
-            PlanFault::Name { job },
-        ),
-        // The schedule is none, and the script is none.
-        (
-            r#"{"name":"a","mode":"retry","schedule":"recurs(1).map(_1)","script":[]}"#,
-            PlanFault::Schedule {
-                job,
-                fault: TermFault::NoKind,
-            },
-        ),
-        // The script is none, and the next job has another shape.
-        (
-            r#"{"name":"a","mode":"retry","schedule":"forever","script":[]},1"#,
-            PlanFault::Script {
-                job,
-                fault: ScriptFault::Empty,
-            },
-        ),
-    ];
-    expect_job_faults(&rt, rt.alloc(), &faults);
-}
-
-const FIRST: &str =
-    r#"{"name":"a","mode":"retry","schedule":"forever","script":[{"ms":1,"ok":1}]}"#;
-
-#[test]
-fn a_later_job_has_its_first_fault(rt: HostRuntime) {
-    let (job, place) = (1, Some(1));
-    let faults = [
-        (r#"{"name":"b"}"#, PlanFault::Shape { job: place }),
-        // A mode is none, and an earlier job has the name.
-        (
-            r#"{"name":"a","mode":"Retry","schedule":"forever","script":[]}"#,
-            PlanFault::Range { job: place },
-        ),
-        // An earlier job has the name, and the schedule is none.
-        (
-            r#"{"name":"a","mode":"retry","schedule":"","script":[]}"#,
-            PlanFault::SameName { job },
-        ),
-        (
-            r#"{"name":"b","mode":"retry","schedule":"","script":[]}"#,
-            PlanFault::Schedule {
-                job,
-                fault: TermFault::NoTerm { at: 0 },
-            },
-        ),
-        (
-            r#"{"name":"b","mode":"retry","schedule":"forever","script":[{"ms":1,"ok":1},{"ms":0,"ok":1}]}"#,
-            PlanFault::Script {
-                job,
-                fault: ScriptFault::ZeroMs,
-            },
-        ),
-    ];
-    for (second, fault) in faults {
-        let text = format!(in rt.alloc(); "{{\"horizon\":1000,\"jobs\":[{FIRST},{second}]}}");
-        expect_fault(&rt, rt.alloc(), &text.expect(&rt, "memory"), fault);
-    }
-}
-
-#[test]
-fn a_job_has_its_shape(rt: HostRuntime) {
-    let shape = PlanFault::Shape { job: Some(0) };
-    let faults = [
-        (r#"1"#, shape),
-        (r#"null"#, shape),
-        (r#"[]"#, shape),
-        (r#"{"name":"a","schedule":"forever","script":[]}"#, shape),
-        (r#"{"name":"a","mode":"retry","script":[]}"#, shape),
-        (r#"{"name":"a","mode":"retry","schedule":"forever"}"#, shape),
-        (
-            r#"{"name":1,"mode":"retry","schedule":"forever","script":[]}"#,
-            shape,
-        ),
-        (
-            r#"{"name":"a","mode":null,"schedule":"forever","script":[]}"#,
-            shape,
-        ),
-        (
-            r#"{"name":"a","mode":"retry","schedule":[],"script":[]}"#,
-            shape,
-        ),
-        (
-            r#"{"name":"a","mode":"retry","schedule":"forever","script":{}}"#,
-            shape,
-        ),
-        (
-            r#"{"name":"a","mode":"retry","schedule":"forever","start":-1,"script":[]}"#,
-            shape,
-        ),
-        (
-            r#"{"name":"a","mode":"retry","schedule":"forever","script":[5]}"#,
-            shape,
-        ),
-        (
-            r#"{"name":"a","mode":"retry","schedule":"forever","script":[{"ok":1}]}"#,
-            shape,
-        ),
-        (
-            r#"{"name":"a","mode":"retry","schedule":"forever","script":[{"ms":1}]}"#,
-            shape,
-        ),
-        (
-            r#"{"name":"a","mode":"retry","schedule":"forever","script":[{"ms":1,"ok":1,"err":1}]}"#,
-            shape,
-        ),
-        (
-            r#"{"name":"a","mode":"retry","schedule":"forever","script":[{"ms":1.5,"ok":1}]}"#,
-            shape,
-        ),
-        (
-            r#"{"name":"a","mode":"retry","schedule":"forever","script":[{"ms":1,"err":"no"}]}"#,
-            shape,
-        ),
-    ];
-    expect_job_faults(&rt, rt.alloc(), &faults);
 }
 
 // A plan of one job with so many entries of no duration.
@@ -306,37 +418,4 @@ fn a_script_is_counted_before_its_entries_are_looked_at(rt: HostRuntime) {
         let text = plan_of_entries(rt.alloc(), count).expect(&rt, "memory");
         expect_fault(&rt, rt.alloc(), &text, PlanFault::Script { job: 0, fault });
     }
-}
-
-// A plan of one job with this schedule is refused for this fault of it.
-fn expect_schedule_faults(rt: &impl Abort, alloc: Global, faults: &[(&str, TermFault)]) {
-    for (schedule, fault) in faults {
-        let text = format!(in alloc;
-            "{{\"horizon\":1,\"jobs\":[{{\"name\":\"a\",\"mode\":\"retry\",\"schedule\":\"{schedule}\",\"script\":[]}}]}}"
-        );
-        let fault = PlanFault::Schedule {
-            job: 0,
-            fault: *fault,
-        };
-        expect_fault(rt, alloc, &text.expect(rt, "memory"), fault);
-    }
-}
-
-#[test]
-fn each_fault_of_a_schedule_is_told(rt: HostRuntime) {
-    let faults = [
-        ("recurs(01)", TermFault::NoTerm { at: 7 }),
-        (
-            "forever.resetWhen(= 0).resetWhen(= 0).resetWhen(= 0).resetWhen(= 0).resetWhen(= 0).resetWhen(= 0).resetWhen(= 0).resetWhen(= 0).resetWhen(= 0)",
-            TermFault::TooBig,
-        ),
-        (
-            "recurs(18446744073709551616)",
-            TermFault::BadNumber { at: 7 },
-        ),
-        ("exponential(1, 0)", TermFault::BadFactor),
-        ("recurs(1).map(_1)", TermFault::NoKind),
-        ("windowed(0)", TermFault::BadWindow),
-    ];
-    expect_schedule_faults(&rt, rt.alloc(), &faults);
 }

@@ -5,7 +5,7 @@ use std::process::Abort;
 use std::sync::Wait;
 use std::test::Fail;
 use std::thread::Threads;
-use zs_gates::Silent;
+use zs_pool::OpenGate;
 use zs_run::{PlanFault, RunFault, run};
 
 // Jobs that fail, run at the horizon, finish with a list, never begin, are ended by a failure, succeed, and finish with a side.
@@ -81,7 +81,7 @@ fn expect_run<R: Abort + Threads + Wait + Sync>(
     length: usize,
 ) {
     assert!(rt; !reader.failed && !writer.failed);
-    let ended = run(rt, alloc, &Silent, reader, writer);
+    let ended = run(rt, alloc, &OpenGate, reader, writer);
     assert!(rt; ended == wanted, "{ended:?}");
     assert!(rt;
         reader.failed == (ended == Err(RunFault::Read)),

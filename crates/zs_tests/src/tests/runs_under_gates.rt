@@ -6,7 +6,7 @@ use std::process::Abort;
 use std::sync::Wait;
 use std::test::Fail;
 use std::thread::Threads;
-use zs_gates::{Apart, Crowd, Held, InTurn, Meeting, Rounds, Slow};
+use zs_gates::{Apart, Crowd, Held, InTurn, Meeting, Record, Rounds, Slow};
 use zs_pool::Gate;
 
 // A run of jobs with these names under the gate writes their report, with three polls a job.
@@ -106,6 +106,29 @@ fn each_pass_is_told_the_moment_of_its_round(rt: HostRuntime) -> Result<(), Fail
         let gate = Rounds::of(4);
         expect_report(&rt, rt.alloc(), &gate, "abcd", workers)?;
         assert!(rt; gate.passes() == 12 && gate.wrong() == 0, "{workers}");
+    }
+    Ok(())
+}
+
+// The passes of 64 jobs, polled three times each, by one thread and by several.
+#[test]
+fn the_moments_of_a_plans_run_never_fall(rt: HostRuntime) -> Result<(), Fail> {
+    for (workers, grain) in [(1u64, 1u64), (2, 20), (7, 3), (64, 1), (64, 10_000)] {
+        let gate = Record::of(rt.alloc(), 192)?;
+        expect_report_of(&rt, rt.alloc(), &gate, NAMES, workers, grain)?;
+        let found = (gate.passes(), gate.wrong());
+        assert!(rt; found == (192, 0), "{workers}, {grain}");
+    }
+    Ok(())
+}
+
+// As many threads poll at once as there are batches, where these are fewer than the workers.
+#[test]
+fn no_more_threads_poll_than_there_are_batches(rt: HostRuntime) -> Result<(), Fail> {
+    for (grain, batches) in [(64u64, 1u64), (63, 2), (20, 4), (9, 8)] {
+        let gate = Crowd::of(batches);
+        expect_report_of(&rt, rt.alloc(), &gate, NAMES, 64, grain)?;
+        assert!(rt; gate.alone() == 0 && gate.most() == batches, "{grain}");
     }
     Ok(())
 }

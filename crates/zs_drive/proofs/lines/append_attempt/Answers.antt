@@ -1,9 +1,8 @@
-use Rattle.zs_term.proofs.Texts.{begins_pushed, begins_both}
+use Rattle.std.proofs.Common.{◌∙◌}
+use Rattle.zs_term.proofs.Texts.{cut_after}
 use Rattle.zs_drive.proofs.lines.append_attempt.Goals as goal
 
-pub returns-clause-kept : goal.returns-clause-kept
-returns-clause-kept c =
-    let count = begins_both _ _ _ (begins_pushed c.push_str.result _ _ _ c.push_str.ensures.bytes) c.in_ok-append_number.ensures.kept in
-    let moment = begins_both _ _ _ (begins_pushed c.push_str-2.result _ _ _ c.push_str-2.ensures.bytes) c.in_ok-append_number-2.ensures.kept in
-    let ended = begins_both _ _ _ (begins_pushed c.push_str-3.result _ _ _ c.push_str-3.ensures.bytes) c.append_ended.ensures.kept in
-    begins_both _ _ _ count (begins_both _ _ _ moment ended)
+pub truncate-requires : goal.truncate-requires
+truncate-requires c = λ _.
+    let place = cut_after c.args.text.now c.push_attempt-added.new.text c.push_attempt-added.ensures.kept in
+    rw (c.len-len.ensures ∙ c.args.text.now.bytes.ok.0) (place.0, λ _. place.1)

@@ -1,8 +1,11 @@
-use Rattle.std.proofs.Common.{◌∙◌, [], sym, refl, List, map, subst}
+use Rattle.std.proofs.Common.{◌≡◌, ◌∙◌, [], sym, refl, List, map, subst}
 use Rattle.std.specs.Prelude.{IfOk}
-use Rattle.zs_drive.specs.Values.{JobValue, job_kept}
+use Rattle.zs_drive.specs.Values.{JobValue, job_value}
 use Rattle.zs_agenda.specs.Ticks.{Ticks}
+use Rattle.zs_engine.specs.declared.answer.Answer.{Answer}
 use Rattle.zs_engine.specs.Answers.{IsAnswer}
+use Rattle.zs_engine.specs.Rounds.{KeptJob, job_kept, job_alone, kept_of}
+use Rattle.zs_engine.proofs.Finishing.{alone-jobs, answer-keeps}
 use Rattle.zs_engine.proofs.EngineLemmas.{IsNew-as, RestsWith-own}
 use Rattle.zs_engine.proofs.jobs.run_keeping.Goals as goal
 
@@ -17,6 +20,10 @@ returns g c =
     let runs = c.in_ok-run.ensures.rests.runs in
     record {
       answer =
-          subst (λ (clock : Ticks). IfOk c.finish.result (IsAnswer clock (map (job_kept c.args.keeps) c.args.jobs.items))) (runs.same_clock ∙ c.in_ok-engine.ensures.new.rests.runs.same_clock)
-          (subst (λ (js : List JobValue). IfOk c.finish.result (IsAnswer c.run.new.self.clock js)) runs.same_jobs c.finish.ensures.answer);
+          subst (λ (clock : Ticks). IfOk c.finish.result (IsAnswer clock (map job_value c.args.jobs.items))) (runs.same_clock ∙ c.in_ok-engine.ensures.new.rests.runs.same_clock)
+          (subst (λ (js : List JobValue). IfOk c.finish.result (IsAnswer c.run.new.self.clock js)) (alone-jobs c.args.keeps c.args.jobs.items)
+          (subst (λ (js : List KeptJob). IfOk c.finish.result (IsAnswer c.run.new.self.clock (map job_alone js))) runs.same_jobs c.finish.ensures.answer));
+      keeps =
+          answer-keeps c.args.keeps c.args.jobs.items c.finish.result
+          (subst (λ (js : List KeptJob). IfOk c.finish.result (λ (answer : Answer). map kept_of answer.tasks.items ≡ js)) runs.same_jobs c.finish.ensures.jobs);
     }

@@ -80,6 +80,14 @@ fn a_message_is_broken_where_one_of_its_tasks_is(rt: HostRuntime) -> Result<(), 
 }
 
 #[test]
+fn a_batch_whose_tasks_found_memory_is_not_broken(rt: HostRuntime) -> Result<(), Fail> {
+    let came = poll_new(&rt, rt.alloc(), &OpenGate, 0, 0, 2)?;
+    expect_came(&rt, &came, 0, 0, 2);
+    assert!(rt; !came.message.broken());
+    Ok(())
+}
+
+#[test]
 fn a_batch_of_no_tasks_is_polled(rt: HostRuntime) -> Result<(), Fail> {
     let came = poll_new(&rt, rt.alloc(), &OpenGate, 9, 3, 0)?;
     expect_came(&rt, &came, 9, 3, 0);

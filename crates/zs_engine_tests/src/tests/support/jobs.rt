@@ -15,14 +15,6 @@ pub fn good(ms: u64, value: u64) -> Beat {
     }
 }
 
-/// An attempt that fails.
-pub fn bad(ms: u64, code: u64) -> Beat {
-    Beat {
-        ms,
-        outcome: Outcome::Bad(code),
-    }
-}
-
 /// A job as a test writes it.
 #[derive(Clone, Copy)]
 pub struct Given<'a> {
@@ -58,7 +50,8 @@ pub fn jobs_of(alloc: Global, given: &[Given<'_>]) -> Result<Vec<Job>, Fail> {
     Ok(jobs)
 }
 
-const TWICE: [Beat; 2] = [
+/// A failure after 5 ms, and a success 5 ms later.
+pub const TWICE: [Beat; 2] = [
     Beat {
         ms: 5,
         outcome: Outcome::Bad(7),
@@ -80,4 +73,23 @@ pub fn retried(name: &str, start: u64) -> Given<'_>
         start,
         beats: &TWICE,
     }
+}
+
+/// A job of a table: its name, mode, schedule, start and entries.
+pub type Listed<'a> = (&'a str, Mode, &'a str, u64, &'a [Beat]);
+
+/// Such jobs.
+pub fn listed_jobs(alloc: Global, rows: &[Listed<'_>]) -> Result<Vec<Job>, Fail> {
+    let mut jobs = Vec::new(alloc);
+    for (name, mode, schedule, start, beats) in rows {
+        let given = Given {
+            name,
+            mode: *mode,
+            schedule,
+            start: *start,
+            beats,
+        };
+        jobs.push(job_of(alloc, given)?)?;
+    }
+    Ok(jobs)
 }

@@ -13,6 +13,6 @@ returns-in-Some c =
       value =
           ap ended_of c.as_ref.ensures.value
           ∙ sym (last_ended-of c.records.result.now c.in-Some.attempt.now c.in-Some.ensures.value)
-          ∙ ap last_ended c.records.ensures.recorded
-          ∙ last_ended-recorded task.job.keeps (current_timeline task).attempts;
+          ∙ ap last_ended c.records.ensures.attempts
+          ∙ last_ended-recorded task.keeps (current_timeline task).attempts;
     }

@@ -48,3 +48,9 @@ decreases-unread_while_input l = 4 * weight (state_schedule l.part.now) + 3
 
 abbrev pub decreases-unread_map : goal.decreases-unread_map
 decreases-unread_map l = 4 * weight (state_schedule l.part.now) + 3
+
+abbrev pub decreases-step_first : goal.decreases-step_first
+decreases-step_first l = 4 * weight (state_schedule l.part.now) + 2
+
+abbrev pub decreases-first_of_both : goal.decreases-first_of_both
+decreases-first_of_both l = 4 * (weight (state_schedule l.first.now) + weight (state_schedule l.second.now)) + 3

@@ -1,0 +1,70 @@
+// Command example is a real retry: a client asks a server on this machine, which is busy at first, until it answers.
+package main
+
+import (
+	"context"
+	"errors"
+	"fmt"
+	"io"
+	"net"
+	"os"
+	"time"
+
+	"zsched"
+)
+
+const (
+	policy = "((exponential(20) || spaced(100)) && recurs(5))"
+	busy   = 3
+)
+
+var errBusy = errors.New("503")
+
+// serve turns the first clients away, and answers the next one.
+func serve(server net.Listener) {
+	for number := 0; number <= busy; number++ {
+		client, err := server.Accept()
+		if err != nil {
+			return
+		}
+		answer := "ready"
+		if number < busy {
+			answer = "busy"
+		}
+		io.WriteString(client, answer)
+		client.Close()
+	}
+}
+
+// fetch is what the server answers.
+func fetch(address string) (string, error) {
+	client, err := net.Dial("tcp", address)
+	if err != nil {
+		return "", err
+	}
+	defer client.Close()
+	text, err := io.ReadAll(client)
+	if err == nil && string(text) == "busy" {
+		err = errBusy
+	}
+	return string(text), err
+}
+
+func main() {
+	server, err := net.Listen("tcp", "127.0.0.1:0")
+	if err != nil {
+		panic(err)
+	}
+	go serve(server)
+	begun, attempts, text := time.Now(), 0, ""
+	err = zsched.Retry(context.Background(), policy, func(error) uint64 { return 503 }, func(context.Context) (err error) {
+		attempts++
+		text, err = fetch(server.Addr().String())
+		return err
+	})
+	fmt.Println(text, "after", attempts, "attempts")
+	if err != nil || text != "ready" || attempts != busy+1 || time.Since(begun) < 140*time.Millisecond {
+		fmt.Println(err, time.Since(begun))
+		os.Exit(1)
+	}
+}

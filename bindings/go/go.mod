@@ -1,0 +1,3 @@
+module zsched
+
+go 1.19

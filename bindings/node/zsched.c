@@ -1,0 +1,155 @@
+/* The calls of zsched.h for Node, by N-API. Texts and rooms are Uint8Arrays, words are BigUint64Arrays; zsched.js calls this. */
+#include <node_api.h>
+#include <zsched.h>
+
+#define MOST 6
+
+typedef struct span {
+    void *data;
+    size_t length;
+} span;
+
+static napi_value thrown(napi_env env, const char *why)
+{
+    napi_throw_type_error(env, NULL, why);
+    return NULL;
+}
+
+/* The arguments of a call, of which there have to be so many. */
+static int arguments(napi_env env, napi_callback_info info, size_t wanted, napi_value *found)
+{
+    size_t count = MOST;
+    if (napi_get_cb_info(env, info, &count, found, NULL, NULL) == napi_ok && count == wanted)
+        return 1;
+    thrown(env, "zsched: wrong number of arguments");
+    return 0;
+}
+
+/* The items of a typed array of this kind, of which there have to be at least so many. */
+static int items(napi_env env, napi_value value, napi_typedarray_type kind, size_t least, span *found)
+{
+    napi_typedarray_type type;
+    bool is_typed = false;
+    if (napi_is_typedarray(env, value, &is_typed) == napi_ok && is_typed &&
+        napi_get_typedarray_info(env, value, &type, &found->length, &found->data, NULL, NULL) == napi_ok && type == kind &&
+        found->length >= least)
+        return 1;
+    thrown(env, "zsched: not the typed array that is wanted");
+    return 0;
+}
+
+static int bytes(napi_env env, napi_value value, span *found)
+{
+    return items(env, value, napi_uint8_array, 0, found);
+}
+
+static int words(napi_env env, napi_value value, size_t least, span *found)
+{
+    return items(env, value, napi_biguint64_array, least, found);
+}
+
+static int number(napi_env env, napi_value value, uint64_t *found)
+{
+    bool is_whole = false;
+    if (napi_get_value_bigint_uint64(env, value, found, &is_whole) == napi_ok && is_whole)
+        return 1;
+    thrown(env, "zsched: not a BigInt of 64 bits without a sign");
+    return 0;
+}
+
+static napi_value result(napi_env env, uint32_t told)
+{
+    napi_value made = NULL;
+    napi_create_uint32(env, told, &made);
+    return made;
+}
+
+/* check(text, at) */
+static napi_value check(napi_env env, napi_callback_info info)
+{
+    napi_value given[MOST];
+    span text, at;
+    if (!arguments(env, info, 2, given) || !bytes(env, given[0], &text) || !words(env, given[1], 1, &at))
+        return NULL;
+    return result(env, zs_check(text.data, text.length, at.data));
+}
+
+/* answer(text, seen, reply, out): seen has the moment and the input of each pair in turn */
+static napi_value answer(napi_env env, napi_callback_info info)
+{
+    napi_value given[MOST];
+    span text, seen, reply, out;
+    if (!arguments(env, info, 4, given) || !bytes(env, given[0], &text) || !words(env, given[1], 0, &seen) ||
+        !words(env, given[2], 4, &reply) || !bytes(env, given[3], &out))
+        return NULL;
+    return result(env, zs_answer(text.data, text.length, seen.data, seen.length / 2, reply.data, out.data, out.length));
+}
+
+/* stateSize(text, size, at) */
+static napi_value state_size(napi_env env, napi_callback_info info)
+{
+    napi_value given[MOST];
+    span text, size, at;
+    if (!arguments(env, info, 3, given) || !bytes(env, given[0], &text) || !words(env, given[1], 1, &size) ||
+        !words(env, given[2], 1, &at))
+        return NULL;
+    return result(env, zs_state_size(text.data, text.length, size.data, at.data));
+}
+
+/* begin(text, state, at) */
+static napi_value begin(napi_env env, napi_callback_info info)
+{
+    napi_value given[MOST];
+    span text, state, at;
+    if (!arguments(env, info, 3, given) || !bytes(env, given[0], &text) || !words(env, given[1], 0, &state) ||
+        !words(env, given[2], 1, &at))
+        return NULL;
+    return result(env, zs_begin(text.data, text.length, state.data, state.length, at.data));
+}
+
+/* step(text, state, moment, input, reply, out) */
+static napi_value step(napi_env env, napi_callback_info info)
+{
+    napi_value given[MOST];
+    span text, state, reply, out;
+    uint64_t moment, input;
+    if (!arguments(env, info, 6, given) || !bytes(env, given[0], &text) || !words(env, given[1], 0, &state) ||
+        !number(env, given[2], &moment) || !number(env, given[3], &input) || !words(env, given[4], 4, &reply) ||
+        !bytes(env, given[5], &out))
+        return NULL;
+    return result(env, zs_step(text.data, text.length, state.data, state.length, moment, input, reply.data, out.data,
+                               out.length));
+}
+
+/* faultText(number, at, out): how many bytes the text has */
+static napi_value fault_text(napi_env env, napi_callback_info info)
+{
+    napi_value given[MOST];
+    span out;
+    uint64_t told, at;
+    if (!arguments(env, info, 3, given) || !number(env, given[0], &told) || !number(env, given[1], &at) ||
+        !bytes(env, given[2], &out))
+        return NULL;
+    return result(env, (uint32_t)zs_fault_text((uint32_t)told, at, out.data, out.length));
+}
+
+/* version() */
+static napi_value version(napi_env env, napi_callback_info info)
+{
+    (void)info;
+    return result(env, zs_version());
+}
+
+NAPI_MODULE_INIT()
+{
+    const napi_property_descriptor calls[] = {
+        {"check", NULL, check, NULL, NULL, NULL, napi_default, NULL},
+        {"answer", NULL, answer, NULL, NULL, NULL, napi_default, NULL},
+        {"stateSize", NULL, state_size, NULL, NULL, NULL, napi_default, NULL},
+        {"begin", NULL, begin, NULL, NULL, NULL, napi_default, NULL},
+        {"step", NULL, step, NULL, NULL, NULL, napi_default, NULL},
+        {"faultText", NULL, fault_text, NULL, NULL, NULL, napi_default, NULL},
+        {"version", NULL, version, NULL, NULL, NULL, napi_default, NULL},
+    };
+    return napi_define_properties(env, exports, sizeof calls / sizeof *calls, calls) == napi_ok ? exports : NULL;
+}

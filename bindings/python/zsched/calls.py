@@ -1,0 +1,48 @@
+"""The calls of zsched.h."""
+import ctypes
+import functools
+import os
+import pathlib
+
+SONAME = "libzsched.so.0"
+MISSING = ("{fault}: the library isn't here. Install libzsched0, or build it by tools/make-library in a tree of zsched, and "
+           "name the built libzsched.so in ZSCHED_LIBRARY")
+
+
+class Reply(ctypes.Structure):
+    """What a call tells beside its number."""
+    _fields_ = [(name, ctypes.c_uint64) for name in ["next", "size", "visits", "at"]]
+
+
+def _place() -> str:
+    """The library's path, or its name where the system has to find it."""
+    here = pathlib.Path(__file__).resolve()
+    places = [here.parent / "libzsched.so", here.parents[3] / "crates" / "zs_c" / "out" / "libzsched.so"]
+    return os.environ.get("ZSCHED_LIBRARY") or next((str(it) for it in places if it.exists()), SONAME)
+
+
+@functools.cache
+def library() -> ctypes.CDLL:
+    """The library, with the types of its calls. Raises OSError where it isn't there, or is an older one."""
+    named = _place()
+    try:
+        found = ctypes.CDLL(named)
+    except OSError as fault:
+        raise OSError(MISSING.format(fault=fault)) from None
+    text, words, number = [ctypes.c_char_p, ctypes.c_size_t], [ctypes.c_void_p, ctypes.c_size_t], ctypes.c_uint64
+    place, reply = ctypes.POINTER(number), ctypes.POINTER(Reply)
+    types = {
+        "zs_check": [*text, place],
+        "zs_answer": [*text, *words, reply, *text],
+        "zs_state_size": [*text, place, place],
+        "zs_begin": [*text, *words, place],
+        "zs_step": [*text, *words, number, number, reply, *text],
+        "zs_fault_text": [ctypes.c_uint32, number, *text],
+        "zs_version": [],
+    }
+    for name, arguments in types.items():
+        if not hasattr(found, name):
+            raise OSError(f"{named}: it has no {name}, so it is of an older version")
+        getattr(found, name).argtypes = arguments
+        getattr(found, name).restype = number if name == "zs_fault_text" else ctypes.c_uint32
+    return found

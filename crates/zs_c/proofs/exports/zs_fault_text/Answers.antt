@@ -1,0 +1,22 @@
+use Rattle.std.proofs.Common.{◌≡◌, ◌++◌, refl, sym, ap, ◌∙◌}
+use Rattle.std.specs.Prelude.{Bool, codes, if◌then◌else◌}
+use Rattle.std.specs.Fmt.{decimal}
+use Rattle.zs_c.specs.FaultText.{fault_words}
+use Rattle.zs_c.specs.Told.{written}
+use Rattle.zs_c.proofs.Rooms.{written_thrice}
+use Rattle.zs_c.proofs.exports.zs_fault_text.Goals as goal
+
+-- a number with a place: its words, and the place behind them
+pub returns-clause-text : goal.returns-clause-text
+returns-clause-text c =
+    let a = c.as_bytes-words.result.now in
+    let digits = c.as_bytes-digits.result.now in
+    let words : a ≡ fault_words c.args.number = c.as_bytes-words.ensures.value ∙ c.fault_words.ensures.value in
+    let place : digits ≡ decimal c.args.at = c.as_bytes-digits.ensures.value ∙ c.format.ensures.text in
+    let is_placed = sym c.has_byte.ensures.value ∙ c.if-not-has_byte.false in
+    let text = fault_words c.args.number ++ (codes " at byte " ++ decimal c.args.at) in
+    let room = written_thrice a (codes " at byte ") digits c.args.out.now c.put.new.room c.put_behind.new.room c.put_behind-2.new.room _ _ refl refl
+    c.put.ensures.front c.put_behind.ensures.behind c.put_behind-2.ensures.behind in
+    room ∙ ap (λ w. written (w ++ (codes " at byte " ++ digits)) c.args.out.now) words
+    ∙ ap (λ w. written (fault_words c.args.number ++ (codes " at byte " ++ w)) c.args.out.now) place
+    ∙ ap (λ (b : Bool). written (if b then text else fault_words c.args.number) c.args.out.now) (sym is_placed)

@@ -1,0 +1,32 @@
+-- The texts of the numbers that `include/zsched.h` names, in English, and the version of the library.
+use Rattle.std.specs.Prelude.{ℕ, Bool, List, [], ◌++◌, codes, nat_eq, ◌||◌, if◌then◌else◌}
+use Rattle.std.specs.Fmt.{decimal}
+
+-- the words of a number; none where the number is no fault
+abbrev pub fault_words : ℕ → List ℕ
+fault_words n =
+    if nat_eq n 2 then codes "a schedule answers once it has seen a step"
+    else if nat_eq n 3 then codes "the moment is below that of the step before it"
+    else if nat_eq n 4 then codes "not UTF-8"
+    else if nat_eq n 5 then codes "out of memory"
+    else if nat_eq n 6 then codes "a schedule with collectAll has no state of fixed size"
+    else if nat_eq n 7 then codes "the words are fewer than the state has"
+    else if nat_eq n 11 then codes "no term"
+    else if nat_eq n 12 then codes "too big"
+    else if nat_eq n 13 then codes "number too large"
+    else if nat_eq n 14 then codes "factor is 0"
+    else if nat_eq n 15 then codes "no kind"
+    else if nat_eq n 16 then codes "window is 0"
+    else []
+
+-- whether the place beside a number is a byte of the text
+abbrev pub has_byte : ℕ → Bool
+has_byte n = nat_eq n 4 || (nat_eq n 11 || nat_eq n 13)
+
+-- the text of a number and the place beside it
+abbrev pub fault_text : ℕ → ℕ → List ℕ
+fault_text n at = if has_byte n then fault_words n ++ (codes " at byte " ++ decimal at) else fault_words n
+
+-- the version: a million times the first of its numbers, a thousand times the second, and the third
+abbrev pub version_number : ℕ
+version_number = 2000

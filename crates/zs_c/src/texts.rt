@@ -1,0 +1,32 @@
+// The texts of the numbers that C is told.
+
+ghost use Rattle.std.specs.Prelude.{◌≡◌};
+ghost use Rattle.zs_c.specs.FaultText.{fault_words, has_byte};
+
+// The words of a number; none where the number is no fault.
+pub(crate) fn fault_words(number: u32) -> &'static str
+    ensures value { result.now ≡ fault_words number }
+{
+    match number {
+        2 => "a schedule answers once it has seen a step",
+        3 => "the moment is below that of the step before it",
+        4 => "not UTF-8",
+        5 => "out of memory",
+        6 => "a schedule with collectAll has no state of fixed size",
+        7 => "the words are fewer than the state has",
+        11 => "no term",
+        12 => "too big",
+        13 => "number too large",
+        14 => "factor is 0",
+        15 => "no kind",
+        16 => "window is 0",
+        _ => "",
+    }
+}
+
+// Whether the place beside a number is a byte of the text.
+pub(crate) fn has_byte(number: u32) -> bool
+    ensures value { result ≡ has_byte number }
+{
+    number == 4 || number == 11 || number == 13
+}

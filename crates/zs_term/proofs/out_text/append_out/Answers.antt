@@ -1,0 +1,8 @@
+use Rattle.std.proofs.Common.{◌∙◌}
+use Rattle.zs_term.proofs.Texts.{cut_after}
+use Rattle.zs_term.proofs.out_text.append_out.Goals as goal
+
+pub truncate-requires : goal.truncate-requires
+truncate-requires c = λ _.
+    let place = cut_after c.args.text.now c.push_out-added.new.text c.push_out-added.ensures.kept in
+    rw (c.len-len.ensures ∙ c.args.text.now.bytes.ok.0) (place.0, λ _. place.1)

@@ -1,0 +1,99 @@
+"""What the tests share: the built program, the plans that the tests feed them, and the count of what passed."""
+import hashlib
+import json
+import pathlib
+import subprocess
+
+TOP = pathlib.Path(__file__).resolve().parent.parent
+ZSCHED = TOP / "crates" / "zsched" / "out" / "zsched"
+REFUSALS = TOP / "crates" / "zs_refusals" / "out" / "zs_refusals"
+
+SCRIPT = '"script":[{"ms":5,"err":7},{"ms":5,"ok":1}]'
+ONE_JOB = ('{"horizon":1000,"jobs":[{"name":"a","mode":"retry","schedule":"recurs(3)",' + SCRIPT + "}]}").encode()
+BLOCK = """job {} retry
+attempt 1 0..5 err 7
+step 1 out 0 next 5
+attempt 2 5..10 ok 1
+end succeeded 1 at 10 polls 3
+"""
+ONE_REPORT = (BLOCK.format("a") + "polls 3\n").encode()
+
+
+def job(name="a", schedule="recurs(3)", mode="retry", script=SCRIPT, more=""):
+    """A job as JSON, by default the one of ONE_JOB."""
+    return f'{{"name":"{name}","mode":"{mode}","schedule":{json.dumps(schedule)},{script}{more}}}'
+
+
+def plan(jobs=None, horizon='"horizon":1000', more=""):
+    """The bytes of a plan, by default those of ONE_JOB."""
+    listed = ",".join([job()] if jobs is None else jobs)
+    return f'{{{horizon}{more},"jobs":[{listed}]}}'.encode()
+
+
+def equal_jobs(names, workers, grain, schedule="recurs(3)"):
+    """A plan of equal jobs, and its report."""
+    more = f',"workers":{workers},"grain":{grain}'
+    report = "".join(BLOCK.format(name) for name in names) + f"polls {3 * len(names)}\n"
+    return plan([job(name, schedule) for name in names], more=more), report.encode()
+
+
+def tree(leaves):
+    """The intersection of so many leaves that go on at once: twice as many nodes, less one, in the least depth."""
+    if leaves == 1:
+        return "forever"
+    return f"({tree(leaves // 2)} && {tree(leaves - leaves // 2)})"
+
+
+# A schedule of 998 nodes that answers as recurs(3) does.
+HEAVY = f"(recurs(3) && {tree(498)}).map(_1)"
+
+
+def heavy_jobs(workers, grain):
+    """A plan of 120 equal jobs, and its report. Their schedules have 998 nodes and are evaluated at moment 5 only, as
+    `recurs(3)` would be. All jobs are due at 0, 5 and 10."""
+    return equal_jobs([f"j{number}" for number in range(120)], workers, grain, HEAVY)
+
+
+def run(program, text, environment=None, seconds=60, **more):
+    """Runs a program, or a list of words, on the text: its status (less than 0 for a signal, None past the time), output
+    and errors."""
+    words = program if isinstance(program, list) else [program]
+    try:
+        ended = subprocess.run(
+            words, input=text, capture_output=True, timeout=seconds, env=environment, **more)
+    except subprocess.TimeoutExpired:
+        return None, b"", b""
+    return ended.returncode, ended.stdout, ended.stderr
+
+
+def write_digest(report):
+    """Puts beside a part's report what `sha256sum` prints of its plan and its report."""
+    sums = [(hashlib.sha256(path.read_bytes()).hexdigest(), path) for path in [report.with_suffix(".json"), report]]
+    report.with_suffix(".sha256").write_text("".join(f"{found}  {path}\n" for found, path in sums))
+
+
+class Count:
+    """How many tests passed and failed. A failure is printed at once."""
+
+    def __init__(self):
+        self.passed = 0
+        self.failed = 0
+
+    def test(self, name, found, wanted):
+        """One test, which passes where both values are equal."""
+        if found == wanted:
+            self.passed += 1
+            return
+        self.failed += 1
+        print(f"{name}: wanted {shown(wanted)}, found {shown(found)}")
+
+    def close(self):
+        """Prints the last line, and answers the exit status."""
+        print(f"{self.passed} passed, {self.failed} failed")
+        return 1 if self.failed or not self.passed else 0
+
+
+def shown(value):
+    """A value's text, cut where it is long."""
+    text = repr(value)
+    return text if len(text) <= 300 else f"{text[:300]} .. ({len(text)} characters)"

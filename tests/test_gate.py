@@ -1,0 +1,176 @@
+#!/usr/bin/env python3
+"""Shows that the gate can fail: sabotages of a copy of the repository that must each be found, and the runner of wrong
+bodies over a crate whose edits have to be reported by name. It needs the toolchain and the program that was built last,
+and takes some two minutes. The last line is 'N passed, M failed'."""
+import os
+import pathlib
+import shutil
+import subprocess
+import sys
+import tempfile
+
+sys.dont_write_bytecode = True
+
+import gate
+import quick
+import test_wrong_bodies
+from support import Count
+
+TOP = pathlib.Path(__file__).resolve().parent.parent
+# Two versions of a source, and whether the crates above may be concerned.
+CHANGES = [
+    ("a clause on the next line", "pub fn f(a: u64) -> u64\n    ensures value {\n        result ≡ a\n    }\n{\n    a\n}\n",
+     "result ≡ a", "result ≡ result", True),
+    ("a variant of an enum", "pub enum Kind {\n    One,\n    Two(u64),\n}\n", "Two(u64)", "Two(u32)", True),
+    ("a field of a struct", "pub struct Pair {\n    pub first: u64,\n}\n", "first: u64", "first: u32", True),
+    ("a parameter on a line of its own", "pub fn f(\n    a: u64,\n) -> u64\n    ensures value { result ≡ a }\n{\n    a\n}\n",
+     "a: u64", "a: u32", True),
+    ("a body", "pub fn f(a: u64) -> u64\n    ensures value { result ≡ a }\n{\n    a\n}\n", "    a\n", "    a + 0\n", False),
+    ("a body with no clause", "fn f(a: u64) -> u64 {\n    a\n}\n", "    a\n", "    a + 0\n", False),
+]
+
+
+def copy_to(top):
+    """A copy of the repository with the program that was built last, its plans cut to two."""
+    for part in ["check", "crates.txt", "HANDLES", "VERSION", "tests", "tools", "examples"]:
+        copy = shutil.copytree if (TOP / part).is_dir() else shutil.copy2
+        copy(TOP / part, top / part)
+    shutil.copytree(TOP / "crates", top / "crates", ignore=shutil.ignore_patterns("out"))
+    (top / gate.PROGRAM.parent.relative_to(TOP)).mkdir()
+    for made in [gate.PROGRAM, gate.STAMP]:
+        if made.exists():
+            shutil.copy2(made, top / made.relative_to(TOP))
+    (top / gate.STAMP.relative_to(TOP)).write_text(gate.sum_of_sources())
+    kept = sorted((top / "examples").glob("*.json"))[:2]
+    for path in [*(top / "examples").iterdir(), *(top / "tests" / "plans").iterdir()]:
+        if path.name.removesuffix(".stdout") not in [it.name for it in kept]:
+            path.unlink()
+    floors = (top / "tests" / "floors.txt").read_text().replace(f"examples {gate.floors()['examples']}", "examples 26")
+    (top / "tests" / "floors.txt").write_text(floors)
+
+
+def check(top, name, environment=None):
+    """What the gate of a copy says of one part, and its status."""
+    ended = subprocess.run([top / "check", name], stdin=subprocess.DEVNULL, stdout=subprocess.PIPE, stderr=subprocess.STDOUT,
+                           text=True, errors="replace", timeout=300, env={**os.environ, **(environment or {})})
+    return ended.stdout, ended.returncode
+
+
+def write(path, old, new):
+    """Changes a text of a file, which has to be there."""
+    text = path.read_text(encoding="utf-8")
+    if old not in text:
+        raise ValueError(f"{path} has no {old!r}")
+    path.write_text(text.replace(old, new, 1), encoding="utf-8")
+
+
+def drop_crate(top):
+    """Takes the last crate but one out of crates.txt."""
+    lines = (top / "crates.txt").read_text(encoding="utf-8").splitlines(keepends=True)
+    (top / "crates.txt").write_text("".join(it for it in lines if not it.startswith("zs_refusals")), encoding="utf-8")
+
+
+def empty_plans(top):
+    """Takes all plans away."""
+    for path in (top / "examples").iterdir():
+        path.unlink()
+
+
+# Each sabotage: its name, what it does to a copy, the part that must find it, and a text that the gate then says. An edit
+# that doesn't apply is among those of test_wrong_bodies.py.
+SABOTAGES = [
+    ("a folder of plans is emptied", empty_plans, "examples", "0 passed"),
+    ("a plan is lost", lambda top: next((top / "examples").glob("*.json")).unlink(), "examples", "floors.txt asks for 26"),
+    ("a report is another", lambda top: write(next((top / "examples").glob("*.stdout")), "polls", "polls 1"), "examples",
+     "another report"),
+    ("the reference raises", lambda top: write(top / "tests" / "reference.py", '"""', 'raise ValueError\n"""'), "reference",
+     "last line is not"),
+    ("a part ends with no last line", lambda top: write(top / "tests" / "examples.py", "    sys.exit(main", "    sys.exit(0); main"),
+     "examples", "last line is not"),
+    ("a part passes and ends with another status", lambda top: write(top / "tests" / "examples.py", "return 1 if", "return 3 if passed or"),
+     "examples", "ended with status 3"),
+    ("a part has no floor", lambda top: write(top / "tests" / "floors.txt", "examples 26", "# none"), "examples", "no number"),
+    ("the program is of older sources", lambda top: write(top / "crates.txt", "zs_term:", "# changed\nzs_term:"), "examples",
+     "not built from these sources"),
+    ("a crate is not listed", drop_crate, "proofs", "zs_refusals"),
+]
+
+
+def test_sabotages(count):
+    """Each sabotage is found by the part that must find it; with none the part passes, whatever the environment names."""
+    with tempfile.TemporaryDirectory() as folder:
+        whole = pathlib.Path(folder) / "whole"
+        whole.mkdir()
+        copy_to(whole)
+        said, status = check(whole, "examples", {"ZSCHED": "/bin/true"})
+        count.test("examples with no sabotage, and another program named", (said.split("\n")[-2], status), ("26 passed, 0 failed", 0))
+        for number, (name, act, part, text) in enumerate(SABOTAGES):
+            top = pathlib.Path(folder) / str(number)
+            shutil.copytree(whole, top, symlinks=True)
+            act(top)
+            said, status = check(top, part)
+            count.test(f"{name}: status", status, 1)
+            count.test(f"{name}: {text!r} is said", (text in said) or said[-500:], True)
+            shutil.rmtree(top)
+
+
+def test_judged(count):
+    """What a part comes to by its log, its status and its floor."""
+    for name, text, status, floor, late, wanted in [
+        ("all pass", "a\n5 passed, 0 failed\n", 0, 5, None, (5, 0)),
+        ("one fails", "4 passed, 1 failed\n", 1, 5, None, (4, 1)),
+        ("too few pass", "4 passed, 0 failed\n", 0, 5, None, (4, 1)),
+        ("no last line", "5 passed, 0 failed\nmore\n", 0, 5, None, (0, 1)),
+        ("nothing is said", "", 0, 5, None, (0, 1)),
+        ("another status", "5 passed, 0 failed\n", 2, 5, None, (5, 1)),
+        ("late", "5 passed, 0 failed\n", -9, 5, 20, (5, 1)),
+        ("no floor", "5 passed, 0 failed\n", 0, None, None, (5, 1)),
+    ]:
+        ended = gate.judged("part", text, status, floor, late)
+        count.test(f"judged: {name}", (ended.passed, ended.failed), wanted)
+        count.test(f"judged: {name}: a reason is said", bool(ended.why), wanted[1] == 1)
+
+
+def test_limit(count):
+    """A part that takes too long is ended, with all that it started."""
+    with tempfile.TemporaryDirectory() as folder:
+        words = ["sh", "-c", "sleep 60 & echo begun; wait"]
+        run = gate.Running("slow", gate.Part(words, 0.02), pathlib.Path(folder) / "log")
+        run.follow(False)
+        count.test("a slow part is ended", (run.is_late, run.seconds < 30), (True, True))
+
+
+def test_floors(count):
+    """Each part has a floor, and no floor is of no part."""
+    count.test("floors", sorted(gate.floors()), sorted(gate.PARTS))
+
+
+def test_heads(count):
+    """What the quick gate takes for a change that concerns the crates above."""
+    for name, text, old, new, is_head in CHANGES:
+        count.test(f"{name} is changed", quick.heads_of(text) != quick.heads_of(text.replace(old, new)), is_head)
+
+
+def test_words(count):
+    """Words that name nothing, and the help."""
+    for words, status in [(["--help"], 0), (["none"], 2), (["quick", "examples"], 2), (["--none"], 2)]:
+        ended = subprocess.run([TOP / "check", *words], capture_output=True, text=True, timeout=60)
+        count.test(f"status of {words}", ended.returncode, status)
+        count.test(f"no traceback of {words}", "Traceback" in ended.stdout + ended.stderr, False)
+
+
+def main():
+    """All tests."""
+    count = Count()
+    test_floors(count)
+    test_judged(count)
+    test_limit(count)
+    test_heads(count)
+    test_words(count)
+    test_sabotages(count)
+    test_wrong_bodies.test_all(count)
+    return count.close()
+
+
+if __name__ == "__main__":
+    sys.exit(main())

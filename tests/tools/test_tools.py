@@ -1,0 +1,104 @@
+"""What all commands of tools/ have in common: --version, --color, and what a Python that is too old is told."""
+import ast
+import os
+import pathlib
+import re
+import subprocess
+import sys
+import tempfile
+import unittest
+from unittest import mock
+
+from support import TOP
+from zsched_tools import program, starting
+
+TOOLS = sorted((TOP / "tools").glob("zsched-*"))
+# Those that make or install what others use.
+MAKERS = [TOP / "tools" / name for name in ("install-library", "make-deb", "make-library", "make-library-debs")]
+VERSION = (TOP / "VERSION").read_text().strip()
+# For each tool the words of a run that ends with a line on standard error.
+ENDING = {"zsched-explain": ["--zsched", "/nowhere"], "zsched-play": ["--zsched", "/nowhere"],
+          "zsched-report": ["summary", "/nowhere"], "zsched-plan": ["split", "5", "/nowhere", "-o", "/nowhere/parts"]}
+
+
+def ended(tool, *words, **environment):
+    """A run of a tool: status, output and errors."""
+    run = subprocess.run([sys.executable, tool, *words], capture_output=True, stdin=subprocess.DEVNULL, check=False,
+                         env={**os.environ, **environment})
+    return run.returncode, run.stdout.decode(), run.stderr.decode()
+
+
+class Tools(unittest.TestCase):
+    """Each command."""
+
+    def test_the_version_is_that_of_the_tree(self):
+        for tool in [*TOOLS, *MAKERS]:
+            with self.subTest(tool.name):
+                self.assertEqual(ended(tool, "--version"), (0, f"{tool.name} {VERSION}\n", ""))
+
+    def test_the_line_of_an_end_is_coloured_where_that_is_wanted(self):
+        for name, words in ENDING.items():
+            tool = TOP / "tools" / name
+            with self.subTest(name):
+                status, output, plain = ended(tool, *words)
+                self.assertNotEqual(status, 0)
+                self.assertRegex(plain, rf"^{name}: .+\n$")
+                for choice, environment in [("never", {}), ("auto", {}), ("auto", {"NO_COLOR": "1"})]:
+                    self.assertEqual(ended(tool, "--color", choice, *words, **environment), (status, output, plain))
+                if name != "zsched-explain":
+                    painted = ended(tool, "--color", "always", *words)[2]
+                    self.assertIn("\x1b[1;31m", painted)
+                    self.assertEqual(re.sub(r"\x1b\[[0-9;]*m", "", painted), plain)
+
+    def test_colours_are_for_a_terminal(self):
+        for environment, is_painted in [({"TERM": "xterm"}, True), ({"TERM": "xterm", "NO_COLOR": "1"}, False),
+                                        ({"TERM": "dumb"}, False)]:
+            with self.subTest(environment):
+                master, slave = os.openpty()
+                with os.fdopen(master, "rb", 0) as terminal:
+                    words = [sys.executable, TOP / "tools" / "zsched-report", "summary", "/nowhere"]
+                    subprocess.run(words, stderr=slave, env={"PATH": os.environ["PATH"], **environment}, check=False)
+                    os.close(slave)
+                    self.assertEqual(b"\x1b[" in terminal.read(4000), is_painted)
+
+
+class Program(unittest.TestCase):
+    """The program that the tools run."""
+
+    def test_an_unproved_one_is_named_and_not_taken(self):
+        with tempfile.TemporaryDirectory() as folder, mock.patch.dict(os.environ, {"PATH": folder}), \
+                mock.patch.object(program, "BUILT", pathlib.Path(folder) / "zsched"):
+            os.environ.pop("ZSCHED", None)
+            for name, said in [("other", "as the unproved one that ./run leaves in crates/zsched/out"),
+                               ("unproved-1", f"as {folder}/unproved-1, unproved")]:
+                file = pathlib.Path(folder) / name
+                file.touch(0o755)
+                with self.assertRaises(program.NoProgram) as caught:
+                    program.find()
+                self.assertTrue(str(caught.exception).endswith(said), caught.exception)
+            (pathlib.Path(folder) / "zsched").touch(0o755)
+            self.assertEqual(program.find(), f"{folder}/zsched")
+
+
+class OldPython(unittest.TestCase):
+    """A Python that is older than the tools need."""
+
+    def test_says_so_in_one_line(self):
+        self.assertIsNone(starting.old_python("zsched-explain"))
+        self.assertEqual(starting.old_python("zsched-explain", (3, 9, 2)),
+                         "zsched-explain: needs Python 3.11 or later, and this is Python 3.9")
+
+    def test_each_tool_looks_before_it_reads_its_own_files(self):
+        for tool in TOOLS:
+            with self.subTest(tool.name):
+                text = tool.read_text()
+                self.assertIn(f'require_python("{tool.name}")\n\nfrom zsched_tools.', text)
+                self.assertEqual(len(re.findall(r"^from zsched_tools", text, re.M)), 2)
+
+    def test_that_look_needs_no_new_python(self):
+        for name in ["starting", "__init__"]:
+            ast.parse((TOP / "tools" / "zsched_tools" / f"{name}.py").read_text(), feature_version=(3, 6))
+
+
+if __name__ == "__main__":
+    unittest.main()

@@ -1,0 +1,97 @@
+"""Builds the program of a folder of crates without any proof, and without the checks that `rt try`
+adds, so that valgrind can run it.
+
+`rt try` compiles a program with the address sanitizer, which valgrind can't run. So it is called in
+a copy of the kit: a folder of links, in which the compiler leaves the sanitizer out and optimizes,
+the sanitizer's library is empty, the linker keeps the program, and nothing is checked beside it."""
+import os
+import pathlib
+import shutil
+import signal
+import subprocess
+import tempfile
+import time
+
+# The compiler is also the tool that lists names, by the name by which it is called. A script
+# doesn't learn that name.
+COMPILER = """#!/bin/bash
+case " $* " in
+  *" --extern-only "* | *" --undefined-only "*) exec -a llvm-nm "{kit}/toolchain/bin/clang" "$@" ;;
+esac
+case "$*" in *-fsanitize=address*) level=-O2 ;; *) level=-O0 ;; esac
+for word; do
+  shift
+  case "$word" in
+    -fsanitize=address) ;;
+    -O0) set -- "$@" "$level" ;;
+    *) set -- "$@" "$word" ;;
+  esac
+done
+exec "{kit}/toolchain/bin/clang" "$@"
+"""
+LINKER = """#!/bin/sh
+"{kit}/toolchain/bin/ld.lld" "$@" || exit
+while [ $# -gt 1 ]; do
+  [ "$1" != -o ] || {{ cp "$2" "{program}.new" && mv "{program}.new" "{program}"; }}
+  shift
+done
+"""
+
+
+class NotBuilt(Exception):
+    """The program can't be built. The text says why."""
+
+
+def link_all(source, target):
+    """A folder with a link to each entry of another one."""
+    target.mkdir()
+    for entry in source.iterdir():
+        (target / entry.name).symlink_to(entry)
+
+
+def replace(path, text):
+    """A script in place of a link."""
+    path.unlink()
+    path.write_text(text)
+    path.chmod(0o755)
+
+
+def copy_kit(kit, target, program):
+    """The folder of links, whose linker writes each program to this path too."""
+    link_all(kit, target)
+    for name in ["bin", "c", "toolchain"]:
+        (target / name).unlink()
+        link_all(kit / name, target / name)
+    for name in ["rt", "rtlib.py"]:
+        (target / "bin" / name).unlink()
+        shutil.copy(kit / "bin" / name, target / "bin")
+    tools = target / "toolchain" / "bin"
+    tools.unlink()
+    link_all(kit / "toolchain" / "bin", tools)
+    replace(tools / "clang", COMPILER.format(kit=kit))
+    replace(tools / "ld.lld", LINKER.format(kit=kit, program=program))
+    # `rt try` has it look for what a check would refuse.
+    replace(target / "bin" / "rattle", "#!/bin/sh\n")
+    (target / "c" / "asan.a").unlink()
+    (target / "c" / "asan.a").write_bytes(b"!<arch>\n")
+
+
+def build(crate, program, **more):
+    """Builds the program of a crate's folder into a file, under more variables. What `rt try` does
+    after that isn't waited for."""
+    found = shutil.which("rt")
+    if found is None:
+        raise NotBuilt("the command 'rt' isn't on this machine")
+    with tempfile.TemporaryDirectory(prefix="zsched-unproved-") as room:
+        kit, said = pathlib.Path(room, "kit"), pathlib.Path(room, "said")
+        copy_kit(pathlib.Path(found).resolve().parent.parent, kit, program)
+        with open(said, "wb") as log, subprocess.Popen(
+                [kit / "bin" / "rt", "try", "--steps", "1"], cwd=crate, stdin=subprocess.DEVNULL,
+                stdout=log, stderr=log, start_new_session=True,
+                env={**os.environ, **more}) as running:
+            while running.poll() is None and not program.exists():
+                time.sleep(0.5)
+            if running.returncode is None:
+                os.killpg(running.pid, signal.SIGTERM)
+        if not program.exists():
+            raise NotBuilt(f"rt try built no program: {said.read_text(errors='replace')[-500:]}")

@@ -1,0 +1,122 @@
+"""The files of the library as they are installed: header, library, pkg-config and CMake."""
+import pathlib
+import re
+import subprocess
+
+from zsched_tools.command import Refused
+
+TOP = pathlib.Path(__file__).resolve().parent.parent
+MADE = TOP / "crates" / "zs_c" / "out"
+ABI = (TOP / "include" / "zsched.abi").read_text(encoding="utf-8")
+SONAME = re.search(r"^soname (\S+)$", ABI, re.M)[1]
+PC = """\
+prefix={prefix}
+libdir=${{prefix}}/{libdir}
+includedir=${{prefix}}/include
+
+Name: zsched
+Description: Retries by proved schedules
+Version: {version}
+Libs: -L${{libdir}} -lzsched
+Cflags: -I${{includedir}}
+"""
+CONFIG = """\
+# zsched::zsched is the shared library, zsched::static the archive.
+get_filename_component(_zsched_prefix "${{CMAKE_CURRENT_LIST_DIR}}/{up}" ABSOLUTE)
+foreach(_zsched_kind "zsched;SHARED;libzsched.so" "static;STATIC;libzsched.a")
+  list(GET _zsched_kind 0 _zsched_name)
+  list(GET _zsched_kind 1 _zsched_type)
+  list(GET _zsched_kind 2 _zsched_file)
+  if(NOT TARGET zsched::${{_zsched_name}})
+    add_library(zsched::${{_zsched_name}} ${{_zsched_type}} IMPORTED)
+    set_target_properties(zsched::${{_zsched_name}} PROPERTIES
+      IMPORTED_LOCATION "${{_zsched_prefix}}/{libdir}/${{_zsched_file}}"
+      INTERFACE_INCLUDE_DIRECTORIES "${{_zsched_prefix}}/include")
+  endif()
+endforeach()
+"""
+CONFIG_VERSION = """\
+# Versions that begin with the same number serve one another; before 1 the second number counts too.
+set(PACKAGE_VERSION "{version}")
+if(PACKAGE_FIND_VERSION_MAJOR EQUAL {major} AND PACKAGE_FIND_VERSION_MINOR EQUAL {minor}
+   AND NOT PACKAGE_FIND_VERSION VERSION_GREATER PACKAGE_VERSION)
+  set(PACKAGE_VERSION_COMPATIBLE TRUE)
+  if(PACKAGE_FIND_VERSION VERSION_EQUAL PACKAGE_VERSION)
+    set(PACKAGE_VERSION_EXACT TRUE)
+  endif()
+endif()
+"""
+
+
+def ran(words, **more):
+    """What a program prints that has to succeed."""
+    try:
+        ended = subprocess.run([str(it) for it in words], stdout=subprocess.PIPE, stderr=subprocess.STDOUT, text=True,
+                               check=False, **more)
+    except FileNotFoundError:
+        raise Refused(f"{words[0]} isn't on this machine") from None
+    if ended.returncode:
+        raise Refused(f"{words[0]}: {ended.stdout.strip()[-900:]}")
+    return ended.stdout
+
+
+def version():
+    """The version of this tree."""
+    return (TOP / "VERSION").read_text(encoding="utf-8").strip()
+
+
+def symbols():
+    """The version script of the shared library: which functions it has, and the version that names each."""
+    nodes = {}
+    for name, node in re.findall(r"^function (\S+) (\S+)$", ABI, re.M):
+        nodes.setdefault(node, []).append(name)
+    text, before = "", ""
+    for node, names in sorted(nodes.items()):
+        rest = "" if text else " local: *;"
+        text += f"{node} {{ global: {' '.join(f'{name};' for name in names)}{rest} }}{before};\n"
+        before = f" {node}"
+    return text
+
+
+def made_library(folder=MADE):
+    """The shared library and the archive that tools/make-library made."""
+    found = [folder / "libzsched.so", folder / "libzsched.a"]
+    for path in found:
+        if not path.exists():
+            raise Refused(f"there is no {path}: tools/make-library makes it")
+    return found
+
+
+def put(place, data, mode=0o644):
+    """A file with its folders."""
+    place.parent.mkdir(parents=True, exist_ok=True)
+    place.write_bytes(data.encode() if isinstance(data, str) else data)
+    place.chmod(mode)
+
+
+def put_shared(root, libdir, shared):
+    """The shared library under its own name, and a link with its soname."""
+    name = f"libzsched.so.{version()}"
+    put(root / libdir / name, shared.read_bytes())
+    link(root / libdir / SONAME, name)
+
+
+def put_development(root, prefix, libdir, archive):
+    """What programs are built with: the header, the archive, the linker's link, and the files for pkg-config and CMake."""
+    base = root / prefix.strip("/")
+    put(base / "include" / "zsched.h", (TOP / "include" / "zsched.h").read_bytes())
+    put(base / libdir / "libzsched.a", archive.read_bytes())
+    link(base / libdir / "libzsched.so", SONAME)
+    put(base / libdir / "pkgconfig" / "zsched.pc", PC.format(prefix=prefix, libdir=libdir, version=version()))
+    folder = base / libdir / "cmake" / "zsched"
+    up = "/".join([".."] * (2 + len(pathlib.PurePath(libdir).parts)))
+    major, minor, _ = version().split(".")
+    put(folder / "zschedConfig.cmake", CONFIG.format(up=up, libdir=libdir))
+    put(folder / "zschedConfigVersion.cmake", CONFIG_VERSION.format(version=version(), major=major, minor=minor))
+
+
+def link(place, target):
+    """A link in place of what was there."""
+    place.parent.mkdir(parents=True, exist_ok=True)
+    place.unlink(missing_ok=True)
+    place.symlink_to(target)

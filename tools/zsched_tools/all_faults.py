@@ -1,0 +1,95 @@
+"""All faults of a plan, one after another: each that was found is mended in a copy, and the program is run again.
+
+A job with a fault becomes one without, and a key or a number of the document is left out or replaced. What takes their
+place has as many lines, so that a cause that names a line names that of the plan."""
+import itertools
+import json
+
+from zsched_tools.faults import Explained, Plan, explained
+
+_GOOD = {"workers": "1", "grain": "1", "horizon": "0", "ticks": "[0]"}
+
+
+class Mended:
+    """A plan's text with pieces of it replaced, in order: each from one place to another, by a text."""
+
+    def __init__(self, text):
+        self.text = text
+        self.pieces = []
+
+    def replace(self, begin, end, text):
+        """Replaces a piece of the plan, between places of the plan; pieces inside of it are dropped."""
+        text += "\n" * self.text.count("\n", begin, end)
+        self.pieces = sorted([it for it in self.pieces if it[1] <= begin or it[0] >= end] + [(begin, end, text)])
+
+    def made(self):
+        """The text with all pieces replaced."""
+        parts, here = [], 0
+        for begin, end, text in self.pieces:
+            parts += [self.text[here:begin], text]
+            here = end
+        return "".join([*parts, self.text[here:]])
+
+    def place(self, at):
+        """The place of the plan for a place of the mended text. A place in what was put in is that of the piece."""
+        moved = 0
+        for begin, end, text in self.pieces:
+            if at < begin + moved:
+                break
+            if at < begin + moved + len(text):
+                return begin
+            moved += len(text) - (end - begin)
+        return at - moved
+
+
+def all_faults(refusal, data, most):
+    """The faults of a plan's bytes, at most `most`, as pairs of the program's line and an Explained. `refusal` runs the
+    program on bytes and returns its status and line. A fault that hides all others is the last."""
+    mended = None
+    for _ in range(most):
+        plan = Plan(mended.made().encode() if mended else data)
+        status, line = refusal(plan.data)
+        if status != 2:
+            return
+        found = explained(plan, line.strip().removeprefix("zsched: "))
+        if plan.no_utf8 is None and mended is None:
+            mended = Mended(plan.text)
+        if mended is None:
+            yield line, found
+            return
+        at = mended.place(found.cause.at)
+        yield line, Explained(mended.text, found.cause._replace(at=at), found.job, found.name)
+        if "plan is" in line or not _mend(mended, plan, found):
+            return
+
+
+def _mend(mended, plan, found):
+    """Mends a fault that was found in a Plan, which is the mended text so far; answers whether that can be done."""
+    if found.job is not None:
+        job = next(itertools.islice(plan.root.get("jobs").items(), found.job, None))
+        good = {"name": f"mended.{found.job}", "mode": "retry", "schedule": "forever", "script": [{"ms": 1, "ok": 1}]}
+        return _replace(mended, job.at, job.end, json.dumps(good))
+    if plan.root.kind != "object":
+        return False
+    members = list(plan.root.members())
+    for number, (name, value) in enumerate(members):
+        if name.at == found.cause.at and name.string() not in [*_GOOD, "jobs"]:
+            begin, end = _around(plan.text, name.at, value.end, number == len(members) - 1)
+            return _replace(mended, begin, end, "")
+        if value.at <= found.cause.at < value.end and name.string() in _GOOD:
+            return _replace(mended, value.at, value.end, _GOOD[name.string()])
+    return False
+
+
+def _replace(mended, begin, end, text):
+    """Replaces a piece of the mended text, which no piece was put in."""
+    mended.replace(mended.place(begin), mended.place(end - 1) + 1, text)
+    return True
+
+
+def _around(text, begin, end, is_last):
+    """The piece of a member with the comma behind it, or before it if it is the last one."""
+    if not is_last:
+        return begin, text.index(",", end) + 1
+    comma = text.rfind(",", 0, begin)
+    return (comma if comma >= 0 and not text[comma + 1:begin].strip() else begin), end

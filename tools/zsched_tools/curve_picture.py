@@ -1,0 +1,206 @@
+"""The load of policies as a picture: a panel a policy, all with one time axis and one height for the same load. The
+windows of the service are shaded. An outcome is shown by its colour and by its place: ok is above err."""
+import html
+
+from zsched_tools.axis import Scale, labels
+from zsched_tools.curve import headline, seconds, state_words
+from zsched_tools.drawing import cut_text, path, place, rectangle, text, text_width
+from zsched_tools.durations import duration
+from zsched_tools.scenario import DOWN, THOUSAND
+
+MARGIN = 16
+PANEL = 120
+GAP = 34
+SMALL = 11
+LETTERS = 12
+# A picture has no more columns than this; of more seconds some share one.
+MOST_COLUMNS = 600
+
+STYLE = """svg{color-scheme:light dark;--ink:#1f2933;--soft:#52606d;--page:#fff;--grid:#d9dee4;--edge:#7b8794;
+--ok:#0a8f6a;--err:#d1495b;--run:#6b4fb0;--down:#f9dfe2;--slow:#fbeecb;--full:#e4e9f7}
+@media(prefers-color-scheme:dark){svg{--ink:#e6eaee;--soft:#aab4be;--page:#14181d;--grid:#343c45;--edge:#7b8794;
+--ok:#2fb58c;--err:#ef6f80;--run:#b39bea;--down:#45222a;--slow:#433719;--full:#262f4a}}
+text{font-family:"DejaVu Sans",Verdana,Geneva,sans-serif;fill:var(--ink);font-size:12px}
+.title{font-size:14px;font-weight:bold}.name{font-weight:bold}.soft{fill:var(--soft);font-size:11px}
+.page{fill:var(--page)}.grid{stroke:var(--grid);fill:none}.edge{stroke:var(--edge);fill:none}
+.ok{fill:var(--ok)}.err{fill:var(--err)}.begun{fill:none;stroke:var(--ink);stroke-width:1.3}
+.running{fill:none;stroke:var(--run);stroke-width:1.3;stroke-dasharray:4 3}
+.down{fill:var(--down)}.slow{fill:var(--slow)}.full{fill:var(--full)}"""
+
+
+def _style_of(window):
+    """The style in which a window is shaded."""
+    return "down" if window.state == DOWN else "full" if window.capacity is not None else "slow"
+
+
+class Layout:
+    """Where everything is: panels from top to bottom, seconds from left to right."""
+
+    def __init__(self, scenario, figures, width):
+        self.scenario, self.figures, self.width = scenario, figures, width
+        last = max(it.curve.last for it in figures.values()) + 1
+        self.every = -(-last // MOST_COLUMNS)
+        self.columns = {name: columns(it.curve.rows(), self.every) for name, it in figures.items()}
+        self.most = max(max(row[1], row[2] + row[3], row[4]) for rows in self.columns.values() for row in rows)
+        self.steps = _steps(self.most)
+        self.left = MARGIN + max(text_width(f"{step:,}", SMALL) for step in self.steps) + 8
+        self.scale = Scale(0, last * THOUSAND, self.left, width - MARGIN)
+        self.title = _wrapped(headline(scenario), width - 2 * MARGIN)
+        self.top = 26 + 18 * len(self.title)
+
+    def panel(self, number):
+        """The top of a panel's plot."""
+        return self.top + number * (PANEL + GAP) + 20
+
+    @property
+    def bottom(self):
+        """The foot of the last panel's plot."""
+        return self.panel(len(self.figures) - 1) + PANEL
+
+
+def columns(rows, every):
+    """The rows of a curve, some seconds as one: of each load the greatest."""
+    rows = list(rows)
+    groups = [rows[first:first + every] for first in range(0, len(rows), every)]
+    return [(group[0][0], *map(max, list(zip(*group))[1:])) for group in groups]
+
+
+def _steps(most):
+    """Round loads for the lines of a panel, from 0 to the first that isn't under the most: at most five."""
+    power = 1
+    while True:
+        for step in [power, 2 * power, 5 * power]:
+            if 4 * step >= most:
+                return [step * number for number in range(max(1, -(-most // step)) + 1)]
+        power *= 10
+
+
+def _wrapped(words, room):
+    """The lines of the title, cut at its parts."""
+    lines = [""]
+    for part in words.split("; "):
+        longer = f"{lines[-1]}; {part}" if lines[-1] else part
+        if lines[-1] and text_width(longer, 15) > room:
+            lines[-1] += ";"
+            lines.append(part)
+        else:
+            lines[-1] = longer
+    return lines
+
+
+def _windows(layout, top):
+    """The shaded windows of a panel."""
+    for window in layout.scenario.windows:
+        left, right = layout.scale.at(window.begin), layout.scale.at(window.end)
+        if window.begin < layout.scale.last:
+            words = f"{state_words(window)} from {window.begin} ms" + (
+                f" to {window.end} ms" if window.end <= layout.scenario.horizon else "")
+            yield rectangle(left, top, right, top + PANEL, _style_of(window), words)
+
+
+def _window_names(layout, top):
+    """What the service does in each window, if there is room for it."""
+    for window in layout.scenario.windows:
+        left, right = layout.scale.at(window.begin), layout.scale.at(window.end)
+        words = cut_text(state_words(window), SMALL, right - left - 8)
+        if window.begin < layout.scale.last and len(words) > 1:
+            yield text(left + 4, top + 13, words, "soft")
+
+
+def _grid(layout, top):
+    """The lines of a panel with their loads, and those of the moments."""
+    for step in layout.steps:
+        y = _height(layout, top, step)
+        yield path(f"M{place(layout.left)} {place(y)}H{place(layout.scale.right)}", "grid")
+        yield text(layout.left - 6, y + 4, f"{step:,}", "soft", "end")
+    for moment, _ in labels(layout.scale)[0]:
+        x = layout.scale.at(moment)
+        yield path(f"M{place(x)} {place(top)}V{place(top + PANEL)}", "grid")
+
+
+def _height(layout, top, load):
+    """Where a load is in a panel."""
+    return top + PANEL * (1 - load / layout.steps[-1])
+
+
+def _area(layout, top, rows, low, high):
+    """The outline of an area between two loads of each second."""
+    def edge(load, seconds):
+        for row in seconds:
+            sides = [layout.scale.at(row[0] * THOUSAND), layout.scale.at((row[0] + layout.every) * THOUSAND)]
+            for x in sides if seconds is rows else reversed(sides):
+                yield f"{place(x)} {place(_height(layout, top, load(row)))}"
+    return "M" + "L".join([*edge(high, rows), *edge(low, rows[::-1])]) + "Z"
+
+
+def _line(layout, top, rows, load):
+    """A line through a load of each second, in steps."""
+    steps = [f"M{place(layout.left)} {place(_height(layout, top, load(rows[0])))}"]
+    for row in rows:
+        right = layout.scale.at((row[0] + layout.every) * THOUSAND)
+        steps.append(f"V{place(_height(layout, top, load(row)))}H{place(right)}")
+    return "".join(steps)
+
+
+def _served(figures):
+    """How many clients are served, and within which time."""
+    served, count = len(figures.times), figures.clients
+    words = "all served" if served == count else f"{served:,} of {count:,} served"
+    return f"{words} within {duration(figures.times[-1])}" if served else words
+
+
+def _panel(layout, number, name):
+    """A policy's panel: the shaded windows, what ended in each second, and the lines of what began and what runs."""
+    top, rows, figures = layout.panel(number), layout.columns[name], layout.figures[name]
+    height, second = figures.peak or (0, 0)
+    verdict = [f"{figures.attempts:,} attempts", f"peak {height:,} at {seconds(second * THOUSAND)}", _served(figures)]
+    shown = cut_text(name, LETTERS, (layout.width - MARGIN - layout.left) / 3)
+    yield text(layout.left, top - 7, shown, "name", title=name)
+    begin = layout.left + 1.15 * text_width(shown, LETTERS) + 8
+    words = "; ".join(verdict)
+    while text_width(words, SMALL) > layout.width - MARGIN - begin and "; " in words:
+        words = words.rpartition("; ")[0]
+    yield text(begin, top - 7, words, "soft", title="; ".join(verdict))
+    yield from _windows(layout, top)
+    yield from _grid(layout, top)
+    yield path(_area(layout, top, rows, lambda row: 0, lambda row: row[3]), "err")
+    yield path(_area(layout, top, rows, lambda row: row[3], lambda row: row[2] + row[3]), "ok")
+    yield path(_line(layout, top, rows, lambda row: row[4]), "running")
+    yield path(_line(layout, top, rows, lambda row: row[1]), "begun")
+    yield from _window_names(layout, top)
+    yield path(f"M{place(layout.left)} {place(top + PANEL)}H{place(layout.scale.right)}", "edge")
+
+
+def _legend(layout):
+    """What the colours and lines mean, and the height that the words take."""
+    left, base = float(MARGIN), layout.bottom + 44
+    for style, words in [("begun", "begun"), ("ok", "ended ok"), ("err", "ended err"), ("running", "running")]:
+        if left + 24 + text_width(words, SMALL) > layout.width - MARGIN:
+            left, base = float(MARGIN), base + 18
+        is_line = style in ("begun", "running")
+        yield path(f"M{place(left)} {place(base - 4)}h18", style) if is_line else rectangle(
+            left, base - 10, left + 18, base + 1, style)
+        yield text(left + 24, base, words, "soft")
+        left += 24 + text_width(words, SMALL) + 18
+    words = "attempts in each second" + (f", the most of {layout.every} seconds" if layout.every > 1 else "")
+    if left + text_width(words, SMALL) > layout.width - MARGIN:
+        left, base = float(MARGIN), base + 18
+    yield text(left, base, words, "soft")
+
+
+def draw_curves(scenario, figures, width=960, namespace=' xmlns="http://www.w3.org/2000/svg"'):
+    """The picture as SVG, in lines. Inside of a page the namespace is left out."""
+    layout = Layout(scenario, figures, width)
+    words, height = html.escape(headline(scenario)), layout.bottom + 92
+    yield (f'<svg{namespace} viewBox="0 0 {width} {place(height)}" width="{width}" height="{place(height)}" role="img" '
+           f'aria-label="{words}">')
+    yield f"<style>{STYLE}</style>"
+    yield f'<rect class="page" width="{width}" height="{place(height)}"/>'
+    for number, words in enumerate(layout.title):
+        yield text(MARGIN, 26 + 18 * number, words, "title")
+    for number, name in enumerate(figures):
+        yield from _panel(layout, number, name)
+    for moment, label in labels(layout.scale)[0]:
+        yield text(layout.scale.at(moment), layout.bottom + 16, label, "soft", "middle")
+    yield from _legend(layout)
+    yield "</svg>"

@@ -1,0 +1,148 @@
+"""The load of a report: what begins and ends in each step of time, and how many attempts run and wait at its end."""
+import collections
+import itertools
+import operator
+
+from zsched_tools import columns
+from zsched_tools.command import Refused
+from zsched_tools.durations import duration
+from zsched_tools.report import Total
+from zsched_tools.summary import plural, table
+
+HEAD = ["from", "begun", "ok", "err", "running", "waiting"]
+MOST_STEPS = 100_000
+MOST_FITTED = 5_000
+SECOND = 1000
+
+
+class Load:
+    """What began and ended in each step of time: attempts that began, succeeded and failed; jobs that began and that
+    ended. A job begins with its first attempt; one that is unfinished at the horizon doesn't end."""
+
+    def __init__(self, every):
+        self.every = every
+        self.begun, self.ok, self.err, self.joined, self.left = [collections.Counter() for _ in range(5)]
+
+    def take(self, stretches):
+        """Adds some jobs' attempts. Returns the load itself."""
+        begins, ends, joined, left = [], {"ok": [], "err": []}, [], []
+        for stretch in stretches:
+            if isinstance(stretch, Total):
+                continue
+            begins.append(stretch.begins)
+            count = len(stretch.begins) - (stretch.last is not None)
+            ends[columns.ASKED[stretch.mode]].append(stretch.ends[:count])
+            if stretch.last is not None and stretch.last.end is not None:
+                ends[stretch.last.outcome].append((stretch.last.end,))
+            if stretch.number == 0 and stretch.begins:
+                joined.append(stretch.begins[0])
+            if stretch.ending is not None and stretch.ending.how != "unfinished":
+                left.append(stretch.ending.at)
+        for counter, moments in [(self.begun, itertools.chain.from_iterable(begins)),
+                                 (self.ok, itertools.chain.from_iterable(ends["ok"])),
+                                 (self.err, itertools.chain.from_iterable(ends["err"])),
+                                 (self.joined, joined), (self.left, left)]:
+            counter.update(map(operator.floordiv, moments, itertools.repeat(self.every)))
+        return self
+
+    def take_job(self, attempts, ending):
+        """Adds one job's attempts, each an `Attempt`."""
+        if attempts:
+            self.joined[attempts[0].begin // self.every] += 1
+            self.left[ending.at // self.every] += ending.how != "unfinished"
+        for attempt in attempts:
+            self.begun[attempt.begin // self.every] += 1
+            if attempt.end is not None:
+                (self.ok if attempt.outcome == "ok" else self.err)[attempt.end // self.every] += 1
+
+    def coarser(self, factor):
+        """The load in steps that are so many times as long."""
+        if factor == 1:
+            return self
+        found = Load(self.every * factor)
+        for mine, theirs in zip(self._counters(), found._counters()):
+            for step, count in mine.items():
+                theirs[step // factor] += count
+        return found
+
+    def fitted(self):
+        """The load in steps of a tenfold length, as often as it has too many."""
+        found = self
+        while len(found.begun) > MOST_FITTED:
+            found = found.coarser(10)
+        return found
+
+    def clamped(self, first, last):
+        """The load in which everything before the first step is in the one before it, and everything after the last one in
+        the one after it."""
+        found = Load(self.every)
+        for mine, theirs in zip(self._counters(), found._counters()):
+            for step, count in mine.items():
+                theirs[min(max(step, first - 1), last + 1)] += count
+        return found
+
+    def joined_with(self, other):
+        """Both loads as one, in the longer one's steps or longer ones. One step is a multiple of the other."""
+        every = max(self.every, other.every)
+        mine, others = self.coarser(every // self.every), other.coarser(every // other.every)
+        mine.add(others)
+        return mine.fitted()
+
+    def add(self, other):
+        """Adds another load with the same step."""
+        for mine, others in zip(self._counters(), other._counters()):
+            mine.update(others)
+
+    def _counters(self):
+        return self.begun, self.ok, self.err, self.joined, self.left
+
+    def steps(self):
+        """The first and the last step in which anything happens; None if nothing does."""
+        keys = [step for counter in self._counters() for step, count in counter.items() if count]
+        return (min(keys), max(keys)) if keys else None
+
+    def check(self):
+        """Rejects a load that has too many steps."""
+        first, last = self.steps() or (0, 0)
+        if last - first >= MOST_STEPS:
+            raise Refused(f"has {last - first + 1} steps of {duration(self.every)}, and a load has at most {MOST_STEPS}: "
+                          "take a longer --every")
+
+    def rows(self):
+        """A row for each step: its first moment, attempts begun, ok, err in it, and attempts that run and jobs that wait
+        at its end."""
+        found = self.steps()
+        if found is None:
+            return
+        first, last = found
+        running = jobs = 0
+        for step in range(first, last + 1):
+            running += self.begun[step] - self.ok[step] - self.err[step]
+            jobs += self.joined[step] - self.left[step]
+            yield [step * self.every, self.begun[step], self.ok[step], self.err[step], running, jobs - running]
+
+
+def read(file, every, progress=None):
+    """The load of a report, a binary file."""
+    whole = Load(every)
+    for part in columns.shown(file, lambda stretches: Load(every).take(stretches), progress):
+        whole.add(part)
+    return whole
+
+
+def write_csv(load, write):
+    """Writes the load as comma-separated values. Moments are milliseconds."""
+    write("from_ms,begun,ok,err,running,waiting\n")
+    for row in load.rows():
+        write(",".join(map(str, row)) + "\n")
+
+
+def write_table(load, write):
+    """Writes the load as a table, and its sums."""
+    rows = list(load.rows())
+    if rows:
+        for line in table([HEAD] + [[duration(row[0]), *map(str, row[1:])] for row in rows], left=0):
+            write(f"{line}\n")
+        write("\n")
+    begun, ok, err = [sum(counter.values()) for counter in (load.begun, load.ok, load.err)]
+    write(f"{plural(begun, 'attempt')}: {ok} ok, {err} err, {begun - ok - err} running at the horizon\n")

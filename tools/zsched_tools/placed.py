@@ -1,0 +1,126 @@
+"""The values of a file that becomes a plan, each with its place, and the text of the plan."""
+import bisect
+import json
+import re
+from typing import NamedTuple
+
+from zsched_tools.cause import WIDTH, Cause, line_of, shown
+from zsched_tools.explanation import excerpt
+
+DEEPEST = 20
+_HALF_OF_A_PAIR = re.compile("[\ud800-\udfff]")
+
+
+class Key(str):
+    """A key of a table. `at` is its place in the file."""
+    at = 0
+
+
+class Raw(str):
+    """A number that isn't whole, as the file has it."""
+
+
+class Value(NamedTuple):
+    """A value of a file: a dict of Keys and Values, a list of Values, a text, an int, a Raw, a bool
+    or None. `at` is its place. `inside` is the place of a text's first character if the file has
+    the text character by character, else None."""
+    data: object
+    at: int
+    inside: int | None = None
+
+    def part(self, begin, end):
+        """The place and size of a part of a text, or of the text if its parts have no places."""
+        return (self.at, 1) if self.inside is None else (self.inside + begin, end - begin)
+
+
+class Wrong(Exception):
+    """A file can't become a plan. The argument is the Cause, in the file's text."""
+
+
+def _json(data):
+    """A text, a number, a truth value or None as JSON, with escapes only if it can't be without."""
+    is_odd = isinstance(data, str) and _HALF_OF_A_PAIR.search(data) is not None
+    return json.dumps(data, ensure_ascii=is_odd)
+
+
+def key(name, at):
+    """A Key at a place."""
+    made = Key(name)
+    made.at = at
+    return made
+
+
+class Written:
+    """A plan's text, a job a line. `place` leads from the text back to the file."""
+
+    def __init__(self, root):
+        self._pieces, self._length, self._marks = [], 0, []
+        self._table(root, 0)
+        self._put("\n")
+        self.text = "".join(self._pieces)
+
+    def place(self, at):
+        """The place in the file of what is at a place of the text, and whether it is that of a
+        character of a text."""
+        number = bisect.bisect_right(self._marks, at, key=lambda mark: mark[0]) - 1
+        begin, place, inside = self._marks[number]
+        if inside is None or at == begin:
+            return place, False
+        return inside + at - begin - 1, True
+
+    def _put(self, text):
+        self._pieces.append(text)
+        self._length += len(text)
+
+    def _mark(self, at, inside=None):
+        self._marks.append((self._length, at, inside))
+
+    def _value(self, value, depth, between=","):
+        if depth == DEEPEST:
+            raise Wrong(Cause(value.at, 1, f"this is nested deeper than {DEEPEST}"))
+        if isinstance(value.data, dict):
+            self._table(value, depth)
+        elif isinstance(value.data, list):
+            self._mark(value.at)
+            self._list(value.data, depth, between)
+        else:
+            self._scalar(value)
+
+    def _list(self, items, depth, between):
+        edge = between[1:]
+        self._put("[" + edge)
+        for number, item in enumerate(items):
+            self._put(between if number else "")
+            self._value(item, depth + 1)
+        self._put(edge + "]")
+
+    def _table(self, value, depth):
+        self._mark(value.at)
+        self._put("{")
+        for number, (name, item) in enumerate(value.data.items()):
+            self._put("," if number else "")
+            self._mark(name.at)
+            self._put(f"{_json(name)}:")
+            self._value(item, depth + 1, ",\n" if depth == 0 and name == "jobs" else ",")
+        self._put("}")
+
+    def _scalar(self, value):
+        text = value.data if isinstance(value.data, Raw) else _json(value.data)
+        has_letters = isinstance(value.data, str) and len(text) == len(value.data) + 2
+        self._mark(value.at, value.inside if has_letters else None)
+        self._put(text)
+
+
+def told(name, text, cause, job=None):
+    """The lines that show where in a file's text a cause is. The first has no end."""
+    begin = text.rfind("\n", 0, cause.at) + 1
+    number = line_of(text, cause.at)
+    source, mark = excerpt(text, begin, cause)
+    gutter = " " * len(str(number))
+    lines = [f"{shown(name, WIDTH)}:{number}:{cause.at - begin + 1}: {cause.what}", f"{gutter} |",
+             f"{number} | {source}", f"{gutter} | {mark}"]
+    if cause.help:
+        lines.append(f"{gutter} = help: {cause.help}")
+    if job is not None:
+        lines.append(f'{gutter} = job "{shown(job, 64)}"')
+    return "\n".join(line.rstrip() for line in lines)

@@ -1,0 +1,131 @@
+"""How many attempts a plan may have at most, before it is run."""
+import json
+import math
+import operator
+from typing import NamedTuple
+
+from zsched_tools import schedule_rules
+
+MOST_ATTEMPTS = 10**8
+_LEAST_MS = 1
+_COMPARE = {"<": operator.lt, "<=": operator.le, "=": operator.eq, "!=": operator.ne, ">": operator.gt,
+            ">=": operator.ge}
+
+
+class World(NamedTuple):
+    """What is known of a job beside its schedule: the time that it has, how long an attempt takes at least, and the
+    value or the code of each entry of its script."""
+    time: int
+    least: int
+    values: list
+
+
+class Bound(NamedTuple):
+    """What is known of a schedule under a job: its attempts at most, the least wait between two of them on average, and
+    what its outputs are: 'elapsed', 'count', 'input', a pair of these, or None."""
+    count: float
+    wait: int
+    out: object = None
+
+
+def warning(plan):
+    """What to say of the bytes of a plan whose attempts may be more than MOST_ATTEMPTS, or None. Of a plan that the
+    program rejects nothing is said."""
+    try:
+        tree = json.loads(plan, parse_float=_no_whole, parse_constant=_no_whole)
+        clock = tree["ticks"] if "ticks" in tree else [tree["horizon"]]
+        most = sum(_attempts(job, clock) for job in tree["jobs"])
+    except (ValueError, TypeError, KeyError, IndexError, AttributeError, StopIteration, RuntimeError, OverflowError):
+        return None
+    if most <= MOST_ATTEMPTS:
+        return None
+    return f"its attempts may be {most:.1e}, more than {MOST_ATTEMPTS}: the run may take long, and its report much room"
+
+
+def _no_whole(text):
+    """A number that no plan has."""
+    raise ValueError(text)
+
+
+def _attempts(job, clock):
+    """The attempts of a job on a clock, at most."""
+    goes_on = "err" if job["mode"] == "retry" else "ok"
+    script, time = job["script"], max(0, clock[-1] - job.get("start", 0))
+    ends = next((number for number, entry in enumerate(script, 1) if goes_on not in entry), math.inf)
+    least = max(_LEAST_MS, min(entry["ms"] for entry in script))
+    bound = _bound(job["schedule"], World(time, least, [entry.get(goes_on, 0) for entry in script]))
+    return min(ends, bound.count, 1 + time // (least + bound.wait), math.inf if len(clock) == 1 else len(clock))
+
+
+def _bound(text, world):
+    """The bound of a schedule in a World."""
+    waiting, operators = [], []
+    for piece in schedule_rules.pieces(text):
+        if piece.word == "(":
+            continue
+        if piece.word in schedule_rules.OPERATORS:
+            operators.append(piece.word)
+        elif piece.word == ")":
+            right, left = waiting.pop(), waiting.pop()
+            waiting.append(_joined(operators.pop(), left, right))
+        elif piece.word in schedule_rules.LEAVES:
+            numbers = [int(argument[0]) for argument in piece.arguments if argument[0].isdigit()]
+            waiting.append(_leaf(piece.word, numbers, world))
+        else:
+            waiting.append(_behind(piece, waiting.pop(), world))
+    return waiting.pop()
+
+
+def _leaf(word, numbers, world):
+    """The bound of a leaf. Waits that grow pass the time after few attempts."""
+    first, time = numbers[0] if numbers else 0, world.time
+    if word == "recurs":
+        return Bound(first + 1, 0, "count")
+    if word == "spaced":
+        return Bound(math.inf, first, "count")
+    if word in ("fixed", "windowed"):
+        return Bound(math.inf, max(0, first // 2 - world.least), "count")
+    if word == "linear" and first:
+        return Bound(math.isqrt(2 * time // first) + 3, first)
+    if word == "fibonacci" and first:
+        return Bound(3 + math.log(1 + time / first, 1.6), first)
+    if word == "exponential":
+        factor = numbers[1] if len(numbers) > 1 else 2
+        grows = first and factor > 1
+        return Bound(3 + math.log(1 + time / first, factor) if grows else math.inf, first)
+    return Bound(math.inf, 0, {"elapsed": "elapsed", "forever": "count", "identity": "input"}.get(word))
+
+
+def _joined(operator, left, right):
+    """The bound of two schedules under an operator."""
+    if operator == "andThenEither":
+        return Bound(left.count + right.count, min(left.wait, right.wait))
+    out = (left.out, right.out)
+    if operator == "&&":
+        return Bound(min(left.count, right.count), max(left.wait, right.wait), out)
+    return Bound(max(left.count, right.count), min(left.wait, right.wait), out)
+
+
+def _behind(piece, part, world):
+    """The bound of a schedule that a method follows."""
+    words = [argument[0] for argument in piece.arguments]
+    pick = words[0] if words and words[0] in ("_1", "_2") else None
+    out = part.out[int(pick[1]) - 1] if pick and isinstance(part.out, tuple) else part.out
+    if piece.word == "map":
+        return part._replace(out=out if pick else None)
+    if piece.word == "resetWhen":
+        return Bound(math.inf, part.wait, part.out)
+    if piece.word == "collectAll":
+        return part._replace(out=None)
+    tested = "input" if piece.word == "whileInput" else out
+    return part._replace(count=min(part.count, _passes(tested, words[-2], int(words[-1]), part.wait, world)))
+
+
+def _passes(tested, comparison, number, wait, world):
+    """How many attempts there are at most before a test fails of an input, of the time so far or of a count."""
+    if tested == "input":
+        fails = (at for at, value in enumerate(world.values, 1) if not _COMPARE[comparison](value, number))
+        return next(fails, math.inf)
+    if comparison not in ("<", "<="):
+        return math.inf
+    return {"elapsed": 3 + number / (world.least + wait), "count": number + 2}.get(tested, math.inf)

@@ -1,0 +1,16 @@
+"""docs/play.html, in the tree or in the package, and the pieces of it that other pages take."""
+import pathlib
+import re
+
+_HERE = pathlib.Path(__file__).resolve()
+_PLACES = [_HERE.parents[2] / "docs" / "play.html", _HERE.parents[1] / "play.html"]
+
+
+def text():
+    """The whole page."""
+    return next(place for place in _PLACES if place.is_file()).read_text()
+
+
+def piece(name):
+    """The text of the script or the style with this id."""
+    return re.search(rf'<(script|style) id="{name}">\n(.*?)</\1>', text(), re.S)[2]

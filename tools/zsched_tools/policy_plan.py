@@ -1,0 +1,194 @@
+"""A policy file's values as those of a plan: durations and scripts in words, names that a plan
+allows, and the keys that a job leaves to the file."""
+import re
+
+from zsched_tools.cause import Cause, shown
+from zsched_tools.hints import JOB_KEYS, milliseconds
+from zsched_tools.placed import Raw, Value, Wrong, key
+
+MOST_ENTRIES = 1000
+LONGEST_NAME = 64
+DEFAULTS = ("mode", "start", "script")
+_ATTEMPT = re.compile(r"\s*(.+?)\s+(ok|err)\s+([0-9]{1,19})(?:\s*[x×]\s*([0-9]{1,4}))?\s*")
+_AN_ATTEMPT = "write 40 err 503 or 35ms ok 200, and x3 for three"
+
+
+class Notes:
+    """What was changed in a file: the first change of each kind, and how many there were."""
+
+    def __init__(self):
+        self.found = {}
+
+    def add(self, kind, place, text):
+        """One change more. `place` is where it is in the file."""
+        first = self.found.setdefault(kind, [place, text, 0])
+        first[2] += 1
+
+    def lines(self):
+        """A line a kind of change: its place and what it says."""
+        for place, text, count in sorted(self.found.values()):
+            yield place, text if count == 1 else f"{text}; {count} such changes, this is the first"
+
+
+def whole(length, unit, place, notes):
+    """A length of time as whole milliseconds, for an attempt: 1 at least. A change is noted."""
+    rounded = int(2 * length + 1) // 2
+    if rounded < 1:
+        notes.add("short", place, f"{unit} became 1 ms, the least that an attempt takes")
+        return 1
+    if rounded != length:
+        notes.add("rounded", place, f"{unit} became {rounded} ms")
+    return rounded
+
+
+class Names:
+    """Names that a plan allows, made from any texts. Each is given once."""
+
+    def __init__(self, notes):
+        self.notes, self.taken = notes, set()
+
+    def take(self, name):
+        """Notes that a name is used as it is."""
+        self.taken.add(name)
+
+    def clean(self, said, place):
+        """The name of a text."""
+        plain = re.sub(r"[^A-Za-z0-9._-]+", "-", said).strip("-")[:LONGEST_NAME] or "job"
+        name, number = plain, 1
+        while name in self.taken:
+            number += 1
+            name = f"{plain[:LONGEST_NAME - 1 - len(str(number))]}-{number}"
+        self.taken.add(name)
+        if name != said:
+            self.notes.add("name", place, f'the name "{shown(said)}" became {name}')
+        return name
+
+
+def is_allowed(name):
+    """Whether a plan allows a name."""
+    return re.fullmatch(rf"[A-Za-z0-9._-]{{1,{LONGEST_NAME}}}", name) is not None
+
+
+def duration(value, notes=None):
+    """A duration in words or with a fraction as whole milliseconds; other values are unchanged.
+    With `notes` it is that of an attempt, which takes 1 at least."""
+    if isinstance(value.data, bool) or not isinstance(value.data, (int, str)):
+        return value
+    length = milliseconds(str(value.data))
+    if length is None:
+        return value
+    if notes is None:
+        return value if length.denominator != 1 else value._replace(data=int(length))
+    unit = f"{value.data} ms" if isinstance(value.data, (int, Raw)) else shown(value.data)
+    return value._replace(data=whole(length, unit, value.at, notes))
+
+
+def _entries_in_words(value, notes):
+    """The entries of a script as `40 err 503 x3, 35 ok 200`."""
+    found, begin = [], 0
+    for part in value.data.split(","):
+        at, size = value.part(begin, begin + len(part))
+        words = _ATTEMPT.fullmatch(part)
+        length = words and milliseconds(words[1])
+        if length is None:
+            raise Wrong(Cause(at, size, f'"{shown(part.strip())}" is no attempt', _AN_ATTEMPT))
+        _, outcome, code, times = words.groups()
+        if not 1 <= int(times or 1) <= MOST_ENTRIES - len(found):
+            raise Wrong(Cause(at, size, f"a script has 1 to {MOST_ENTRIES} attempts"))
+        ms = whole(length, words[1] + ("" if re.search("[a-zµ]", words[1]) else " ms"), at, notes)
+        entry = {key("ms", at): Value(ms, at), key(outcome, at): Value(int(code), at)}
+        found += [Value(entry, at)] * int(times or 1)
+        begin += len(part) + 1
+    return value._replace(data=found, inside=None)
+
+
+def script(value, notes):
+    """A script as entries with whole milliseconds; what is no script is unchanged."""
+    if isinstance(value.data, str) and not isinstance(value.data, Raw):
+        return _entries_in_words(value, notes)
+    if not isinstance(value.data, list):
+        return value
+    entries = []
+    for entry in value.data:
+        if isinstance(entry.data, dict) and "ms" in entry.data:
+            names = {name: duration(item, notes) if name == "ms" else item
+                     for name, item in entry.data.items()}
+            entry = entry._replace(data=names)
+        entries.append(entry)
+    return value._replace(data=entries)
+
+
+class Policies:
+    """The jobs of a file. `defaults` is what a job has that says nothing else."""
+
+    def __init__(self, defaults, notes):
+        self.defaults, self.notes = defaults, notes
+        self.names = Names(notes)
+
+    def job(self, value):
+        """A job with the defaults, whole durations and a name that a plan allows."""
+        if not isinstance(value.data, dict):
+            return value
+        given = dict(value.data)
+        for name, default in self.defaults.items():
+            if name not in given:
+                given[name] = default
+        if "start" in given:
+            given["start"] = duration(given["start"])
+        if "script" in given:
+            given["script"] = script(given["script"], self.notes)
+        name = given.get("name")
+        if name is not None and type(name.data) is str and not is_allowed(name.data):
+            given["name"] = Value(self.names.clean(name.data, name.at), name.at)
+        order = {name: number for number, name in enumerate(JOB_KEYS)}
+        items = sorted(given.items(), key=lambda item: order.get(item[0], len(order)))
+        return value._replace(data=dict(items))
+
+    def jobs(self, listed):
+        """The jobs of a list. No two may have one name."""
+        places = {}
+        for job in listed:
+            name = job.data.get("name") if isinstance(job.data, dict) else None
+            if name is None or type(name.data) is not str:
+                continue
+            if name.data in places:
+                what = f'a job before it is named "{shown(name.data)}" too'
+                raise Wrong(Cause(name.at, 1, what, "write another name"))
+            places[name.data] = name.at
+            if is_allowed(name.data):
+                self.names.take(name.data)
+        return [self.job(job) for job in listed]
+
+
+def _policy_jobs(policies):
+    """A job for each name of the table `policies`, whose values are schedules."""
+    if not isinstance(policies.data, dict):
+        raise Wrong(Cause(policies.at, 1, "policies has to be a table of names and schedules",
+                          "write a line for each, as payments: recurs(3)"))
+    return [Value({key("name", name.at): Value(str(name), name.at, name.at),
+                   key("schedule", name.at): schedule}, name.at)
+            for name, schedule in policies.data.items()]
+
+
+def plan_of(root, until, notes):
+    """The plan of a file. If it has neither horizon nor ticks, `until` is the horizon."""
+    if not isinstance(root.data, dict):
+        raise Wrong(Cause(root.at, 1, "the file has to be a table of keys", "write horizon: 60000"))
+    given = {name: value for name, value in root.data.items() if name not in DEFAULTS}
+    defaults = {key("mode", root.at): Value("retry", root.at)}
+    defaults.update((name, value) for name, value in root.data.items() if name in DEFAULTS)
+    has_policies = "policies" in given
+    listed = _policy_jobs(given.pop("policies")) if has_policies else []
+    jobs = given.pop("jobs", None)
+    if jobs is not None and isinstance(jobs.data, list):
+        listed += jobs.data
+        jobs = jobs._replace(data=Policies(defaults, notes).jobs(listed))
+    elif jobs is None and has_policies:
+        jobs = Value(Policies(defaults, notes).jobs(listed), root.at)
+    if "horizon" in given:
+        given["horizon"] = duration(given["horizon"])
+    elif "ticks" not in given:
+        given[key("horizon", root.at)] = Value(until, root.at)
+    if jobs is not None:
+        given[key("jobs", jobs.at)] = jobs
+    return root._replace(data=given)

@@ -1,0 +1,71 @@
+"""A line on a terminal that says what a long command does, and how far it is."""
+import sys
+import threading
+import time
+
+FIRST, EVERY = 2.0, 1.0
+
+
+def is_shown():
+    """Whether standard error is a terminal."""
+    return sys.stderr is not None and sys.stderr.isatty()
+
+
+def write(line):
+    """Writes the line anew. An empty one takes it away."""
+    sys.stderr.write(f"\r\x1b[K{line}")
+    sys.stderr.flush()
+
+
+class Progress:
+    """Counts what was done of a number of things, or of bytes. The line is shown after two seconds, and then each second."""
+
+    def __init__(self, tool, told):
+        self.tool, self.told = tool, told
+        self.done = 0
+        self.next = time.monotonic() + FIRST if is_shown() else float("inf")
+        self.is_shown = False
+
+    def add(self, number):
+        """So many more are done."""
+        self.done += number
+        if self.next != float("inf") and time.monotonic() >= self.next:
+            self.next = time.monotonic() + EVERY
+            self.is_shown = True
+            write(f"{self.tool}: {self.told(self.done)}")
+
+    def close(self):
+        """Takes the line away."""
+        if self.is_shown:
+            write("")
+            self.is_shown = False
+
+
+class Now:
+    """What a command does now, with the seconds since it began. As a context it ends with the work."""
+
+    def __init__(self, every=EVERY):
+        self.every, self.words = every, ""
+        self.begun = time.monotonic()
+        self.stopped = threading.Event()
+        self.thread = threading.Thread(target=self._show, daemon=True) if is_shown() else None
+
+    def say(self, words):
+        """What is done from now on."""
+        self.words = words
+
+    def __enter__(self):
+        if self.thread:
+            self.thread.start()
+        return self
+
+    def __exit__(self, *_):
+        self.stopped.set()
+        if self.thread:
+            self.thread.join()
+            write("")
+
+    def _show(self):
+        """Writes the line until the work ends."""
+        while not self.stopped.wait(self.every):
+            write(f"{time.monotonic() - self.begun:.0f} s: {self.words}")

@@ -1,0 +1,18 @@
+"""The version of the tools: that of the file VERSION, in the tree or in the package."""
+import pathlib
+
+_HERE = pathlib.Path(__file__).resolve()
+
+
+def version():
+    """The version, as `0.2.0`."""
+    for folder in _HERE.parents[1:3]:
+        file = folder / "VERSION"
+        if file.is_file():
+            return file.read_text().strip()
+    return "unknown"
+
+
+def add_version(parser):
+    """Adds --version to a command's options."""
+    parser.add_argument("--version", action="version", version=f"{parser.prog} {version()}")

@@ -1,0 +1,288 @@
+"""A scenario: clients, a service whose state goes by the moment, and policies. Read from JSON; a fault has its place.
+
+All moments and durations are milliseconds here; in the file they are whole numbers or texts such as "1.5s"."""
+import fractions
+import re
+from dataclasses import dataclass, field
+from typing import NamedTuple
+
+from zsched_tools import json_reading, not_json
+from zsched_tools.cause import Cause, listed, shown
+from zsched_tools.drawn import Policy
+from zsched_tools.duration_text import milliseconds
+from zsched_tools.durations import duration
+from zsched_tools.hints import near
+from zsched_tools.place import FaultAt
+from zsched_tools.positions import Document
+from zsched_tools.values import over
+
+SKETCH = '{"horizon": "3min", "clients": {"number": 1000}, "policies": {"NAME": "SCHEDULE"}}'
+MOST_CLIENTS = 1_000_000
+LAST_MOMENT = 999_999_999_999_999
+STATES = ["up", "down", "slow", "full"]
+BUDGETS = {"grpc": ["like", "tokens", "ok", "err"], "aws": ["like", "tokens", "ok", "err", "retry"]}
+UP, DOWN, SLOW, FULL = range(4)
+THOUSAND = 1000
+
+
+class Outcome(NamedTuple):
+    """How an attempt ends: after how long, and with a value (ok) or an error code."""
+    ms: int
+    is_ok: bool
+    value: int
+
+    def entry(self):
+        """The outcome as an entry of a script."""
+        return f'{{"ms":{self.ms},"{"ok" if self.is_ok else "err"}":{self.value}}}'
+
+
+class Window(NamedTuple):
+    """A time from `begin` until `end` (not included) in which the service is in a state. With a capacity it serves at
+    most that many of the attempts that begin in a second of the window; the others find it full."""
+    begin: int
+    end: int
+    state: int
+    capacity: int | None
+
+
+class Budget(NamedTuple):
+    """A bucket of tokens that all clients share, in thousandths of a token."""
+    like: str
+    tokens: int
+    ok: int
+    retry: int
+    code: int
+
+
+@dataclass
+class Scenario:
+    """What is simulated. `starts` has the moment of each client's first attempt."""
+    horizon: int = 0
+    seed: int = 0
+    starts: list = field(default_factory=list)
+    coming: str = ""
+    windows: list = field(default_factory=list)
+    outcomes: list = field(default_factory=list)
+    budget: Budget | None = None
+    policies: dict = field(default_factory=dict)
+
+    @property
+    def back(self):
+        """The moment at which the service is back for good: the end of the last window in which it is down. None
+        without one, or if the horizon comes first."""
+        ends = [window.end for window in self.windows if window.state == DOWN]
+        return max(ends) if ends and max(ends) <= self.horizon else None
+
+
+DEFAULTS = [Outcome(40, True, 200), Outcome(50, False, 503), Outcome(2000, True, 200)]
+
+
+def read_scenario(data):
+    """The scenario of a file's bytes. FaultAt says what is wrong with them, and where."""
+    try:
+        text = data.decode()
+    except UnicodeDecodeError as bad:
+        text = data.decode(errors="replace")
+        raise FaultAt(_of_scenario(not_json.no_utf8(data, text, len(data[:bad.start].decode())))) from None
+    cause = json_reading.fault_of(text)
+    if cause is not None:
+        raise FaultAt(_of_scenario(cause))
+    return _Reading(Document(text).root()).scenario
+
+
+def _of_scenario(cause):
+    """A cause that speaks of plans, for a scenario."""
+    what, help = (re.sub(r"\b(a|the|no) plan\b", r"\1 scenario", words) for words in [cause.what, cause.help])
+    return cause._replace(what=what, help=help.replace(not_json.SKETCH, SKETCH))
+
+
+def _refuse(node, what, help=""):
+    raise FaultAt(over(node, what, help))
+
+
+def _members(node, where, known, needed):
+    """The values of an object by their keys. An unknown, a repeated or a missing key is a fault."""
+    if node.kind != "object":
+        _refuse(node, f"{where} must be an object in braces")
+    found = {}
+    for name, value in node.members():
+        key = name.string()
+        if known is not None and key not in known:
+            _refuse(name, f'{where} has no key "{shown(key)}"', _key_help(key, known))
+        if key in found:
+            _refuse(name, f'the key "{shown(key)}" is here twice', "leave one of them out")
+        found[key] = value
+    for key in needed:
+        if key not in found:
+            raise FaultAt(Cause(node.at, 1, f'{where} has no "{key}"', f'write "{key}": {_SAMPLES[key]}'))
+    return found
+
+
+_SAMPLES = {"horizon": '"3min"', "clients": '{"number": 1000, "within": "1s"}', "policies": '{"NAME": "SCHEDULE"}',
+            "number": "1000", "from": '"0s"', "ms": "50", "like": '"grpc" or "aws"', "tokens": "100"}
+
+
+def _key_help(key, known):
+    """What to write in place of an unknown key."""
+    if key in ("jobs", "workers", "grain", "ticks"):
+        return "this is a key of a plan, which zsched runs; a scenario has clients, windows and policies"
+    meant = near(key, known)
+    return f'did you mean "{meant}"?' if meant else f"the keys are {listed(known)}"
+
+
+def _time(node, what):
+    """A duration or a moment: a whole number, or a text with a unit."""
+    found = node.whole()
+    if node.kind == "text":
+        try:
+            found = milliseconds(node.string())
+        except ValueError as fault:
+            _refuse(node, str(fault))
+    if found is None:
+        _refuse(node, f"{what} must be a time", 'write milliseconds, as 1500, or a text, as "1.5s"')
+    if found > LAST_MOMENT:
+        _refuse(node, f"{what} is more than {LAST_MOMENT} ms")
+    return found
+
+
+def _whole(node, what, least=0, most=2**64 - 1):
+    """A whole number within bounds."""
+    found = node.whole()
+    if found is None or not least <= found <= most:
+        _refuse(node, f"{what} must be a whole number from {least} to {most}")
+    return found
+
+
+def _word(node, what, words):
+    """One of some words."""
+    found = node.string() if node.kind == "text" else None
+    if found not in words:
+        meant = near(found, words) if found else None
+        quoted = [f'"{word}"' for word in words]
+        _refuse(node, f"{what} must be {listed(quoted, 'or')}", f'did you mean "{meant}"?' if meant else "")
+    return found
+
+
+def _thousandths(node, what):
+    """A number of tokens in thousandths: digits, with at most three after the point."""
+    if node.kind != "number" or not re.fullmatch(r"[0-9]{1,12}(\.[0-9]{1,3})?", node.source):
+        _refuse(node, f"{what} must be a number of tokens", "write at most three digits after the point, as 0.1")
+    return int(fractions.Fraction(node.source) * THOUSAND)
+
+
+class _Reading:
+    """One pass over the parts of a scenario."""
+
+    def __init__(self, root):
+        known = ["horizon", "seed", "clients", "windows", "outcomes", "budget", "policies"]
+        parts = _members(root, "the scenario", known, ["horizon", "clients", "policies"])
+        self.scenario = Scenario(horizon=_time(parts["horizon"], "the horizon"))
+        if "seed" in parts:
+            self.scenario.seed = _whole(parts["seed"], "the seed")
+        self._clients(parts["clients"])
+        self._outcomes(parts.get("outcomes"))
+        self._windows(parts.get("windows"))
+        if "budget" in parts:
+            self._budget(parts["budget"])
+        self._policies(parts["policies"])
+
+    def _clients(self, node):
+        """How many clients there are, and when each comes."""
+        parts = _members(node, "clients", ["number", "within", "per_second", "start"], ["number"])
+        number = _whole(parts["number"], "the number of clients", 1, MOST_CLIENTS)
+        start = _time(parts["start"], "the start") if "start" in parts else 0
+        if "within" in parts and "per_second" in parts:
+            _refuse(parts["per_second"], 'clients come "within" a time or so many "per_second", not both')
+        if "per_second" in parts:
+            rate = _whole(parts["per_second"], "the clients per second", 1, MOST_CLIENTS)
+            self.scenario.starts = [start + THOUSAND * it // rate for it in range(number)]
+            self.scenario.coming = f"{rate:,} a second"
+        else:
+            time = _time(parts["within"], "the time within which clients come") if "within" in parts else 0
+            self.scenario.starts = [start + time * it // number for it in range(number)]
+            self.scenario.coming = f"within {duration(time)}" if time else "all at once"
+
+    def _outcomes(self, node):
+        """How an attempt ends in each state of the service. A full service answers like one that is down, unless
+        "full" is given."""
+        parts = {} if node is None else _members(node, "outcomes", STATES, [])
+        found = [self._outcome(parts[name], name) if name in parts else default
+                 for name, default in zip(STATES, DEFAULTS)]
+        self.scenario.outcomes = found + [self._outcome(parts["full"], "full") if "full" in parts else found[DOWN]]
+
+    @staticmethod
+    def _outcome(node, name):
+        """An outcome, written as an entry of a plan's script."""
+        parts = _members(node, f"the outcome of a service that is {name}", ["ms", "ok", "err"], ["ms"])
+        if ("ok" in parts) == ("err" in parts):
+            _refuse(node, 'an outcome has "ms" and one of "ok" and "err"', 'write {"ms": 50, "err": 503}')
+        is_ok = "ok" in parts
+        if name == "up" and not is_ok or name in ("down", "full") and is_ok:
+            _refuse(node, f'a service that is {name} answers with {"ok" if name == "up" else "err"}',
+                    'a state in which it fails is "down"' if name == "up" else "")
+        value = _whole(parts["ok" if is_ok else "err"], "a code")
+        return Outcome(_whole(parts["ms"], "ms", 1, LAST_MOMENT), is_ok, value)
+
+    def _windows(self, node):
+        """The windows, in order and apart from one another."""
+        if node is not None and node.kind != "list":
+            _refuse(node, "windows must be a list in brackets", 'write [{"from": "0s", "to": "30s", "is": "down"}]')
+        last = 0
+        for item in node.items() if node is not None else ():
+            parts = _members(item, "a window", ["from", "to", "is", "capacity"], ["from"])
+            begin = _time(parts["from"], "from")
+            end = _time(parts["to"], "to") if "to" in parts else LAST_MOMENT + 1
+            if begin < last:
+                _refuse(parts["from"], "this window begins before the one before it ends",
+                        "write the windows in order, and apart from one another")
+            if end <= begin:
+                _refuse(parts["to"], "this window ends before it begins")
+            if "is" not in parts and "capacity" not in parts:
+                _refuse(item, "this window changes nothing", 'write "is": "down", "is": "slow" or "capacity": 200')
+            self.scenario.windows.append(self._window(parts, begin, end))
+            last = end
+
+    @staticmethod
+    def _window(parts, begin, end):
+        """A window with its state and capacity."""
+        state = STATES.index(_word(parts["is"], '"is"', STATES[:FULL])) if "is" in parts else UP
+        capacity = _whole(parts["capacity"], "the capacity", 1, MOST_CLIENTS) if "capacity" in parts else None
+        if capacity is not None and state == DOWN:
+            _refuse(parts["capacity"], "a service that is down has no capacity", 'leave out "capacity", or "is"')
+        return Window(begin, end, state, capacity)
+
+    def _budget(self, node):
+        """The bucket of tokens for retries."""
+        given = _members(node, "the budget", None, ["like"])
+        like = _word(given["like"], '"like"', list(BUDGETS))
+        parts = _members(node, f'a budget like "{like}"', BUDGETS[like], ["tokens"])
+        default = 100 if like == "grpc" else THOUSAND
+        code = _whole(parts["err"], "err") if "err" in parts else 0
+        if any(code == outcome.value for outcome in self.scenario.outcomes if not outcome.is_ok):
+            _refuse(parts.get("err", node), f"{code} is an error code of the service too",
+                    'write "err": with another code, for clients that the budget lets retry no more')
+        retry = _thousandths(parts["retry"], "retry") if "retry" in parts else 5 * THOUSAND
+        self.scenario.budget = Budget(like, _thousandths(parts["tokens"], "tokens"),
+                                      _thousandths(parts["ok"], "ok") if "ok" in parts else default,
+                                      retry if like == "aws" else THOUSAND, code)
+
+    def _policies(self, node):
+        """The policies by name."""
+        parts = _members(node, "policies", None, [])
+        if not parts:
+            _refuse(node, "there is no policy", 'write {"NAME": "SCHEDULE"}, as {"backoff": "exponential(100)"}')
+        for name, (key, value) in zip(parts, node.members()):
+            if not re.fullmatch("[A-Za-z0-9_-][A-Za-z0-9._-]{0,63}", name):
+                _refuse(key, "a name has 1 to 64 letters, digits, - _ and .", "its files are named for it")
+            if value.kind != "text":
+                _refuse(value, f"the policy {name} must be the text of a schedule", 'as "exponential(100)"')
+            try:
+                self.scenario.policies[name] = (Policy(value.string()), value)
+            except FaultAt as fault:
+                raise FaultAt(in_text(value, fault.cause)) from None
+
+
+def in_text(node, cause):
+    """A cause in what a text says as one in the document."""
+    at = node.place_in(cause.at)
+    return cause._replace(at=at, size=node.place_in(cause.at + cause.size) - at)

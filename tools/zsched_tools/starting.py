@@ -1,0 +1,60 @@
+"""How a tool starts and ends: the Python that it needs, its exit status, and a reader of its output that goes away.
+
+A Python older than the tools need must be able to read this file."""
+import os
+import signal
+import sys
+
+LEAST = (3, 11)
+
+
+def old_python(tool, version=None):
+    """The line that says that this Python is too old for the tools, or None."""
+    version = version or sys.version_info
+    if tuple(version[:2]) >= LEAST:
+        return None
+    return "%s: needs Python %d.%d or later, and this is Python %d.%d" % ((tool,) + LEAST + tuple(version[:2]))
+
+
+def require_python(tool):
+    """Ends the process with one line and status 3 if this Python is too old."""
+    line = old_python(tool)
+    if line is not None:
+        sys.stderr.write(line + "\n")
+        sys.exit(3)
+
+
+def parsed(parser):
+    """What a parser makes of the command line. A reader that goes away while help is written ends the process as in
+    `run`."""
+    try:
+        return parser.parse_args()
+    except SystemExit:
+        try:
+            sys.stdout.flush()
+        except BrokenPipeError:
+            end_by_pipe()
+        raise
+
+
+def run(tool, work):
+    """Does a command's work and returns its exit status: that of the work (None is 0), or that of `command.run` if the
+    work raises. If the reader of standard output goes away, the process ends as `yes` does, by SIGPIPE."""
+    from zsched_tools import command
+    status = []
+
+    def quietly():
+        try:
+            status.append(work() or 0)
+            sys.stdout.flush()
+        except BrokenPipeError:
+            end_by_pipe()
+    return command.run(tool, quietly) or (status[0] if status else 0)
+
+
+def end_by_pipe():
+    """Ends this process by SIGPIPE, without a word."""
+    sys.stderr.flush()
+    os.dup2(os.open(os.devnull, os.O_WRONLY), sys.stdout.fileno())
+    signal.signal(signal.SIGPIPE, signal.SIG_DFL)
+    os.kill(os.getpid(), signal.SIGPIPE)

@@ -1,0 +1,197 @@
+"""The load of many jobs as a picture: a strip of bars, under the rows of a picture or in their place."""
+import html
+
+from zsched_tools import columns, picture
+from zsched_tools.axis import NEAREST_LABELS, Scale, View, labels, step_between_labels
+from zsched_tools.command import Refused
+from zsched_tools.drawing import cut_text, path, place, rectangle, text, text_width, titled
+from zsched_tools.durations import duration
+from zsched_tools.load import Load
+from zsched_tools.report import Job, Total
+from zsched_tools.summary import plural
+
+# In pixels: the height of the bars of attempts, that of running and waiting, and the room for words above each.
+BARS = 56
+LINES = 40
+WORDS = 18
+HEIGHT = BARS + LINES + 2 * WORDS + 8
+# How many times as tall the bars are in a picture of their own.
+ALONE = 3
+FEWEST_ROWS = 17
+MOST_BARS = 200
+LEFT = 24
+
+
+def step_of(first, last):
+    """A step of time that gives at most MOST_BARS steps from a first to a last moment."""
+    return step_between_labels(max(1, last - first), NEAREST_LABELS * MOST_BARS)
+
+
+def load_of_rows(rows, scale):
+    """The load of a picture's rows, in steps that a strip has room for."""
+    found = Load(step_of(scale.first, scale.last))
+    for row in rows:
+        found.take_job(row.attempts, row.ending)
+    return found
+
+
+def strip(load, scale, top, times=1):
+    """The strip of a load below a height: attempts that ended in each step, and what runs and waits at its end. Its bars
+    are so many times as tall."""
+    first, last = scale.first // load.every, scale.last // load.every
+    rows = [row for row in load.clamped(first, last).rows() if first <= row[0] // load.every <= last]
+    most = max([max(row[1], row[2] + row[3]) for row in rows], default=0)
+    open_ = max([row[4] + row[5] for row in rows], default=0)
+    base, floor = _lines(top, times)
+    every = duration(load.every)
+    yield _words(f"attempts in each {every}: those that ended, ok above err; a line: those that began; most: {most}",
+                 f"in {every}: ok above err; line: begun; most: {most}", scale, top + WORDS - 5)
+    yield from _bars(rows, load.every, scale, base, times * BARS / max(1, most))
+    yield path(f"M{place(scale.left)} {place(base)}H{place(scale.right)}", "edge")
+    yield _words(f"at its end: attempts that run, and above them jobs that wait; most: {open_}",
+                 f"at its end: waiting above running; most: {open_}", scale, base + WORDS - 5)
+    yield from _levels(rows, load.every, scale, floor, times * LINES / max(1, open_))
+    yield path(f"M{place(scale.left)} {place(floor)}H{place(scale.right)}", "edge")
+
+
+def _lines(top, times):
+    """The heights of the two lines that the bars stand on."""
+    base = top + WORDS + times * BARS
+    return base, base + WORDS + times * LINES
+
+
+def _grid(moment, scale, top):
+    """The line of a moment in a picture of a load alone: not through the words above the bars."""
+    base, floor = _lines(top, ALONE)
+    at = place(scale.at(moment))
+    return path(f"M{at} {place(top + WORDS)}V{place(base)}M{at} {place(base + WORDS)}V{place(floor + 8)}", "grid")
+
+
+def _words(long, short, scale, base):
+    """What a part of the strip shows, in as many words as there is room for."""
+    has_room = text_width(long, picture.SMALL_SIZE) <= scale.right - scale.left
+    return text(scale.left, base, long if has_room else short, "axis")
+
+
+def _places(row, every, scale):
+    """Where a step is drawn: a little apart from the next one."""
+    left, right = max(scale.left, scale.at(max(row[0], scale.first))), scale.at(row[0] + every)
+    return left, max(left + 0.5, right - 0.4)
+
+
+def _bars(rows, every, scale, base, unit):
+    """The attempts that ended in each step, with all figures in words."""
+    for row in rows:
+        moment, begun, ok, err, running, waiting = row
+        if not begun + ok + err:
+            continue
+        left, right = _places(row, every, scale)
+        yield "<g>" + titled(f"{duration(moment)} .. {duration(moment + every)}: {begun} begun, {ok} ok, {err} err; "
+                             f"at the end {running} running, {waiting} waiting")
+        if err:
+            yield rectangle(left, base - err * unit, right, base, "err")
+        if ok:
+            yield rectangle(left, base - (err + ok) * unit, right, base - err * unit, "ok")
+        yield path(f"M{place(left)} {place(base - begun * unit)}H{place(right)}", "edge") + "</g>"
+
+
+def _levels(rows, every, scale, base, unit):
+    """What runs and what waits at the end of each step."""
+    for row in rows:
+        running, waiting = row[4:]
+        left, right = _places(row, every, scale)
+        if running:
+            yield rectangle(left, base - running * unit, right, base, "running")
+        if waiting:
+            yield rectangle(left, base - (running + waiting) * unit, right, base - running * unit, "hatch")
+            level = base - (running + waiting) * unit
+            yield path(f"M{place(left)} {place(level)}H{place(right)}", "edge")
+
+
+def _round_number(least):
+    """The least of 1, 2, 5, 10, 20, .. that isn't below a number."""
+    ten = 1
+    while True:
+        for number in (ten, 2 * ten, 5 * ten):
+            if number >= least:
+                return number
+        ten *= 10
+
+
+def _moments_of(load, view):
+    """The first and the last moment that a load's picture shows."""
+    first, last = load.steps() or (0, 0)
+    return picture.view_within(first * load.every, (last + 1) * load.every, view)
+
+
+def draw_strip(load, title, namespace=' xmlns="http://www.w3.org/2000/svg"', note=None, view=View(), width=None):
+    """The load as a picture of its own, in lines of SVG, as wide as a picture of rows unless a width is given."""
+    width = width or picture.WIDTH
+    first, last = _moments_of(load, view)
+    load = load.coarser(_round_number(-(-(-(-last // load.every) - first // load.every) // MOST_BARS)))
+    scale = Scale(*_moments_of(load, view), LEFT, width - LEFT, load.every if view.is_log else None)
+    found, base = labels(scale)
+    top = 16 + (30 if title else 0) + (20 if note else 0) + (18 if base else 0)
+    bottom = _lines(top, ALONE)[1] + 8
+    tall = place(bottom + 34)
+    said = html.escape(title or "Load of a report of zsched")
+    yield (f'<svg{namespace} viewBox="0 0 {width} {tall}" width="{width}" height="{tall}" role="img" '
+           f'aria-label="{said}">')
+    yield f"<style>{picture.STYLE}</style>"
+    yield f"<defs>{picture.PATTERNS}</defs>"
+    yield f'<rect class="page" width="{width}" height="{tall}"/>'
+    if title:
+        yield text(LEFT, 27, cut_text(title, picture.TITLE_SIZE * 1.1, width - 2 * LEFT), "title")
+    if note:
+        yield text(LEFT, top - 6 - (18 if base else 0), note, "legend")
+    if base:
+        yield text(LEFT, top - 6, f"time since moment {base} ms", "axis")
+    for moment, label in found:
+        yield _grid(moment, scale, top)
+        yield text(scale.at(moment), bottom + 16, label, "axis", "middle" if scale.at(moment) > 60 else "start")
+    yield from strip(load, scale, top, ALONE)
+    yield "</svg>"
+
+
+class Crowd:
+    """The jobs of a report that are drawn: at most MOST_JOBS rows, the number of all, and their load."""
+
+    def __init__(self, chosen):
+        self.chosen = frozenset(chosen)
+        self.rows, self.jobs, self.load, self.missing = [], 0, Load(1), set(chosen)
+        self.attempts = []
+
+    def view(self, stretches):
+        """What is drawn of a piece: names, stretches if they are few, and the load."""
+        found = [it for it in stretches if not isinstance(it, Total) and (not self.chosen or it.name in self.chosen)]
+        kept = found if len(found) <= picture.MOST_JOBS else None
+        return [it.name for it in found if it.ending is not None], kept, Load(1).take(found).fitted()
+
+    def add(self, names, kept, load):
+        """One piece more."""
+        self.jobs += len(names)
+        self.missing.difference_update(names)
+        self.load = self.load.joined_with(load)
+        if kept is None or self.jobs > picture.MOST_JOBS:
+            self.attempts = []
+            return
+        for stretch in kept:
+            self.attempts += stretch.attempts()
+            if stretch.ending is not None:
+                self.rows.append(picture.Row(Job(stretch.name, stretch.mode), self.attempts, stretch.ending))
+                self.attempts = []
+
+
+def crowd_of(file, chosen, progress=None):
+    """The jobs of a report, a binary file, that are drawn: the chosen ones, or all."""
+    crowd = Crowd(chosen)
+    for found in columns.shown(file, crowd.view, progress):
+        crowd.add(*found)
+    if crowd.missing:
+        raise Refused(f"has no job {min(crowd.missing)}")
+    return crowd
+
+
+def note_of(crowd):
+    """What is said above the load of jobs that are too many to draw."""
+    return (f"{plural(crowd.jobs, 'job')}; a picture has room for the rows of {picture.MOST_JOBS}: choose some with --job NAME")

@@ -1,0 +1,185 @@
+"""The command zsched-try: what policies do, a line each."""
+import argparse
+import io
+import re
+import sys
+
+from zsched_tools import command, program, schedule_rules, schedule_text, starting
+from zsched_tools.cause import Cause
+from zsched_tools.colors import Paint, add_color
+from zsched_tools.command import REFUSED, Refused
+from zsched_tools.duration_text import milliseconds
+from zsched_tools.durations import duration
+from zsched_tools.picture import draw, rows_of
+from zsched_tools.place import place_lines
+from zsched_tools.release import add_version
+from zsched_tools.trying import MOST_AFTER, plan_of, tried_in
+
+TOOL = "zsched-try"
+EXCEEDED = 1
+# With this status the program says that it is out of memory, or of threads.
+NO_MEMORY = 4
+LAST_MOMENT = 999_999_999_999_999
+DESCRIPTION = """Runs policies from the command line, all on the same attempts, and prints a line for each: how it ends,
+after how many attempts and when, and how long it waits.
+
+  $ zsched-try '(exponential(100) && recurs(5))'
+  failed 503 after 6 attempts, 3.34 s (waited 3.1 s, longest wait 1.6 s)
+
+  zsched-try 'spaced(1000)' 'exponential(100)' --after 3
+  zsched-try "$POLICY" --max-wait 30s --max-total 2min
+
+Each attempt ends as --fails says. With --after N only the first N do, and the others end as --then says. A duration
+is a number of milliseconds, or has a unit: 40, 40ms, 1.5s, 2min, 1h30m, 1d. docs/RECIPES.md has policies for many
+tasks."""
+EPILOG = """A policy that is unfinished at --until has neither an end nor a last attempt, so it exceeds every --max-total
+and --max-attempts. Its waits count up to there.
+
+Exit status: 0; 1 if a policy exceeds a bound (it is named on standard error); 2 if a policy or a word is wrong, with a
+caret below its place; 3 if the program or writing fails."""
+
+
+def _time(least):
+    """A reader of durations of at least so many milliseconds."""
+    def read(word):
+        try:
+            found = milliseconds(word)
+        except ValueError as fault:
+            raise argparse.ArgumentTypeError(str(fault)) from None
+        if not least <= found <= LAST_MOMENT:
+            raise argparse.ArgumentTypeError(f'"{word}" is not from {least} to {LAST_MOMENT} ms')
+        return found
+    return read
+
+
+def _entry(word):
+    """An attempt, as `40 err 503` or `1.5s ok 200`."""
+    found = re.fullmatch(r"\s*(.+?)\s+(ok|err)\s+([0-9]{1,20})\s*", word)
+    if found is None or int(found[3]) >= 2**64:
+        raise argparse.ArgumentTypeError(f'"{word}" is not an attempt: write a duration, ok or err, and a number, as '
+                                         '"40 err 503"')
+    return _time(1)(found[1]), found[2], int(found[3])
+
+
+def _count(most):
+    """A reader of whole numbers up to a greatest."""
+    def read(word):
+        if not (word.isascii() and word.isdigit() and len(word) <= 20 and int(word) <= most):
+            raise argparse.ArgumentTypeError(f'"{word}" is not a whole number up to {most}')
+        return int(word)
+    return read
+
+
+def _entries(given):
+    """The entries of the script that all policies get."""
+    usual = (40, "err", 503) if given.mode == "retry" else (40, "ok", 200)
+    first = given.fails or usual
+    if given.after is None:
+        if given.then:
+            raise Refused("--then needs --after N, the number of attempts before it")
+        return [first]
+    return [first] * given.after + [given.then or (35, "ok", 200)]
+
+
+def _exceeded(given, found):
+    """The bounds that a policy exceeds, in words."""
+    has_end = found.how != "unfinished"
+    if given.max_wait is not None and found.longest > given.max_wait:
+        yield f"longest wait {duration(found.longest)}, over --max-wait {duration(given.max_wait)}"
+    if given.max_total is not None and not (has_end and found.at <= given.max_total):
+        words = "end at" if has_end else "no end up to"
+        yield f"{words} {duration(found.at)}, over --max-total {duration(given.max_total)}"
+    if given.max_attempts is not None and not (has_end and found.attempts <= given.max_attempts):
+        more = "" if has_end else " and more"
+        yield f"{found.attempts} attempts{more}, over --max-attempts {given.max_attempts}"
+
+
+def _wrong(given, line):
+    """Shows the fault of a policy, of which the program wrote this line; returns the status."""
+    place = re.fullmatch(r"zsched: job (\d+): schedule: (.+)", line)
+    if place is None:
+        raise Refused(line.removeprefix("zsched: "))
+    number, fault = int(place[1]), place[2]
+    text = given.policies[number]
+    cause = schedule_text.cause_of(text, fault) or schedule_rules.cause_of(text, fault)
+    cause = cause or Cause(0, len(text), f"the fault is in this schedule: {fault}")
+    where = f"policy {number + 1}, " if len(given.policies) > 1 else ""
+    place = f"{TOOL}: {where}byte {len(text[:cause.at].encode())}"
+    for shown in place_lines(place, text, cause, Paint(given.color, sys.stderr)):
+        print(shown, file=sys.stderr)
+    return REFUSED
+
+
+def _print_all(given, report):
+    """The lines of the policies, or the picture; and the bounds that they exceed. Returns the status."""
+    if given.svg:
+        for line in draw(rows_of(io.StringIO(report.decode()), []), given.title):
+            print(line)
+    paint, status = Paint(given.color, sys.stdout), 0
+    widest = max(map(len, given.policies)) + 2 if len(given.policies) > 1 else 0
+    for policy, found in zip(given.policies, tried_in(report)):
+        if not given.svg:
+            style = "good" if found.how in ("succeeded", "finished") else "bad" if found.how == "failed" else "strong"
+            ending, after, rest = found.line().partition(" after ")
+            print((policy.ljust(widest) if widest else "") + paint(style, ending) + after + rest)
+        for words in _exceeded(given, found):
+            sys.stdout.flush()
+            print(f"{TOOL}: {policy}: {words}", file=sys.stderr)
+            status = EXCEEDED
+    return status
+
+
+def work(given):
+    """Does what the words ask for; returns the exit status."""
+    for number, policy in enumerate(given.policies, 1):
+        try:
+            policy.encode()
+        except UnicodeEncodeError:
+            raise Refused(f"policy {number} is no UTF-8") from None
+    plan = plan_of(given.policies, given.mode, given.until, _entries(given))
+    if given.plan:
+        print(plan, end="")
+        return 0
+    try:
+        zsched = program.find(given.zsched)
+    except program.NoProgram as missing:
+        raise Refused(missing) from None
+    status, report, errors = program.run(zsched, plan.encode())
+    if status == REFUSED:
+        return _wrong(given, program.failure(status, errors))
+    if status:
+        more = "; shorten --until, or lengthen the waits" if status == NO_MEMORY or status < 0 else ""
+        raise ChildProcessError(program.failure(status, errors) + more)
+    return _print_all(given, report)
+
+
+def arguments():
+    """The words of the command line."""
+    form = argparse.RawDescriptionHelpFormatter
+    parser = argparse.ArgumentParser(prog=TOOL, description=DESCRIPTION, epilog=EPILOG, formatter_class=form)
+    parser.add_argument("policies", metavar="POLICY", nargs="+", help="a schedule")
+    parser.add_argument("--mode", choices=["retry", "repeat"], default="retry",
+                        help="runs again after each error (retry, the default) or after each success (repeat)")
+    parser.add_argument("--fails", type=_entry, metavar="ATTEMPT",
+                        help="each attempt: '40 err 503', under repeat '40 ok 200'")
+    parser.add_argument("--after", type=_count(MOST_AFTER), metavar="N", help="only the first N attempts end so")
+    parser.add_argument("--then", type=_entry, metavar="ATTEMPT", help="each attempt after these: '35 ok 200'")
+    parser.add_argument("--until", type=_time(0), default=_time(0)("1d"), metavar="TIME", help="the horizon: 1d")
+    parser.add_argument("--max-total", type=_time(0), metavar="TIME", help="the latest end")
+    parser.add_argument("--max-wait", type=_time(0), metavar="TIME", help="the longest wait")
+    parser.add_argument("--max-attempts", type=_count(2**64 - 1), metavar="N", help="the most attempts")
+    printed = parser.add_mutually_exclusive_group()
+    printed.add_argument("--plan", action="store_true", help="print the plan, and run nothing")
+    printed.add_argument("--svg", action="store_true", help="print the picture")
+    parser.add_argument("--title", default="", help="words above the picture")
+    parser.add_argument("--zsched", metavar="PATH", help="the program (ZSCHED, the built or the installed one)")
+    add_color(parser)
+    add_version(parser)
+    return parser
+
+
+def main():
+    """The command line."""
+    given = starting.parsed(arguments())
+    command.color(given.color)
+    return starting.run(TOOL, lambda: work(given))

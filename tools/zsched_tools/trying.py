@@ -1,0 +1,69 @@
+"""Policies from the command line as one plan, and what its report says of each in one line."""
+import json
+import re
+from dataclasses import dataclass
+
+from zsched_tools.durations import duration
+from zsched_tools.summary import plural
+
+_ATTEMPT = re.compile(rb"\nattempt \d+ (\d+)\.\.(?:(\d+) )?")
+_END = re.compile(rb"\nend (succeeded|failed|finished|unfinished)(?: (\S+))? at (\d+) polls ")
+WIDEST_RESULT = 30
+MOST_AFTER = 999
+
+
+def job_names(policies):
+    """A name for the job of each policy, made of its letters and digits."""
+    names = []
+    for policy in policies:
+        plain = re.sub(r"[^A-Za-z0-9]+", "-", policy).strip("-")[:48].strip("-") or "policy"
+        name, number = plain, 2
+        while name in names:
+            name, number = f"{plain}-{number}", number + 1
+        names.append(name)
+    return names
+
+
+def plan_of(policies, mode, horizon, entries):
+    """The text of a plan with a job for each policy, all with the same script."""
+    script = ", ".join(f'{{ "ms": {ms}, "{word}": {value} }}' for ms, word, value in entries)
+    jobs = [f'    {{\n      "name": "{name}",\n      "mode": "{mode}",\n      "schedule": '
+            f'{json.dumps(policy, ensure_ascii=False)},\n      "script": [{script}]\n    }}'
+            for name, policy in zip(job_names(policies), policies)]
+    return f'{{\n  "horizon": {horizon},\n  "jobs": [\n' + ",\n".join(jobs) + "\n  ]\n}\n"
+
+
+@dataclass
+class Tried:
+    """What a report says of a policy: its ending with the result, its end, its attempts, and its waits in all and the
+    longest. What goes on at the horizon counts up to it."""
+    how: str
+    result: str
+    at: int
+    attempts: int
+    waited: int
+    longest: int
+
+    def line(self):
+        """All of it in one line."""
+        ending = f"{self.how} {self.result}".strip()
+        return (f"{ending} after {plural(self.attempts, 'attempt')}, {duration(self.at)} "
+                f"(waited {duration(self.waited)}, longest wait {duration(self.longest)})")
+
+
+def tried_in(report):
+    """What a report's bytes say of each job."""
+    for block in report.split(b"\njob "):
+        end = _END.search(block, block.rfind(b"\nend "))
+        how, result, at = end[1].decode(), (end[2] or b"").decode(), int(end[3])
+        attempts = waited = longest = 0
+        last = None
+        for found in _ATTEMPT.finditer(block):
+            attempts += 1
+            wait = 0 if last is None else int(found[1]) - last
+            waited, longest = waited + wait, max(longest, wait)
+            last = int(found[2]) if found[2] else at
+        if how == "unfinished" and last is not None:
+            waited, longest = waited + at - last, max(longest, at - last)
+        result = result if len(result) <= WIDEST_RESULT else result[:WIDEST_RESULT - 2] + ".."
+        yield Tried(how, result, at, attempts, waited, longest)

@@ -1,0 +1,177 @@
+"""How a service answers each client, by the moment at which an attempt begins.
+
+`Walk` takes the attempts of all clients in the order of their moments and says how each ends. It steps no schedule:
+when a client's attempts begin was found by the program, in a run in which the client is never served. Of such a run all
+attempts up to the first one that is served are those of the true run, since they depend on earlier attempts alone."""
+import heapq
+from array import array
+from dataclasses import dataclass
+from typing import NamedTuple
+
+from zsched_tools.scenario import FULL, LAST_MOMENT, UP, Window
+
+# An attempt's kind is the state in which it found the service. DENIED is added to that of an attempt after which the
+# budget let no retry through.
+DENIED = 8
+UNDENIED = bytes(kind & ~DENIED for kind in range(256))
+# How the run of a client ends: its schedule is done, it goes on after the horizon, or it was looked at no further.
+DONE, GOES_ON, CUT = range(3)
+
+
+@dataclass(slots=True)
+class Run:
+    """What the program found of a client that is never served: when its attempts begin, the kinds of failure with which
+    they were run, and how the run ends."""
+    begins: array
+    kinds: bytes
+    tail: int
+
+
+class Ending(NamedTuple):
+    """How a client ends: as in a report, with the value, the moment and the number of attempts."""
+    how: str
+    value: int | None
+    at: int
+    attempts: int
+
+    def words(self):
+        """The ending in words."""
+        value = "" if self.value is None else f" {self.value}"
+        return f"{self.how}{value} at {self.at} after {self.attempts} attempts"
+
+
+class Service:
+    """The service at moments that don't fall."""
+
+    def __init__(self, windows):
+        self.windows = [*windows, Window(LAST_MOMENT + 2, LAST_MOMENT + 3, UP, None)]
+        self.next = 0
+        self.second, self.served = None, 0
+
+    def kind(self, moment):
+        """In which state an attempt that begins now finds the service."""
+        while moment >= self.windows[self.next].end:
+            self.next += 1
+        window = self.windows[self.next]
+        if moment < window.begin:
+            return UP
+        if window.capacity is None:
+            return window.state
+        second = self.next, (moment - window.begin) // 1000
+        if second != self.second:
+            self.second, self.served = second, 0
+        self.served += 1
+        return window.state if self.served <= window.capacity else FULL
+
+
+class Bucket:
+    """The tokens for retries, in thousandths, by the rules of gRPC's retry throttling or of the AWS SDK's quota."""
+
+    def __init__(self, budget):
+        self.budget = budget
+        self.tokens = budget.tokens
+
+    def succeeded(self, is_first):
+        """A client was served. A retry that is served gives back what it took under AWS's rules."""
+        budget = self.budget
+        given = budget.retry if budget.like == "aws" and not is_first else budget.ok
+        self.tokens = min(budget.tokens, self.tokens + given)
+
+    def lets_retry(self, is_wanted):
+        """An attempt failed. Whether it may be tried again: gRPC takes a token for each failure and wants more than
+        half of them left, AWS takes the price of a retry that is wanted."""
+        budget = self.budget
+        if budget.like == "grpc":
+            self.tokens = max(0, self.tokens - budget.retry)
+            return 2 * self.tokens > budget.tokens
+        if not is_wanted or self.tokens < budget.retry:
+            return False
+        self.tokens -= budget.retry
+        return True
+
+
+def _first_alike(outcomes):
+    """A table from each kind to the first one with the same outcome."""
+    return bytes(outcomes.index(outcomes[kind]) if kind < len(outcomes) else kind
+                 for kind in (number & ~DENIED for number in range(256)))
+
+
+class Walk:
+    """All attempts of all clients, in the order of their moments. At one moment ends come before begins, and clients by
+    their number. `found` has the kinds of each client's attempts, `endings` its ending (None if its run ends first)."""
+
+    def __init__(self, scenario, runs):
+        self.scenario, self.runs = scenario, runs
+        self.service = Service(scenario.windows)
+        self.bucket = Bucket(scenario.budget) if scenario.budget else None
+        self.outcomes = _first_alike(scenario.outcomes)
+        self.found = [bytearray() for _ in runs]
+        self.endings = [None] * len(runs)
+        self._walk()
+
+    def _walk(self):
+        count = len(self.runs)
+        queue = [(2 * run.begins[0] + 1) * count + client for client, run in enumerate(self.runs) if run.begins]
+        heapq.heapify(queue)
+        for client, run in enumerate(self.runs):
+            if not run.begins:
+                self._close(client, "unfinished", None, self.scenario.horizon)
+        while queue:
+            event, client = divmod(queue[0], count)
+            moment, is_begin = event >> 1, event & 1
+            following = self._begin(client, moment) if is_begin else self._end(client, moment)
+            if following is None:
+                heapq.heappop(queue)
+            else:
+                heapq.heapreplace(queue, max(following, event) * count + client)
+
+    def _begin(self, client, moment):
+        """An attempt begins: the client's next event, or None."""
+        kind = self.service.kind(moment)
+        self.found[client].append(kind)
+        end = moment + self.scenario.outcomes[kind].ms
+        if end > self.scenario.horizon:
+            self._close(client, "unfinished", None, self.scenario.horizon)
+            return None
+        return 2 * end if self.bucket else self._end(client, end)
+
+    def _end(self, client, moment):
+        """An attempt ends: the client's next event, or None."""
+        kinds, run = self.found[client], self.runs[client]
+        count, outcome = len(kinds), self.scenario.outcomes[kinds[-1]]
+        if outcome.is_ok:
+            if self.bucket:
+                self.bucket.succeeded(count == 1)
+            return self._close(client, "succeeded", outcome.value, moment)
+        is_last = count == len(run.begins)
+        is_done = is_last and run.tail == DONE
+        if self.bucket and not self.bucket.lets_retry(not is_done) and not is_done:
+            kinds[-1] += DENIED
+            return self._close(client, "failed", self.scenario.budget.code, moment)
+        if not is_last:
+            return 2 * run.begins[count] + 1
+        if is_done:
+            self._close(client, "failed", outcome.value, moment)
+        elif run.tail == GOES_ON:
+            self._close(client, "unfinished", None, self.scenario.horizon)
+        return None
+
+    def _close(self, client, how, value, at):
+        self.endings[client] = Ending(how, value, at, len(self.found[client]))
+
+    def is_settled(self, client):
+        """Whether the client's run was the true one up to its end: each attempt before that failed as it was run. What
+        comes after an attempt doesn't count if it is served, or still runs at the horizon."""
+        ending, kinds, run = self.endings[client], self.found[client], self.runs[client]
+        if ending is None:
+            return False
+        is_free = ending.how == "succeeded" or (ending.how == "unfinished" and self._is_running(client))
+        count = len(kinds) - is_free
+        return kinds[:count].translate(self.outcomes) == run.kinds[:count].translate(self.outcomes)
+
+    def _is_running(self, client):
+        """Whether the client's last attempt goes on at the horizon."""
+        kinds, begins = self.found[client], self.runs[client].begins
+        if not kinds:
+            return False
+        return begins[len(kinds) - 1] + self.scenario.outcomes[kinds[-1]].ms > self.scenario.horizon
