@@ -281,13 +281,16 @@ def test_end(count):
             words = [sys.executable, RUNNER, "--top", folder]
             quiet = {"stdout": subprocess.DEVNULL, "stderr": subprocess.DEVNULL}
             started = subprocess.Popen(words, **quiet, env={**os.environ, "TMPDIR": rooms})
-            until = time.monotonic() + 30
-            while not working_in(rooms) and time.monotonic() < until:
+            found, until = [], time.monotonic() + 300
+            while not found and time.monotonic() < until:
                 time.sleep(0.1)
-            count.test("a check has begun", bool(working_in(rooms)), True)
+                found = working_in(rooms)
+            count.test("a check has begun", bool(found), True)
             started.send_signal(number)
-            count.test(f"status after signal {number}", started.wait(30), status)
-            time.sleep(0.5)
+            count.test(f"status after signal {number}", started.wait(120), status)
+            until = time.monotonic() + 60
+            while working_in(rooms) and time.monotonic() < until:
+                time.sleep(0.1)
             count.test(f"processes after signal {number}", working_in(rooms), [])
             count.test(f"folders after signal {number}", len(os.listdir(rooms)), left)
 
