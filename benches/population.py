@@ -1,7 +1,8 @@
 #!/usr/bin/env python3
 """Measures a population of many jobs on this machine: cut by zsched-plan, each part run by zsched and its digest made, as
-many parts at a time as there are processors, joined by zsched-report with the manifest and by lines; the pipe without parts
-by GNU parallel, if that is installed, whose report must have the same bytes; and the forms of the whole report.
+many parts at a time as there are processors, joined by zsched-report with the manifest and by lines; the one program
+zsched-population and the pipe without parts by GNU parallel, if they are there, whose reports must have the same bytes; and
+the forms of the whole report.
 
     python3 benches/population.py [--jobs 1000000] [--part 10000] [--folder FOLDER]
 
@@ -44,11 +45,11 @@ def write_population(path, count):
         file.writelines(json.dumps(line, separators=(",", ":")) + "\n" for line in itertools.chain([plan], jobs))
 
 
-def ran(words, output=os.devnull, environment=None):
-    """One run of a tool, with its output in a file."""
+def ran(words, output=os.devnull, source=os.devnull, environment=None):
+    """One run of a tool, from a file to a file."""
     begun = time.perf_counter()
-    with (open(output, "wb") as out,
-          subprocess.Popen(words, stdin=subprocess.DEVNULL, stdout=out, env=environment) as process):
+    with (open(source, "rb") as read, open(output, "wb") as out,
+          subprocess.Popen(words, stdin=read, stdout=out, env=environment) as process):
         _, status, usage = os.wait4(process.pid, 0)
         process.returncode = os.waitstatus_to_exitcode(status)
     wall = time.perf_counter() - begun
@@ -116,6 +117,11 @@ def steps(zsched, folder, count, most):
         yield name, ran([report, "join", *words], whole), size(reports + (cut if len(words) == 1 < len(cut) else []))
         if last_line(whole) != b"polls %d\n" % (count * POLLS):
             raise measure.Failed(f"the joined report isn't that of {count} jobs: it ends with {last_line(whole)!r}")
+    one = program.find_population()
+    if one:
+        yield "one program", ran([one], folder / "one.report", population), size([population])
+        if not filecmp.cmp(whole, folder / "one.report", shallow=False):
+            raise measure.Failed("the report of zsched-population isn't the joined one")
     if has_parallel():
         yield "the pipe", run_pipe(zsched, folder, most), size([population])
         if not filecmp.cmp(whole, folder / "piped.report", shallow=False):

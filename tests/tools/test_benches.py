@@ -99,7 +99,8 @@ class Benches(unittest.TestCase):
         number = r"[\d,]+\.\d"
         found = re.findall(rf"^\| ([\w ]+) \|( {number} \|){{3}} [\d,]+ \|( {number} \|){{2}}$", rows, re.MULTILINE)
         self.assertEqual([row[0] for row in found], [
-            "cut", "run", "digests", "join by the manifest", "join by lines", *["the pipe"] * population.has_parallel(),
+            "cut", "run", "digests", "join by the manifest", "join by lines",
+            *["one program"] * (program.find_population() is not None), *["the pipe"] * population.has_parallel(),
             "lines", "summary", "load"])
         idle = "cat > /dev/null; printf 'job j0 repeat\\nend unfinished at 9 polls 0\\npolls 0\\n'"
         for text, errors in [("exit 4", r"^population.py: run ended with status 4\n$"),

@@ -17,6 +17,8 @@ from zsched_tools import program
 
 TOOLS = sorted(file.name for file in (TOP / "tools").glob("zsched-*"))
 MANUAL = (TOP / "docs" / "zsched.1").read_text()
+MANUALS = [TOP / "docs" / "zsched.1", TOP / "docs" / "zsched-population.1"]
+POPULATION = program.find_population()
 FORMATS = (TOP / "docs" / "FORMATS.md").read_text()
 MISSING = [tool for tool in ["dpkg", "dpkg-deb", "objdump", "strip"] if shutil.which(tool) is None]
 EPOCH = "1800000000"
@@ -40,7 +42,9 @@ class Versions(unittest.TestCase):
         self.assertRegex(version, r"^\d+\.\d+\.\d+\n$")
         heading = re.search(r"^## (\S+) \((\d+)-(\d+)-(\d+)\)$", (TOP / "CHANGELOG.md").read_text(), re.M)
         self.assertEqual(heading[1], version.strip())
-        self.assertEqual(re.findall(r"^This page is that of version (\S+)\.$", MANUAL, re.M), [version.strip()])
+        for page in MANUALS:
+            self.assertEqual(re.findall(r"^This page is that of version (\S+)\.$", page.read_text(), re.M),
+                             [version.strip()], page.name)
 
     def test_manual_page_has_the_date_of_the_version(self):
         heading = re.search(r"^## \S+ \((\d+)-(\d+)-(\d+)\)$", (TOP / "CHANGELOG.md").read_text(), re.M)
@@ -55,8 +59,9 @@ class Manual(unittest.TestCase):
 
     @unittest.skipIf(shutil.which("mandoc") is None, "mandoc isn't installed (Debian: mandoc)")
     def test_mandoc_has_nothing_to_say(self):
-        ended = subprocess.run(["mandoc", "-T", "lint", TOP / "docs" / "zsched.1"], capture_output=True, check=False)
-        self.assertEqual((ended.stdout.decode(), ended.returncode), ("", 0))
+        for page in MANUALS:
+            ended = subprocess.run(["mandoc", "-T", "lint", page], capture_output=True, check=False)
+            self.assertEqual((ended.stdout.decode(), ended.returncode), ("", 0), page.name)
 
     def test_names_every_word_of_plans_and_schedules(self):
         grammar = FORMATS.split("### Grammar")[1].split("### Limits")[0]
@@ -125,7 +130,7 @@ class Package(unittest.TestCase):
         self.assertEqual(self.package.name, f"zsched_{fields['Version']}_{fields['Architecture']}.deb")
 
     def test_libc_is_what_objdump_says(self):
-        told = output(["objdump", "-T", program.find()])
+        told = output(["objdump", "-T", *filter(None, [program.find(), POPULATION])])
         most = max(tuple(map(int, found)) for found in re.findall(r"GLIBC_(\d+)\.(\d+)", told))
         self.assertIn(f"libc6 (>= {most[0]}.{most[1]})", output(["dpkg-deb", "-f", self.package, "Depends"]))
 
@@ -143,7 +148,7 @@ class Package(unittest.TestCase):
         for mode, owner, path in self.members():
             with self.subTest(path):
                 self.assertEqual(owner, "root/root")
-                is_program = re.fullmatch(r"/usr/bin/zsched|/usr/share/zsched/zsched-\w+", path) is not None
+                is_program = re.fullmatch(r"/usr/bin/zsched(-population)?|/usr/share/zsched/zsched-\w+", path) is not None
                 of_file = "-rwxr-xr-x" if is_program else "-rw-r--r--"
                 self.assertEqual(mode, {"d": "drwxr-xr-x", "l": "lrwxrwxrwx"}.get(mode[0], of_file))
 
@@ -154,6 +159,9 @@ class Package(unittest.TestCase):
         wanted += [f"usr/bin/{tool}" for tool in TOOLS] + [f"usr/share/man/man1/{tool}.1.gz" for tool in TOOLS]
         wanted += [f"usr/share/zsched/zsched_tools/{file.name}" for file in TOP.glob("tools/zsched_tools/*.*")]
         wanted += ["usr/share/zsched/VERSION"]
+        if POPULATION:
+            wanted += ["usr/bin/zsched-population", "usr/share/man/man1/zsched-population.1.gz",
+                       "usr/share/zsched/population.schema.json"]
         wanted += ["usr/share/zsched/play.html"]
         wanted += [f"usr/share/doc/zsched/examples/{file.name}" for file in TOP.glob("examples/*.json*")]
         self.assertEqual([path for path in wanted if not (self.root / path).is_file()], [])
@@ -179,6 +187,12 @@ class Package(unittest.TestCase):
             with self.subTest(plan.name):
                 found = output([self.root / "usr/bin/zsched"], input=plan.read_bytes())
                 self.assertEqual(found, plan.with_suffix(".json.stdout").read_text())
+
+    @unittest.skipIf(POPULATION is None, "zsched_population isn't built")
+    def test_the_page_of_populations_shows_a_run(self):
+        lines, report = re.search(r"^\$ cat population.jsonl\n(.*?)^\$ zsched-population < population.jsonl\n(.*?)^\.Ed",
+                                  MANUALS[1].read_text(), re.M | re.S).groups()
+        self.assertEqual(output([self.root / "usr/bin/zsched-population"], input=lines.encode()), report)
 
     @unittest.skipIf(os.geteuid() != 0, "only root may change the root folder")
     def test_the_program_runs_where_only_the_c_library_is(self):

@@ -81,7 +81,7 @@ class Recipes(unittest.TestCase):
     def cut(self, most):
         """Cuts the plan into parts of so many jobs."""
         shutil.rmtree(self.folder / "parts", ignore_errors=True)
-        commands = recipe("Cut")[0].replace("10000", str(most))
+        commands = recipe("Split")[0].replace("10000", str(most))
         self.assertEqual(self.run_in_folder(commands), (0, ""))
 
     def done(self, ending="sha256"):

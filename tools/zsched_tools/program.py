@@ -5,7 +5,9 @@ import shutil
 import subprocess
 
 MAX_BYTES = 16777216
-BUILT = pathlib.Path(__file__).resolve().parents[2] / "crates" / "zsched" / "out" / "zsched"
+CRATES = pathlib.Path(__file__).resolve().parents[2] / "crates"
+BUILT = CRATES / "zsched" / "out" / "zsched"
+POPULATION = CRATES / "zsched_population" / "out" / "zsched_population"
 
 
 class NoProgram(Exception):
@@ -29,6 +31,17 @@ def find(named=None):
         raise NoProgram("zsched is neither built (./run --proved builds it) nor installed; --zsched PATH or ZSCHED "
                         f"names one, as {which}")
     return installed
+
+
+def find_population(named=None):
+    """The path of zsched-population, looked for as zsched is, with the variable ZSCHED_POPULATION; None if there is
+    none."""
+    for place in [named, os.environ.get("ZSCHED_POPULATION")]:
+        if place:
+            if not os.access(place, os.X_OK) or os.path.isdir(place):
+                raise NoProgram(f"no program at {place}")
+            return str(place)
+    return str(POPULATION) if os.access(POPULATION, os.X_OK) else shutil.which("zsched-population")
 
 
 def run(program, plan, seconds=None):

@@ -13,14 +13,14 @@ use Rattle.zs_run.specs.Report.{JobReport, job_lines}
 use Rattle.zs_run.specs.PlanReport.{job_report, jobs_text, polls_of, report_of, with_total}
 
 -- the lines of two parts
-text_of_two : (clock : Ticks) (xs ys : List JobRecord) → jobs_text clock (xs ++ ys) ≡ jobs_text clock xs ++ jobs_text clock ys
+pub text_of_two : (clock : Ticks) (xs ys : List JobRecord) → jobs_text clock (xs ++ ys) ≡ jobs_text clock xs ++ jobs_text clock ys
 text_of_two clock xs ys =
     let f : JobReport → List ℕ = job_lines (horizon clock) in
     let g : JobRecord → JobReport = job_report (ticks_of clock) in
     ap (flat_map f) (map-append g xs ys) ∙ flat_map-append f (map g xs) (map g ys)
 
 -- the polls of two parts
-polls_of_two : (clock : Ticks) (xs ys : List JobRecord) → polls_of clock (xs ++ ys) ≡ polls_of clock xs + polls_of clock ys
+pub polls_of_two : (clock : Ticks) (xs ys : List JobRecord) → polls_of clock (xs ++ ys) ≡ polls_of clock xs + polls_of clock ys
 polls_of_two clock xs ys =
     let p : JobReport → ℕ = λ job. job.polls in
     let g : JobRecord → JobReport = job_report (ticks_of clock) in
@@ -57,7 +57,7 @@ report_of_parts p parts is =
     ∙ ap (λ text. with_total text (polls_of p.clock (flat_map (λ part. part) parts))) (text_of_parts p.clock parts)
     ∙ ap (λ polls. with_total (flat_map (jobs_text p.clock) parts) polls) (polls_of_parts p.clock parts)
 
--- a report asks for the clock and the jobs alone
+-- a report depends on the clock and the jobs alone
 pub report_of_same : (p q : PlanRecord) → p.clock ≡ q.clock → p.jobs ≡ q.jobs → report_of p ≡ report_of q
 report_of_same p q clocks jobs =
     ap (λ clock. with_total (jobs_text clock p.jobs) (polls_of clock p.jobs)) clocks

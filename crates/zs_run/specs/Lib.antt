@@ -5,6 +5,9 @@ pub mod Shapes
 pub mod Jobs
 pub mod Plan
 pub mod PlanView
+pub mod Head
+pub mod HeadView
+pub mod Names
 pub mod Lawful
 pub mod Report
 pub mod ReportView
@@ -13,8 +16,7 @@ pub mod Told
 pub mod Status
 pub mod Marked
 pub mod Headline
--- What the bodies keep: private contracts alone name these.
+-- Invariants of bodies: only private contracts name these.
 pub mod ShapeViews
-pub mod Names
 pub mod Streams
 pub mod PlanReads

@@ -68,9 +68,9 @@ fn script_of(number: u64, beats: Vec<Beat>) -> Result<Script, PlanFault>
     }
 }
 
-// The job with this number, after those whose names are given.
+/// The job with this number, after those whose names are given.
 #[tactic(auto, unfolding(crate::specs::Jobs::job_of))]
-fn job_of(
+pub(crate) fn job_of(
     alloc: Global,
     number: u64,
     names: &BTreeSet<String>,
@@ -102,7 +102,7 @@ fn job_of(
     })
 }
 
-// The same of a value that is given up as soon as it is read.
+// The same of a value that is dropped as soon as it is read.
 fn take_job(
     alloc: Global,
     number: u64,
@@ -114,8 +114,8 @@ fn take_job(
     job_of(alloc, number, names, &value)
 }
 
-// Adds a job and its name to those before it.
-fn add_job(
+/// Adds a job and its name to those before it. Its one fault is `Memory`.
+pub fn add_job(
     alloc: Global,
     names: &mut BTreeSet<String>,
     jobs: &mut Vec<Job>,
@@ -130,8 +130,8 @@ fn add_job(
     Ok(())
 }
 
-/// The jobs of a list, or the first fault. Each is given up as soon as it is read, while it is at hand. The names so far
-/// are kept in a set, so that each is looked up in short time.
+/// The jobs of a list, or the first fault. Each value is dropped as soon as it is read, while it is
+/// in the cache. The names so far are in a set, so that each is looked up in short time.
 pub(crate) fn jobs_of(alloc: Global, values: Vec<Value>) -> Result<Vec<Job>, PlanFault>
     requires room { length values.items < 2 ^ 64 }
     ensures jobs { Gives (λ jobs. map job_record jobs.items) result (jobs_of 0 [] (map view values.items)) }

@@ -1,8 +1,9 @@
 //! Jobs from the bytes of a plan to the bytes of their report.
 //!
-//! At success the bytes that `run` writes are `report_of` the plan that was read (`specs/PlanReport.antt`): each job stands
-//! there as its schedule alone gives it, whatever the number of workers, the batches and the gate. Each refusal says what
-//! was read and what went out. Start with `specs/Plan.antt`, `specs/Report.antt` and the contract of `run`.
+//! At success the bytes that `run` writes are `report_of` the plan that was read
+//! (`specs/PlanReport.antt`): each job has there what its schedule alone gives, for any number of
+//! workers, batches and gate. Each error says what was read and what was written. Begin with
+//! `specs/Plan.antt`, `specs/Report.antt` and the contract of `run`.
 //!
 //! ```rust
 //! let mut reader = Marked::new(bytes);
@@ -12,6 +13,8 @@
 #![tactic(auto)]
 
 mod entry;
+mod head;
+mod job_lines;
 mod job_reading;
 mod laws;
 mod marked;
@@ -27,6 +30,9 @@ mod streams;
 mod transfer;
 mod tree;
 
+pub use head::{Head, read_head, read_job};
+pub use job_lines::{JobLines, run_to_text};
+pub use job_reading::add_job;
 pub use laws::{
     accepted_plans_are_lawful, no_default_is_told, reports_join, reports_tell_apart,
     scripts_are_tested, the_cut_changes_nothing,
@@ -39,4 +45,5 @@ pub use reporting::report;
 pub use run_fault::{RunFault, exit_code, status};
 pub use running::run;
 pub use streams::{Drain, Failed, Source};
+pub use transfer::write_all;
 pub use zs_engine::EngineFault;

@@ -16,15 +16,15 @@ use serde_json::Value;
 use std::alloc::Global;
 use zs_pool::{Cut, MAX_TASKS};
 
-// The most bytes of a plan.
-const MAX_BYTES: usize = 16_777_216;
+/// The most bytes of a plan.
+pub(crate) const MAX_BYTES: usize = 16_777_216;
 
-// The most jobs of a plan: as many as a round may poll.
+// The most jobs of a plan: the number that a round may poll.
 const MAX_JOBS: usize = MAX_TASKS as usize;
 
-// The document that the bytes are.
+/// The document that the bytes are.
 #[tactic(auto, using(crate::proofs::Trees::tree_of_text, crate::proofs::Trees::tree_of_none))]
-fn read_tree(alloc: Global, bytes: &[u8]) -> Result<Value, PlanFault>
+pub(crate) fn read_tree(alloc: Global, bytes: &[u8]) -> Result<Value, PlanFault>
     ensures value { Gives view result (demand_some (tree_of bytes.now) faults.Json) }
 {
     match Value::from_slice(alloc, bytes) {
@@ -60,8 +60,8 @@ fn plan_in(alloc: Global, document: &mut Value) -> Result<Plan, PlanFault>
     Ok(Plan { clock, cut, jobs })
 }
 
-/// The plan of the bytes, or its first fault: those of the document in the order of `PlanFault`, then job by job those
-/// of a job in this order. Want of memory can end the reading at any point.
+/// The plan of the bytes, or its first fault: those of the document in the order of `PlanFault`,
+/// then job by job those of a job in this order. The reading can run out of memory at any point.
 #[tactic(auto, unfolding(crate::specs::Plan::plan_of))]
 pub fn read_plan(alloc: Global, bytes: &[u8]) -> Result<Plan, PlanFault>
     ensures plan { Gives plan_record result (plan_of bytes.now) }

@@ -6,20 +6,21 @@ ghost use Rattle.zs_run.specs.PlanReport.{report_of};
 ghost use Rattle.zs_run.specs.Headline.{Ends, max_read};
 ghost use Rattle.zs_run.specs.PlanReads.{Reads};
 
+use crate::job_lines::{JobLines, run_to_text};
 use crate::plan::Plan;
 use crate::plan_fault::PlanFault;
 use crate::reading::read_plan;
-use crate::reporting::into_report;
+use crate::reporting::push_total;
 use crate::run_fault::RunFault;
 use crate::streams::{Drain, Source};
 use crate::transfer::{InputFault, read_up_to, write_all};
 use std::alloc::Global;
 use std::sync::Wait;
 use std::thread::Threads;
-use zs_engine::{EngineFault, run_to_lines};
+use zs_engine::EngineFault;
 use zs_pool::Gate;
 
-// One byte more than a plan may have, which is enough to tell that there are too many.
+// One byte more than a plan may have: enough to know that there are too many.
 const MAX_READ: usize = 16_777_217;
 
 // The plan that the reader gives.
@@ -51,16 +52,17 @@ fn report_plan<T: Threads + Wait + Sync, G: Gate>(
     requires few { length plan.jobs.items ≤ max_jobs }
     ensures text { IfOk result (λ text. string_bytes text ≡ report_of (plan_record plan)) }
 {
-    let Plan { clock, cut, jobs } = plan;
-    let answer = run_to_lines(rt, alloc, cut, gate, clock, jobs)?;
-    Ok(into_report(alloc, answer)?)
+    let JobLines { mut text, polls } = run_to_text(rt, alloc, gate, plan)?;
+    push_total(&mut text, polls)?;
+    Ok(text)
 }
 
 /// Reads a plan to the end of input, runs its jobs, writes their report, and flushes.
 ///
-/// The report is that of the plan: it depends neither on the number of workers nor on the grain, the gate or the order
-/// in which threads go on. What is said of bytes holds where the reader and the writer tell theirs, as those over
-/// memory do. Want of memory is `Plan(Memory)` until the plan is read, and `Engine(Memory)` from then on.
+/// The report is that of the plan: it doesn't depend on the number of workers, the grain, the gate
+/// or the order in which threads go on. The clauses about bytes hold if the reader and the writer
+/// have a view of theirs, as those over memory do. A failed allocation is `Plan(Memory)` until the
+/// plan is read, and `Engine(Memory)` from then on.
 pub fn run<T: Threads + Wait + Sync, G: Gate, R: Source, W: Drain>(
     rt: &T,
     alloc: Global,
@@ -71,12 +73,12 @@ pub fn run<T: Threads + Wait + Sync, G: Gate, R: Source, W: Drain>(
     requires reader_clear { R.mark reader.old ≡ false }
     requires writer_clear { W.mark writer.old ≡ false }
 
-    // Success and each fault, by the reader, the writer, and whether the writer was left alone.
+    // Success and each fault, by the reader, the writer, and whether the writer was called.
     ensures ends { Ends result
         (record { before = R.remaining reader.old; left = R.remaining reader.new; failed = R.mark reader.new })
         (record { before = W.contents writer.old; taken = W.contents writer.new; failed = W.mark writer.new; flushed = W.flushed writer.new })
         (writer.new ≡ writer.old) }
-    // The reader is asked once for each byte of the longest plan and one more, at most.
+    // At most one read for each byte of the longest plan, and one more.
     ensures pulls { R.pulls reader.new ≤ R.pulls reader.old + max_read }
 {
     let plan = read_source(alloc, reader)?;

@@ -1,5 +1,6 @@
-//! What a document, a job and an entry are made of: each part is looked up once, and has its type from then on.
-ghost use Rattle.std.specs.Prelude.{◌≡◌, map, option_map, None, Some};
+//! The parts of a document, a job and an entry: each is looked up once, and has its type from then
+//! on.
+ghost use Rattle.std.specs.Prelude.{◌≡◌, map, option_map, IfOk, None, Some};
 ghost use Rattle.serde_json.specs.View.{view};
 ghost use Rattle.zs_run.specs.declared.plan_fault.PlanFault.TheVariants as faults;
 ghost use Rattle.zs_run.specs.Refusals.{Gives, demand_some};
@@ -8,10 +9,10 @@ ghost use Rattle.zs_run.specs.Tree.{all_of, as_whole, as_wholes};
 use crate::plan_fault::PlanFault;
 use crate::tree::{as_list, list, take_list, text, whole_or};
 use serde_json::Value;
-use std::alloc::Global;
+use std::alloc::{AllocError, Global};
 use zs_agenda::Clock;
 
-/// The ticks that a document asks for, which may be no clock's.
+/// The ticks that a document has, which may be invalid for a clock.
 #[derive(Drop)]
 pub(crate) enum AskedTicks {
     /// Each millisecond up to a horizon.
@@ -67,7 +68,7 @@ impl AskedTicks {
     ghost use Rattle.zs_run.specs.Shapes.{ticks_asked};
     ghost use Rattle.zs_run.specs.ShapeViews.{asked_view};
 
-    /// The ticks of a document, by what stands at `horizon` and `ticks`: just one of the two.
+    /// The ticks of a document, by its keys `horizon` and `ticks`: just one of the two.
     pub(crate) fn of(
         alloc: Global,
         horizon: Option<&Value>,
@@ -86,7 +87,21 @@ impl AskedTicks {
         }
     }
 
-    /// The clock of these ticks, where they are one's.
+    /// The same ticks once more.
+    pub(crate) fn copy(&self, alloc: Global) -> Result<AskedTicks, AllocError>
+        ensures same { IfOk result (λ copy. asked_view copy ≡ asked_view self.now) }
+    {
+        match self {
+            AskedTicks::EveryMs(last) => Ok(AskedTicks::EveryMs(*last)),
+            AskedTicks::Listed(ticks) => {
+                let mut copy = Vec::new(alloc);
+                copy.extend_from_slice(ticks)?;
+                Ok(AskedTicks::Listed(copy))
+            }
+        }
+    }
+
+    /// The clock of these ticks, if they are valid.
     pub(crate) fn into_clock(self) -> Option<Clock>
         ensures value { result ≡ (if is_clock (asked_view self) then Some (asked_view self) else None) }
     {
@@ -101,7 +116,8 @@ impl DocumentParts {
     ghost use Rattle.zs_run.specs.Shapes.{document_parts};
     ghost use Rattle.zs_run.specs.ShapeViews.{document_view};
 
-    /// The parts of a document, where all are there and of their types. The list of jobs is taken out of it.
+    /// The parts of a document, if all are there and have their types. The list of jobs is taken
+    /// out of it.
     #[tactic(auto, unfolding(crate::specs::Shapes::document_parts))]
     pub(crate) fn of(alloc: Global, document: &mut Value) -> Option<DocumentParts>
         ensures value { option_map document_view result ≡ document_parts (view document.old) }
@@ -121,7 +137,7 @@ impl<'v> JobParts<'v> {
     ghost use Rattle.zs_run.specs.Shapes.{job_parts};
     ghost use Rattle.zs_run.specs.ShapeViews.{job_view};
 
-    /// The parts of a job, where all are there and of their types.
+    /// The parts of a job, if all are there and have their types.
     #[tactic(auto, unfolding(crate::specs::Shapes::job_parts))]
     pub(crate) fn of(job: &'v Value) -> Option<JobParts<'v>>
         ensures value { option_map job_view result ≡ job_parts (view job.now) }

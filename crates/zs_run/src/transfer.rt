@@ -5,7 +5,7 @@ ghost use Rattle.zs_run.specs.Streams.{ReadsUpTo};
 
 use crate::streams::{Drain, Failed, Source};
 
-/// Why the bytes of a reader are not at hand.
+/// Why the bytes of a reader could not be read.
 #[derive(Clone, Copy, Debug, Drop, PartialEq, Eq)]
 pub(crate) enum InputFault {
     /// The reader failed.
@@ -14,7 +14,7 @@ pub(crate) enum InputFault {
     Memory,
 }
 
-// The bytes that one pull asks for.
+// The most bytes of one pull.
 const CHUNK: usize = 65_536;
 
 /// Adds what is read up to the end of input, or until `limit` bytes were read.
@@ -45,8 +45,9 @@ pub(crate) fn read_up_to<R: Source>(
     Ok(())
 }
 
-/// Writes all of the bytes and flushes, or answers how many of them went out before a failure.
-pub(crate) fn write_all<W: Drain>(writer: &mut W, bytes: &[u8]) -> Result<(), usize>
+/// Writes all of the bytes and flushes. The error is how many of them were written before a
+/// failure.
+pub fn write_all<W: Drain>(writer: &mut W, bytes: &[u8]) -> Result<(), usize>
     requires clear { W.mark writer.old ≡ false }
     ensures ok { OnOk result (Appends (W.contents writer.old) (W.contents writer.new) bytes.now) }
     ensures flushed { OnOk result (W.flushed writer.new ≡ true) }

@@ -1,0 +1,169 @@
+-- The jobs of lines that are put together.
+use Rattle.std.proofs.Common.{◌≡◌, ◌<◌, ◌≤◌, ◌+◌, ℕ, List, [], ◌∷◌, ◌++◌, length, Result, Ok, Err, Option, None, Some, refl, sym, ap, ◌∙◌, append_assoc, append-nil, arith, subst}
+use Rattle.std.specs.Io.KnownBytes.{IsAtEnd}
+use Rattle.std.proofs.lemmas.Bool.{le-ltb, lt-ltb}
+use Rattle.zs_drive.specs.Values.{JobRecord}
+use Rattle.zs_run.specs.declared.plan_fault.PlanFault.{PlanFault}
+use Rattle.zs_run.specs.declared.plan_fault.PlanFault.TheVariants as faults
+use Rattle.zs_run.specs.Head.{HeadRecord, head_of, job_of_bytes}
+use Rattle.zs_population.specs.Lines.{lines_of}
+use Rattle.zs_population.specs.Buffers.{BeginsWith, Took}
+use Rattle.zs_population.specs.Ending.{WasRefused}
+use Rattle.zs_population.specs.Population.{Refusal, job_at, jobs_at, max_population, population_of, ◌>>=◌}
+use Rattle.zs_population.specs.Reads.{names_of}
+
+abbrev Jobs : Type 0
+Jobs = Result (List JobRecord) Refusal
+
+-- jobs in front of what comes next
+abbrev behind : List JobRecord → Jobs → Jobs
+behind front rest = rest >>= (λ jobs. Ok (front ++ jobs))
+
+behind-none : (rest : Jobs) → behind [] rest ≡ rest
+behind-none (Ok jobs) = refl
+behind-none (Err e) = refl
+
+behind-one : (job : JobRecord) (front : List JobRecord) (rest : Jobs) → behind front rest >>= (λ jobs. Ok (job ∷ jobs)) ≡ behind (job ∷ front) rest
+behind-one job front (Ok jobs) = refl
+behind-one job front (Err e) = refl
+
+-- what was found first, where all was
+found : {A B : Type 0} (r : Result A Refusal) (f : A → Result B Refusal) (b : B) → r >>= f ≡ Ok b → (a : A) × (r ≡ Ok a) × (f a ≡ Ok b)
+found (Ok a) f b is = (a, refl, is)
+found (Err e) f b is = absurd (let no : Err e ≡ Ok b = is in cc)
+
+-- what comes behind one job more
+step-append : (number : ℕ) (names : List (List ℕ)) (x : List ℕ) (rest : List (List ℕ)) (ys : List (List ℕ)) (job : JobRecord) (jobs : List JobRecord)
+    → job_at number names x ≡ Ok job
+    → jobs_at (number + 1) (names ++ job.name ∷ []) rest
+    ≡ behind jobs (jobs_at (number + 1 + length jobs) ((names ++ job.name ∷ []) ++ names_of jobs) ys)
+    → jobs_at number names (x ∷ rest) ≡ behind (job ∷ jobs) (jobs_at (number + length (job ∷ jobs)) (names ++ names_of (job ∷ jobs)) ys)
+unfolding jobs_at
+step-append number names x rest ys job jobs is later =
+    let place : number + 1 + length jobs ≡ number + length (job ∷ jobs) = omega arith in
+    let known : (names ++ job.name ∷ []) ++ names_of jobs ≡ names ++ names_of (job ∷ jobs) = append_assoc names (job.name ∷ []) (names_of jobs) in
+    ap (λ r. r >>= (λ one. jobs_at (number + 1) (names ++ one.name ∷ []) rest >>= (λ more. Ok (one ∷ more)))) is
+    ∙ ap (λ r. r >>= (λ more. Ok (job ∷ more))) later
+    ∙ behind-one job jobs (jobs_at (number + 1 + length jobs) ((names ++ job.name ∷ []) ++ names_of jobs) ys)
+    ∙ ap (λ n. behind (job ∷ jobs) (jobs_at n ((names ++ job.name ∷ []) ++ names_of jobs) ys)) place
+    ∙ ap (λ ns. behind (job ∷ jobs) (jobs_at (number + length (job ∷ jobs)) ns ys)) known
+
+-- Lines behind lines that are jobs.
+pub jobs-append : (number : ℕ) (names : List (List ℕ)) (xs ys : List (List ℕ)) (jobs : List JobRecord) → jobs_at number names xs ≡ Ok jobs
+    → jobs_at number names (xs ++ ys) ≡ behind jobs (jobs_at (number + length jobs) (names ++ names_of jobs) ys)
+unfolding jobs_at
+jobs-append number names [] ys jobs are =
+    let none : jobs ≡ [] = (let e : Ok [] ≡ Ok jobs = are in cc) in
+    let place : number ≡ number + 0 = omega arith in
+    sym (behind-none (jobs_at number names ys))
+    ∙ ap (λ n. behind [] (jobs_at n names ys)) place
+    ∙ ap (λ ns. behind [] (jobs_at (number + 0) ns ys)) (sym (append-nil names))
+    ∙ ap (λ js. behind js (jobs_at (number + length js) (names ++ names_of js) ys)) (sym none)
+jobs-append number names (x ∷ xs) ys jobs are =
+    let one = found (job_at number names x) (λ job. jobs_at (number + 1) (names ++ job.name ∷ []) xs >>= (λ jobs. Ok (job ∷ jobs))) jobs are in
+    let job : JobRecord = one.0 in
+    let rest = found (jobs_at (number + 1) (names ++ job.name ∷ []) xs) (λ jobs. Ok (job ∷ jobs)) jobs one.2 in
+    let all : job ∷ rest.0 ≡ jobs = (let e : Ok (job ∷ rest.0) ≡ Ok jobs = rest.2 in cc) in
+    let P : List JobRecord → Type 0 = λ js. jobs_at number names (x ∷ xs ++ ys) ≡ behind js (jobs_at (number + length js) (names ++ names_of js) ys) in
+    subst P all (step-append number names x (xs ++ ys) ys job rest.0 one.1
+    (jobs-append (number + 1) (names ++ job.name ∷ []) xs ys rest.0 rest.1))
+
+-- more jobs
+pub jobs-joined : (number : ℕ) (names : List (List ℕ)) (xs ys : List (List ℕ)) (jobs more : List JobRecord) → jobs_at number names xs ≡ Ok jobs
+    → jobs_at (number + length jobs) (names ++ names_of jobs) ys ≡ Ok more → jobs_at number names (xs ++ ys) ≡ Ok (jobs ++ more)
+jobs-joined number names xs ys jobs more are next = jobs-append number names xs ys jobs are ∙ ap (behind jobs) next
+
+-- a line that is refused
+pub jobs-refused : (number : ℕ) (names : List (List ℕ)) (xs ys : List (List ℕ)) (jobs : List JobRecord) (refusal : Refusal) → jobs_at number names xs ≡ Ok jobs
+    → jobs_at (number + length jobs) (names ++ names_of jobs) ys ≡ Err refusal → jobs_at number names (xs ++ ys) ≡ Err refusal
+jobs-refused number names xs ys jobs refusal are next = jobs-append number names xs ys jobs are ∙ ap (behind jobs) next
+
+-- one job
+pub one-job : (number : ℕ) (names : List (List ℕ)) (line : List ℕ) (job : JobRecord) → job_at number names line ≡ Ok job
+    → jobs_at number names (line ∷ []) ≡ Ok (job ∷ [])
+unfolding jobs_at
+one-job number names line job is = rw is refl
+
+-- one line that is refused, and any behind it
+pub one-refused : (number : ℕ) (names : List (List ℕ)) (line : List ℕ) (rest : List (List ℕ)) (refusal : Refusal) → job_at number names line ≡ Err refusal
+    → jobs_at number names (line ∷ rest) ≡ Err refusal
+unfolding jobs_at
+one-refused number names line rest refusal is = rw is refl
+
+refused-on : {A B : Type 0} (r : Result A Refusal) (f g : A → Result B Refusal) (refusal : Refusal) → ((a : A) → f a ≡ Err refusal → g a ≡ Err refusal)
+    → r >>= f ≡ Err refusal → r >>= g ≡ Err refusal
+refused-on (Ok a) f g refusal goes is = goes a is
+refused-on (Err e) f g refusal goes is = let same : Err e ≡ Err refusal = is in cc
+
+refused-before : (job : JobRecord) (rest : Jobs) (refusal : Refusal) → rest >>= (λ jobs. Ok (job ∷ jobs)) ≡ Err refusal → rest ≡ Err refusal
+refused-before job (Ok jobs) refusal is = absurd (let no : Ok (job ∷ jobs) ≡ Err refusal = is in cc)
+refused-before job (Err e) refusal is = let same : Err e ≡ Err refusal = is in cc
+
+-- What comes behind a refused line changes nothing.
+pub refused-stays : (number : ℕ) (names : List (List ℕ)) (xs ys : List (List ℕ)) (refusal : Refusal) → jobs_at number names xs ≡ Err refusal
+    → jobs_at number names (xs ++ ys) ≡ Err refusal
+unfolding jobs_at
+refused-stays number names [] ys refusal is = absurd (let no : Ok [] ≡ Err refusal = is in cc)
+refused-stays number names (x ∷ xs) ys refusal is =
+    refused-on (job_at number names x) (λ job. jobs_at (number + 1) (names ++ job.name ∷ []) xs >>= (λ jobs. Ok (job ∷ jobs)))
+    (λ job. jobs_at (number + 1) (names ++ job.name ∷ []) (xs ++ ys) >>= (λ jobs. Ok (job ∷ jobs))) refusal
+    (λ job here. ap (λ r. r >>= (λ jobs. Ok (job ∷ jobs)))
+    (refused-stays (number + 1) (names ++ job.name ∷ []) xs ys refusal
+    (refused-before job (jobs_at (number + 1) (names ++ job.name ∷ []) xs) refusal here))) is
+
+-- ---- populations
+
+-- a population by its head and its jobs
+pub populated : (first : List ℕ) (lines : List (List ℕ)) (head : HeadRecord) (jobs : List JobRecord) → head_of first ≡ Ok head
+    → jobs_at 0 [] lines ≡ Ok jobs
+    → population_of (first ∷ lines) ≡ Ok (record { clock = head.clock; workers = head.workers; grain = head.grain; jobs = jobs })
+unfolding population_of
+populated first lines head jobs is are = rw (is, are) refl
+
+refused-job : (first : List ℕ) (lines : List (List ℕ)) (head : HeadRecord) (refusal : Refusal) → head_of first ≡ Ok head
+    → jobs_at 0 [] lines ≡ Err refusal → population_of (first ∷ lines) ≡ Err refusal
+unfolding population_of
+refused-job first lines head refusal is are = rw (is, are) refl
+
+refused-head : (first : List ℕ) (lines : List (List ℕ)) (fault : PlanFault) → head_of first ≡ Err fault
+    → population_of (first ∷ lines) ≡ Err (record { line = 1; fault = fault })
+unfolding population_of
+refused-head first lines fault is = rw is refl
+
+-- the first line is no head
+pub head-refused : (known : Option (List ℕ)) (first : List ℕ) (fault : PlanFault) → head_of first ≡ Err fault → BeginsWith known (first ∷ [])
+    → WasRefused known (record { line = 1; fault = fault })
+head-refused None first fault is begins = (first ∷ [], refused-head first [] fault is, tt)
+head-refused (Some xs) first fault is begins = (first ∷ begins.0, refused-head first begins.0 fault is, begins.1)
+
+-- a line behind the head is no job
+pub job-refused : (known : Option (List ℕ)) (first : List ℕ) (lines : List (List ℕ)) (head : HeadRecord) (refusal : Refusal) → head_of first ≡ Ok head
+    → jobs_at 0 [] lines ≡ Err refusal → BeginsWith known (first ∷ lines) → WasRefused known refusal
+job-refused None first lines head refusal is are begins = (first ∷ lines, refused-job first lines head refusal is are, tt)
+job-refused (Some xs) first lines head refusal is are begins =
+    (first ∷ (lines ++ begins.0), refused-job first (lines ++ begins.0) head refusal is (refused-stays 0 [] lines begins.0 refusal are), begins.1)
+
+-- there is no line
+pub nothing-refused : (old now : Option (List ℕ)) → Took old now [] → IsAtEnd now → WasRefused old (record { line = 1; fault = faults.Json })
+unfolding population_of
+nothing-refused None now none end = ([], refl, tt)
+nothing-refused (Some xs) None none end = absurd none
+nothing-refused (Some xs) (Some ys) none end = ([], refl, none ∙ ap lines_of end)
+
+-- ---- single jobs
+
+-- a line that is a job with a number that a population may have
+pub job-at-ok : (number : ℕ) (names : List (List ℕ)) (line : List ℕ) (job : JobRecord) → job_of_bytes number names line ≡ Ok job
+    → number < max_population → job_at number names line ≡ Ok job
+unfolding job_at
+job-at-ok number names line job is few = rw (is, lt-ltb number max_population few) refl
+
+pub job-at-range : (number : ℕ) (names : List (List ℕ)) (line : List ℕ) (job : JobRecord) → job_of_bytes number names line ≡ Ok job
+    → max_population ≤ number → job_at number names line ≡ Err (record { line = number + 2; fault = faults.Range None })
+unfolding job_at
+job-at-range number names line job is many = rw (is, le-ltb number max_population many) refl
+
+pub job-at-fault : (number : ℕ) (names : List (List ℕ)) (line : List ℕ) (fault : PlanFault) → job_of_bytes number names line ≡ Err fault
+    → job_at number names line ≡ Err (record { line = number + 2; fault = fault })
+unfolding job_at
+job-at-fault number names line fault is = rw is refl

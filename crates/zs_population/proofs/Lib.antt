@@ -1,0 +1,6 @@
+pub mod ByteLemmas
+pub mod LineLemmas
+pub mod JobsLemmas
+pub mod BlockLemmas
+pub mod Done
+pub mod Endings
