@@ -8,3 +8,7 @@ pub mod OutputRange
 pub mod AnswerRange
 pub mod StateRange
 pub mod BoundsOf
+-- What the bodies store: private contracts alone name these.
+pub mod OutRange
+pub mod Leaf
+pub mod Node

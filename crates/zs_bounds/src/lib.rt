@@ -1,7 +1,7 @@
-//! What a schedule does for every history that a driver can make: how often it is stepped, how long it waits.
+//! What a schedule does for every history that a driver can make: how often it is stepped, and how long it waits.
 //!
-//! `bounds` steps a state with intervals in place of numbers. What it returns holds for every input and every duration
-//! of attempts (`specs/Bounds.antt`). Start with `specs/Driven.antt`.
+//! `bounds` steps a state with intervals in place of numbers. What it returns holds for every input and every duration of
+//! attempts. Start with `specs/Driven.antt` and `specs/Bounds.antt`, which say what is promised.
 //!
 //! ```rust
 //! let schedule = zs_term::read(alloc, "(exponential(100) && recurs(5))")?;
@@ -10,10 +10,16 @@
 //! ```
 #![tactic(auto)]
 
+mod answers;
 mod bounds;
 mod decisions;
 mod laws;
+mod leaves;
+mod node;
+mod ranges;
 mod span;
+mod stepping;
 
-pub use bounds::Bounds;
+pub use bounds::{Bounds, bounds};
 pub use laws::bounds_hold;
+pub use span::MAX_TICK;
