@@ -126,6 +126,21 @@ more_items-in m (Next y) a xs x n is h small =
 
 -- ---- parts of histories
 
+-- the last moment of a part, where there is one
+abbrev moment_in : Option History → ℕ
+moment_in (Some g) = last_moment g
+moment_in None = 0
+
+-- the part from the first done step on ends with the last step
+done_from-moment : (o : Option History) (p : ℕ × ℕ) (b : Bool) (g : History) → done_from o p b ≡ Some g → last_moment g ≡ p.0
+done_from-moment (Some k) p b g e = sym (ap moment_in e)
+done_from-moment None p true g e = cc
+done_from-moment None p false g e = sym (ap moment_in e)
+
+pub from_done-moment : (f : History → Answer) (h g : History) → from_done f h ≡ Some g → last_moment g ≡ last_moment h
+from_done-moment f [] g e = cc
+from_done-moment f (p ∷ h) g e = done_from-moment (from_done f h) p (is_next (f (p ∷ h)).decision) g e
+
 -- a part has at most so many steps, where there is one
 abbrev PartWithin : ℕ → Option History → Type 0
 PartWithin n (Some g) = length g ≤ n

@@ -97,7 +97,9 @@ fibonacci-step (suc zero) = omega arith
 fibonacci-step (suc (suc n)) = omega arith
 
 fibonacci-more : (k i : ℕ) → fibonacci_number i ≤ fibonacci_number (k + i)
-fibonacci-more zero i = omega arith
+fibonacci-more zero i =
+    let e : zero + i ≡ i = omega arith in
+    subst (λ n. fibonacci_number i ≤ fibonacci_number n) (sym e) (omega arith)
 fibonacci-more (suc k) i =
     let e : suc k + i ≡ suc (k + i) = omega arith in
     let before = fibonacci-more k i in

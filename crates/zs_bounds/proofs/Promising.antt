@@ -54,13 +54,13 @@ below-or n m le = grind arith
 -- where no history has one step more than so many, none has more
 none-longer : (s : Schedule) (n : ℕ) → ((p q : ℕ × ℕ) (h : History) → IsDriven s (p ∷ (q ∷ h)) → length (q ∷ h) ≡ suc n → ⊥) → (h : History) → IsDriven s h →
     length h ≤ suc n
-none-longer s n no [] driven = absurd driven
-none-longer s n no (p ∷ []) driven = omega arith
-none-longer s n no (p ∷ (q ∷ h)) driven =
-    let before = none-longer s n no (q ∷ h) driven.2 in
+none-longer s n never [] driven = absurd driven
+none-longer s n never (p ∷ []) driven = omega arith
+none-longer s n never (p ∷ (q ∷ h)) driven =
+    let before = none-longer s n never (q ∷ h) driven.2 in
     elim (below-or (length (q ∷ h)) (suc n) before) [
       | inl lt ↦ omega (arith, lt)
-      | inr e ↦ absurd (no p q h driven e)
+      | inr e ↦ absurd (never p q h driven e)
     ]
 
 -- ---- what is known after so many steps
@@ -139,7 +139,7 @@ sum-is false x t e = cc
 -- a total, before one more step
 total-before : (o : Option ℕ) (w t : ℕ) → sum_within o w ≡ Some t → (u : ℕ) × ((o ≡ Some u) × (u + w ≡ t))
 total-before None w t e = cc
-total-before (Some u) w t e = (u, refl, sum-is (nat_le (u + w) max_moment) (u + w) t e)
+total-before (Some u) w t e = (u, (refl, sum-is (nat_le (u + w) max_moment) (u + w) t e))
 
 -- all waits of a history with one more step
 total-step : (s : Schedule) (n : ℕ) (b : Bounds) (u : ℕ) (h : History) → HoldsUpTo s n b → b.total ≡ Some u → IsDriven s h → length h ≡ suc n →
@@ -168,11 +168,11 @@ step-holds s n c d passed b holds reaches = record {
   total = λ t e h driven le.
       let part = total-before b.total (longest_in d.waits) t e in
       elim (up_to-or (length h) n le) [
-        | inl before ↦ (let shorter = holds.total part.0 part.1 h driven before in omega (arith, shorter, part.2))
+        | inl before ↦ (let shorter = holds.total part.0 part.1.0 h driven before in omega (arith, shorter, part.1.1))
         | inr now ↦ (
           let wait = wait-longest (last_moment h) (answer_of s h).decision d (reaches h driven now).decides in
-          let all = total-step s n b part.0 h holds part.1 driven now in
-          omega (arith, wait, all, part.2))
+          let all = total-step s n b part.0 h holds part.1.0 driven now in
+          omega (arith, wait, all, part.1.1))
       ];
 }
 

@@ -7,7 +7,6 @@ use Rattle.zs_term.specs.declared.term.Test.{Test}
 use Rattle.zs_term.specs.declared.term.Pick.{Pick}
 use Rattle.zs_step.specs.History.{History, last_moment}
 use Rattle.zs_step.specs.Answer.{Answer, answer, answer_of, is_next, done_from, from_done, sequel_of, collected, reset_if, since_reset}
-use Rattle.zs_step.proofs.Moments.{from_done-last}
 use Rattle.zs_bounds.specs.Driven.{IsStep}
 use Rattle.zs_bounds.specs.Span.{IsIn, span}
 use Rattle.zs_bounds.specs.DecisionRange.{may_go_on}
@@ -19,7 +18,7 @@ use Rattle.zs_bounds.proofs.Deciding.{next-may, stop-may}
 use Rattle.zs_bounds.proofs.Outputs.{picked-in, applied-in}
 use Rattle.zs_bounds.proofs.Leaves.{Counts, leaf-in}
 use Rattle.zs_bounds.proofs.Answering.{answer-left, answer-right, answers_if-in, pair_both-in, pair_either-in, left_range-in, right_range-in, test_range-in, input-in, reset-first, reset-goes_on}
-use Rattle.zs_bounds.proofs.Covers.{TurnCovers, Covers, Comes, counts-first, counts-keeps, counts-begins, counts-next, more_items-in, count-collected, from_done-length, since_reset-moment, since_reset-length, since_reset-first, comes-part, begun-keeps, begun-begins, chosen}
+use Rattle.zs_bounds.proofs.Covers.{TurnCovers, Covers, Comes, counts-first, counts-keeps, counts-begins, counts-next, more_items-in, count-collected, from_done-moment, from_done-length, since_reset-moment, since_reset-length, since_reset-first, comes-part, begun-keeps, begun-begins, chosen}
 
 -- ---- the first step
 
@@ -205,7 +204,7 @@ reset-in p g f k t r first false e h begins =
 
 -- what comes after a history comes after the part from the first done step on
 comes-done : (f : History → Answer) (d : ℕ) (h g : History) (p : ℕ × ℕ) → Comes d h p → from_done f h ≡ Some g → Comes d g p
-comes-done f d h g p comes e = comes-part d h g p comes (from_done-last f h g e) (from_done-length f h g e)
+comes-done f d h g p comes e = comes-part d h g p comes (from_done-moment f h g e) (from_done-length f h g e)
 
 -- and after the part since the last reset
 comes-reset : (f : History → Answer) (k : Pick) (t : Test) (d : ℕ) (h : History) (p : ℕ × ℕ) → Comes d h p → Comes d (since_reset f k t h) p
