@@ -8,7 +8,7 @@ use Rattle.zs_step.specs.History.{History, last_moment}
 use Rattle.zs_step.specs.Answer.{answer_of, is_next}
 use Rattle.zs_step.specs.Laws.{IsNotBefore}
 use Rattle.zs_step.proofs.Moments.{answer_of-late}
-use Rattle.zs_bounds.specs.declared.bounds.Bounds.{Bounds}
+use Rattle.zs_bounds.specs.declared.told.Bounds.{Bounds}
 use Rattle.zs_bounds.specs.declared.span.Span.{Span}
 use Rattle.zs_bounds.specs.declared.decisions.Decisions.{Decisions}
 use Rattle.zs_bounds.specs.Driven.{max_tick, IsStep, LetsEndAt, IsDriven}

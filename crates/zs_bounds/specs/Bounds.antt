@@ -5,7 +5,7 @@ use Rattle.zs_step.specs.declared.decision.Decision.{Decision}
 use Rattle.zs_step.specs.declared.decision.Decision.TheVariants.{Stop, Next}
 use Rattle.zs_step.specs.History.{History, last_moment}
 use Rattle.zs_step.specs.Answer.{answer_of, is_next}
-use Rattle.zs_bounds.specs.declared.bounds.Bounds.{Bounds}
+use Rattle.zs_bounds.specs.declared.told.Bounds.{Bounds}
 use Rattle.zs_bounds.specs.Driven.{IsDriven}
 
 -- how long a decision at a moment waits: not at all if it is to stop

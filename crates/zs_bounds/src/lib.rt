@@ -11,7 +11,7 @@
 #![tactic(auto)]
 
 mod answers;
-mod bounds;
+mod bounding;
 mod decisions;
 mod laws;
 mod leaves;
@@ -19,7 +19,9 @@ mod node;
 mod ranges;
 mod span;
 mod stepping;
+mod told;
 
-pub use bounds::{Bounds, bounds};
+pub use bounding::bounds;
 pub use laws::bounds_hold;
 pub use span::MAX_TICK;
+pub use told::Bounds;
