@@ -6,3 +6,6 @@ pub mod Answering
 pub mod Covers
 pub mod Steps
 pub mod Promising
+pub mod Rows
+pub mod Powers
+pub mod Loops

@@ -12,3 +12,4 @@ pub mod BoundsOf
 pub mod OutRange
 pub mod Leaf
 pub mod Node
+pub mod Sizes

@@ -1,8 +1,9 @@
 // The answers of schedules without parts, by their number of steps and the time since the first one.
 
-ghost use Rattle.std.specs.Prelude.{◌≡◌, ◌+◌, ◌*◌, ◌^◌};
+ghost use Rattle.std.specs.Prelude.{◌≡◌, ◌*◌, ◌^◌, None, nat_le, nat_lt, if◌then◌else◌};
 ghost use Rattle.zs_term.specs.Saturating.{saturated};
 ghost use Rattle.zs_step.specs.Answer.{fibonacci_number};
+ghost use Rattle.zs_bounds.specs.DecisionRange.{decisions};
 ghost use Rattle.zs_bounds.specs.AnswerRange.{range, leaf_range, waiting, period_waits, at_once};
 ghost use Rattle.zs_bounds.specs.OutRange.{output_range_of};
 ghost use Rattle.zs_bounds.specs.Leaf.{bare_leaf};
@@ -67,7 +68,9 @@ pub(crate) fn leaf_range(leaf: Leaf, steps: Span, time: Span) -> Answer
 }
 
 // What `recurs` decides after so many earlier steps.
-fn recurring(k: u64, earlier: Span) -> Decisions {
+fn recurring(k: u64, earlier: Span) -> Decisions
+    ensures value { result ≡ decisions (nat_le k earlier.high) (if nat_lt earlier.low k then at_once else None) }
+{
     Decisions {
         stops: k <= earlier.high,
         waits: if earlier.low < k { at_once() } else { None },
@@ -89,18 +92,18 @@ fn period_waits(period: u64, some: u64, steps: Span) -> Option<Span>
     Some(Span::new(low, period))
 }
 
-// A number times a power of a factor.
+// A number times a power of a factor: it stays as it is from where it is 0 or cut on.
 fn power(base: u64, factor: u64, exponent: u64) -> u64
     ensures value { result ≡ saturated (base * factor ^ exponent) }
 {
-    if exponent == 0 {
+    if factor == 1 {
         return base;
     }
-    if factor <= 1 {
-        return base * factor;
-    }
     let mut product = base;
-    for _ in 0..exponent.min(64) {
+    for _ in 0..exponent {
+        if product == 0 || (product == u64::MAX && factor > 0) {
+            return product;
+        }
         product = product.saturating_mul(factor);
     }
     product

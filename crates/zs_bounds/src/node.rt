@@ -1,11 +1,13 @@
 // The states in which a schedule may be: intervals in place of a state's numbers.
 
-ghost use Rattle.std.specs.Prelude.{◌≡◌, IfOk, OnOk};
-ghost use Rattle.zs_term.specs.Schedule.{schedule_of};
+ghost use Rattle.std.specs.Prelude.{◌≡◌, true, IfOk, OnOk};
+ghost use Rattle.zs_term.specs.Schedule.{schedule_of, leaf};
+ghost use Rattle.zs_step.specs.Memory.{is_leaf};
 ghost use Rattle.zs_bounds.specs.OutRange.{output_range_of};
 ghost use Rattle.zs_bounds.specs.Span.{span};
-ghost use Rattle.zs_bounds.specs.AnswerRange.{range};
+ghost use Rattle.zs_bounds.specs.AnswerRange.{range, any_input};
 ghost use Rattle.zs_bounds.specs.StateRange.{first_range, first_turn, first_state, with_first, more_items, begun};
+ghost use Rattle.zs_bounds.specs.Leaf.{bare_leaf};
 ghost use Rattle.zs_bounds.specs.Node.{node_schedule, node_state};
 
 use crate::answers::{Answer, answer_hull, left_range, no_answer, paired, right_range, tested};
@@ -66,7 +68,9 @@ pub(crate) enum Node {
 }
 
 // All inputs.
-pub(crate) fn any_input() -> Option<Span> {
+pub(crate) fn any_input() -> Option<Span>
+    ensures value { result ≡ any_input }
+{
     Some(Span::new(0, u64::MAX))
 }
 
@@ -115,16 +119,7 @@ pub(crate) fn node_of(alloc: Global, term: &Term) -> Result<Node, AllocError>
             pick: *pick,
             test: *test,
         }),
-        Term::Forever
-        | Term::Recurs(_)
-        | Term::Spaced(_)
-        | Term::Fixed(_)
-        | Term::Exponential(_, _)
-        | Term::Fibonacci(_)
-        | Term::Identity
-        | Term::Elapsed
-        | Term::Linear(_)
-        | Term::Windowed(_) => Ok(Node::Leaf {
+        _ => Ok(Node::Leaf {
             leaf: leaf_of(term),
             steps: Span::one(1),
             time: Span::one(0),
@@ -308,7 +303,10 @@ pub(crate) fn add_first(
 }
 
 // The leaf of a term without parts.
-fn leaf_of(term: &Term) -> Leaf {
+fn leaf_of(term: &Term) -> Leaf
+    requires leaf { is_leaf (schedule_of term.now) ≡ true }
+    ensures value { leaf (bare_leaf result) ≡ schedule_of term.now }
+{
     match term {
         Term::Forever => Leaf::Forever,
         Term::Recurs(k) => Leaf::Recurs(*k),
