@@ -17,7 +17,7 @@ use Rattle.zs_bounds.specs.DecisionRange.{IsDecisionIn, may_go_on}
 use Rattle.zs_bounds.specs.StateRange.{StateRange, steps_in, time_in, first_in, second_in, is_first_on, is_second_on, items_in, part_in, more_items, begun, more_steps, more_time}
 use Rattle.zs_bounds.proofs.Spans.{in-hull_left, in-hull_right}
 use Rattle.zs_bounds.proofs.Deciding.{next-may, stop-may}
-use Rattle.zs_bounds.proofs.Leaves.{Counts}
+use Rattle.zs_bounds.proofs.LeafRanges.{Counts}
 
 -- The first part is on and covers the history; or the second is, and covers it from the first's end on.
 abbrev pub TurnCovers : Bool → Bool → Option History → Type 0 → (History → Type 0) → Type 0

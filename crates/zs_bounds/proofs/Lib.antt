@@ -1,7 +1,7 @@
 pub mod Spans
 pub mod Deciding
 pub mod Outputs
-pub mod Leaves
+pub mod LeafRanges
 pub mod Answering
 pub mod Covers
 pub mod Steps

@@ -4,7 +4,7 @@ use Rattle.std.proofs.Math.Nat.{pow-zero, pow-suc, mul_assoc}
 use Rattle.std.proofs.lemmas.Nat.{pow-add}
 use Rattle.zs_term.specs.Saturating.{saturated}
 use Rattle.zs_step.specs.Answer.{fibonacci_number}
-use Rattle.zs_bounds.proofs.Leaves.{power-rises, fibonacci-rises}
+use Rattle.zs_bounds.proofs.LeafRanges.{power-rises, fibonacci-rises}
 
 -- ---- powers
 

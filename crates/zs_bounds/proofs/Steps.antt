@@ -16,7 +16,7 @@ use Rattle.zs_bounds.specs.StateRange.{StateRange, steps_in, time_in, first_in, 
 use Rattle.zs_bounds.proofs.Spans.{or-left, or-right, and-both, and-left, and-right, in-itself, in-hull_left, in-hull_right, test-may_pass, test-may_fail}
 use Rattle.zs_bounds.proofs.Deciding.{next-may, stop-may}
 use Rattle.zs_bounds.proofs.Outputs.{picked-in, applied-in}
-use Rattle.zs_bounds.proofs.Leaves.{Counts, leaf-in}
+use Rattle.zs_bounds.proofs.LeafRanges.{Counts, leaf-in}
 use Rattle.zs_bounds.proofs.Answering.{answer-left, answer-right, answers_if-in, pair_both-in, pair_either-in, left_range-in, right_range-in, test_range-in, input-in, reset-first, reset-goes_on}
 use Rattle.zs_bounds.proofs.Covers.{TurnCovers, Covers, Comes, counts-first, counts-keeps, counts-begins, counts-next, more_items-in, count-collected, from_done-moment, from_done-length, since_reset-moment, since_reset-length, since_reset-first, comes-part, begun-keeps, begun-begins, chosen}
 
