@@ -18,16 +18,16 @@ bounds_from-more : (s : Schedule) (n k : ℕ) (c : StateRange) (d : Decisions) (
 bounds_from-more s n k c d passed b is = ap (λ m. bounds_from s m c d passed b) is
 
 -- no step is left
-pub loop-end : (s : Schedule) (steps k : ℕ) (c : StateRange) (d : Decisions) (passed : ℕ) (b : Bounds) → steps ≤ k →
+pub loop_end : (s : Schedule) (steps k : ℕ) (c : StateRange) (d : Decisions) (passed : ℕ) (b : Bounds) → steps ≤ k →
     unended b ≡ bounds_from s (steps - k) c d passed b
-loop-end s steps k c d passed b le =
+loop_end s steps k c d passed b le =
     let none : 0 ≡ steps - k = omega arith in
     ap (λ m. bounds_from s m c d passed b) none
 
 -- a step that can't go on
-pub loop-ends : (s : Schedule) (steps k : ℕ) (c : StateRange) (d : Decisions) (passed : ℕ) (b : Bounds) → k < steps → d.waits ≡ None →
+pub loop_ends : (s : Schedule) (steps k : ℕ) (c : StateRange) (d : Decisions) (passed : ℕ) (b : Bounds) → k < steps → d.waits ≡ None →
     ended (with_step d b) ≡ bounds_from s (steps - k) c d passed b
-loop-ends s steps k c d passed b lt none =
+loop_ends s steps k c d passed b lt none =
     let more : steps - k ≡ suc (steps - k - 1) = omega arith in
     sym (bounds_from-more s (steps - k) (steps - k - 1) c d passed b more
         ∙ ap (λ w. after_waits w passed (with_step d b) (rest_of s (steps - k - 1) c (with_step d b))) none)
@@ -39,9 +39,9 @@ past-false : (x y : ℕ) → y ≤ x → nat_lt x y ≡ false
 past-false x y le = grind arith
 
 -- a step after which the clock is over
-pub loop-past : (s : Schedule) (steps k : ℕ) (c : StateRange) (d : Decisions) (passed : ℕ) (b : Bounds) (w : Span) → k < steps → d.waits ≡ Some w →
+pub loop_past : (s : Schedule) (steps k : ℕ) (c : StateRange) (d : Decisions) (passed : ℕ) (b : Bounds) (w : Span) → k < steps → d.waits ≡ Some w →
     max_tick < passed + (w.low + 1) → with_step d b ≡ bounds_from s (steps - k) c d passed b
-loop-past s steps k c d passed b w lt some past =
+loop_past s steps k c d passed b w lt some past =
     let more : steps - k ≡ suc (steps - k - 1) = omega arith in
     sym (bounds_from-more s (steps - k) (steps - k - 1) c d passed b more
         ∙ ap (λ x. after_waits x passed (with_step d b) (rest_of s (steps - k - 1) c (with_step d b))) some
@@ -49,11 +49,11 @@ loop-past s steps k c d passed b w lt some past =
             (past-true max_tick (passed + (w.low + 1)) past))
 
 -- a step that may go on
-pub loop-goes_on : (s : Schedule) (steps k : ℕ) (c : StateRange) (d : Decisions) (passed : ℕ) (b : Bounds) (w : Span) → k < steps → d.waits ≡ Some w →
+pub loop_goes_on : (s : Schedule) (steps k : ℕ) (c : StateRange) (d : Decisions) (passed : ℕ) (b : Bounds) (w : Span) → k < steps → d.waits ≡ Some w →
     passed + (w.low + 1) ≤ max_tick →
     bounds_from s (steps - (k + 1)) (next_state s c (w.low + 1)) (next_range s c (w.low + 1)).decision (passed + (w.low + 1)) (with_step d b)
     ≡ bounds_from s (steps - k) c d passed b
-loop-goes_on s steps k c d passed b w lt some within =
+loop_goes_on s steps k c d passed b w lt some within =
     let more : steps - k ≡ suc (steps - (k + 1)) = omega arith in
     sym (bounds_from-more s (steps - k) (steps - (k + 1)) c d passed b more
         ∙ ap (λ x. after_waits x passed (with_step d b) (rest_of s (steps - (k + 1)) c (with_step d b))) some

@@ -9,8 +9,8 @@ use Rattle.zs_bounds.proofs.LeafRanges.{power-rises, fibonacci-rises}
 -- ---- powers
 
 -- no factor
-pub power-none : (b f : ℕ) → b ≤ 18446744073709551615 → b ≡ saturated (b * f ^ 0)
-power-none b f fits =
+pub power_none : (b f : ℕ) → b ≤ 18446744073709551615 → b ≡ saturated (b * f ^ 0)
+power_none b f fits =
     let e = pow-zero f in
     let m : b * f ^ 0 ≡ b * 1 = ap (λ x. b * x) e in
     omega (arith, m)
@@ -23,8 +23,8 @@ one-pow (suc n) =
     let before = one-pow n in
     omega (arith, e, before)
 
-pub power-ones : (b f n : ℕ) → b ≤ 18446744073709551615 → f ≡ 1 → b ≡ saturated (b * f ^ n)
-power-ones b f n fits is =
+pub power_ones : (b f n : ℕ) → b ≤ 18446744073709551615 → f ≡ 1 → b ≡ saturated (b * f ^ n)
+power_ones b f n fits is =
     let e : f ^ n ≡ 1 = ap (λ x. x ^ n) is ∙ one-pow n in
     let m : b * f ^ n ≡ b * 1 = ap (λ x. b * x) e in
     omega (arith, m)
@@ -51,8 +51,8 @@ saturated-product x (suc f) =
     ]
 
 -- one more factor
-pub power-turn : (b f n d r : ℕ) → d ≡ saturated (b * f ^ n) → r ≡ min (d * f) 18446744073709551615 → r ≡ saturated (b * f ^ (n + 1))
-power-turn b f n d r before is =
+pub power_turn : (b f n d r : ℕ) → d ≡ saturated (b * f ^ n) → r ≡ min (d * f) 18446744073709551615 → r ≡ saturated (b * f ^ (n + 1))
+power_turn b f n d r before is =
     let more : n + 1 ≡ suc n = omega arith in
     is ∙ ap (λ y. saturated (y * f)) before ∙ saturated-product (b * f ^ n) f
     ∙ ap saturated (mul_assoc b (f ^ n) f ∙ ap (λ y. b * y) (sym (pow-suc f n)))
@@ -62,8 +62,8 @@ power-turn b f n d r before is =
 zero-cut : (x : ℕ) → 0 ≡ saturated x → x ≡ 0
 zero-cut x e = omega arith
 
-pub power-zero : (b f k n d : ℕ) → k ≤ n → d ≡ saturated (b * f ^ k) → d ≡ 0 → d ≡ saturated (b * f ^ n)
-power-zero b f k n d le is none =
+pub power_zero : (b f k n d : ℕ) → k ≤ n → d ≡ saturated (b * f ^ k) → d ≡ 0 → d ≡ saturated (b * f ^ n)
+power_zero b f k n d le is none =
     let x : b * f ^ k ≡ 0 = zero-cut (b * f ^ k) (sym none ∙ is) in
     let e : k + (n - k) ≡ n = omega arith in
     let all : b * f ^ n ≡ 0 =
@@ -72,15 +72,15 @@ power-zero b f k n d le is none =
     omega (arith, none, all)
 
 -- what is cut stays
-pub power-cut : (b f k n d : ℕ) → k ≤ n → 0 < f → d ≡ saturated (b * f ^ k) → d ≡ 18446744073709551615 → d ≡ saturated (b * f ^ n)
-power-cut b f k n d le some is cut =
+pub power_cut : (b f k n d : ℕ) → k ≤ n → 0 < f → d ≡ saturated (b * f ^ k) → d ≡ 18446744073709551615 → d ≡ saturated (b * f ^ n)
+power_cut b f k n d le some is cut =
     let rises = power-rises b f some k n le in
     omega (arith, rises, is, cut)
 
 -- ---- numbers of Fibonacci
 
-pub fibonacci-none : (o n : ℕ) → o ≡ 0 → 0 ≡ saturated (o * fibonacci_number n)
-fibonacci-none o n is =
+pub fibonacci_none : (o n : ℕ) → o ≡ 0 → 0 ≡ saturated (o * fibonacci_number n)
+fibonacci_none o n is =
     let e : o * fibonacci_number n ≡ 0 = ap (λ x. x * fibonacci_number n) is ∙ omega arith in
     omega (arith, e)
 
@@ -88,20 +88,20 @@ saturated-sum : (x y : ℕ) → saturated (saturated x + saturated y) ≡ satura
 saturated-sum x y = omega arith
 
 -- one more number of Fibonacci
-pub fibonacci-turn : (o n x y r : ℕ) → x ≡ saturated (o * fibonacci_number n) → y ≡ saturated (o * fibonacci_number (suc n)) →
+pub fibonacci_turn : (o n x y r : ℕ) → x ≡ saturated (o * fibonacci_number n) → y ≡ saturated (o * fibonacci_number (suc n)) →
     r ≡ min (x + y) 18446744073709551615 → r ≡ saturated (o * fibonacci_number (suc (n + 1)))
-fibonacci-turn o n x y r first second is =
+fibonacci_turn o n x y r first second is =
     let more : suc (suc n) ≡ suc (n + 1) = omega arith in
     let e : o * fibonacci_number n + o * fibonacci_number (suc n) ≡ o * (fibonacci_number n + fibonacci_number (suc n)) = omega arith in
     let s = saturated-sum (o * fibonacci_number n) (o * fibonacci_number (suc n)) in
     let t : r ≡ saturated (saturated (o * fibonacci_number n) + saturated (o * fibonacci_number (suc n))) = cc in
     t ∙ s ∙ ap saturated e ∙ ap (λ k. saturated (o * fibonacci_number k)) more
 
-pub fibonacci-next : (o n y : ℕ) → y ≡ saturated (o * fibonacci_number (suc n)) → y ≡ saturated (o * fibonacci_number (n + 1))
-fibonacci-next o n y is = let e : suc n ≡ n + 1 = omega arith in is ∙ ap (λ k. saturated (o * fibonacci_number k)) e
+pub fibonacci_next : (o n y : ℕ) → y ≡ saturated (o * fibonacci_number (suc n)) → y ≡ saturated (o * fibonacci_number (n + 1))
+fibonacci_next o n y is = let e : suc n ≡ n + 1 = omega arith in is ∙ ap (λ k. saturated (o * fibonacci_number k)) e
 
 -- what is cut stays
-pub fibonacci-cut : (o k n d : ℕ) → k ≤ n → d ≡ saturated (o * fibonacci_number k) → d ≡ 18446744073709551615 → d ≡ saturated (o * fibonacci_number n)
-fibonacci-cut o k n d le is cut =
+pub fibonacci_cut : (o k n d : ℕ) → k ≤ n → d ≡ saturated (o * fibonacci_number k) → d ≡ 18446744073709551615 → d ≡ saturated (o * fibonacci_number n)
+fibonacci_cut o k n d le is cut =
     let rises = fibonacci-rises o k n le in
     omega (arith, rises, is, cut)

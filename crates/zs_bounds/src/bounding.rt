@@ -31,6 +31,7 @@ pub fn bounds(alloc: Global, checked: &Checked, steps: u64) -> Result<Bounds, Al
 }
 
 // The bounds of so many steps at most, with the state after the first one and what it may decide.
+#[tactic(auto, using(crate::proofs::Loops::loop_end, crate::proofs::Loops::loop_ends, crate::proofs::Loops::loop_past, crate::proofs::Loops::loop_goes_on))]
 fn bounds_from(
     alloc: Global,
     node: &mut Node,

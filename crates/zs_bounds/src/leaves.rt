@@ -93,6 +93,7 @@ fn period_waits(period: u64, some: u64, steps: Span) -> Option<Span>
 }
 
 // A number times a power of a factor: it stays as it is from where it is 0 or cut on.
+#[tactic(auto, using(crate::proofs::Powers::power_none, crate::proofs::Powers::power_ones, crate::proofs::Powers::power_turn, crate::proofs::Powers::power_zero, crate::proofs::Powers::power_cut))]
 fn power(base: u64, factor: u64, exponent: u64) -> u64
     ensures value { result ≡ saturated (base * factor ^ exponent) }
 {
@@ -110,6 +111,7 @@ fn power(base: u64, factor: u64, exponent: u64) -> u64
 }
 
 // A number times a number of Fibonacci.
+#[tactic(auto, using(crate::proofs::Powers::fibonacci_none, crate::proofs::Powers::fibonacci_turn, crate::proofs::Powers::fibonacci_next, crate::proofs::Powers::fibonacci_cut))]
 fn fibonacci(one: u64, index: u64) -> u64
     ensures value { result ≡ saturated (one * fibonacci_number index) }
 {
