@@ -1,0 +1,110 @@
+// The output of a node's last step, which the words of its state tell.
+
+use crate::program::node::{Node, Sizes, behind, front, read_node, word};
+use zs_term::{Func, Pick};
+
+// A node's code and the words of its state.
+#[derive(Clone, Copy)]
+pub(crate) struct Place<'a> {
+    pub(crate) code: &'a [u64],
+    pub(crate) words: &'a [u64],
+    pub(crate) levels: u64,
+}
+
+// An output: a number, or what it is made of.
+#[derive(Clone, Copy)]
+pub(crate) enum View<'a> {
+    Number(u64),
+    Pair(Place<'a>, Place<'a>),
+    Left(Place<'a>),
+    Right(Place<'a>),
+}
+
+// The output of a node's last step.
+pub(crate) fn view(place: Place<'_>) -> View<'_> {
+    if place.levels == 0 {
+        return View::Number(0);
+    }
+    match read_node(place.code) {
+        Node::Both(sizes) | Node::Either(sizes) => {
+            let (a, b) = parts(place, sizes, 0);
+            View::Pair(a, b)
+        }
+        Node::AndThen(sizes) => {
+            let (a, b) = parts(place, sizes, 1);
+            if word(place.words, 0) == 0 { View::Left(a) } else { View::Right(b) }
+        }
+        Node::WhileInput(_) => view(part(place, 3)),
+        Node::WhileOutput(_, _) | Node::ResetWhen(_, _) => view(part(place, 4)),
+        Node::Map(func) => view_of(func, part(place, 3)),
+        _ => View::Number(word(place.words, 0)),
+    }
+}
+
+// The part of an operator.
+#[inline(always)]
+pub(crate) fn part(place: Place<'_>, at: usize) -> Place<'_> {
+    Place {
+        code: behind(place.code, at),
+        words: place.words,
+        levels: place.levels.saturating_sub(1),
+    }
+}
+
+// Both parts of an operator, whose words begin at a place.
+#[inline(always)]
+pub(crate) fn parts(place: Place<'_>, sizes: Sizes, at: usize) -> (Place<'_>, Place<'_>) {
+    let (rest, words) = (behind(place.code, 3), behind(place.words, at));
+    let (size, state) = (sizes.code as usize, sizes.state as usize);
+    let levels = place.levels.saturating_sub(1);
+    let first = Place { code: front(rest, size), words: front(words, state), levels };
+    let second = Place { code: behind(rest, size), words: behind(words, state), levels };
+    (first, second)
+}
+
+// A function of a part's output.
+pub(crate) fn view_of(func: Func, part: Place<'_>) -> View<'_> {
+    match func {
+        Func::First => match view(part) {
+            View::Pair(a, _) => view(a),
+            other => other,
+        },
+        Func::Second => match view(part) {
+            View::Pair(_, b) => view(b),
+            other => other,
+        },
+        Func::Merge => match view(part) {
+            View::Left(a) | View::Right(a) => view(a),
+            other => other,
+        },
+        Func::Size => View::Number(0),
+        Func::Const(n) => View::Number(n),
+        Func::Add(n) => View::Number(number_in(view(part)).saturating_add(n)),
+        Func::Mul(n) => View::Number(number_in(view(part)).saturating_mul(n)),
+    }
+}
+
+// The number, or 0 of another output.
+fn number_in(view: View<'_>) -> u64 {
+    match view {
+        View::Number(n) => n,
+        View::Pair(_, _) | View::Left(_) | View::Right(_) => 0,
+    }
+}
+
+// The number that a test reads.
+pub(crate) fn read_pick(pick: Pick, code: &[u64], words: &[u64], levels: u64) -> u64 {
+    let whole = view(Place { code, words, levels });
+    match pick {
+        Pick::Whole => number_in(whole),
+        Pick::First => match whole {
+            View::Pair(a, _) => number_in(view(a)),
+            other => number_in(other),
+        },
+        Pick::Second => match whole {
+            View::Pair(_, b) => number_in(view(b)),
+            other => number_in(other),
+        },
+        Pick::Size => 0,
+    }
+}
