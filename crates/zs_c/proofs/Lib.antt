@@ -1,2 +1,3 @@
 pub mod SeenPairs
 pub mod Rooms
+pub mod Nodes

@@ -1,10 +1,34 @@
-// Writes the code of a term.
+// Writes a term as a program.
 
-use std::alloc::AllocError;
-use zs_term::{Cmp, Func, Pick, Term, Test};
+ghost use Rattle.std.specs.Prelude.{◌≡◌, ◌+◌, ◌*◌, ◌≤◌, [], ◌++◌, length, IfOk, OnOk};
+ghost use Rattle.zs_term.specs.Schedule.{schedule_of, weight};
+ghost use Rattle.zs_c.specs.Code.{code_of, held_of, held_size, cmp_word, pick_word, func_word, func_number};
+ghost use Rattle.zs_c.specs.Program.{program_of};
+
+use crate::program::opening::{PROGRAM_VERSION, check_word};
+use std::alloc::{AllocError, Global};
+use zs_term::{Checked, Cmp, Func, Pick, Term};
+
+// The program of a schedule.
+pub(crate) fn new_program(alloc: Global, checked: &Checked) -> Result<Vec<u64>, AllocError>
+    ensures ok { IfOk result (λ v. v.items ≡ program_of (schedule_of checked.now)) }
+{
+    let term = checked.term();
+    let mut body = Vec::new(alloc);
+    body.extend_from_slice(&[code_size(term), state_size(term)])?;
+    write_code(term, &mut body)?;
+    let mut program = Vec::new(alloc);
+    program.extend_from_slice(&[PROGRAM_VERSION, check_word(&body)])?;
+    program.extend_from_slice(&body)?;
+    Ok(program)
+}
 
 // The number of words that the state of a term has.
-pub(crate) fn state_size(term: &Term) -> u64 {
+pub(crate) fn state_size(term: &Term) -> u64
+    requires small { weight (schedule_of term.now) ≤ 1000 }
+    ensures value { result ≡ held_size (schedule_of term.now) }
+    ensures bound { result ≤ 4 * weight (schedule_of term.now) }
+{
     match term {
         Term::Identity => 1,
         Term::Forever
@@ -14,8 +38,8 @@ pub(crate) fn state_size(term: &Term) -> u64 {
         | Term::Exponential(_, _) => 2,
         Term::Elapsed | Term::Windowed(_) | Term::Fibonacci(_) => 3,
         Term::Fixed(_) => 4,
-        Term::Both(a, b) | Term::Either(a, b) => state_size(a).saturating_add(state_size(b)),
-        Term::AndThen(a, b) => state_size(a).saturating_add(state_size(b)).saturating_add(1),
+        Term::Both(a, b) | Term::Either(a, b) => state_size(a) + state_size(b),
+        Term::AndThen(a, b) => 1 + state_size(a) + state_size(b),
         Term::WhileInput(s, _) => state_size(s),
         Term::WhileOutput(s, _, _) => state_size(s),
         Term::CollectAll(s) => state_size(s),
@@ -25,7 +49,11 @@ pub(crate) fn state_size(term: &Term) -> u64 {
 }
 
 // The number of words of a term's code.
-pub(crate) fn code_size(term: &Term) -> u64 {
+fn code_size(term: &Term) -> u64
+    requires small { weight (schedule_of term.now) ≤ 1000 }
+    ensures value { result ≡ length (code_of (schedule_of term.now)) }
+    ensures bound { result ≤ 4 * weight (schedule_of term.now) }
+{
     match term {
         Term::Identity | Term::Forever | Term::Elapsed => 1,
         Term::Recurs(_)
@@ -36,18 +64,22 @@ pub(crate) fn code_size(term: &Term) -> u64 {
         | Term::Fixed(_) => 2,
         Term::Exponential(_, _) => 3,
         Term::Both(a, b) | Term::Either(a, b) | Term::AndThen(a, b) => {
-            code_size(a).saturating_add(code_size(b)).saturating_add(3)
+            3 + code_size(a) + code_size(b)
         }
-        Term::WhileInput(s, _) => code_size(s).saturating_add(3),
-        Term::WhileOutput(s, _, _) => code_size(s).saturating_add(4),
-        Term::CollectAll(s) => code_size(s).saturating_add(1),
-        Term::Map(s, _) => code_size(s).saturating_add(3),
-        Term::ResetWhen(s, _, _) => code_size(s).saturating_add(4),
+        Term::WhileInput(s, _) => 3 + code_size(s),
+        Term::WhileOutput(s, _, _) => 4 + code_size(s),
+        Term::CollectAll(s) => 1 + code_size(s),
+        Term::Map(s, _) => 3 + code_size(s),
+        Term::ResetWhen(s, _, _) => 4 + code_size(s),
     }
 }
 
 // Writes the code of a term behind some words.
-pub(crate) fn write_code(term: &Term, code: &mut Vec<u64>) -> Result<(), AllocError> {
+#[cycle(coding)]
+fn write_code(term: &Term, code: &mut Vec<u64>) -> Result<(), AllocError>
+    requires small { weight (schedule_of term.now) ≤ 1000 }
+    ensures ok { OnOk result (code.new.items ≡ code.old.items ++ code_of (schedule_of term.now)) }
+{
     match term {
         Term::Forever => Ok(code.push(1)?),
         Term::Identity => Ok(code.push(2)?),
@@ -63,20 +95,19 @@ pub(crate) fn write_code(term: &Term, code: &mut Vec<u64>) -> Result<(), AllocEr
         Term::Either(a, b) => write_parts(12, a, b, code),
         Term::AndThen(a, b) => write_parts(13, a, b, code),
         Term::WhileInput(s, test) => {
-            code.extend_from_slice(&[14, cmp_word(*test), test.than])?;
+            code.extend_from_slice(&[14, cmp_word(test.cmp), test.than])?;
             write_code(s, code)
         }
         Term::WhileOutput(s, pick, test) => {
-            code.extend_from_slice(&[15, pick_word(*pick), cmp_word(*test), test.than])?;
+            code.extend_from_slice(&[15, pick_word(*pick), cmp_word(test.cmp), test.than])?;
             write_code(s, code)
         }
         Term::Map(s, func) => {
-            let (func, n) = func_words(*func);
-            code.extend_from_slice(&[16, func, n])?;
+            code.extend_from_slice(&[16, func_word(*func), func_number(*func)])?;
             write_code(s, code)
         }
         Term::ResetWhen(s, pick, test) => {
-            code.extend_from_slice(&[17, pick_word(*pick), cmp_word(*test), test.than])?;
+            code.extend_from_slice(&[17, pick_word(*pick), cmp_word(test.cmp), test.than])?;
             write_code(s, code)
         }
         Term::CollectAll(s) => {
@@ -86,7 +117,8 @@ pub(crate) fn write_code(term: &Term, code: &mut Vec<u64>) -> Result<(), AllocEr
     }
 }
 
-// Writes an operator between two terms, their sizes and their code.
+// Writes the tag of an operator between two terms, the sizes of the first, and both.
+#[cycle(coding)]
 fn write_parts(tag: u64, a: &Term, b: &Term, code: &mut Vec<u64>) -> Result<(), AllocError> {
     code.extend_from_slice(&[tag, code_size(a), state_size(a)])?;
     write_code(a, code)?;
@@ -94,8 +126,10 @@ fn write_parts(tag: u64, a: &Term, b: &Term, code: &mut Vec<u64>) -> Result<(), 
 }
 
 // The word of a comparison.
-fn cmp_word(test: Test) -> u64 {
-    match test.cmp {
+fn cmp_word(cmp: Cmp) -> u64
+    ensures value { result ≡ cmp_word cmp }
+{
+    match cmp {
         Cmp::Lt => 0,
         Cmp::Le => 1,
         Cmp::Eq => 2,
@@ -106,7 +140,9 @@ fn cmp_word(test: Test) -> u64 {
 }
 
 // The word of what a test reads.
-fn pick_word(pick: Pick) -> u64 {
+fn pick_word(pick: Pick) -> u64
+    ensures value { result ≡ pick_word pick }
+{
     match pick {
         Pick::Whole => 0,
         Pick::First => 1,
@@ -115,15 +151,27 @@ fn pick_word(pick: Pick) -> u64 {
     }
 }
 
-// The words of a function.
-fn func_words(func: Func) -> (u64, u64) {
+// The word of a function.
+fn func_word(func: Func) -> u64
+    ensures value { result ≡ func_word func }
+{
     match func {
-        Func::First => (0, 0),
-        Func::Second => (1, 0),
-        Func::Size => (2, 0),
-        Func::Merge => (3, 0),
-        Func::Const(n) => (4, n),
-        Func::Add(n) => (5, n),
-        Func::Mul(n) => (6, n),
+        Func::First => 0,
+        Func::Second => 1,
+        Func::Size => 2,
+        Func::Merge => 3,
+        Func::Const(_) => 4,
+        Func::Add(_) => 5,
+        Func::Mul(_) => 6,
+    }
+}
+
+// The number of a function, or 0.
+fn func_number(func: Func) -> u64
+    ensures value { result ≡ func_number func }
+{
+    match func {
+        Func::First | Func::Second | Func::Size | Func::Merge => 0,
+        Func::Const(n) | Func::Add(n) | Func::Mul(n) => n,
     }
 }

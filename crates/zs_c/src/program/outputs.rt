@@ -1,5 +1,9 @@
 // The output of a node's last step, which the words of its state tell.
 
+ghost use Rattle.std.specs.Prelude.{◌≡◌};
+ghost use Rattle.zs_term.specs.Output.{Output, number_in, picked};
+ghost use Rattle.zs_c.specs.View.{Tells, Shows, PlaceTells};
+
 use crate::program::node::{Node, Sizes, behind, front, read_node, word};
 use zs_term::{Func, Pick};
 
@@ -21,11 +25,15 @@ pub(crate) enum View<'a> {
 }
 
 // The output of a node's last step.
-pub(crate) fn view(place: Place<'_>) -> View<'_> {
+#[cycle(viewing)]
+pub(crate) fn view(place: Place<'_>) -> View<'_>
+    ensures shows { (o : Output) → PlaceTells place o → Shows result o }
+{
     if place.levels == 0 {
         return View::Number(0);
     }
     match read_node(place.code) {
+        Node::Leaf(_) => View::Number(word(place.words, 0)),
         Node::Both(sizes) | Node::Either(sizes) => {
             let (a, b) = parts(place, sizes, 0);
             View::Pair(a, b)
@@ -37,33 +45,12 @@ pub(crate) fn view(place: Place<'_>) -> View<'_> {
         Node::WhileInput(_) => view(part(place, 3)),
         Node::WhileOutput(_, _) | Node::ResetWhen(_, _) => view(part(place, 4)),
         Node::Map(func) => view_of(func, part(place, 3)),
-        _ => View::Number(word(place.words, 0)),
     }
-}
-
-// The part of an operator.
-#[inline(always)]
-pub(crate) fn part(place: Place<'_>, at: usize) -> Place<'_> {
-    Place {
-        code: behind(place.code, at),
-        words: place.words,
-        levels: place.levels.saturating_sub(1),
-    }
-}
-
-// Both parts of an operator, whose words begin at a place.
-#[inline(always)]
-pub(crate) fn parts(place: Place<'_>, sizes: Sizes, at: usize) -> (Place<'_>, Place<'_>) {
-    let (rest, words) = (behind(place.code, 3), behind(place.words, at));
-    let (size, state) = (sizes.code as usize, sizes.state as usize);
-    let levels = place.levels.saturating_sub(1);
-    let first = Place { code: front(rest, size), words: front(words, state), levels };
-    let second = Place { code: behind(rest, size), words: behind(words, state), levels };
-    (first, second)
 }
 
 // A function of a part's output.
-pub(crate) fn view_of(func: Func, part: Place<'_>) -> View<'_> {
+#[cycle(viewing)]
+fn view_of(func: Func, part: Place<'_>) -> View<'_> {
     match func {
         Func::First => match view(part) {
             View::Pair(a, _) => view(a),
@@ -84,8 +71,39 @@ pub(crate) fn view_of(func: Func, part: Place<'_>) -> View<'_> {
     }
 }
 
+// The part of an operator, whose code begins at a place.
+#[inline(always)]
+pub(crate) fn part(place: Place<'_>, at: usize) -> Place<'_> {
+    Place {
+        code: behind(place.code, at),
+        words: place.words,
+        levels: place.levels.saturating_sub(1),
+    }
+}
+
+// Both parts of an operator, whose words begin at a place.
+#[inline(always)]
+pub(crate) fn parts(place: Place<'_>, sizes: Sizes, at: usize) -> (Place<'_>, Place<'_>) {
+    let (rest, words) = (behind(place.code, 3), behind(place.words, at));
+    let (size, state) = (sizes.code as usize, sizes.state as usize);
+    let levels = place.levels.saturating_sub(1);
+    let first = Place {
+        code: front(rest, size),
+        words: front(words, state),
+        levels,
+    };
+    let second = Place {
+        code: behind(rest, size),
+        words: behind(words, state),
+        levels,
+    };
+    (first, second)
+}
+
 // The number, or 0 of another output.
-fn number_in(view: View<'_>) -> u64 {
+fn number_in(view: View<'_>) -> u64
+    ensures value { (o : Output) → Shows view o → result ≡ number_in o }
+{
     match view {
         View::Number(n) => n,
         View::Pair(_, _) | View::Left(_) | View::Right(_) => 0,
@@ -93,8 +111,10 @@ fn number_in(view: View<'_>) -> u64 {
 }
 
 // The number that a test reads.
-pub(crate) fn read_pick(pick: Pick, code: &[u64], words: &[u64], levels: u64) -> u64 {
-    let whole = view(Place { code, words, levels });
+pub(crate) fn read_number(pick: Pick, place: Place<'_>) -> u64
+    ensures value { (o : Output) → PlaceTells place o → result ≡ picked pick o }
+{
+    let whole = view(place);
     match pick {
         Pick::Whole => number_in(whole),
         Pick::First => match whole {

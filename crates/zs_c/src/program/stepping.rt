@@ -1,138 +1,107 @@
 // One step of a code, over the words of its state.
 
+ghost use Rattle.std.specs.Prelude.{◌≡◌, ℕ, ◌+◌, ◌≤◌};
+ghost use Rattle.zs_term.specs.Schedule.{Schedule, weight};
+ghost use Rattle.zs_step.specs.History.{History};
+ghost use Rattle.zs_step.specs.Answer.{later_of, earlier_of};
+ghost use Rattle.zs_c.specs.Code.{IsCode, held_of};
+ghost use Rattle.zs_c.specs.Steps.{StepsCode};
+
 use crate::program::clearing::clear;
-use crate::program::leaf::{count, set_word, step_elapsed, step_fibonacci, step_fixed, step_windowed, wait};
-use crate::program::node::{Node, Sizes, behind, front, read_node, word};
-use crate::program::outputs::read_pick;
+use crate::program::leaf::{Step, step_leaf};
+use crate::program::node::{Node, Sizes, behind, front, read_node};
+use crate::program::outputs::{Place, read_number};
 use zs_step::Decision;
 use zs_term::{Pick, Test};
 
-/// The greatest depth of a schedule.
-pub(crate) const MAX_DEPTH: u64 = 64;
-
-/// The greatest weight of a schedule.
-pub(crate) const MAX_WEIGHT: u64 = 1000;
-
-// What each node is told of a step.
-#[derive(Drop)]
-pub(crate) struct Step {
-    pub(crate) moment: u64,
-    pub(crate) input: u64,
-}
+/// The greatest weight of a schedule, and so the most visits of a step.
+pub(crate) const MAX_VISITS: u64 = 1000;
 
 // One step of a node, in its words.
+#[cycle(stepping)]
 pub(crate) fn step_code(
     code: &[u64],
     words: &mut [u64],
-    step: &Step,
     levels: u64,
+    step: &Step,
     visits: &mut u64,
-) -> Decision {
-    if levels == 0 || *visits >= MAX_WEIGHT {
+) -> Decision
+    ensures steps { (t : Schedule) (h : History) → IsCode t code.now levels → visits.old + weight t ≤ MAX_VISITS → words.old ≡ held_of t h → StepsCode t h words.new step.now.moment step.now.input result visits.old visits.new }
+{
+    if levels == 0 || *visits >= MAX_VISITS {
         return Decision::Stop;
     }
     *visits += 1;
-    let now = step.moment;
     match read_node(code) {
-        Node::Forever => {
-            let _before = count(words);
-            Decision::Next(now)
+        Node::Leaf(rule) => step_leaf(rule, words, step),
+        Node::Both(sizes) => {
+            let (x, y) = step_parts(code, words, sizes, levels - 1, step, visits);
+            later(x, y)
         }
-        Node::Identity => {
-            set_word(words, 0, step.input);
-            Decision::Next(now)
+        Node::Either(sizes) => {
+            let (x, y) = step_parts(code, words, sizes, levels - 1, step, visits);
+            earlier(x, y)
         }
-        Node::Elapsed => step_elapsed(words, now),
-        Node::Recurs(limit) => {
-            if count(words) < limit {
-                Decision::Next(now)
-            } else {
-                Decision::Stop
-            }
-        }
-        Node::Spaced(delay) => {
-            let _before = count(words);
-            Decision::Next(now.saturating_add(delay))
-        }
-        Node::Fixed(period) => step_fixed(period, words, now),
-        Node::Fibonacci(_) => step_fibonacci(words, now),
-        Node::Linear(unit) => {
-            let delay = word(words, 1).saturating_add(unit);
-            wait(words, delay, delay, now)
-        }
-        Node::Windowed(period) => step_windowed(period, words, now),
-        Node::Exponential(_, factor) => {
-            let delay = word(words, 1);
-            wait(words, delay, delay.saturating_mul(factor), now)
-        }
-        Node::Both(sizes) => step_both(code, words, sizes, step, levels - 1, visits),
-        Node::Either(sizes) => step_either(code, words, sizes, step, levels - 1, visits),
-        Node::AndThen(sizes) => step_and_then(code, words, sizes, step, levels - 1, visits),
+        Node::AndThen(sizes) => step_and_then(code, words, sizes, levels - 1, step, visits),
         Node::WhileInput(test) => {
-            let decision = step_code(behind(code, 3), words, step, levels - 1, visits);
+            let decision = step_code(behind(code, 3), words, levels - 1, step, visits);
             if test.passes(step.input) { decision } else { Decision::Stop }
         }
         Node::WhileOutput(pick, test) => {
-            step_while_output(code, words, (pick, test), step, levels - 1, visits)
+            let part = behind(code, 4);
+            let decision = step_code(part, words, levels - 1, step, visits);
+            if has_passed(part, words, levels - 1, pick, test) { decision } else { Decision::Stop }
         }
-        Node::Map(_) => step_code(behind(code, 3), words, step, levels - 1, visits),
+        Node::Map(_) => step_code(behind(code, 3), words, levels - 1, step, visits),
         Node::ResetWhen(pick, test) => {
-            step_reset_when(code, words, (pick, test), step, levels - 1, visits)
+            let part = behind(code, 4);
+            let decision = step_code(part, words, levels - 1, step, visits);
+            if !has_passed(part, words, levels - 1, pick, test) {
+                return decision;
+            }
+            clear(part, words, levels - 1);
+            step_code(part, words, levels - 1, step, visits)
         }
     }
 }
 
-// One step of both parts, which goes on where both do.
-fn step_both(
-    code: &[u64],
-    words: &mut [u64],
-    sizes: Sizes,
-    step: &Step,
-    levels: u64,
-    visits: &mut u64,
-) -> Decision {
-    let (rest, size, state) = (behind(code, 3), sizes.code as usize, sizes.state as usize);
-    if words.len() < state {
-        return Decision::Stop;
-    }
-    let x = step_code(front(rest, size), &mut words[..state], step, levels, visits);
-    let y = step_code(behind(rest, size), &mut words[state..], step, levels, visits);
-    match (x, y) {
-        (Decision::Next(x), Decision::Next(y)) => Decision::Next(x.max(y)),
-        _ => Decision::Stop,
-    }
+// Whether the output of a part's last step passes a test.
+fn has_passed(code: &[u64], words: &[u64], levels: u64, pick: Pick, test: Test) -> bool {
+    let place = Place {
+        code,
+        words,
+        levels,
+    };
+    test.passes(read_number(pick, place))
 }
 
-// One step of both parts, which goes on where one does.
-fn step_either(
+// One step of both parts.
+#[cycle(stepping)]
+fn step_parts(
     code: &[u64],
     words: &mut [u64],
     sizes: Sizes,
-    step: &Step,
     levels: u64,
+    step: &Step,
     visits: &mut u64,
-) -> Decision {
+) -> (Decision, Decision) {
     let (rest, size, state) = (behind(code, 3), sizes.code as usize, sizes.state as usize);
     if words.len() < state {
-        return Decision::Stop;
+        return (Decision::Stop, Decision::Stop);
     }
-    let x = step_code(front(rest, size), &mut words[..state], step, levels, visits);
-    let y = step_code(behind(rest, size), &mut words[state..], step, levels, visits);
-    match (x, y) {
-        (Decision::Next(x), Decision::Next(y)) => Decision::Next(x.min(y)),
-        (Decision::Next(_), Decision::Stop) => x,
-        (Decision::Stop, _) => y,
-    }
+    let x = step_code(front(rest, size), &mut words[..state], levels, step, visits);
+    let y = step_code(behind(rest, size), &mut words[state..], levels, step, visits);
+    (x, y)
 }
 
 // One step of the part that is on: the second begins at the step at which the first is done.
-#[inline(never)]
+#[cycle(stepping)]
 fn step_and_then(
     code: &[u64],
     words: &mut [u64],
     sizes: Sizes,
-    step: &Step,
     levels: u64,
+    step: &Step,
     visits: &mut u64,
 ) -> Decision {
     let (rest, size, state) = (behind(code, 3), sizes.code as usize, sizes.state as usize);
@@ -141,50 +110,41 @@ fn step_and_then(
     }
     let second = state + 1;
     if words[0] == 0 {
-        let x = step_code(front(rest, size), &mut words[1..second], step, levels, visits);
+        let first = front(rest, size);
+        let x = step_code(first, &mut words[1..second], levels, step, visits);
         if let Decision::Next(_) = x {
             return x;
         }
         words[0] = 1;
-        clear(front(rest, size), &mut words[1..second], levels);
+        clear(first, &mut words[1..second], levels);
     }
-    step_code(behind(rest, size), &mut words[second..], step, levels, visits)
+    step_code(behind(rest, size), &mut words[second..], levels, step, visits)
 }
 
-// One step of a part that goes on while its output passes.
-#[inline(never)]
-fn step_while_output(
-    code: &[u64],
-    words: &mut [u64],
-    tested: (Pick, Test),
-    step: &Step,
-    levels: u64,
-    visits: &mut u64,
-) -> Decision {
-    let part = behind(code, 4);
-    let decision = step_code(part, words, step, levels, visits);
-    if tested.1.passes(read_pick(tested.0, part, words, levels)) {
-        decision
-    } else {
-        Decision::Stop
+// Goes on where both do, at the later moment.
+#[inline(always)]
+fn later(first: Decision, second: Decision) -> Decision
+    ensures value { result ≡ later_of first second }
+{
+    match first {
+        Decision::Stop => first,
+        Decision::Next(x) => match second {
+            Decision::Stop => second,
+            Decision::Next(y) => Decision::Next(x.max(y)),
+        },
     }
 }
 
-// One step of a part, which begins anew and is stepped again where its output passes.
-#[inline(never)]
-fn step_reset_when(
-    code: &[u64],
-    words: &mut [u64],
-    tested: (Pick, Test),
-    step: &Step,
-    levels: u64,
-    visits: &mut u64,
-) -> Decision {
-    let part = behind(code, 4);
-    let decision = step_code(part, words, step, levels, visits);
-    if !tested.1.passes(read_pick(tested.0, part, words, levels)) {
-        return decision;
+// Goes on where one of them does, at the earlier moment.
+#[inline(always)]
+fn earlier(first: Decision, second: Decision) -> Decision
+    ensures value { result ≡ earlier_of first second }
+{
+    match first {
+        Decision::Stop => second,
+        Decision::Next(x) => match second {
+            Decision::Stop => first,
+            Decision::Next(y) => Decision::Next(x.min(y)),
+        },
     }
-    clear(part, words, levels);
-    step_code(part, words, step, levels, visits)
 }
