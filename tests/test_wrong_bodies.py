@@ -168,17 +168,17 @@ def test_followed(count, folder, cache):
 
 
 def test_turns(count):
-    """A crate over whose files all edits were rejected before is left out for two days of three, and no other."""
+    """A crate over whose files all edits were rejected before is left out on all days but one of five, and no other."""
     trials = [Trial(Crate(pathlib.Path(), name, []), [], None) for name in ["a", "b", "c", "d"]]
     passed = Listed({"a": "a", "b": "b", "c": "older"})
-    for day in range(1, 7):
+    for day in range(1, 11):
         give_turns(trials, passed, datetime.date(2026, 1, day))
         turns = [it.has_turn for it in trials]
         count.test(f"turns of what is listed on day {day}", sum(turns[:2]) <= 1, True)
         count.test(f"turns of what is not listed on day {day}", turns[2:], [True, True])
         passed.days["a"] += turns[0]
         passed.days["b"] += turns[1]
-    count.test("turns in six days", passed.days, {"a": 2, "b": 2})
+    count.test("turns in ten days", passed.days, {"a": 2, "b": 2})
 
 
 class Listed:

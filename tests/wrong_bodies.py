@@ -11,7 +11,7 @@ three rounds, so edits of one function name their goals; edits that wait for eac
 The crate is proved as it is first, by 'rt check', or with --follow by whoever names it. Work that earlier checks kept
 is used: it can spare a proof, and can leave nothing open. Two kinds of edits aren't tried again: those that passed on
 this machine over the same toolchain, files and libraries, and those of a crate that tests/rejected.txt names with the
-checksum of all that, unless it is the crate's turn: each has its turn every third day. --anew tries all.
+checksum of all that, unless it is the crate's turn: each has its turn every fifth day. --anew tries all.
 
 The last line is 'N passed, M failed', one for each edit."""
 import argparse
@@ -37,6 +37,8 @@ EPILOG = """exit status: 0 if each edit passed; 1 if one failed, also since its 
 2 if nothing could be tried (no toolchain, a library that can't be built, words that name no crate or edit)."""
 # The memory that a check of a crate takes, but for rare ones.
 BYTES_OF_A_CHECK = 2_200_000_000
+# An unchanged crate has its turn once in so many days.
+DAYS = 5
 # The rounds that a crate may need. More cost the gate minutes: name goals, or drop an edit that another covers.
 MOST_ROUNDS = 3
 
@@ -291,11 +293,11 @@ def trials_of(options, crates, passed):
 
 
 def give_turns(trials, passed, day):
-    """Leaves out the crates that tests/rejected.txt is of, but for every third, others on another day."""
+    """Leaves out the crates that tests/rejected.txt is of, but for a few, others on another day."""
     listed = passed.listed()
     for number, trial in enumerate(trials):
         is_listed = listed.get(trial.crate.name) == passed.sum_of_all(trial.crate, trial.edits)
-        trial.has_turn = not is_listed or (number + day.toordinal()) % 3 == 0
+        trial.has_turn = not is_listed or (number + day.toordinal()) % DAYS == 0
 
 
 def write_listed(trials, passed):
