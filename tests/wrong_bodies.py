@@ -106,14 +106,15 @@ class Trial:
 
     def run(self, toolchain, folder, lanes):
         """Tries the edits that no earlier run saw pass."""
-        left = self.take_passed()
+        texts = texts_of(self.crate.folder)
+        left = self.take_passed([edit for edit in self.edits if self.is_good(edit, texts)])
         if not left:
             return self.found
         lanes.begin()
         try:
             self.jobs = lanes.jobs
             folder.mkdir()
-            self.try_all(toolchain, folder, left)
+            self.try_all(Room(toolchain, self.crate, folder, texts), left)
         finally:
             lanes.end()
         for edit, has_passed in self.found.items():
@@ -125,23 +126,20 @@ class Trial:
         """Whether each edit was seen to pass, by an earlier run here or by tests/rejected.txt."""
         return not self.has_turn or all(self.passed.has(self.crate, edit) for edit in self.edits)
 
-    def take_passed(self):
-        """Counts the edits that were seen to pass, and returns the others."""
-        known = [edit for edit in self.edits if not self.has_turn or self.passed.has(self.crate, edit)]
+    def take_passed(self, edits):
+        """Counts those of some edits that were seen to pass, and returns the others."""
+        known = [edit for edit in edits if not self.has_turn or self.passed.has(self.crate, edit)]
         self.found.update(dict.fromkeys(known, True))
         if known:
             by = "an earlier run on this machine" if self.has_turn else "the run that tests/rejected.txt is of"
             say(f"{self.crate.name}: {len(known)} of {len(self.edits)} wrong bodies were rejected by {by}, over the same files")
-        return [edit for edit in self.edits if edit not in self.found]
+        return [edit for edit in edits if edit not in self.found]
 
-    def try_all(self, toolchain, folder, edits):
+    def try_all(self, room, edits):
         """Tries edits, in as many rounds as they need."""
         begun = time.monotonic()
-        texts = texts_of(self.crate.folder)
-        room = Room(toolchain, self.crate, folder, texts)
-        good = [edit for edit in edits if self.is_good(edit, texts)]
         # those that name a goal can share a round
-        left = self.within_budget(sorted(good, key=lambda it: not it.goal))
+        left = self.within_budget(sorted(edits, key=lambda it: not it.goal))
         while left:
             some = self.pick(left)
             self.round(room, some)
@@ -162,7 +160,7 @@ class Trial:
         return [edit for edit in edits if edit not in left]
 
     def is_good(self, edit, texts):
-        """Whether an edit can be tried. If not, it has failed."""
+        """Whether an edit can be tried, as each must. If not, it has failed."""
         try:
             edit.read()
             edit.place(texts)
