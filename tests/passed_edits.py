@@ -2,6 +2,7 @@
 import hashlib
 import os
 import pathlib
+import re
 import subprocess
 import threading
 
@@ -14,12 +15,24 @@ RUNNER = ["passed_edits.py", "prover.py", "wrong_bodies.py", "wrong_edits.py"]
 LISTED = HERE / "rejected.txt"
 # How many states of crates are kept; the oldest go first.
 MOST = 300
+# How a line that holds only a comment begins, by the end of the file's name.
+COMMENTS = {".rt": "//", ".antt": "--"}
+STRING = re.compile(r'"(?:\\.|[^"\\])*"', re.DOTALL)
 
 
 def folder():
     """The folder in which the states of crates are kept, a file each."""
     cache = os.environ.get("XDG_CACHE_HOME") or pathlib.Path.home() / ".cache"
     return pathlib.Path(cache) / "zsched-wrong-bodies"
+
+
+def code_of(path, text):
+    """A text without its empty lines and those that hold only a comment, which no proof reads. If a line could end within a
+    string, all of the text."""
+    mark = COMMENTS.get(pathlib.Path(path).suffix)
+    if mark is None or any("\n" in found for found in STRING.findall(text)):
+        return text
+    return "\n".join(line for line in text.split("\n") if line.strip() and not line.lstrip().startswith(mark))
 
 
 class PassedEdits:
@@ -42,10 +55,12 @@ class PassedEdits:
         return base.hexdigest()
 
     def state(self, crate):
-        """The file of a crate's state: its texts and those of the crates below it, the libraries that each names, the base."""
+        """The file of a crate's state: its code and that of the crates below it, the libraries that each names, the base."""
         with self.guard:
             if crate.name not in self.states:
-                read = [(it.name, it.is_static, it.libraries, texts_of(it.folder)) for it in [*crate.below, crate]]
+                read = [(it.name, it.is_static, it.libraries,
+                         {path: code_of(path, text) for path, text in texts_of(it.folder).items()})
+                        for it in [*crate.below, crate]]
                 name = hashlib.sha256(repr((self.base, read)).encode()).hexdigest()
                 self.states[crate.name] = self.folder / f"{crate.name}-{name}"
             return self.states[crate.name]

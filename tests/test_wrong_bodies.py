@@ -11,6 +11,7 @@ import time
 
 sys.dont_write_bytecode = True
 
+from passed_edits import code_of
 from prover import Crate, Said
 from wrong_bodies import Trial, give_turns
 from wrong_edits import BadEdit, Edit, edited
@@ -152,11 +153,25 @@ def test_kept(count, folder, cache):
     source = pathlib.Path(folder) / "crates" / "two_numbers" / "src" / "lib.rt"
     for name, more, text, told in [("again", [], SOURCE, "2 of 2 wrong bodies were rejected by an earlier run"),
                                    ("anew", ["--anew"], SOURCE, "2 of 2 wrong bodies rejected"),
-                                   ("changed", [], SOURCE + "\n// Changed.\n", "2 of 2 wrong bodies rejected")]:
+                                   ("with a comment more", [], SOURCE + "\n// More.\n", "2 of 2 wrong bodies were rejected by"),
+                                   ("changed", [], SOURCE + "\nfn more() {}\n", "2 of 2 wrong bodies rejected")]:
         source.write_text(text, encoding="utf-8")
         ended = subprocess.run([*words, *more], capture_output=True, text=True, timeout=900, env=cache)
         count.test(f"edits that passed, {name}", told in ended.stdout or ended.stdout, True)
         count.test(f"edits that passed, {name}: last line", ended.stdout.split("\n")[-2], "2 passed, 0 failed")
+
+
+def test_code(count):
+    """What a trial reads of a text: all but lines that hold only a comment."""
+    for name, path, text, wanted in [
+        ("a comment", "src/a.rt", "//! A.\n\nfn f() {\n    // B\n    1 // C\n}\n", "fn f() {\n    1 // C\n}"),
+        ("a comment of a definition", "specs/A.antt", "-- a\nf : T\nf = 1\n", "f : T\nf = 1"),
+        ("a mark of another language", "specs/A.antt", "// a\n", "// a"),
+        ("a string over two lines", "src/a.rt", "let a = \"\n// b\";\n", "let a = \"\n// b\";\n"),
+        ("a string with a mark", "src/a.rt", "let a = \"// b\\\"\";\n", "let a = \"// b\\\"\";"),
+        ("another file", "src/a.txt", "// a\n", "// a\n"),
+    ]:
+        count.test(f"the code of {name}", code_of(path, text), wanted)
 
 
 def test_followed(count, folder, cache):
@@ -168,17 +183,17 @@ def test_followed(count, folder, cache):
 
 
 def test_turns(count):
-    """A crate over whose files all edits were rejected before is left out for two days of three, and no other."""
+    """A crate over whose files all edits were rejected before is left out on all days but one of five, and no other."""
     trials = [Trial(Crate(pathlib.Path(), name, []), [], None) for name in ["a", "b", "c", "d"]]
     passed = Listed({"a": "a", "b": "b", "c": "older"})
-    for day in range(1, 7):
+    for day in range(1, 11):
         give_turns(trials, passed, datetime.date(2026, 1, day))
         turns = [it.has_turn for it in trials]
         count.test(f"turns of what is listed on day {day}", sum(turns[:2]) <= 1, True)
         count.test(f"turns of what is not listed on day {day}", turns[2:], [True, True])
         passed.days["a"] += turns[0]
         passed.days["b"] += turns[1]
-    count.test("turns in six days", passed.days, {"a": 2, "b": 2})
+    count.test("turns in ten days", passed.days, {"a": 2, "b": 2})
 
 
 class Listed:
@@ -300,6 +315,7 @@ def test_all(count):
     test_places(count)
     test_said(count)
     test_turns(count)
+    test_code(count)
     test_words(count)
     test_end(count)
     test_runner(count)

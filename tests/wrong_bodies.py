@@ -11,7 +11,7 @@ three rounds, so edits of one function name their goals; edits that wait for eac
 The crate is proved as it is first, by 'rt check', or with --follow by whoever names it. Work that earlier checks kept
 is used: it can spare a proof, and can leave nothing open. Two kinds of edits aren't tried again: those that passed on
 this machine over the same toolchain, files and libraries, and those of a crate that tests/rejected.txt names with the
-checksum of all that, unless it is the crate's turn: each has its turn every third day. --anew tries all.
+checksum of all that, unless it is the crate's turn: each has its turn every fifth day. --anew tries all.
 
 The last line is 'N passed, M failed', one for each edit."""
 import argparse
@@ -37,6 +37,8 @@ EPILOG = """exit status: 0 if each edit passed; 1 if one failed, also since its 
 2 if nothing could be tried (no toolchain, a library that can't be built, words that name no crate or edit)."""
 # The memory that a check of a crate takes, but for rare ones.
 BYTES_OF_A_CHECK = 2_200_000_000
+# An unchanged crate has its turn once in so many days.
+DAYS = 5
 # The rounds that a crate may need. More cost the gate minutes: name goals, or drop an edit that another covers.
 MOST_ROUNDS = 3
 
@@ -104,14 +106,15 @@ class Trial:
 
     def run(self, toolchain, folder, lanes):
         """Tries the edits that no earlier run saw pass."""
-        left = self.take_passed()
+        texts = texts_of(self.crate.folder)
+        left = self.take_passed([edit for edit in self.edits if self.is_good(edit, texts)])
         if not left:
             return self.found
         lanes.begin()
         try:
             self.jobs = lanes.jobs
             folder.mkdir()
-            self.try_all(toolchain, folder, left)
+            self.try_all(Room(toolchain, self.crate, folder, texts), left)
         finally:
             lanes.end()
         for edit, has_passed in self.found.items():
@@ -123,23 +126,20 @@ class Trial:
         """Whether each edit was seen to pass, by an earlier run here or by tests/rejected.txt."""
         return not self.has_turn or all(self.passed.has(self.crate, edit) for edit in self.edits)
 
-    def take_passed(self):
-        """Counts the edits that were seen to pass, and returns the others."""
-        known = [edit for edit in self.edits if not self.has_turn or self.passed.has(self.crate, edit)]
+    def take_passed(self, edits):
+        """Counts those of some edits that were seen to pass, and returns the others."""
+        known = [edit for edit in edits if not self.has_turn or self.passed.has(self.crate, edit)]
         self.found.update(dict.fromkeys(known, True))
         if known:
             by = "an earlier run on this machine" if self.has_turn else "the run that tests/rejected.txt is of"
             say(f"{self.crate.name}: {len(known)} of {len(self.edits)} wrong bodies were rejected by {by}, over the same files")
-        return [edit for edit in self.edits if edit not in self.found]
+        return [edit for edit in edits if edit not in self.found]
 
-    def try_all(self, toolchain, folder, edits):
+    def try_all(self, room, edits):
         """Tries edits, in as many rounds as they need."""
         begun = time.monotonic()
-        texts = texts_of(self.crate.folder)
-        room = Room(toolchain, self.crate, folder, texts)
-        good = [edit for edit in edits if self.is_good(edit, texts)]
         # those that name a goal can share a round
-        left = self.within_budget(sorted(good, key=lambda it: not it.goal))
+        left = self.within_budget(sorted(edits, key=lambda it: not it.goal))
         while left:
             some = self.pick(left)
             self.round(room, some)
@@ -160,7 +160,7 @@ class Trial:
         return [edit for edit in edits if edit not in left]
 
     def is_good(self, edit, texts):
-        """Whether an edit can be tried. If not, it has failed."""
+        """Whether an edit can be tried, as each must. If not, it has failed."""
         try:
             edit.read()
             edit.place(texts)
@@ -291,11 +291,11 @@ def trials_of(options, crates, passed):
 
 
 def give_turns(trials, passed, day):
-    """Leaves out the crates that tests/rejected.txt is of, but for every third, others on another day."""
+    """Leaves out the crates that tests/rejected.txt is of, but for a few, others on another day."""
     listed = passed.listed()
     for number, trial in enumerate(trials):
         is_listed = listed.get(trial.crate.name) == passed.sum_of_all(trial.crate, trial.edits)
-        trial.has_turn = not is_listed or (number + day.toordinal()) % 3 == 0
+        trial.has_turn = not is_listed or (number + day.toordinal()) % DAYS == 0
 
 
 def write_listed(trials, passed):
