@@ -1,3 +1,4 @@
 pub mod SeenPairs
 pub mod Rooms
 pub mod Nodes
+pub mod Codes

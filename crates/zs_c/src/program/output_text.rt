@@ -1,14 +1,15 @@
 // The text of an output, straight from the words that tell it.
 
 use crate::program::node::{Node, read_node, word};
-use crate::program::outputs::{Place, View, view};
+use crate::program::outputs::{Place, View, read_view};
 use crate::room::put_behind;
 use itoa::Buffer;
 
 // Writes the text of the output of a node's last step behind the first bytes of a room, as far as it fits, and answers
 // where it ends.
+#[cycle(texts)]
 pub(crate) fn put_output(place: Place<'_>, room: &mut [u8], at: usize) -> usize {
-    match view(place) {
+    match read_view(place) {
         View::Number(n) => put_number(n, room, at),
         View::Pair(a, b) => {
             let end = put_byte(b'(', room, at);
@@ -23,6 +24,7 @@ pub(crate) fn put_output(place: Place<'_>, room: &mut [u8], at: usize) -> usize 
 }
 
 // Writes the text of a side.
+#[cycle(texts)]
 fn put_side(side: &[u8], part: Place<'_>, room: &mut [u8], at: usize) -> usize {
     put_behind(room, at, side);
     let end = put_output(part, room, at.saturating_add(side.len()));

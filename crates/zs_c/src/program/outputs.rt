@@ -26,7 +26,7 @@ pub(crate) enum View<'a> {
 
 // The output of a node's last step.
 #[cycle(viewing)]
-pub(crate) fn view(place: Place<'_>) -> View<'_>
+pub(crate) fn read_view(place: Place<'_>) -> View<'_>
     ensures shows { (o : Output) → PlaceTells place o → Shows result o }
 {
     if place.levels == 0 {
@@ -42,32 +42,32 @@ pub(crate) fn view(place: Place<'_>) -> View<'_>
             let (a, b) = parts(place, sizes, 1);
             if word(place.words, 0) == 0 { View::Left(a) } else { View::Right(b) }
         }
-        Node::WhileInput(_) => view(part(place, 3)),
-        Node::WhileOutput(_, _) | Node::ResetWhen(_, _) => view(part(place, 4)),
-        Node::Map(func) => view_of(func, part(place, 3)),
+        Node::WhileInput(_) => read_view(part(place, 3)),
+        Node::WhileOutput(_, _) | Node::ResetWhen(_, _) => read_view(part(place, 4)),
+        Node::Map(func) => read_mapped(func, part(place, 3)),
     }
 }
 
 // A function of a part's output.
 #[cycle(viewing)]
-fn view_of(func: Func, part: Place<'_>) -> View<'_> {
+fn read_mapped(func: Func, part: Place<'_>) -> View<'_> {
     match func {
-        Func::First => match view(part) {
-            View::Pair(a, _) => view(a),
+        Func::First => match read_view(part) {
+            View::Pair(a, _) => read_view(a),
             other => other,
         },
-        Func::Second => match view(part) {
-            View::Pair(_, b) => view(b),
+        Func::Second => match read_view(part) {
+            View::Pair(_, b) => read_view(b),
             other => other,
         },
-        Func::Merge => match view(part) {
-            View::Left(a) | View::Right(a) => view(a),
+        Func::Merge => match read_view(part) {
+            View::Left(a) | View::Right(a) => read_view(a),
             other => other,
         },
         Func::Size => View::Number(0),
         Func::Const(n) => View::Number(n),
-        Func::Add(n) => View::Number(number_in(view(part)).saturating_add(n)),
-        Func::Mul(n) => View::Number(number_in(view(part)).saturating_mul(n)),
+        Func::Add(n) => View::Number(number_in(read_view(part)).saturating_add(n)),
+        Func::Mul(n) => View::Number(number_in(read_view(part)).saturating_mul(n)),
     }
 }
 
@@ -114,15 +114,15 @@ fn number_in(view: View<'_>) -> u64
 pub(crate) fn read_number(pick: Pick, place: Place<'_>) -> u64
     ensures value { (o : Output) → PlaceTells place o → result ≡ picked pick o }
 {
-    let whole = view(place);
+    let whole = read_view(place);
     match pick {
         Pick::Whole => number_in(whole),
         Pick::First => match whole {
-            View::Pair(a, _) => number_in(view(a)),
+            View::Pair(a, _) => number_in(read_view(a)),
             other => number_in(other),
         },
         Pick::Second => match whole {
-            View::Pair(_, b) => number_in(view(b)),
+            View::Pair(_, b) => number_in(read_view(b)),
             other => number_in(other),
         },
         Pick::Size => 0,
