@@ -2,3 +2,4 @@ pub mod SeenPairs
 pub mod Rooms
 pub mod Nodes
 pub mod Codes
+pub mod OutputRooms

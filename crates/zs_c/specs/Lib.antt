@@ -11,5 +11,6 @@ pub mod Programs
 -- What the bodies keep: private contracts alone name these.
 pub mod Node
 pub mod Opened
+pub mod Rooms
 pub mod Steps
 pub mod View

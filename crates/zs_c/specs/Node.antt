@@ -1,6 +1,6 @@
 -- How words are read as a node: by their tag, whatever is behind it. `proofs/Nodes.antt` shows that the code of a schedule is read
 -- as its node.
-use Rattle.std.specs.Prelude.{◌≡◌, ℕ, ◌==◌, if◌then◌else◌, List, [], length, slice_index_or}
+use Rattle.std.specs.Prelude.{◌≡◌, ℕ, ◌==◌, if◌then◌else◌, List, [], length, take, drop, slice_index_or}
 use Rattle.zs_term.specs.Schedule.{Schedule, leaf, two, over, Leaf as LeafRule, plain, counted, exponential, forever, identity, elapsed, recurs, spaced, fixed, fibonacci, linear, windowed, both, either, and_then, while_input, while_output, collect_all, mapped, reset_when}
 use Rattle.zs_term.specs.declared.forms.Plain.TheVariants.{Forever as PlainForever, Identity as PlainIdentity, Elapsed as PlainElapsed}
 use Rattle.zs_term.specs.declared.forms.Counted.TheVariants.{Recurs as CountedRecurs, Spaced as CountedSpaced, Fixed as CountedFixed, Fibonacci as CountedFibonacci, Linear as CountedLinear, Windowed as CountedWindowed}
@@ -16,7 +16,7 @@ use Rattle.zs_c.specs.declared.program.node.Rule.{Rule}
 use Rattle.zs_c.specs.declared.program.node.Rule.TheVariants.{Forever, Identity, Elapsed, Recurs, Spaced, Fixed, Fibonacci, Linear, Windowed, Exponential}
 use Rattle.zs_c.specs.declared.program.node.Node.{Node}
 use Rattle.zs_c.specs.declared.program.node.Node.TheVariants.{Leaf, Both, Either, AndThen, WhileInput, WhileOutput, Map, ResetWhen}
-use Rattle.zs_c.specs.Code.{code_of, held_size}
+use Rattle.zs_c.specs.Code.{code_of, held_size, IsCode}
 
 -- a word, or 0 past the end
 abbrev pub word_at : List ℕ → ℕ → ℕ
@@ -90,3 +90,9 @@ IsNode (WhileInput x) t = (s : Schedule) × (t ≡ over s (while_input x))
 IsNode (WhileOutput k x) t = (s : Schedule) × (t ≡ over s (while_output k x))
 IsNode (Map f) t = (s : Schedule) × (t ≡ over s (mapped f))
 IsNode (ResetWhen k x) t = (s : Schedule) × (t ≡ over s (reset_when k x))
+
+-- the sizes and the code of an operator are those of two schedules, which are no deeper than so many levels
+pub record IsParts (a b : Schedule) (n : Sizes) (code : List ℕ) (levels : ℕ) : Type 0 where
+  pub sizes : n ≡ sizes_of a
+  pub first : IsCode a (take n.code (drop 3 code)) levels
+  pub second : IsCode b (drop n.code (drop 3 code)) levels

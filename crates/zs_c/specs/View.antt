@@ -1,5 +1,5 @@
 -- What a step's output is seen as, straight from the words of a state: for private contracts alone.
-use Rattle.std.specs.Prelude.{◌≡◌, ℕ, List}
+use Rattle.std.specs.Prelude.{◌≡◌, ℕ, ◌<◌, List}
 use Rattle.zs_term.specs.Schedule.{Schedule}
 use Rattle.zs_term.specs.Output.{Output, number, pair, left, right}
 use Rattle.zs_step.specs.History.{History}
@@ -27,3 +27,10 @@ Shows (Number n) o = o ≡ number n
 Shows (Pair a b) o = (x : Output) × (y : Output) × (o ≡ pair x y) × PlaceTells a x × PlaceTells b y
 Shows (Left a) o = (x : Output) × (o ≡ left x) × PlaceTells a x
 Shows (Right b) o = (y : Output) × (o ≡ right y) × PlaceTells b y
+
+-- the places of a view have less levels than this
+abbrev pub IsLower : View → ℕ → Type 0
+IsLower (Number n) levels = Unit {0}
+IsLower (Pair a b) levels = (a.levels < levels) × (b.levels < levels)
+IsLower (Left a) levels = a.levels < levels
+IsLower (Right b) levels = b.levels < levels

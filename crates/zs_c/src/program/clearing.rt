@@ -1,9 +1,9 @@
 // The words of a state before any step.
 
-ghost use Rattle.std.specs.Prelude.{◌≡◌, ℕ, [], ◌∷◌, ◌++◌, length};
+ghost use Rattle.std.specs.Prelude.{◌≡◌, ℕ, ◌+◌, List, [], ◌∷◌, ◌++◌, length};
 ghost use Rattle.zs_term.specs.Schedule.{Schedule};
 ghost use Rattle.zs_c.specs.Code.{IsCode, leaf_held, held_of, held_size};
-ghost use Rattle.zs_c.specs.Node.{rule_leaf};
+ghost use Rattle.zs_c.specs.Node.{rule_leaf, IsParts};
 
 use crate::program::leaf::set_word;
 use crate::program::node::{Node, Rule, Sizes, behind, front, read_node};
@@ -34,7 +34,9 @@ pub(crate) fn clear(code: &[u64], words: &mut [u64], levels: u64)
 
 // The same of two parts.
 #[cycle(clearing)]
-fn clear_parts(code: &[u64], words: &mut [u64], sizes: Sizes, levels: u64) {
+fn clear_parts(code: &[u64], words: &mut [u64], sizes: Sizes, levels: u64)
+    ensures clears { (a b : Schedule) → IsParts a b sizes code.now levels → length words.old ≡ held_size a + held_size b → words.new ≡ held_of a [] ++ held_of b [] }
+{
     let (rest, size, state) = (behind(code, 3), sizes.code as usize, sizes.state as usize);
     if state <= words.len() {
         clear(front(rest, size), &mut words[..state], levels);
@@ -69,7 +71,9 @@ fn clear_leaf(rule: Rule, words: &mut [u64])
 }
 
 // Writes the first two words.
-fn put_two(words: &mut [u64], first: u64, second: u64) {
+fn put_two(words: &mut [u64], first: u64, second: u64)
+    ensures puts { (x y : ℕ) (rest : List ℕ) → words.old ≡ x ∷ (y ∷ rest) → words.new ≡ first ∷ (second ∷ rest) }
+{
     set_word(words, 0, first);
     set_word(words, 1, second);
 }

@@ -1,8 +1,8 @@
 // The output of a node's last step, which the words of its state tell.
 
-ghost use Rattle.std.specs.Prelude.{◌≡◌};
-ghost use Rattle.zs_term.specs.Output.{Output, number_in, picked};
-ghost use Rattle.zs_c.specs.View.{Tells, Shows, PlaceTells};
+ghost use Rattle.std.specs.Prelude.{◌≡◌, ◌-◌, take, drop};
+ghost use Rattle.zs_term.specs.Output.{Output, number_in, picked, applied};
+ghost use Rattle.zs_c.specs.View.{Shows, PlaceTells, IsLower};
 
 use crate::program::node::{Node, Sizes, behind, front, read_node, word};
 use zs_term::{Func, Pick};
@@ -28,6 +28,7 @@ pub(crate) enum View<'a> {
 #[cycle(viewing)]
 pub(crate) fn read_view(place: Place<'_>) -> View<'_>
     ensures shows { (o : Output) → PlaceTells place o → Shows result o }
+    ensures lower { IsLower result place.levels }
 {
     if place.levels == 0 {
         return View::Number(0);
@@ -50,7 +51,10 @@ pub(crate) fn read_view(place: Place<'_>) -> View<'_>
 
 // A function of a part's output.
 #[cycle(viewing)]
-fn read_mapped(func: Func, part: Place<'_>) -> View<'_> {
+fn read_mapped(func: Func, part: Place<'_>) -> View<'_>
+    ensures shows { (o : Output) → PlaceTells part o → Shows result (applied func o) }
+    ensures lower { IsLower result part.levels }
+{
     match func {
         Func::First => match read_view(part) {
             View::Pair(a, _) => read_view(a),
@@ -73,7 +77,11 @@ fn read_mapped(func: Func, part: Place<'_>) -> View<'_> {
 
 // The part of an operator, whose code begins at a place.
 #[inline(always)]
-pub(crate) fn part(place: Place<'_>, at: usize) -> Place<'_> {
+fn part(place: Place<'_>, at: usize) -> Place<'_>
+    ensures code { result.code.now ≡ drop at place.code.now }
+    ensures words { result.words.now ≡ place.words.now }
+    ensures levels { result.levels ≡ place.levels - 1 }
+{
     Place {
         code: behind(place.code, at),
         words: place.words,
@@ -83,7 +91,14 @@ pub(crate) fn part(place: Place<'_>, at: usize) -> Place<'_> {
 
 // Both parts of an operator, whose words begin at a place.
 #[inline(always)]
-pub(crate) fn parts(place: Place<'_>, sizes: Sizes, at: usize) -> (Place<'_>, Place<'_>) {
+fn parts(place: Place<'_>, sizes: Sizes, at: usize) -> (Place<'_>, Place<'_>)
+    ensures first_code { result.0.code.now ≡ take sizes.code (drop 3 place.code.now) }
+    ensures second_code { result.1.code.now ≡ drop sizes.code (drop 3 place.code.now) }
+    ensures first_words { result.0.words.now ≡ take sizes.state (drop at place.words.now) }
+    ensures second_words { result.1.words.now ≡ drop sizes.state (drop at place.words.now) }
+    ensures first_levels { result.0.levels ≡ place.levels - 1 }
+    ensures second_levels { result.1.levels ≡ place.levels - 1 }
+{
     let (rest, words) = (behind(place.code, 3), behind(place.words, at));
     let (size, state) = (sizes.code as usize, sizes.state as usize);
     let levels = place.levels.saturating_sub(1);

@@ -1,11 +1,14 @@
 // One step of a code, over the words of its state.
 
-ghost use Rattle.std.specs.Prelude.{◌≡◌, ℕ, ◌+◌, ◌≤◌};
-ghost use Rattle.zs_term.specs.Schedule.{Schedule, weight};
+ghost use Rattle.std.specs.Prelude.{◌≡◌, ℕ, ◌+◌, ◌≤◌, ◌++◌};
+ghost use Rattle.zs_term.specs.Output.{Output, passes, picked};
+ghost use Rattle.zs_term.specs.Schedule.{Schedule, weight, two, and_then};
 ghost use Rattle.zs_step.specs.History.{History};
 ghost use Rattle.zs_step.specs.Answer.{later_of, earlier_of};
 ghost use Rattle.zs_c.specs.Code.{IsCode, held_of};
-ghost use Rattle.zs_c.specs.Steps.{StepsCode};
+ghost use Rattle.zs_c.specs.Node.{IsParts};
+ghost use Rattle.zs_c.specs.Steps.{StepsCode, StepsBoth, StepsThen};
+ghost use Rattle.zs_c.specs.View.{Tells};
 
 use crate::program::clearing::clear;
 use crate::program::leaf::{Step, step_leaf};
@@ -66,7 +69,9 @@ pub(crate) fn step_code(
 }
 
 // Whether the output of a part's last step passes a test.
-fn has_passed(code: &[u64], words: &[u64], levels: u64, pick: Pick, test: Test) -> bool {
+fn has_passed(code: &[u64], words: &[u64], levels: u64, pick: Pick, test: Test) -> bool
+    ensures value { (o : Output) → Tells code.now words.now levels o → result ≡ passes test (picked pick o) }
+{
     let place = Place {
         code,
         words,
@@ -84,7 +89,9 @@ fn step_parts(
     levels: u64,
     step: &Step,
     visits: &mut u64,
-) -> (Decision, Decision) {
+) -> (Decision, Decision)
+    ensures steps { (a b : Schedule) (h : History) → IsParts a b sizes code.now levels → visits.old + weight a + weight b ≤ MAX_VISITS → words.old ≡ held_of a h ++ held_of b h → StepsBoth a b h words.new step.now.moment step.now.input result.0 result.1 visits.old visits.new }
+{
     let (rest, size, state) = (behind(code, 3), sizes.code as usize, sizes.state as usize);
     if words.len() < state {
         return (Decision::Stop, Decision::Stop);
@@ -103,7 +110,9 @@ fn step_and_then(
     levels: u64,
     step: &Step,
     visits: &mut u64,
-) -> Decision {
+) -> Decision
+    ensures steps { (a b : Schedule) (h : History) → IsParts a b sizes code.now levels → visits.old + weight a + weight b ≤ MAX_VISITS → words.old ≡ held_of (two and_then a b) h → StepsThen a b h words.new step.now.moment step.now.input result visits.old visits.new }
+{
     let (rest, size, state) = (behind(code, 3), sizes.code as usize, sizes.state as usize);
     if words.len() <= state {
         return Decision::Stop;
