@@ -1,4 +1,5 @@
-//! Attempts as lines of text. A number that is written twice is passed with its digits, so that it is converted once.
+//! Attempts as lines of text. A number that is written twice is passed with its digits, so that it
+//! is converted once.
 ghost use Rattle.std.specs.Prelude.{◌≡◌, ◌++◌, codes, OnOk, OnErr, string_bytes};
 ghost use Rattle.std.specs.Fmt.{decimal};
 ghost use Rattle.zs_term.specs.OutputText.{IsBeginning};
@@ -118,7 +119,8 @@ fn append_ended(
     }
 }
 
-/// Adds the lines of the attempt with this number, counted from 1. If that fails, the text is unchanged.
+/// Adds the lines of the attempt with this number, counted from 1. If that fails, the text is
+/// unchanged.
 pub fn append_attempt(text: &mut String, number: u64, attempt: &Attempted) -> Result<(), AllocError>
     ensures text { OnOk result (string_bytes text.new ≡ string_bytes text.old ++ attempt_lines number (attempted_of attempt.now)) }
     ensures err { OnErr result (string_bytes text.new ≡ string_bytes text.old) }

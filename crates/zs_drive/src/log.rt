@@ -79,7 +79,7 @@ fn touch_record(attempt: Option<&Attempted>) -> u64 {
     }
 }
 
-// Takes an end away. Its output, if it has one, is given in place of another.
+// Takes an end away. The caller gets its output, if it has one, in place of another.
 #[inline(never)]
 fn take_end(ended: &mut Option<Ended>, spare: &mut Out)
     ensures none { ended.new ≡ None }
@@ -131,7 +131,7 @@ impl Told {
         Ok(())
     }
 
-    // Another attempt begins. The output of the one before it is given to the caller.
+    // Another attempt begins. The caller gets the output of the one before it.
     fn begin(&mut self, begun: u64, spare: &mut Out) -> Result<(), AllocError>
         requires few { self.old.count + 1 < 2 ^ 64 }
         ensures ok { OnOk result (BeginsNext self.old self.new (record { begun = begun; ended = None })) }
@@ -240,7 +240,7 @@ impl Log {
         self.told() + self.records().len() as u64
     }
 
-    /// Another attempt begins. If the one before it becomes lines, its output is given to the caller.
+    /// Begins another attempt. If the one before it becomes lines, the caller gets its output.
     pub fn begin(&mut self, begun: u64, spare: &mut Out) -> Result<(), DriveFault>
         requires few { log_count self.old + 1 < 2 ^ 64 }
         ensures begun { OnOk result ((attempts : List AttemptedValue) → IsLog self.old attempts
@@ -281,7 +281,7 @@ impl Log {
         }
     }
 
-    /// The last attempt ends.
+    /// Ends the last attempt.
     pub fn end(&mut self, ended: Ended)
         requires last { 0 < log_count self.old }
         ensures ended { (others : List AttemptedValue) (last : AttemptedValue) → IsLog self.old (others ++ last ∷ [])
@@ -291,7 +291,8 @@ impl Log {
         self.set_end(Some(ended));
     }
 
-    /// The last attempt ends, and another begins at that moment. If the former becomes lines, its output is given to the caller.
+    /// Ends the last attempt, and begins another at that moment. If the former becomes lines, the
+    /// caller gets its output.
     pub fn restart(&mut self, ended: Ended, spare: &mut Out) -> Result<(), DriveFault>
         requires last { 0 < log_count self.old }
         requires few { log_count self.old + 1 < 2 ^ 64 }

@@ -38,8 +38,8 @@ pub enum Phase {
     Over(Ending),
 }
 
-/// How far a job is. It keeps the state of its schedule, and no history. What each poll reads comes first, so that it is in few
-/// cache lines.
+/// How far a job is. It has the state of its schedule, and no history. What each poll reads comes
+/// first, so that it is in few cache lines.
 #[derive(Drop)]
 pub struct Progress {
     /// What is waited for.
@@ -54,7 +54,7 @@ pub struct Progress {
     pub script: Script,
     /// The attempts so far.
     pub log: Log,
-    /// An output that was told, whose memory serves the next one.
+    /// An output that was written as text, whose memory is used for the next one.
     pub spare: Out,
     /// The state of its schedule.
     pub compiled: Compiled,
@@ -108,7 +108,7 @@ fn end_by_outcome(mode: Mode, outcome: Outcome) -> Option<Ending>
     }
 }
 
-// How the job ends where its schedule is done.
+// How the job ends if its schedule is done.
 fn end_by_schedule(mode: Mode, outcome: Outcome) -> Ending
     ensures value { result ≡ ending_by_schedule mode outcome }
 {
@@ -128,7 +128,7 @@ impl Progress {
         }
     }
 
-    // The entry of the script that the next attempt follows.
+    // The entry of the script for the next attempt.
     fn next_beat(&self) -> Beat
         requires progress { IsProgress self.now }
         ensures value { result ≡ entry_at self.now.script (log_count self.now.log + 1) }
@@ -154,7 +154,7 @@ impl Progress {
         Ok(())
     }
 
-    // Asks the schedule after an outcome. Of a refusal only the schedule's state may be lost.
+    // Steps the schedule after an outcome. If that fails, only the schedule's state may be lost.
     fn ask(&mut self, outcome: Outcome) -> Result<(Out, Decision), DriveFault>
         requires past { last_seen self.old.compiled ≤ self.old.seen }
         ensures rest { self.new ≡ record self.old { compiled = self.new.compiled; spare = self.new.spare } }
@@ -203,7 +203,7 @@ impl Progress {
         self.end_attempt(outcome, None, Phase::Over(ending));
     }
 
-    // The schedule has answered this.
+    // The schedule has decided this.
     fn follow(&mut self, outcome: Outcome, out: Out, decision: Decision) -> Result<(), DriveFault>
         requires progress { IsProgress self.old }
         requires state { WasAsked self.old outcome }
@@ -279,7 +279,7 @@ impl Progress {
         Ok(())
     }
 
-    /// Does the due poll, if there is one. It is ready where it was done, or where the job is over.
+    /// Does the due poll, if there is one. It is ready if that was done, or if the job has ended.
     pub fn advance(&mut self, cx: &mut Context<'_>) -> Poll<Result<(), DriveFault>>
         requires progress { IsProgress self.old }
         requires state { HasState self.old }

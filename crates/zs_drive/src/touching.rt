@@ -1,7 +1,8 @@
-//! Reads memory before it is needed, so that it is in the cache by then. No number that these functions return has a meaning.
+//! Reads memory before it is needed, so that it is in the cache by then. The numbers that these
+//! functions return have no meaning.
 use zs_term::Out;
 
-// A number for each output, which only its memory tells.
+// A number for each form of an output. To know it, the output's memory has to be read.
 fn form(out: &Out) -> u64 {
     match out {
         Out::Num(n) => *n,

@@ -17,7 +17,7 @@ use futures::task::Context;
 use std::alloc::Global;
 use zs_drive::Task;
 
-// A due poll. One that finds no memory breaks the task.
+// A due poll. If it runs out of memory, the task is broken.
 fn poll_at(task: &mut Task, now: u64, cx: &mut Context<'_>)
     requires pollable { IsPollable now task.old }
     ensures polled { IsPolled now task.old task.new }
@@ -26,7 +26,7 @@ fn poll_at(task: &mut Task, now: u64, cx: &mut Context<'_>)
     let _answer = task.poll(cx);
 }
 
-/// Polls one task at `now`, and counts it. A poll that finds no memory breaks the task.
+/// Polls one task at `now`, and counts it. If the poll runs out of memory, the task is broken.
 pub fn poll_one<G: Gate>(
     polling: &mut Polling<'_, G>,
     tally: &Tally,
@@ -91,7 +91,8 @@ pub fn poll_in<G: Gate>(
     Polled { number, now, tasks }
 }
 
-/// Polls each task of the batch once, in order, and counts it. After `Memory` nothing was polled, and the batch is given up.
+/// Polls each task of the batch once, in order, and counts it. After `Memory` nothing was polled,
+/// and the batch is dropped.
 pub fn poll_batch<G: Gate, R>(
     _rt: &R,
     alloc: Global,

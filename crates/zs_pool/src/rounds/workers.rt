@@ -1,4 +1,4 @@
-//! What each thread of a round does: it claims, polls and hands in. Helpers are started and joined.
+//! What each thread of a round does: it claims, polls and puts. Helpers are started and joined.
 ghost use Rattle.std.specs.Prelude.{ℕ, ◌≡◌, ◌≢◌, ◌+◌, ◌-◌, All, IfOk, IfErr, [], false, length};
 ghost use Rattle.zs_term.specs.Saturating.{max_moment};
 ghost use Rattle.zs_pool.specs.Board.{claimer};
@@ -21,14 +21,15 @@ use std::thread::{Promise, PromisedHandle, Scope, Threads};
 // The messages for which the shelf had no room.
 pub type Overflow = Result<Vec<Polled>, AllocError>;
 
-// What a thread hands back once the board is empty.
+// What a thread returns once the board is empty.
 #[derive(Drop)]
 pub struct Served {
     pub rights: Rights,
     pub overflow: Overflow,
 }
 
-// What a worker promises: it claimed until the board was empty, and handed in or kept all that it claimed, polled.
+// What a worker promises: it claimed until the board was empty, and all that it claimed is polled,
+// and was put on the shelf or is returned.
 #[derive(Drop)]
 pub struct WorkerPromise {
     pub moment: u64,
@@ -44,7 +45,7 @@ impl Promise<Served> for WorkerPromise {
 // A started worker.
 pub type Worker = PromisedHandle<Served, WorkerPromise>;
 
-// Puts what one more worker kept behind what the others did.
+// Adds what one more worker returned to what the others did.
 fn both(overflow: Overflow, more: Overflow) -> Overflow
     ensures both { IfOk result (AreBoth overflow more) }
 {
@@ -53,7 +54,7 @@ fn both(overflow: Overflow, more: Overflow) -> Overflow
     Ok(kept)
 }
 
-// Waits for the workers, up to one that was refused memory: the scope waits for the others.
+// Waits for the workers, up to one that ran out of memory: the scope waits for the others.
 fn wait_for<R: Threads>(rt: &R, workers: Vec<Worker>) -> Result<(), PoolFault>
     ensures fault { IfErr result (λ e. e ≡ Memory) }
 {
@@ -64,7 +65,7 @@ fn wait_for<R: Threads>(rt: &R, workers: Vec<Worker>) -> Result<(), PoolFault>
 }
 
 impl<'s, G: Gate> Shared<'s, G> {
-    // Claims, polls and hands in until nothing is left.
+    // Claims, polls and puts until the board is empty.
     fn serve_in<R: Wait>(
         self,
         rt: &R,
@@ -89,7 +90,8 @@ impl<'s, G: Gate> Shared<'s, G> {
         unreachable!()
     }
 
-    // Claims, polls and hands in until nothing is left. A message for which the shelf has no room is kept.
+    // Claims, polls and puts until the board is empty. A message for which the shelf has no room is
+    // returned.
     pub fn serve<R: Wait>(self, rt: &R, alloc: Global, mut rights: Rights) -> Served
         requires ready { IsReady self rights }
         ensures same { IsSame rights result.rights }
@@ -130,7 +132,7 @@ impl<'s, G: Gate> Shared<'s, G> {
         Ok(scope.spawn_with(promise, run)?)
     }
 
-    // Starts as many workers. Where one can't be started, the others are waited for.
+    // Starts this number of workers. If one can't be started, it waits for the others.
     pub fn start_all<E, R: Threads + Wait + Sync>(
         self,
         rt: &'s R,
