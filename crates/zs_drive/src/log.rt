@@ -73,7 +73,13 @@ fn add<T: Drop>(list: &mut Vec<T>, item: T, least: usize) -> Result<(), AllocErr
 fn touch_record(attempt: Option<&Attempted>) -> u64 {
     let Some(attempt) = attempt else { return 0 };
     match &attempt.ended {
-        Some(Ended { at, step: Some((out, _)), .. }) => *at ^ touch_parts(out),
+        Some(
+            Ended {
+                at,
+                step: Some((out, _)),
+                ..
+            },
+        ) => *at ^ touch_parts(out),
         Some(Ended { at, .. }) => *at,
         None => attempt.begun,
     }

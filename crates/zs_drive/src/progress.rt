@@ -123,7 +123,9 @@ impl Progress {
     pub fn touch(&self) -> u64 {
         match &self.phase {
             Phase::Waiting(_) => self.script.beat(1).ms ^ self.log.touch(),
-            Phase::Running(_) => self.log.touch() ^ touch_parts(&self.spare) ^ self.compiled.touch(),
+            Phase::Running(_) => self.log.touch()
+                ^ touch_parts(&self.spare)
+                ^ self.compiled.touch(),
             Phase::Over(_) => 0,
         }
     }
