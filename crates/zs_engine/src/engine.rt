@@ -21,8 +21,8 @@ use zs_pool::{
     Cut, Gate, Poller, Polling, TOUCHED_AT_ONCE, Tally, TallySeat, end_touches, poll_one, round,
 };
 
-// A run of jobs: each job's task in a slot of its own, a timer for each task that waits for a tick, and the tally of the
-// polls.
+// A run of jobs: a slot with the task of each job, a timer for each task that waits for a tick, and
+// the tally of the polls.
 #[derive(Drop)]
 pub struct Engine {
     alloc: Global,
@@ -34,7 +34,7 @@ pub struct Engine {
     seat: TallySeat,
 }
 
-// A tally of no polls, with its only seat. Want of memory is all that can refuse it.
+// A tally of no polls, with its only seat. Its only error is `Memory`.
 fn new_tally(alloc: Global) -> Result<(Tally, TallySeat), EngineFault>
     ensures ok { IfOk result (λ t. t.1 ≡ record { tally = t.0; count = 0; allowance = max_moment; seen = 0 }) }
 {
@@ -65,7 +65,7 @@ impl Engine {
         })
     }
 
-    // Takes in one more job, whose task stores its attempts so.
+    // Adds a job, whose task stores its attempts in this way.
     fn add(&mut self, job: Job, keeps: Keeping) -> Result<(), EngineFault>
         requires few { length (jobs_in self.old.slots.items) < max_tasks }
         requires new { IsNew self.old.clock (jobs_in self.old.slots.items) self.old }
@@ -77,7 +77,7 @@ impl Engine {
         Ok(())
     }
 
-    // Puts a task that was polled back into its slot, and arms its timer again.
+    // Puts a polled task back into its slot, and sets its timer again.
     fn put_back(&mut self, task: Task) -> Result<(), EngineFault>
         requires slot { task.number < length self.old.slots.items }
         requires unset { get self.old.agenda.moments task.number ≡ None }
@@ -113,7 +113,7 @@ impl Engine {
         end_touches(touched);
     }
 
-    // The due poll of the task in this slot, where it stays; then its timer is armed again.
+    // The due poll of the task in this slot, where it stays. Then its timer is set again.
     fn poll_slot<G: Gate>(
         &mut self,
         polling: &mut Polling<'_, G>,
@@ -191,7 +191,8 @@ impl Engine {
         Ok(())
     }
 
-    // One round: the tasks that are due at `now` are polled, by this thread alone where one worker or one batch is all there is.
+    // One round: the tasks that are due at `now` are polled. If there is one worker or one batch, this
+    // thread polls them alone.
     fn run_round<G: Gate, R: Threads + Wait + Sync>(
         &mut self,
         rt: &R,
@@ -233,7 +234,7 @@ impl Engine {
         Ok(())
     }
 
-    // Takes in the jobs, in order, and runs them until no task waits for a tick.
+    // Adds the jobs, in order, and runs them until no task waits for a tick.
     pub fn run<G: Gate, R: Threads + Wait + Sync>(
         &mut self,
         rt: &R,
