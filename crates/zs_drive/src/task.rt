@@ -195,16 +195,16 @@ impl Task {
         self.broken
     }
 
-    /// The moment that it waits for, in milliseconds: its start, the end of its attempt, or what its
-    /// schedule decided.
+    /// The moment that it waits for, in milliseconds: its start, the end of its attempt, or what
+    /// its schedule decided.
     pub fn due(&self) -> Option<u64>
         ensures value { result ≡ (current_timeline self.now).due }
     {
         self.progress.phase.due()
     }
 
-    /// Reads what its next poll reads first, so that this memory is in the cache by then. The number
-    /// has no meaning.
+    /// Reads what its next poll reads first, so that this memory is in the cache by then. The
+    /// number has no meaning.
     ///
     /// If several tasks are touched before the first of them is polled, the processor waits for the
     /// memory of all of them at once.

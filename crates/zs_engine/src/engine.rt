@@ -113,7 +113,7 @@ impl Engine {
         end_touches(touched);
     }
 
-    // The due poll of the task in this slot, where it stays. Then its timer is set again.
+    // The due poll of the task in this slot. The task stays there, and its timer is set again.
     fn poll_slot<G: Gate>(
         &mut self,
         polling: &mut Polling<'_, G>,
@@ -136,7 +136,7 @@ impl Engine {
         Ok(())
     }
 
-    // A round of the calling thread alone: the tasks that are due at `now` are polled in their slots.
+    // A round of the calling thread alone: it polls the tasks that are due at `now` in their slots.
     fn poll_round<G: Gate>(
         &mut self,
         polling: &mut Polling<'_, G>,
@@ -157,7 +157,8 @@ impl Engine {
         Ok(())
     }
 
-    // A round that several workers share: the tasks that are due at `now` are taken out, polled, and put back.
+    // A round that several workers share: the tasks that are due at `now` are taken out, polled,
+    // and put back.
     fn share_round<G: Gate, R: Threads + Wait + Sync>(
         &mut self,
         rt: &R,
@@ -191,8 +192,8 @@ impl Engine {
         Ok(())
     }
 
-    // One round: the tasks that are due at `now` are polled. If there is one worker or one batch, this
-    // thread polls them alone.
+    // One round: the tasks that are due at `now` are polled. If there is one worker or one batch,
+    // this thread polls them alone.
     fn run_round<G: Gate, R: Threads + Wait + Sync>(
         &mut self,
         rt: &R,

@@ -1,4 +1,5 @@
--- What a worker is handed and hands back may go to another thread, though terms, outputs, kinds and states hold themselves.
+-- What a worker gets and returns may go to another thread, although terms, outputs, kinds and
+-- states contain themselves.
 use Rattle.std.proofs.Common.{rules}
 use denote.Param.Send.{IsSend, IsSync, SendAt, FieldsAt, LiveAt, sendable, shr_send, view_send, view_sync, recorded_send_of, recorded_send_at, enum_send_at}
 use mathlib.Core.Logic.{inl, inr}

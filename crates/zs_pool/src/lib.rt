@@ -1,9 +1,10 @@
 //! One moment's due polls, shared among workers: `round` returns the due tasks, each polled at the
 //! moment and counted once.
 //!
-//! The result is the same for every number of workers, every cutting into batches, every order of the
-//! threads' steps and every gate. Its parts can be used alone: a `Board` of batches, a `Shelf` of
-//! polled batches, and a `Tally` of polls, each a queue or a word under a rule that every step obeys.
+//! The result is the same for every number of workers, every cutting into batches, every order of
+//! the threads' steps and every gate. Its parts can be used alone: a `Board` of batches, a `Shelf`
+//! of polled batches, and a `Tally` of polls, each a queue or a word under a rule that every step
+//! obeys.
 //!
 //! ```rust
 //! let (tally, mut seat) = Tally::new(alloc)?;

@@ -28,8 +28,8 @@ pub struct Served {
     pub overflow: Overflow,
 }
 
-// What a worker promises: it claimed until the board was empty, and all that it claimed is polled,
-// and was put on the shelf or is returned.
+// What a worker promises: it claimed until the board was empty, and each batch that it claimed is
+// polled, and was put on the shelf or is returned.
 #[derive(Drop)]
 pub struct WorkerPromise {
     pub moment: u64,
