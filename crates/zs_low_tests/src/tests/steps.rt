@@ -444,7 +444,12 @@ fn many_pairs_are_answered(rt: HostRuntime) -> Result<(), Fail> {
     let (mut leaf, mut list) = (String::new(rt.alloc()), String::new(rt.alloc()));
     for k in 0..1100u64 {
         if k == 150 {
-            let row = ("forever.collectAll.map(size)", &pairs[..], answers.as_str(), list.as_str());
+            let row = (
+                "forever.collectAll.map(size)",
+                &pairs[..],
+                answers.as_str(),
+                list.as_str(),
+            );
             expect_answers(&rt, "collected", &[row])?;
         }
         pairs.push((k, k))?;
@@ -452,7 +457,13 @@ fn many_pairs_are_answered(rt: HostRuntime) -> Result<(), Fail> {
         leaf.push_str("1;")?;
         list.push_str("3;")?;
     }
-    for schedule in ["forever", "recurs(2000)", "identity", "elapsed", "spaced(0)"] {
+    for schedule in [
+        "forever",
+        "recurs(2000)",
+        "identity",
+        "elapsed",
+        "spaced(0)",
+    ] {
         expect_answers(&rt, "a leaf", &[(schedule, &pairs, &answers, &leaf)])?;
     }
     Ok(())
