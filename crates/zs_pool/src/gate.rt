@@ -1,6 +1,6 @@
-//! A hook that each task passes before it is polled. A gate may block the thread that calls it.
+//! A hook that is called before each poll.
 
-/// A hook that each task passes before it is polled. A gate may hold the thread that passes it.
+/// A hook that each task passes before it is polled. A gate may block the thread that calls it.
 pub trait Gate: Sync {
     /// Called before the task with the number `job` is polled at `now`. At least `done` polls were
     /// counted before.

@@ -40,6 +40,7 @@ impl Polled {
     /// Whether the poll of a task ran out of memory, and broke the task.
     pub fn broken(&self) -> bool
         ensures value { IsTrue result ↔ ((k : ℕ) × (t : TaskValue) × (slice_get self.entry.now.tasks k ≡ Some t) × (t.broken ≡ true)) }
+        // Each task has seen the moment, and was polled then or is broken.
         ensures saw { AllSaw self.entry.now.now self.entry.now.tasks }
     {
         self.tasks.iter().any(|task| task.broken())

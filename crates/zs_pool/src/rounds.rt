@@ -45,9 +45,11 @@ pub fn round<G: Gate, R: Threads + Wait + Sync>(
     requires rising { IsStrictlyIncreasing (map (λ task. task.number) tasks.items) }
     requires pollable { All (IsPollable now) tasks.items }
     requires tally { seat.old.tally ≡ tally.now }
+    // Each worker may have to count all tasks.
     requires allowance { cut.workers * length tasks.items ≤ seat.old.allowance }
     ensures tasks { IfOk result (λ after. after.items ≡ map (polled_at now) tasks.items) }
     ensures tally { OnOk result (seat.new.tally ≡ tally.now) }
+    // Each poll was counted once.
     ensures count { OnOk result (seat.new.count ≡ seat.old.count + length tasks.items) }
     ensures allowance { OnOk result (seat.new.allowance + length tasks.items ≡ seat.old.allowance) }
     ensures fault { IfErr result (λ e. e ≢ Full) }
