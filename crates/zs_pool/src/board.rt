@@ -4,8 +4,8 @@
 //! (`board/counter_rule.rt`):
 //! - `new` pushes each batch.
 //! - `claim` pops. After a batch it adds 1 to the counter. After an empty pop it loads the counter
-//!   until all claims have counted, and then looks at the queue and loads once more. A pass that has
-//!   returned `None` doesn't pop again.
+//!   until all claims have counted, and then looks at the queue and loads once more. A pass that
+//!   has returned `None` doesn't pop again.
 //! - `split` splits both handles. `join` joins both, looks at the queue and loads the counter.
 //! - `close` loads the counter, looks at the queue, and pops until it is empty.
 
