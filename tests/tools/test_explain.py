@@ -13,6 +13,7 @@ import sys
 import tempfile
 import unittest
 
+import faults as faults_table
 from mistakes import MISTAKES
 from mutate import changed_plans
 from support import ONE_JOB, TOP, job, plan
@@ -392,12 +393,13 @@ class Use(unittest.TestCase):
     def test_a_plan_of_many_attempts_gets_a_warning_before_it_is_run(self):
         many = plan([job("a", "forever", script='"script":[{"ms":5,"err":7}]')], '"horizon":999999999999999')
         (self.folder / "many.json").write_bytes(many)
-        other = self.folder / "other"
-        other.write_text("#!/bin/sh\nexit 0\n")
-        other.chmod(0o755)
-        status, output, errors = self.run_command("many.json", "--zsched", str(other))
+        status, output, errors = self.run_command("many.json")
         self.assertEqual((status, output), (0, "many.json: no fault\n"))
         self.assertIn("zsched-explain: warning: its attempts may be 2.0e+14, more than 100000000", errors)
+        (self.folder / "many.json").write_bytes(many.replace(b'"mode":"retry"', b'"mode":"retries"'))
+        status, output, errors = self.run_command("many.json")
+        self.assertEqual((status, output), (2, ""))
+        self.assertIn("zsched: job 0: out of range\n", errors)
         self.assertEqual(self.run_command("good.json")[2], "")
 
 
@@ -500,6 +502,20 @@ class Sizes(unittest.TestCase):
         self.assertIsNone(self.warned("forever", script='"script":[{"ms":1,"err":7},{"ms":1,"ok":7}]'))
         self.assertIsNone(self.warned("forever", script='"script":[{"ms":100000000,"err":7}]'))
         self.assertIsNone(plan_size.warning(plan([job("a", "forever")], '"ticks":[0,5,999999999999999]')))
+
+    def test_a_plan_with_one_tick_has_the_faults_of_the_plan(self):
+        for name, data, text in faults_table.refused():
+            changed = plan_size.with_one_tick(data)
+            self.assertLessEqual(len(changed), len(data), name)
+            with self.subTest(name):
+                status, _, errors = program.run(program.find(), changed)
+                self.assertEqual((status, errors.decode()), (2, f"zsched: {text}\n"))
+        good = plan([job("a", "forever")], '"horizon":999999999999999')
+        self.assertEqual(program.run(program.find(), plan_size.with_one_tick(good))[0], 0)
+        for clock in ['"horizon":-0', '"horizon":1000000000000000', '"horizon":true', '"ticks":[2,2]', '"ticks":[]',
+                      '"ticks":[1],"horizon":2', '"ticks":5', '"x":-0,"horizon":1', '"horizon":1e400']:
+            data = plan([job("a", "forever")], clock)
+            self.assertEqual(plan_size.with_one_tick(data), data, clock)
 
     def test_no_plan_of_the_repository_is_large_and_what_is_no_plan_has_no_size(self):
         for file in [*TOP.glob("examples/*.json"), *TOP.glob("tests/plans/*.json")]:

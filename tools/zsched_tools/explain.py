@@ -21,7 +21,7 @@ is written to standard output. The report is left to zsched itself.
 
 With --all the faults after the first one follow: each that was found is mended in
 a copy, which is run again. A plan that may have more than 100000000 attempts gets a
-warning before it is run."""
+warning, and is run with a clock of one moment, on which it has the same faults."""
 STATUSES = """exit status, that of zsched:
   0  the plan has no fault
   2  the plan is refused, or the words of the command are wrong
@@ -88,7 +88,7 @@ def _explain(name, taken):
     if many:
         print(f"zsched-explain: {paint('strong', 'warning')}: {many}", file=sys.stderr, flush=True)
     try:
-        status, line = refusal(zsched, look)
+        status, line = refusal(zsched, look, data=plan_size.with_one_tick(look.data) if many else None)
         if status == 2 and taken.all:
             return _tell_all(name, zsched, look.data, taken.most, paint)
     except OSError as failed:
@@ -150,11 +150,12 @@ class Look(threading.Thread):
         return explanation.explanation(name, self.plan, line, paint)
 
 
-def refusal(zsched, look, seconds=None):
-    """Runs the program on a plan's bytes while the look through them begins, and drops its report: its status and its
-    line on standard error. Past the seconds it is killed, and subprocess.TimeoutExpired is raised."""
+def refusal(zsched, look, seconds=None, data=None):
+    """Runs the program on a plan's bytes, or on those that have its faults, while the look through them begins, and
+    drops its report: its status and its line on standard error. Past the seconds it is killed, and
+    subprocess.TimeoutExpired is raised."""
     with tempfile.TemporaryFile() as plan:
-        plan.write(look.data)
+        plan.write(look.data if data is None else data)
         plan.seek(0)
         process = subprocess.Popen([zsched], stdin=plan, stdout=subprocess.DEVNULL, stderr=subprocess.PIPE)
     with process:

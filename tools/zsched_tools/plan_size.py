@@ -1,12 +1,15 @@
 """How many attempts a plan may have at most, before it is run."""
+import itertools
 import json
 import math
 import operator
 from typing import NamedTuple
 
-from zsched_tools import schedule_rules
+from zsched_tools import program, schedule_rules
 
 MOST_ATTEMPTS = 10**8
+_MOST_TICKS = 1000000
+_LAST_TICK = 999999999999999
 _LEAST_MS = 1
 _COMPARE = {"<": operator.lt, "<=": operator.le, "=": operator.eq, "!=": operator.ne, ">": operator.gt,
             ">=": operator.ge}
@@ -40,6 +43,35 @@ def warning(plan):
     if most <= MOST_ATTEMPTS:
         return None
     return f"its attempts may be {most:.1e}, more than {MOST_ATTEMPTS}: the run may take long, and its report much room"
+
+
+def with_one_tick(plan):
+    """The bytes of a plan with one moment for its clock, which has the plan's faults and runs at once; the plan itself
+    if its clock or its size has a fault."""
+    try:
+        tree = json.loads(plan.decode(), parse_int=_whole, parse_float=_no_whole, parse_constant=_no_whole)
+    except (ValueError, RecursionError):
+        return plan
+    if len(plan) > program.MAX_BYTES or not isinstance(tree, dict) or not _is_clock(tree):
+        return plan
+    tree.update({"horizon": 0} if "horizon" in tree else {"ticks": [0]})
+    return json.dumps(tree, ensure_ascii=False, separators=(",", ":")).encode(errors="surrogatepass")
+
+
+def _is_clock(tree):
+    """Whether a document has a clock in its range."""
+    if ("horizon" in tree) == ("ticks" in tree):
+        return False
+    ticks = [tree["horizon"]] if "horizon" in tree else tree["ticks"]
+    return (isinstance(ticks, list) and 1 <= len(ticks) <= _MOST_TICKS and all(type(tick) is int for tick in ticks)
+            and all(tick < later for tick, later in itertools.pairwise(ticks)) and ticks[-1] <= _LAST_TICK)
+
+
+def _whole(text):
+    """A whole number. No plan has a number with a sign."""
+    if text.startswith("-"):
+        raise ValueError(text)
+    return int(text)
 
 
 def _no_whole(text):

@@ -1,7 +1,7 @@
 //! ZIO's `retry` and `repeat` as futures that are polled by hand.
 //!
-//! A task stands at each moment exactly where its job stands on the clock that ticks at the moments at which it was polled
-//! while it was due. Polls that come too early change nothing, so the due ones alone suffice.
+//! A task's attempts are those of its job alone on a clock that ticks at the moments at which the
+//! task was polled while it was due. Polls that come too early change nothing.
 //!
 //! ```text
 //! let mut task = Task::new(alloc, 0, job)?;
@@ -11,7 +11,7 @@
 //! }
 //! ```
 //!
-//! Start with `specs/Timeline.antt` and `specs/Tasks.antt`.
+//! Begin with `specs/Timeline.antt` and `specs/Tasks.antt`.
 #![tactic(auto)]
 
 mod fault;
@@ -22,6 +22,7 @@ mod log;
 mod progress;
 mod record;
 mod task;
+mod touching;
 
 pub use fault::DriveFault;
 pub use job::{Job, Mode};

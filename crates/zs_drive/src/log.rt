@@ -9,6 +9,7 @@ ghost use Rattle.zs_drive.specs.Log.{BeginsNext, IsFull, IsLog, IsSameLog, keepi
 use crate::fault::DriveFault;
 use crate::lines::append_attempt;
 use crate::record::{Attempted, Ended, Keeping};
+use crate::touching::{touch_end, touch_last, touch_parts};
 use std::alloc::{AllocError, Global};
 use std::mem::{drop, swap};
 use zs_term::Out;
@@ -24,14 +25,14 @@ const FIRST_MOMENTS: usize = 16;
 /// Attempts as lines of text, and the last one as a record.
 #[derive(Drop)]
 pub struct Told {
-    /// The lines of all attempts but the last.
-    pub lines: String,
-    /// The number of these attempts.
-    pub count: u64,
-    /// The moments at which they began and ended, in order, in milliseconds.
-    pub moments: Vec<u64>,
     /// The last attempt.
     pub last: Option<Attempted>,
+    /// The number of the attempts before it.
+    pub count: u64,
+    /// The moments at which these began and ended, in order, in milliseconds.
+    pub moments: Vec<u64>,
+    /// Their lines.
+    pub lines: String,
 }
 
 /// The attempts so far.
@@ -68,7 +69,23 @@ fn add<T: Drop>(list: &mut Vec<T>, item: T, least: usize) -> Result<(), AllocErr
     Ok(())
 }
 
-// Takes an end away. Its output, if it has one, is given in place of another.
+// Reads an attempt and the parts of its output.
+fn touch_record(attempt: Option<&Attempted>) -> u64 {
+    let Some(attempt) = attempt else { return 0 };
+    match &attempt.ended {
+        Some(
+            Ended {
+                at,
+                step: Some((out, _)),
+                ..
+            },
+        ) => *at ^ touch_parts(out),
+        Some(Ended { at, .. }) => *at,
+        None => attempt.begun,
+    }
+}
+
+// Takes an end away. The caller gets its output, if it has one, in place of another.
 #[inline(never)]
 fn take_end(ended: &mut Option<Ended>, spare: &mut Out)
     ensures none { ended.new ≡ None }
@@ -120,7 +137,7 @@ impl Told {
         Ok(())
     }
 
-    // Another attempt begins. The output of the one before it is given to the caller.
+    // Another attempt begins. The caller gets the output of the one before it.
     fn begin(&mut self, begun: u64, spare: &mut Out) -> Result<(), AllocError>
         requires few { self.old.count + 1 < 2 ^ 64 }
         ensures ok { OnOk result (BeginsNext self.old self.new (record { begun = begun; ended = None })) }
@@ -151,11 +168,23 @@ impl Log {
         match keeps {
             Keeping::Records => Log::Recorded(Vec::new(alloc)),
             Keeping::Lines => Log::Written(Told {
-                lines: String::new(alloc),
+                last: None,
                 count: 0,
                 moments: Vec::new(alloc),
-                last: None,
+                lines: String::new(alloc),
             }),
+        }
+    }
+
+    /// Reads what the next attempt's beginning and end read first. The number has no meaning.
+    pub fn touch(&self) -> u64 {
+        match self {
+            Log::Recorded(records) => touch_record(records.last()),
+            Log::Written(told) => {
+                touch_end(told.lines.as_str())
+                    ^ touch_last(told.moments.as_slice())
+                    ^ touch_record(told.last.as_ref())
+            }
         }
     }
 
@@ -217,7 +246,7 @@ impl Log {
         self.told() + self.records().len() as u64
     }
 
-    /// Another attempt begins. If the one before it becomes lines, its output is given to the caller.
+    /// Begins another attempt. If the one before it becomes lines, the caller gets its output.
     pub fn begin(&mut self, begun: u64, spare: &mut Out) -> Result<(), DriveFault>
         requires few { log_count self.old + 1 < 2 ^ 64 }
         ensures begun { OnOk result ((attempts : List AttemptedValue) → IsLog self.old attempts
@@ -258,7 +287,7 @@ impl Log {
         }
     }
 
-    /// The last attempt ends.
+    /// Ends the last attempt.
     pub fn end(&mut self, ended: Ended)
         requires last { 0 < log_count self.old }
         ensures ended { (others : List AttemptedValue) (last : AttemptedValue) → IsLog self.old (others ++ last ∷ [])
@@ -268,7 +297,8 @@ impl Log {
         self.set_end(Some(ended));
     }
 
-    /// The last attempt ends, and another begins at that moment. If the former becomes lines, its output is given to the caller.
+    /// Ends the last attempt, and begins another at that moment. If the former becomes lines, the
+    /// caller gets its output.
     pub fn restart(&mut self, ended: Ended, spare: &mut Out) -> Result<(), DriveFault>
         requires last { 0 < log_count self.old }
         requires few { log_count self.old + 1 < 2 ^ 64 }

@@ -19,6 +19,7 @@ use crate::fault::DriveFault;
 use crate::job::Mode;
 use crate::log::Log;
 use crate::record::{Ended, Ending};
+use crate::touching::touch_parts;
 use futures::task::{Context, Poll};
 use futures::{Future, ready};
 use std::mem::replace;
@@ -37,29 +38,30 @@ pub enum Phase {
     Over(Ending),
 }
 
-/// How far a job is. It keeps the state of its schedule, and no history.
+/// How far a job is. It has the state of its schedule, and no history. What each poll reads comes
+/// first, so that it is in few cache lines.
 #[derive(Drop)]
 pub struct Progress {
-    /// The job's name.
-    pub name: String,
-    /// The job's mode.
-    pub mode: Mode,
-    /// The job's start, in milliseconds.
-    pub start: u64,
-    /// The job's script.
-    pub script: Script,
-    /// The state of its schedule.
-    pub compiled: Compiled,
-    /// The attempts so far.
-    pub log: Log,
-    /// An output that was told, whose memory serves the next one.
-    pub spare: Out,
     /// What is waited for.
     pub phase: Phase,
-    /// The number of polls that were due.
-    pub polls: u64,
     /// The last moment seen, in milliseconds.
     pub seen: u64,
+    /// The number of polls that were due.
+    pub polls: u64,
+    /// The job's mode.
+    pub mode: Mode,
+    /// The job's script.
+    pub script: Script,
+    /// The attempts so far.
+    pub log: Log,
+    /// An output that was written as text, whose memory is used for the next one.
+    pub spare: Out,
+    /// The state of its schedule.
+    pub compiled: Compiled,
+    /// The job's name.
+    pub name: String,
+    /// The job's start, in milliseconds.
+    pub start: u64,
 }
 
 impl Phase {
@@ -106,7 +108,7 @@ fn end_by_outcome(mode: Mode, outcome: Outcome) -> Option<Ending>
     }
 }
 
-// How the job ends where its schedule is done.
+// How the job ends if its schedule is done.
 fn end_by_schedule(mode: Mode, outcome: Outcome) -> Ending
     ensures value { result ≡ ending_by_schedule mode outcome }
 {
@@ -117,7 +119,18 @@ fn end_by_schedule(mode: Mode, outcome: Outcome) -> Ending
 }
 
 impl Progress {
-    // The entry of the script that the next attempt follows.
+    /// Reads what the next poll reads first. The number has no meaning.
+    pub fn touch(&self) -> u64 {
+        match &self.phase {
+            Phase::Waiting(_) => self.script.beat(1).ms ^ self.log.touch(),
+            Phase::Running(_) => self.log.touch()
+                ^ touch_parts(&self.spare)
+                ^ self.compiled.touch(),
+            Phase::Over(_) => 0,
+        }
+    }
+
+    // The entry of the script for the next attempt.
     fn next_beat(&self) -> Beat
         requires progress { IsProgress self.now }
         ensures value { result ≡ entry_at self.now.script (log_count self.now.log + 1) }
@@ -143,7 +156,7 @@ impl Progress {
         Ok(())
     }
 
-    // Asks the schedule after an outcome. Of a refusal only the schedule's state may be lost.
+    // Steps the schedule after an outcome. If that fails, only the schedule's state may be lost.
     fn ask(&mut self, outcome: Outcome) -> Result<(Out, Decision), DriveFault>
         requires past { last_seen self.old.compiled ≤ self.old.seen }
         ensures rest { self.new ≡ record self.old { compiled = self.new.compiled; spare = self.new.spare } }
@@ -192,7 +205,7 @@ impl Progress {
         self.end_attempt(outcome, None, Phase::Over(ending));
     }
 
-    // The schedule has answered this.
+    // The schedule has decided this.
     fn follow(&mut self, outcome: Outcome, out: Out, decision: Decision) -> Result<(), DriveFault>
         requires progress { IsProgress self.old }
         requires state { WasAsked self.old outcome }
@@ -268,7 +281,7 @@ impl Progress {
         Ok(())
     }
 
-    /// Does the due poll, if there is one. It is ready where it was done, or where the job is over.
+    /// Does the due poll, if there is one. It is ready if that was done, or if the job has ended.
     pub fn advance(&mut self, cx: &mut Context<'_>) -> Poll<Result<(), DriveFault>>
         requires progress { IsProgress self.old }
         requires state { HasState self.old }

@@ -1,4 +1,4 @@
-//! A job as a future that its caller polls at moments of its own choice.
+//! A job as a future that its caller polls at moments that the caller chooses.
 ghost use Rattle.std.specs.Prelude.{◌≡◌, ◌+◌, ◌≤◌, ◌<◌, [], ◌∷◌, map, length, string_bytes, false, true, Ok, IfOk, IfErr, IfSome, IsSomeAnd, ◌⊎◌, ⊤};
 ghost use Rattle.futures.specs.Poll.{OnPending};
 ghost use Rattle.futures.specs.Task.{IsArmed, Keeps};
@@ -22,7 +22,7 @@ use std::marker::Model;
 use zs_step::{Compiled, StepFault};
 use zs_term::Out;
 
-/// A numbered job with the attempts that were made so far. A poll that found no memory breaks it.
+/// A numbered job with the attempts so far. A poll that runs out of memory breaks it.
 #[derive(Drop)]
 pub struct Task {
     number: u64,
@@ -30,7 +30,7 @@ pub struct Task {
     broken: bool,
 }
 
-// How far a job is, in memory of its own, so that a task is moved as three words.
+// How far a job is, in a box, so that a task is moved as three words.
 fn boxed(alloc: Global, progress: Progress) -> Result<Box<Progress>, DriveFault>
     ensures value { IfOk result (λ b. b.value ≡ progress) }
     ensures memory { IfErr result (λ fault. fault ≡ DriveFault.Memory) }
@@ -58,8 +58,8 @@ impl Model for Task {
 }
 
 impl Task {
-    /// The task of a job, which has seen moment 0 and stores the record of each attempt. If memory runs out, it returns `Memory`,
-    /// and the job is dropped.
+    /// Makes the task of a job, which has seen moment 0 and stores the record of each attempt. If
+    /// memory runs out, it returns `Memory`, and the job is dropped.
     pub fn new(alloc: Global, number: u64, job: Job) -> Result<Task, DriveFault>
         ensures made { IfOk result (λ task. task ≡ record { number = number; job = job_value job; keeps = Keeping.Records; moments = []; seen = 0; broken = false }) }
         ensures script { IfOk result (λ task. IsScript task.job.script) }
@@ -68,7 +68,7 @@ impl Task {
         Task::keeping(alloc, number, job, Keeping::Records)
     }
 
-    /// The same, of a task that stores its attempts so.
+    /// Makes a task that stores its attempts in this way.
     pub fn keeping(alloc: Global, number: u64, job: Job, keeps: Keeping) -> Result<Task, DriveFault>
         ensures made { IfOk result (λ task. task ≡ record { number = number; job = job_value job; keeps = keeps; moments = []; seen = 0; broken = false }) }
         ensures script { IfOk result (λ task. IsScript task.job.script) }
@@ -171,7 +171,7 @@ impl Task {
         log.into_lines()
     }
 
-    /// The number of attempts that these lines tell.
+    /// The number of attempts that these lines show.
     pub fn told(&self) -> u64
         ensures value { result ≡ length (told_of self.now.keeps (current_timeline self.now).attempts) }
         // At each tick at most one attempt begins.
@@ -180,7 +180,7 @@ impl Task {
         self.progress.log.told()
     }
 
-    /// How the job ended, if it has. A broken task has not.
+    /// How the job ended, if it has. That of a broken task has not.
     pub fn ending(&self) -> Option<Ending>
         ensures value { result ≡ (current_timeline self.now).ending }
         ensures unbroken { IfSome result (λ _. self.now.broken ≡ false) }
@@ -188,21 +188,32 @@ impl Task {
         self.progress.phase.ending()
     }
 
-    /// Whether a poll of it found no memory. Each later poll then answers `Memory`.
+    /// Whether a poll ran out of memory. Each later poll then returns `Memory`.
     pub fn broken(&self) -> bool
         ensures value { result ≡ self.now.broken }
     {
         self.broken
     }
 
-    /// The moment that it waits for, in milliseconds: its start, the end of its attempt, or what its schedule says.
+    /// The moment that it waits for, in milliseconds: its start, the end of its attempt, or what
+    /// its schedule decided.
     pub fn due(&self) -> Option<u64>
         ensures value { result ≡ (current_timeline self.now).due }
     {
         self.progress.phase.due()
     }
 
-    /// Tells it the moment at which the next poll comes, in milliseconds: not before the last one seen, and at most 999,999,999,999,999.
+    /// Reads what its next poll reads first, so that this memory is in the cache by then. The
+    /// number has no meaning.
+    ///
+    /// If several tasks are touched before the first of them is polled, the processor waits for the
+    /// memory of all of them at once.
+    pub fn touch(&self) -> u64 {
+        self.progress.touch()
+    }
+
+    /// Sets the moment of the next poll, in milliseconds: not before the last one seen, and at most
+    /// 999,999,999,999,999.
     pub fn see(&mut self, now: u64)
         requires later { self.old.seen ≤ now }
         requires bounded { now ≤ max_tick }
@@ -215,8 +226,8 @@ impl Task {
 impl Future for Task {
     type Output = Result<Ending, DriveFault>;
 
-    /// At or past the moment waited for: ends the attempt, asks the schedule, and begins the next attempt where it may. Where it finds no
-    /// memory it answers `Memory`, and the task is broken.
+    /// At or past the moment waited for: ends the attempt, steps the schedule, and begins the next
+    /// attempt if that is due too. If memory runs out, it returns `Memory`, and the task is broken.
     fn poll(&mut self, cx: &mut Context<'_>) -> Poll<Result<Ending, DriveFault>>
         ensures answered { MatchMemory result ⊤
             ((self.old.broken ≡ false) × (self.new ≡ polled self.old) × (result ≡ reply_of (current_timeline self.new).ending)) }
@@ -226,7 +237,7 @@ impl Future for Task {
             → (result ≡ Poll.Pending) × (self.new ≡ self.old) }
         ensures over { IfSome (current_timeline self.old).ending (λ ending.
             (result ≡ Poll.Ready (Ok ending)) × (self.new ≡ self.old)) }
-        // A success of a retry and a failure of a repeat take no memory, so they are never lost for want of it.
+        // A success of a retry and a failure of a repeat take no memory, so they are never lost.
         ensures outcome { self.old.broken ≡ false → (ending : Ending) → EndsByOutcome self.old ending
             → result ≡ Poll.Ready (Ok ending) }
         ensures same { (self.new.number ≡ self.old.number) × (self.new.job ≡ self.old.job) × (self.new.seen ≡ self.old.seen) }

@@ -58,7 +58,7 @@ listed-end (t ∷ ts) h all =
     let first : t ≤ h = all t (0, (omega arith), refl) in
     (omega arith, listed-end ts h (λ s k. all s (Contains-append_right (t ∷ []) ts s k)))
 
--- no tick is past the horizon
+-- no tick is after the horizon
 pub ticks-end : (c : Ticks) (h : ℕ) → ((t : ℕ) → IsTick c t → t ≤ h) → AllBefore (ticks_of c) (h + 1)
 unfolding ticks_of
 ticks-end (every_ms last) h all = let within : last ≤ h = all last (omega arith) in AllBefore-moments 0 (last + 1) (h + 1) (omega arith)
@@ -85,7 +85,7 @@ unfolding ticks_of
 ticks-rise (every_ms last) lawful = RisesFrom-moments 0 0 (last + 1) (omega arith)
 ticks-rise (listed ts) lawful = RisesFrom-increasing ts lawful.rising
 
--- the list of a clock's ticks is a clock of listed ticks
+-- the list of a clock's ticks is a valid clock of listed ticks
 pub ticks-clock : (c : Ticks) (h : ℕ) → IsClock c → ((t : ℕ) → IsTick c t → t ≤ h) → h ≤ max_horizon → drive.AreTicks (ticks_of c)
 ticks-clock c h lawful all small = record {
   rises = ticks-rise c lawful;

@@ -1,4 +1,5 @@
--- A due poll adds its moment, and no other, to the moments at which the attempts of a job alone begin and end.
+-- A due poll adds its moment, and no other, to the moments at which the attempts of a job alone
+-- begin and end.
 use Rattle.std.proofs.Common.{◌≡◌, ℕ, zero, suc, ◌+◌, ◌≤◌, ◌<◌, ◌^◌, ◌-◌, max, List, [], ◌∷◌, ◌++◌, length, Option, nat_lt, false, if◌then◌else◌, append_assoc, refl, sym, ◌∙◌, ap, arith, ◌⊎◌, inl, inr}
 use Rattle.std.specs.Prelude.{Some, None, flat_map, fold}
 use Rattle.zs_effect.specs.Scripts.{IsScript}
@@ -61,11 +62,12 @@ module _ (job : JobRecord) where
   timeline_of-last ticks = from-last ticks (length ticks) [] job.start
 
   module _ (c : ℕ) where
-    -- c comes once or twice more: an attempt that ends at c and the next one that begins at c are one poll
+    -- c is added once or twice: an attempt that ends at c and the next one that begins at c are one
+    -- poll
     abbrev pub Grows : List ℕ → List ℕ → Type 0
     Grows old new = (new ≡ old ++ c ∷ []) ⊎ (new ≡ old ++ c ∷ c ∷ [])
 
-    -- an attempt that ends at c, and what comes after it
+    -- an attempt that ends at c, and what follows it
     resume-grows : (s : ℕ) (h : History) (x : ℕ) → Grows (s ∷ []) (s ∷ c ∷ flat_map moments_of (resume job c h x).attempts)
     unfolding resume
     resume-grows s h x =

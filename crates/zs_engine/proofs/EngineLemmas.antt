@@ -45,7 +45,7 @@ IsNew-none engine lawful last limit is_horizon none unset seat =
       uncounted = uncounted;
     }
 
--- other slots and other timers, and the rest as it was
+-- other slots and other timers; the rest is unchanged
 pub record Keeps (old new : Engine) : Type 0 where
   pub clock : new.clock ≡ old.clock
   pub horizon : new.horizon ≡ old.horizon
@@ -102,7 +102,7 @@ IsDueWith-taken old new now numbers h keeps slots seat takes =
       in_order = takes.in_order;
     }
 
--- it is not past the horizon
+-- it is not after the horizon
 pub taken-within : (clock : Ticks) (jobs : List KeptJob) (old : Engine) (after : Timers) (now : ℕ) (numbers : List ℕ) → RestsWith clock jobs old → Takes old.agenda after now numbers → now ≤ horizon clock
 taken-within clock jobs old after now numbers h takes =
     let within : now ≤ old.horizon = begins-within (ticks_of clock) old.horizon old.slots.items old.agenda after old.seat.count now numbers h.rests takes h.runs.last in
@@ -110,7 +110,7 @@ taken-within clock jobs old after now numbers h takes =
 
 -- ---- one round
 module _ (old : Engine) (now : ℕ) (numbers : List ℕ) (h : IsDueWith old.clock (jobs_in old.slots.items) now numbers old) where
-  -- the slots of the due tasks are filled
+  -- the slots of the due tasks contain tasks
   pub due-filled : (tasks : List TaskValue) × Picks old.slots.items numbers tasks
   due-filled = begins-filled (ticks_of old.clock) old.slots.items old.agenda old.seat.count now numbers h.begins numbers (λ i e. e)
 
@@ -150,7 +150,7 @@ module _ (old : Engine) (now : ℕ) (numbers : List ℕ) (h : IsDueWith old.cloc
       let end = settling-end (ticks_of old.clock) now (jobs_in old.slots.items) new.slots.items new.agenda new.seat.count settling in
       record { runs = Runs-kept old.clock (jobs_in old.slots.items) (jobs_in old.slots.items) old new h.runs keeps end.1 seated sum; rests = end.0 }
 
--- ---- the same, told of another clock or other jobs that are equal
+-- ---- the same for another clock or other jobs that are equal
 pub RestsWith-own : (clock : Ticks) (jobs : List KeptJob) (engine : Engine) → RestsWith clock jobs engine → RestsWith engine.clock (jobs_in engine.slots.items) engine
 RestsWith-own clock jobs engine h =
     subst (λ (c : Ticks). RestsWith c (jobs_in engine.slots.items) engine) (sym h.runs.same_clock) (subst (λ (js : List KeptJob). RestsWith clock js engine) (sym h.runs.same_jobs) h)

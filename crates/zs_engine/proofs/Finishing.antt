@@ -31,7 +31,7 @@ rests-none ticks slots a none empty = record { tasks = []; same = none; all_wait
 pub begins : (ticks : List ℕ) (slots : Slots) (a a' : Timers) (count now : ℕ) (numbers : List ℕ) → Rests ticks slots a count → Takes a a' now numbers → Begins ticks slots a' count now numbers
 begins ticks slots a a' count now numbers r takes = record { tasks = r.tasks; same = r.same; all_wait = AllWaitBut-start ticks r.tasks a a' now numbers r.all_wait takes; counted = r.counted }
 
--- it is not past the horizon
+-- it is not after the horizon
 pub begins-within : (ticks : List ℕ) (h : ℕ) (slots : Slots) (a a' : Timers) (count now : ℕ) (numbers : List ℕ) → Rests ticks slots a count → Takes a a' now numbers → AllBefore ticks (h + 1) → now ≤ h
 begins-within ticks h slots a a' count now numbers r takes last =
     let job = takes.is_least.some_job in
@@ -39,7 +39,7 @@ begins-within ticks h slots a a' count now numbers r takes last =
     let soon : now < h + 1 = first_tick_from-before ticks (h + 1) at.0 now last at.1 in
     omega arith
 
--- there are as many slots as jobs
+-- the number of slots is that of jobs
 pub length-slots : (slots : Slots) (tasks : List TaskValue) → slots ≡ full tasks → length slots ≡ length (jobs_in slots)
 length-slots slots tasks same =
     rw same (length-full tasks ∙ sym (length-map tasks kept_of) ∙ ap (λ (js : List KeptJob). length js) (sym (jobs_in-full tasks)))
@@ -54,12 +54,12 @@ full-same (x ∷ xs) (y ∷ ys) e =
     let rest : xs ≡ ys = full-same xs ys cc in
     rw (one, rest) refl
 
--- the jobs of tasks, without how they store their attempts
+-- the jobs of tasks, without how their attempts are stored
 abbrev alone_of : List TaskValue → List JobValue
 alone_of ts = map (λ (t : TaskValue). t.job) ts
 
 module _ (ticks : List ℕ) where
-  -- the task at slot b + i has that number, and stands as its job alone
+  -- the task at slot b + i has that number, and the timeline of its job alone
   abbrev pub Ends : ℕ → List TaskValue → Type 0
   Ends b ts = (i : ℕ) (t : TaskValue) → slice_get ts i ≡ Some t → (t.number ≡ b + i) × (current_timeline t ≡ timeline_of (record_of t.job) ticks) × (t.broken ≡ false) × (t.moments ≡ poll_moments (current_timeline t).attempts)
 
@@ -105,7 +105,7 @@ module _ (ticks : List ℕ) where
       let none : next_of ticks (current_timeline t).due ≡ None = sym w.is_set ∙ ap (λ (m : Moments). map_of.get m i) empty ∙ map_of.get-empty nat_cmp i in
       (omega (arith, w.number), keeps_up-to ticks t w.keeps_up none, w.keeps_up.whole, w.keeps_up.kept)
 
--- the jobs of tasks, alone
+-- the jobs of tasks, without how their attempts are stored
 alone-kept : (ts : List TaskValue) → map job_alone (jobs_of ts) ≡ alone_of ts
 alone-kept [] = refl
 alone-kept (t ∷ ts) = ap (λ (js : List JobValue). t.job ∷ js) (alone-kept ts)
@@ -132,7 +132,7 @@ answered clock jobs answer slots a r empty same of_jobs last =
       last = last;
     }
 
--- the jobs of the answer's tasks
+-- the jobs of the result's tasks
 pub answered-jobs : (ts : List TaskValue) (slots : Slots) → slots ≡ full ts → map kept_of ts ≡ jobs_in slots
 answered-jobs ts slots same = sym (jobs_in-full ts) ∙ ap jobs_in (sym same)
 

@@ -1,4 +1,4 @@
--- How far a task is that is polled at each due tick.
+-- A task that is polled at each due tick is up to date.
 use Rattle.std.proofs.Common.{◌≡◌, ℕ, ◌+◌, ◌≤◌, ◌<◌, List, [], ◌∷◌, ◌++◌, length, length-append, append_assoc, Option, false, if◌then◌else◌, refl, sym, ◌∙◌, ap, arith}
 use Rattle.std.specs.Prelude.{Some, None}
 use Rattle.zs_effect.specs.Scripts.{IsScript}
@@ -20,7 +20,7 @@ unfolding AllBefore
 AllBefore-both [] ys c first second = second
 AllBefore-both (x ∷ xs) ys c first second = (first.0, AllBefore-both xs ys c first.1 second)
 
--- the ticks before the moment asked for don't count
+-- the ticks before the moment in question don't count
 first_tick_from-skip : (xs ys : List ℕ) (x : ℕ) → AllBefore xs x → first_tick_from (xs ++ ys) x ≡ first_tick_from ys x
 unfolding first_tick_from AllBefore
 first_tick_from-skip [] ys x all = refl
@@ -114,7 +114,7 @@ module _ (ticks : List ℕ) (task : TaskValue) (keeps_up : KeepsUp ticks task) w
   script : IsScript task.job.script
   script = keeps_up.script
 
-  -- what the job waits for comes after the ticks so far
+  -- the due moment of the job is after the ticks so far
   passed : (x : ℕ) → (timeline_of (record_of task.job) keeps_up.past).due ≡ Some x → AllBefore keeps_up.past x
   passed x due =
       let small = keeps_up.small in
@@ -186,7 +186,7 @@ module _ (ticks : List ℕ) (task : TaskValue) (keeps_up : KeepsUp ticks task) w
   pub keeps_up-to : next_of ticks (current_timeline task).due ≡ None → current_timeline task ≡ timeline_of (record_of task.job) ticks
   keeps_up-to none = keeps_up-last (current_timeline task).due refl none
 
--- the moment at which a job is due has a tick
+-- the due moment of the job has a tick
 pub next-due : (ticks : List ℕ) (due : Option ℕ) (now : ℕ) → Some now ≡ next_of ticks due → (x : ℕ) × (due ≡ Some x) × (first_tick_from ticks x ≡ Some now)
 next-due ticks None now e = cc
 next-due ticks (Some x) now e = (x, refl, sym e)

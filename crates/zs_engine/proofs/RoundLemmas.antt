@@ -1,4 +1,4 @@
--- Lemmas on the rounds of the engine.
+-- Lemmas about the rounds of the engine.
 use Rattle.std.proofs.Common.{◌≡◌, ◌≢◌, ◌<◌, ◌≤◌, ◌+◌, ◌-◌, ◌==◌, ◌||◌, ℕ, zero, suc, Bool, true, false, List, [], ◌∷◌, ◌++◌, Option, Some, None, Contains, cond, length, drop, drop-cons, add-one, refl, sym, ap, ◌∙◌, subst, arith, slice_get, slice_set, slice_index, nat_cmp, length-append, ◌⊎◌, inl, inr, IsNone, map}
 use Rattle.std.specs.Prelude.{IfNone}
 use Rattle.std.proofs.lemmas.Bool.Decides.{nat_tests, Decides-eqb}
@@ -74,7 +74,7 @@ pub polls_of-push : (ts : List TaskValue) (t : TaskValue) → t.moments ≡ [] �
 polls_of-push [] t e = rw e refl
 polls_of-push (y ∷ ts) t e = ap (λ (n : ℕ). length y.moments + n) (polls_of-push ts t e)
 
--- what a task set again leaves
+-- the moments after a task's timer is armed again
 pub get-set_next : (a : Timers) (x i : ℕ) (o : Option ℕ) → map_of.get a.moments x ≡ None → map_of.get (set_next a x o).moments i ≡ cond (i == x) o (map_of.get a.moments i)
 get-set_next a x i None none =
     elim (i == x) as (λ b. (i == x) ≡ b → map_of.get a.moments i ≡ cond b None (map_of.get a.moments i)) [
@@ -88,7 +88,7 @@ pub taken-set_next : (a : Timers) (x : ℕ) (o : Option ℕ) → (set_next a x o
 taken-set_next a x None = refl
 taken-set_next a x (Some m) = refl
 
--- a task that is due at now
+-- a task that is due at `now`
 pub pending-keeps_up : (ticks : List ℕ) (a : Timers) (now i : ℕ) (t : TaskValue) → IsPending ticks a now i t → KeepsUp ticks (polled_at now t)
 pending-keeps_up ticks a now i t p =
     let due = next-due ticks (current_timeline t).due now (sym p.is_due) in keeps_up-on ticks t p.keeps_up due.0 now due.1 due.2
@@ -243,7 +243,7 @@ pub IsDistinct-increasing : (xs : List ℕ) → IsStrictlyIncreasing xs → IsDi
 IsDistinct-increasing xs h = IsDistinct-sorted xs (sorted_from_strictly_increasing xs h)
 
 -- ---- the whole run
--- how many moments are left, at most
+-- the greatest number of moments that remain
 abbrev pub rounds_left : ℕ → Option ℕ → ℕ
 rounds_left horizon None = horizon + 1
 rounds_left horizon (Some now) = horizon - now
@@ -298,7 +298,7 @@ AllWait-push ticks ts a n t l number keeps_up h =
           ] refl (sym (after i) ∙ e);
     }
 
--- a moment that is set is the tick of a task's due moment
+-- a moment of a timer is the tick for a task's due moment
 pub set-due : (ticks : List ℕ) (ts : List TaskValue) (a : Timers) (i m : ℕ) → AllWait ticks ts a → map_of.get a.moments i ≡ Some m → (x : ℕ) × (first_tick_from ticks x ≡ Some m)
 set-due ticks ts a i m h e =
     let t : (u : TaskValue) × (slice_get ts i ≡ Some u) = some_at ts i (h.no_others i m e) in

@@ -32,7 +32,7 @@ rests-push ticks slots a t clock r l fresh unseen whole script = record {
   counted = r.counted ∙ sym (polls_of-push r.tasks t fresh);
 }
 
--- ---- what the pool asks for
+-- ---- what the pool requires
 module _ (ticks : List ℕ) (slots : Slots) (a : Timers) (count now : ℕ) (numbers : List ℕ) (b : Begins ticks slots a count now numbers) where
   pub begins-filled : (left : List ℕ) → ((i : ℕ) → has i left ≡ true → has i numbers ≡ true) → (tasks : List TaskValue) × Picks slots left tasks
   begins-filled [] within = ([], refl)
@@ -76,7 +76,7 @@ module _ (ticks : List ℕ) (slots : Slots) (a : Timers) (count now : ℕ) (numb
         | false ↦ λ h. (b.all_wait.waiting i t at h).keeps_up
       ] refl
 
-  -- there is room for the polls of a round
+  -- the seat may count all polls of a round
   pub begins-room : AreTicks ticks → length slots ≤ 10000 → count ≤ 10000 * 1000000000000000
   begins-room clock few =
       let bound = polls-bound b.tasks keeps_up-each in omega (arith, bound, b.counted, ap (λ (ps : Slots). length ps) b.same, length-full b.tasks)
@@ -93,7 +93,7 @@ times zero b n h = omega arith
 times (suc a) zero n h = absurd (omega arith)
 times (suc a) (suc b) n h = let rest : a * n ≤ b * n = times a b n (omega arith) in omega (arith, rest)
 
--- ---- while the tasks are put back: these are left
+-- ---- while the tasks are put back: `rest` remain
 pub record Settling (ticks : List ℕ) (now : ℕ) (jobs : List KeptJob) (slots : Slots) (a : Timers) (rest : List TaskValue) (count : ℕ) : Type 0 where
   pub tasks : List TaskValue
   pub left : List ℕ
@@ -189,7 +189,7 @@ module _ (ticks : List ℕ) (now : ℕ) (jobs : List KeptJob) (slots : Slots) (a
   pub settling-next : (t' : TaskValue) (more : List TaskValue) → Settling ticks now jobs slots a (t' ∷ more) count → Next ticks now jobs slots a t' more count
   settling-next t' more s = next_of_all t' more s.tasks s.left s.waits s.all_wait s.distinct s.picks s.rest_is s.long s.shown s.same_jobs s.counted
 
-  -- the same, where the list of those that are left is known by an equation
+  -- the same, if the list of the remaining tasks is known by an equation
   pub settling-at : (t' : TaskValue) (more rest : List TaskValue) → rest ≡ t' ∷ more → Settling ticks now jobs slots a rest count → Next ticks now jobs slots a t' more count
   settling-at t' more rest is s = settling-next t' more (rw is at s)
 

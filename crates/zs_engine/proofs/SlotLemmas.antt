@@ -1,4 +1,4 @@
--- Lemmas on slots that are emptied and filled again.
+-- Lemmas about slots that are emptied and filled again.
 use Rattle.std.proofs.Common.{◌≡◌, ◌≢◌, ◌<◌, ◌||◌, ℕ, zero, suc, Bool, true, false, List, [], ◌∷◌, ◌++◌, Option, Some, None, length, refl, sym, ap, ◌∙◌, subst, arith, slice_get, slice_set, append_assoc, append-nil, map}
 use Rattle.std.proofs.lemmas.Bool.Decides.{nat_tests, Decides-eqb}
 use Rattle.std.specs.List.{AllByRecursion}
@@ -17,7 +17,7 @@ apart x n left once same = let clash : true ≡ false = sym (ap (λ (b : Bool). 
 others : (x n : ℕ) (left : List ℕ) → has n (x ∷ left) ≡ false → has n left ≡ false
 others x n left once = grind (arith, nat_tests)
 
--- another slot doesn't count
+-- another slot has no influence
 pub Picks-set : (slots : Slots) (n : ℕ) (o : Option TaskValue) (left : List ℕ) (ts : List TaskValue) → has n left ≡ false → Picks slots left ts → Picks (slice_set slots n o) left ts
 Picks-set slots n o [] ts once p = p
 Picks-set slots n o (x ∷ left) [] once p = absurd p
@@ -39,7 +39,7 @@ Picks-more : (slots : Slots) (n : ℕ) (left : List ℕ) (ts : List TaskValue) �
 Picks-more slots n left [] p = absurd p
 Picks-more slots n left (t ∷ us) p = (t, us, p.0, p.1)
 
--- while tasks are taken out: these slots are left
+-- while tasks are taken out: these slots remain
 pub record Lifting (old : Slots) (numbers : List ℕ) (slots : Slots) (left : List ℕ) (tasks : List TaskValue) : Type 0 where
   pub rest : List TaskValue
   pub picks : Picks slots left rest
@@ -97,7 +97,7 @@ pub length-full : (ts : List TaskValue) → length (full ts) ≡ length ts
 length-full [] = refl
 length-full (y ∷ ts) = ap suc (length-full ts)
 
--- slots that all show their tasks are full
+-- slots that contain all tasks are full
 pub full-all : (slots : Slots) (ts : List TaskValue) → length slots ≡ length ts → ((i : ℕ) (t : TaskValue) → slice_get ts i ≡ Some t → slice_get slots i ≡ Some (Some t)) → slots ≡ full ts
 full-all [] [] l shown = refl
 full-all [] (t ∷ ts) l shown = absurd (omega (arith, l))

@@ -1,4 +1,4 @@
--- A round of one thread: the tasks that are due are polled in their slots, one after the other.
+-- A round of one thread: the due tasks are polled in their slots, one after the other.
 use Rattle.std.proofs.Common.{◌≡◌, ◌≤◌, ◌+◌, ◌||◌, ℕ, zero, suc, Bool, true, false, List, [], ◌∷◌, Option, Some, None, length, refl, sym, ap, ◌∙◌, subst, arith, slice_get, slice_set, slice_index_or, inl, inr}
 use Rattle.std.specs.List.Sorted.{IsStrictlyIncreasing, IsStrictlySortedBy}
 use Rattle.std.proofs.lemmas.Bool.Decides.{Decides-eqb}
@@ -27,13 +27,13 @@ IsStrictlyIncreasing-rest n left rising = IsStrictlyIncreasing-from_sorted left 
 first : (n : ℕ) (left : List ℕ) → has n (n ∷ left) ≡ true
 first n left = ap (λ (x : Bool). x || has n left) ((Decides-eqb n n).1 refl)
 
--- what is read of a slot that has a task
+-- what is read from a slot that has a task
 pub slot_read : (slots : Slots) (n : ℕ) (t : TaskValue) (o : Option TaskValue) → slice_get slots n ≡ Some (Some t) → o ≡ slice_index_or slots n o → o ≡ Some t
 slot_read [] n t o here at = let no : None ≡ Some (Some t) = here in cc
 slot_read (p ∷ slots) zero t o here at = let first : p ≡ Some t = (let one : Some p ≡ Some (Some t) = here in cc) in at ∙ first
 slot_read (p ∷ slots) (suc n) t o here at = slot_read slots n t o here at
 
--- a poll that found memory
+-- a poll that didn't run out of memory
 pub unbroken : (now : ℕ) (t after : TaskValue) → IsPolled now t after → after.broken ≡ false → after ≡ polled_at now t
 unbroken now t after polled whole =
     elim polled [
@@ -109,7 +109,7 @@ module _ (old : Engine) (now n : ℕ) (left : List ℕ) (h : IsDueWith old.clock
           subst (λ (u : TaskValue). IsLater old.agenda.last_taken (next_of (ticks_of old.clock) (current_timeline u).due)) (sym is)
           (begins-later (ticks_of old.clock) old.slots.items old.agenda old.seat.count now n left h.begins t here turn-once)
 
-      -- the task was polled and counted, and its timer is set
+      -- the task was polled and counted, and its timer is armed
       pub turn-onward : (new : Engine) → Keeps old new → new.slots.items ≡ slice_set old.slots.items n (Some after)
           → new.agenda ≡ set_next old.agenda after.number (next_of (ticks_of old.clock) (current_timeline after).due)
           → HasCounted old.seat 1 new.seat → IsDueWith old.clock (jobs_in old.slots.items) now left new
@@ -139,7 +139,7 @@ due-none clock jobs now engine h = record {
   };
 }
 
--- the same, told of the engine's own clock and jobs
+-- the same, for the engine's clock and jobs
 pub IsDueWith-own : (clock : Ticks) (jobs : List KeptJob) (now : ℕ) (numbers : List ℕ) (engine : Engine) → IsDueWith clock jobs now numbers engine → IsDueWith engine.clock (jobs_in engine.slots.items) now numbers engine
 IsDueWith-own clock jobs now numbers engine h =
     subst (λ (c : Ticks). IsDueWith c (jobs_in engine.slots.items) now numbers engine) (sym h.runs.same_clock) (subst (λ (js : List KeptJob). IsDueWith clock js now numbers engine) (sym h.runs.same_jobs) h)

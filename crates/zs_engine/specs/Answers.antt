@@ -1,5 +1,6 @@
--- What a run answers. Each task stands where its job alone stands on the whole clock: nothing of workers, batches, gates or
--- timers shows. Readers of `run_jobs` trust this file and what it names of zs_drive.
+-- The result of a run. Each task has the timeline that its job alone has on the whole clock.
+-- Workers, batches, gates and timers have no influence on it. Readers of `run_jobs` trust this file
+-- and what it names of zs_drive.
 use Rattle.std.specs.Prelude.{◌≡◌, ℕ, ◌+◌, false, List, [], ◌∷◌, All, length, map}
 use Rattle.zs_drive.specs.declared.record.Keeping.{Keeping}
 use Rattle.zs_drive.specs.Values.{JobValue, JobRecord, record_of}
@@ -13,13 +14,13 @@ use Rattle.zs_engine.specs.Times.{moments_from, ticks_of}
 abbrev pub poll_moments_of : List ℕ → JobRecord → List ℕ
 poll_moments_of ticks job = poll_moments (timeline_of job ticks).attempts
 
--- how many due polls the jobs have in all
+-- the number of due polls of all jobs
 abbrev pub poll_count_of : List ℕ → List JobRecord → ℕ
 poll_count_of ticks [] = 0
 poll_count_of ticks (job ∷ jobs) = length (poll_moments_of ticks job) + poll_count_of ticks jobs
 
--- The tasks are those of the jobs, in order and numbered by their places, each unbroken and where its job alone stands on
--- the whole clock. Every due poll was counted once.
+-- The tasks are those of the jobs, in order and numbered by their places. None is broken, and each
+-- has the timeline of its job alone on the whole clock. Every due poll was counted once.
 pub record IsAnswer (clock : Ticks) (jobs : List JobValue) (answer : Answer) : Type 0 where
   pub numbered : map (λ task. task.number) answer.tasks.items ≡ moments_from 0 (length jobs)
   pub same_jobs : map (λ task. task.job) answer.tasks.items ≡ jobs
@@ -29,6 +30,6 @@ pub record IsAnswer (clock : Ticks) (jobs : List JobValue) (answer : Answer) : T
   pub polls : answer.polls ≡ poll_count_of (ticks_of clock) (map record_of jobs)
   pub last : answer.horizon ≡ horizon clock
 
--- each task stores its attempts so
+-- each task stores its attempts in this way
 abbrev pub AllKeep : Keeping → Answer → Type 0
 AllKeep keeps answer = All (λ (task : TaskValue). task.keeps ≡ keeps) answer.tasks.items

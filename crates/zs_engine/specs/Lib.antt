@@ -1,7 +1,7 @@
--- What the clauses of callers name, and so what has to be believed.
+-- Named by public clauses: a reader who relies on a clause has to believe what it names.
 pub mod Times
 pub mod Answers
--- What the bodies keep: private contracts alone name these.
+-- What the code stores. Only private contracts name these.
 pub mod Slots
 pub mod Rounds
 pub mod Engine

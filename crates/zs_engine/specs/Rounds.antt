@@ -1,6 +1,6 @@
--- What the rounds of a run keep. Between two rounds each task stands where its job alone stands after the ticks so far, and
--- has a timer exactly where a tick is left for the moment that it waits for. In a round this holds for all tasks but those
--- that are still to be polled.
+-- The invariant of the rounds of a run. Between two rounds each task has the timeline of its job
+-- alone on the ticks so far. It has a timer exactly if there is a tick at or after its due moment.
+-- During a round this is true of all tasks but those that are still to be polled.
 use Rattle.std.specs.Prelude.{◌≡◌, ◌<◌, ◌≤◌, ◌+◌, ◌++◌, ◌∷◌, [], ℕ, true, false, List, Option, Some, None, length, slice_get, map, option_to_list, option_map}
 use Rattle.std.specs.FinMap.{get, insert}
 use Rattle.zs_agenda.specs.Timers.{Timers}
@@ -14,8 +14,8 @@ use Rattle.zs_drive.specs.Tasks.{TaskValue, current_timeline}
 use Rattle.zs_engine.specs.Times.{next_of}
 use Rattle.zs_engine.specs.Slots.{Slots, has}
 
--- The task keeps up with the clock: the ticks so far and those to come, that the task stands where its job stands after the
--- former, and that it was polled just when an attempt began or ended.
+-- The task is up to date after the ticks `past`: it has the timeline of its job alone on them, and
+-- was polled exactly when an attempt began or ended. The ticks `rest` are still to come.
 pub record KeepsUp (ticks : List ℕ) (task : TaskValue) : Type 0 where
   pub past : List ℕ
   pub rest : List ℕ
@@ -33,25 +33,25 @@ pub record KeepsUp (ticks : List ℕ) (task : TaskValue) : Type 0 where
   pub whole : task.broken ≡ false
   pub script : IsScript task.job.script
 
--- the task in slot i waits for its next due poll, and its timer is set for it
+-- the task in slot i waits for its next due poll, and its timer is armed for it
 pub record IsWaiting (ticks : List ℕ) (timers : Timers) (i : ℕ) (task : TaskValue) : Type 0 where
   pub keeps_up : KeepsUp ticks task
   pub number : task.number ≡ i
   pub is_set : get timers.moments i ≡ next_of ticks (current_timeline task).due
 
--- the task of slot i is due at now, and has no timer
+-- the task of slot i is due at `now`, and has no timer
 pub record IsPending (ticks : List ℕ) (timers : Timers) (now i : ℕ) (task : TaskValue) : Type 0 where
   pub keeps_up : KeepsUp ticks task
   pub number : task.number ≡ i
   pub is_due : next_of ticks (current_timeline task).due ≡ Some now
   pub is_unset : get timers.moments i ≡ None
 
--- between two rounds each task waits, and nobody else has a timer
+-- between two rounds each task waits, and there are no other timers
 pub record AllWait (ticks : List ℕ) (tasks : List TaskValue) (timers : Timers) : Type 0 where
   pub each : (i : ℕ) (task : TaskValue) → slice_get tasks i ≡ Some task → IsWaiting ticks timers i task
   pub no_others : (i m : ℕ) → get timers.moments i ≡ Some m → i < length tasks
 
--- in the round at now each task waits but these, which are still to be polled
+-- in the round at `now` all tasks wait but these, which are still to be polled
 pub record AllWaitBut (ticks : List ℕ) (tasks : List TaskValue) (timers : Timers) (now : ℕ) (left : List ℕ) : Type 0 where
   pub is_taken : timers.last_taken ≡ Some now
   pub pending : (i : ℕ) (task : TaskValue) → slice_get tasks i ≡ Some task → has i left ≡ true → IsPending ticks timers now i task
@@ -59,19 +59,19 @@ pub record AllWaitBut (ticks : List ℕ) (tasks : List TaskValue) (timers : Time
   pub no_others : (i m : ℕ) → get timers.moments i ≡ Some m → i < length tasks
   pub in_range : (i : ℕ) → has i left ≡ true → i < length tasks
 
--- how many due polls were done in all
+-- the number of due polls that were done
 abbrev pub polls_of : List TaskValue → ℕ
 polls_of [] = 0
 polls_of (task ∷ tasks) = length task.moments + polls_of tasks
 
--- between two rounds each task is in its slot and waits, and so many polls were done
+-- between two rounds each task is in its slot and waits, and `count` polls were done
 pub record Rests (ticks : List ℕ) (slots : Slots) (timers : Timers) (count : ℕ) : Type 0 where
   pub tasks : List TaskValue
   pub same : slots ≡ map (λ task. Some task) tasks
   pub all_wait : AllWait ticks tasks timers
   pub counted : count ≡ polls_of tasks
 
--- a round begins: each task is in its slot, and these are due at now
+-- a round begins: each task is in its slot, and these are due at `now`
 pub record Begins (ticks : List ℕ) (slots : Slots) (timers : Timers) (count now : ℕ) (numbers : List ℕ) : Type 0 where
   pub tasks : List TaskValue
   pub same : slots ≡ map (λ task. Some task) tasks
@@ -82,15 +82,15 @@ pub record Begins (ticks : List ℕ) (slots : Slots) (timers : Timers) (count no
 abbrev pub KeptJob : Type 0
 KeptJob = JobValue × Keeping
 
--- what a job stands for whose task stores its attempts so
+-- the value of a job whose task stores its attempts in this way
 abbrev pub job_kept : Keeping → Job → KeptJob
 job_kept keeps job = (job_value job, keeps)
 
--- the job alone
+-- the job without how its attempts are stored
 abbrev pub job_alone : KeptJob → JobValue
 job_alone kept = kept.0
 
--- the job of a task
+-- the job of a task, with how it stores its attempts
 abbrev pub kept_of : TaskValue → KeptJob
 kept_of task = (task.job, task.keeps)
 
@@ -99,7 +99,7 @@ abbrev pub jobs_in : Slots → List KeptJob
 jobs_in [] = []
 jobs_in (slot ∷ slots) = option_to_list (option_map kept_of slot) ++ jobs_in slots
 
--- the timers with a job set, where there is a tick for it
+-- the timers after a job's is armed for a tick, if there is one
 abbrev pub set_next : Timers → ℕ → Option ℕ → Timers
 set_next timers number None = timers
 set_next timers number (Some tick) = record timers { moments = insert timers.moments number tick }

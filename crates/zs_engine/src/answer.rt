@@ -1,11 +1,13 @@
+//! The result of a run.
+
 use zs_drive::Task;
 
-/// What a run of jobs comes to.
+/// The result of a run of jobs.
 #[derive(Drop)]
 pub struct Answer {
-    /// The tasks as they stand at the horizon, in the order of their jobs.
+    /// The tasks at the horizon, in the order of their jobs.
     pub tasks: Vec<Task>,
-    /// How many polls were due, over all jobs.
+    /// The number of due polls, over all jobs.
     pub polls: u64,
     /// The last tick of the clock, in milliseconds.
     pub horizon: u64,

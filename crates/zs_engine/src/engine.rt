@@ -11,17 +11,18 @@ use crate::answer::Answer;
 use crate::fault::{EngineFault, refused_round};
 use crate::slots::{into_tasks, take_tasks};
 use crate::timers::set_timer;
-use futures::task::Context;
 use std::alloc::Global;
 use std::mem::drop;
 use std::sync::Wait;
 use std::thread::Threads;
 use zs_agenda::{Agenda, Clock};
 use zs_drive::{Job, Keeping, Task};
-use zs_pool::{Cut, Gate, Poller, Tally, TallySeat, poll_one, round};
+use zs_pool::{
+    Cut, Gate, Poller, Polling, TOUCHED_AT_ONCE, Tally, TallySeat, end_touches, poll_one, round,
+};
 
-// A run of jobs: each job's task in a slot of its own, a timer for each task that waits for a tick, and the tally of the
-// polls.
+// A run of jobs: a slot with the task of each job, a timer for each task that waits for a tick, and
+// the tally of the polls.
 #[derive(Drop)]
 pub struct Engine {
     alloc: Global,
@@ -33,7 +34,7 @@ pub struct Engine {
     seat: TallySeat,
 }
 
-// A tally of no polls, with its only seat. Want of memory is all that can refuse it.
+// A tally of no polls, with its only seat. Its only error is `Memory`.
 fn new_tally(alloc: Global) -> Result<(Tally, TallySeat), EngineFault>
     ensures ok { IfOk result (λ t. t.1 ≡ record { tally = t.0; count = 0; allowance = max_moment; seen = 0 }) }
 {
@@ -64,7 +65,7 @@ impl Engine {
         })
     }
 
-    // Takes in one more job, whose task stores its attempts so.
+    // Adds a job, whose task stores its attempts in this way.
     fn add(&mut self, job: Job, keeps: Keeping) -> Result<(), EngineFault>
         requires few { length (jobs_in self.old.slots.items) < max_tasks }
         requires new { IsNew self.old.clock (jobs_in self.old.slots.items) self.old }
@@ -76,7 +77,7 @@ impl Engine {
         Ok(())
     }
 
-    // Puts a task that was polled back into its slot, and arms its timer again.
+    // Puts a polled task back into its slot, and sets its timer again.
     fn put_back(&mut self, task: Task) -> Result<(), EngineFault>
         requires slot { task.number < length self.old.slots.items }
         requires unset { get self.old.agenda.moments task.number ≡ None }
@@ -98,13 +99,26 @@ impl Engine {
         Ok(())
     }
 
-    // The due poll of the task in this slot, where it stays; then its timer is armed again.
+    // Touches the first of these tasks.
+    fn touch_some(&self, numbers: &[u64]) {
+        if numbers.len() < 2 {
+            return;
+        }
+        let mut touched = 0;
+        for number in numbers.iter().take(TOUCHED_AT_ONCE) {
+            if let Some(Some(task)) = self.slots.get(*number as usize) {
+                touched ^= task.touch();
+            }
+        }
+        end_touches(touched);
+    }
+
+    // The due poll of the task in this slot. The task stays there, and its timer is set again.
     fn poll_slot<G: Gate>(
         &mut self,
-        gate: &G,
+        polling: &mut Polling<'_, G>,
         now: u64,
         number: u64,
-        cx: &mut Context<'_>,
     ) -> Result<(), EngineFault>
         requires few { length (jobs_in self.old.slots.items) ≤ max_tasks }
         requires due { (left : List ℕ) × IsDueWith self.old.clock (jobs_in self.old.slots.items) now (number ∷ left) self.old }
@@ -114,7 +128,7 @@ impl Engine {
         let Some(task) = &mut self.slots[number as usize] else {
             unreachable!();
         };
-        poll_one(gate, &self.tally, &mut self.seat, now, cx, task);
+        poll_one(polling, &self.tally, &mut self.seat, now, task);
         if task.broken() {
             return Err(EngineFault::Memory);
         }
@@ -122,26 +136,29 @@ impl Engine {
         Ok(())
     }
 
-    // A round of the calling thread alone: the tasks that are due at `now` are polled in their slots.
+    // A round of the calling thread alone: it polls the tasks that are due at `now` in their slots.
     fn poll_round<G: Gate>(
         &mut self,
-        gate: &G,
+        polling: &mut Polling<'_, G>,
         now: u64,
         numbers: &[u64],
-        cx: &mut Context<'_>,
     ) -> Result<(), EngineFault>
         requires few { length (jobs_in self.old.slots.items) ≤ max_tasks }
         requires due { IsDueWith self.old.clock (jobs_in self.old.slots.items) now numbers.now self.old }
         ensures rests { OnOk result (RestsWith self.old.clock (jobs_in self.old.slots.items) self.new) }
         ensures taken { OnOk result (self.new.agenda.last_taken ≡ Some now) }
     {
-        for number in numbers {
-            self.poll_slot(gate, now, *number, cx)?;
+        for place in 0..numbers.len() {
+            if place % TOUCHED_AT_ONCE == 0 {
+                self.touch_some(&numbers[place..]);
+            }
+            self.poll_slot(polling, now, numbers[place])?;
         }
         Ok(())
     }
 
-    // A round that several workers share: the tasks that are due at `now` are taken out, polled, and put back.
+    // A round that several workers share: the tasks that are due at `now` are taken out, polled,
+    // and put back.
     fn share_round<G: Gate, R: Threads + Wait + Sync>(
         &mut self,
         rt: &R,
@@ -175,7 +192,8 @@ impl Engine {
         Ok(())
     }
 
-    // One round: the tasks that are due at `now` are polled, by this thread alone where one worker or one batch is all there is.
+    // One round: the tasks that are due at `now` are polled. If there is one worker or one batch,
+    // this thread polls them alone.
     fn run_round<G: Gate, R: Threads + Wait + Sync>(
         &mut self,
         rt: &R,
@@ -183,7 +201,7 @@ impl Engine {
         gate: &G,
         now: u64,
         numbers: &[u64],
-        cx: &mut Context<'_>,
+        polling: &mut Polling<'_, G>,
     ) -> Result<(), EngineFault>
         requires few { length (jobs_in self.old.slots.items) ≤ max_tasks }
         requires due { IsDueWith self.old.clock (jobs_in self.old.slots.items) now numbers.now self.old }
@@ -191,7 +209,7 @@ impl Engine {
         ensures taken { OnOk result (self.new.agenda.last_taken ≡ Some now) }
     {
         if cut.workers() == 1 || numbers.len() as u64 <= cut.grain() {
-            self.poll_round(gate, now, numbers, cx)
+            self.poll_round(polling, now, numbers)
         } else {
             self.share_round(rt, cut, gate, now, numbers)
         }
@@ -203,7 +221,7 @@ impl Engine {
         rt: &R,
         cut: Cut,
         gate: &G,
-        cx: &mut Context<'_>,
+        polling: &mut Polling<'_, G>,
     ) -> Result<(), EngineFault>
         requires few { length (jobs_in self.old.slots.items) ≤ max_tasks }
         requires rests { RestsWith self.old.clock (jobs_in self.old.slots.items) self.old }
@@ -211,13 +229,13 @@ impl Engine {
         ensures over { OnOk result (self.new.agenda.moments ≡ empty) }
     {
         while let Some((now, numbers)) = self.agenda.take()? {
-            self.run_round(rt, cut, gate, now, &numbers, cx)?;
+            self.run_round(rt, cut, gate, now, &numbers, polling)?;
             self.agenda.reuse(numbers);
         }
         Ok(())
     }
 
-    // Takes in the jobs, in order, and runs them until no task waits for a tick.
+    // Adds the jobs, in order, and runs them until no task waits for a tick.
     pub fn run<G: Gate, R: Threads + Wait + Sync>(
         &mut self,
         rt: &R,
@@ -234,10 +252,13 @@ impl Engine {
         for job in jobs {
             self.add(job, keeps)?;
         }
-        let poller = Poller::new(self.alloc)?;
-        let mut cx = poller.solo().begin();
-        let done = self.run_all(rt, cut, gate, &mut cx);
-        cx.cancel();
+        let poller = match Poller::new(self.alloc) {
+            Ok(poller) => poller,
+            Err(fault) => return Err(refused_round(fault)),
+        };
+        let mut polling = poller.begin(gate);
+        let done = self.run_all(rt, cut, gate, &mut polling);
+        polling.end();
         done
     }
 

@@ -1,3 +1,5 @@
+//! Why a run fails.
+
 ghost use Rattle.std.specs.Prelude.{◌≡◌, ◌≢◌, ◌↔◌};
 
 use std::alloc::{AllocError, AllocFailed};
@@ -6,10 +8,10 @@ use zs_agenda::AgendaFault;
 use zs_drive::DriveFault;
 use zs_pool::PoolFault;
 
-/// Why a run was given up.
+/// Why a run fails.
 #[derive(Clone, Copy, Debug, PartialEq, Eq, Error)]
 pub enum EngineFault {
-    /// Memory ran out.
+    /// A memory allocation failed.
     #[error("out of memory")]
     Memory,
     /// A thread could not be started.
@@ -45,7 +47,7 @@ impl From<DriveFault> for EngineFault {
     }
 }
 
-// What the refusal of a round is to a run. No round is refused for a full shelf.
+// Maps the fault of a round to that of a run. No round fails with `Full`.
 pub fn refused_round(fault: PoolFault) -> EngineFault
     requires possible { fault ≢ PoolFault.Full }
     ensures memory { result ≡ EngineFault.Memory ↔ fault ≡ PoolFault.Memory }

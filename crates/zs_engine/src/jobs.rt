@@ -1,3 +1,5 @@
+//! Runs a list of jobs up to a clock's horizon.
+
 ghost use Rattle.std.specs.Prelude.{◌≤◌, length, map, IfOk};
 ghost use Rattle.zs_drive.specs.Values.{job_value};
 ghost use Rattle.zs_pool.specs.Limits.{max_tasks};
@@ -13,7 +15,7 @@ use zs_agenda::Clock;
 use zs_drive::{Job, Keeping};
 use zs_pool::{Cut, Gate};
 
-// Runs the jobs, whose tasks store their attempts so.
+// Runs the jobs, whose tasks store their attempts as `keeps` says.
 fn run_keeping<G: Gate, R: Threads + Wait + Sync>(
     rt: &R,
     alloc: Global,
@@ -32,7 +34,8 @@ fn run_keeping<G: Gate, R: Threads + Wait + Sync>(
     engine.finish()
 }
 
-/// Runs the jobs up to the clock's horizon. A job's number is its place in the list, from 0. Each task stores the record of each attempt.
+/// Runs the jobs up to the clock's horizon. A job's number is its place in the list, from 0. Each
+/// task stores a record of each attempt. If the run fails, it drops the jobs.
 pub fn run_jobs<G: Gate, R: Threads + Wait + Sync>(
     rt: &R,
     alloc: Global,
@@ -42,13 +45,15 @@ pub fn run_jobs<G: Gate, R: Threads + Wait + Sync>(
     jobs: Vec<Job>,
 ) -> Result<Answer, EngineFault>
     requires few { length jobs.items ≤ max_tasks }
+    // Each task has the timeline of its job alone, and each due poll was counted once.
     ensures answer { IfOk result (IsAnswer clock (map job_value jobs.items)) }
     ensures keeps { IfOk result (AllKeep Keeping.Records) }
 {
     run_keeping(rt, alloc, cut, gate, clock, jobs, Keeping::Records)
 }
 
-/// The same, with tasks that store lines in place of all records but the last, which takes less memory.
+/// Like `run_jobs`, with tasks that store lines instead of all records but the last. This takes
+/// less memory.
 pub fn run_to_lines<G: Gate, R: Threads + Wait + Sync>(
     rt: &R,
     alloc: Global,
@@ -58,6 +63,7 @@ pub fn run_to_lines<G: Gate, R: Threads + Wait + Sync>(
     jobs: Vec<Job>,
 ) -> Result<Answer, EngineFault>
     requires few { length jobs.items ≤ max_tasks }
+    // The clauses of `run_jobs`.
     ensures answer { IfOk result (IsAnswer clock (map job_value jobs.items)) }
     ensures keeps { IfOk result (AllKeep Keeping.Lines) }
 {

@@ -1,7 +1,7 @@
-//! The law of the clocks.
+//! The law of clocks.
 ghost use Rattle.zs_engine.specs.Times.{SameTicks, TicksRise};
 
-/// A clock ticks as the list of its ticks does, and that list rises up to its horizon.
+/// A clock has the same ticks as the list of its ticks, and this list rises up to the horizon.
 pub fn listed_ticks()
     ensures tick { SameTicks }
     ensures rising { TicksRise }

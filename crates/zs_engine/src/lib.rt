@@ -1,7 +1,8 @@
-//! Runs many jobs at once, up to a clock's horizon, by rounds over a timer queue.
+//! Runs many jobs concurrently up to a clock's horizon, in rounds over a timer queue.
 //!
-//! Each task of the answer stands where its job alone stands at the horizon (`specs/Answers.antt`), for every cut of the
-//! rounds and every gate, on a clock of every millisecond and on listed ticks.
+//! Each task of the result has the timeline that its job alone has at the horizon
+//! (`specs/Answers.antt`). This is true for every cut of the rounds and every gate, on a clock of
+//! every millisecond and on listed ticks.
 //!
 //! ```rust
 //! let clock = Clock::every_ms(1000).expect(&rt, "within the limit");

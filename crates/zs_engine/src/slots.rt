@@ -1,4 +1,5 @@
-//! The tasks of a run, each in the slot of its job. A slot is empty while several workers poll its task.
+//! The tasks of a run, each in the slot of its job. A slot is empty while several workers poll its
+//! task.
 ghost use Rattle.std.specs.Prelude.{List, ◌≡◌, map, Some, None, slice_get, slice_set, OnOk, IfOk};
 ghost use Rattle.zs_drive.specs.Tasks.{TaskValue};
 ghost use Rattle.zs_engine.specs.Slots.{Picks, emptied, IsDistinct};
@@ -38,7 +39,7 @@ pub fn take_tasks(
     Ok(tasks)
 }
 
-// The tasks of slots of which none is empty.
+// Returns the tasks of slots, none of which is empty.
 pub fn into_tasks(alloc: Global, slots: Vec<Option<Task>>) -> Result<Vec<Task>, EngineFault>
     requires filled { (tasks : List TaskValue) × (slots.items ≡ map (λ t. Some t) tasks) }
     ensures same { IfOk result (λ tasks. slots.items ≡ map (λ t. Some t) tasks.items) }

@@ -9,14 +9,14 @@ use crate::fault::EngineFault;
 use zs_agenda::{Agenda, Clock};
 use zs_drive::Task;
 
-// The tick at which the task is due.
+// Returns the tick at which the task is due, if there is one.
 fn next_tick(clock: &Clock, task: &Task) -> Option<u64>
     ensures value { result ≡ next_of (ticks_of clock.now) (current_timeline task.now).due }
 {
     clock.tick(task.due()?)
 }
 
-// Arms the timer of a task that has none, where there is a tick for it.
+// Arms the timer of a task that has none, if there is a tick for it.
 pub fn set_timer(clock: &Clock, agenda: &mut Agenda, task: &Task) -> Result<(), EngineFault>
     requires unset { get agenda.old.moments task.now.number ≡ None }
     requires later { IsLater agenda.old.last_taken (next_of (ticks_of clock.now) (current_timeline task.now).due) }

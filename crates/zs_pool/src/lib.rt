@@ -1,8 +1,10 @@
-//! One moment's due polls, shared among workers: the due tasks come back, each polled at the moment and counted once.
+//! One moment's due polls, shared among workers: `round` returns the due tasks, each polled at the
+//! moment and counted once.
 //!
-//! `round` gives the same answer for every number of workers, every cutting into batches, every order of the threads'
-//! steps and every gate. Its parts stand alone too: a `Board` of batches, a `Shelf` of polled batches, and a `Tally`
-//! of polls, each a queue or a word under a rule that every step keeps.
+//! The result is the same for every number of workers, every cutting into batches, every order of
+//! the threads' steps and every gate. Its parts can be used alone: a `Board` of batches, a `Shelf`
+//! of polled batches, and a `Tally` of polls, each a queue or a word under a rule that every step
+//! obeys.
 //!
 //! ```rust
 //! let (tally, mut seat) = Tally::new(alloc)?;
@@ -28,7 +30,7 @@ pub use board::{Board, BoardPass};
 pub use fault::PoolFault;
 pub use gate::{Gate, OpenGate};
 pub use polled::Polled;
-pub use poller::Poller;
+pub use poller::{Poller, Polling, TOUCHED_AT_ONCE, end_touches};
 pub use polling::{poll_batch, poll_one};
 pub use rounds::cut::{Cut, MAX_TASKS, MAX_WORKERS};
 pub use rounds::round;

@@ -1,12 +1,13 @@
-// A case, and what came of its calls.
+//! A case, and the result of its calls.
 use std::alloc::Global;
 use std::fmt;
 use std::fmt::{Debug, Write};
 
-/// What is being done while the call that is tried isn't made: making what it needs, or reading what it answered.
+/// The name of all other work than the call under test: making its arguments, and reading its
+/// result.
 pub const SET_UP: &str = "set-up";
 
-/// A case: what its calls are given, and which of them is made now.
+/// A case: the input of its calls, and the name of the current call.
 #[derive(Drop)]
 pub struct Case<'a> {
     pub alloc: Global,
@@ -14,7 +15,7 @@ pub struct Case<'a> {
     pub call: &'static str,
 }
 
-/// The name of a fault, in a place of its own: no memory is asked for once a request was refused.
+/// The name of a fault, in a fixed array: nothing is allocated after an allocation failed.
 #[derive(Clone, Copy, Drop)]
 pub struct Name {
     bytes: [u8; 24],
@@ -22,7 +23,7 @@ pub struct Name {
 }
 
 impl Name {
-    /// The name, or nothing where it has no room.
+    /// Returns the name, or an empty text if it doesn't fit.
     pub fn as_str(&self) -> &str {
         let bytes = self.bytes.get(..self.length).unwrap_or(b"".as_slice());
         std::str::from_utf8(bytes).unwrap_or("")
@@ -42,18 +43,18 @@ impl fmt::Write for Name {
     }
 }
 
-/// Why a call did not end well. It has no `Debug`, so that each fault, which has it, converts to it.
+/// Why a call failed. It has no `Debug`, so that every fault, which has it, converts to it.
 #[derive(Clone, Copy, Drop)]
 pub enum Ended {
-    /// A request was refused. The call said so by this fault, and left what it has to.
+    /// An allocation failed. The call returned this fault, and satisfied its contract.
     Refused(Name),
-    /// A request of a poll was refused, and its task and its message are broken.
+    /// An allocation of a poll failed, and its task and its message are broken.
     Broken,
-    /// It answered or left something else.
+    /// The call returned or changed something else.
     Wrong(&'static str),
 }
 
-/// What came of the calls of a case: a text that they made, or none.
+/// The result of the calls of a case: the text that they made, or an empty one.
 pub type Answer = Result<String, Ended>;
 
 impl<E: Debug + Drop> From<E> for Ended {
@@ -69,7 +70,7 @@ impl<E: Debug + Drop> From<E> for Ended {
     }
 }
 
-/// It is well where what was found is right.
+/// Fails unless the findings are right.
 pub fn right_if(is_right: bool, what: &'static str) -> Result<(), Ended> {
     if is_right {
         Ok(())

@@ -1,7 +1,9 @@
-// Makes the calls of one case: standard input has its name in the first line, and what the calls are given behind it.
-//
-// The tests run it while the system refuses one request for memory after the other: a call that is refused has to say so,
-// and to leave what its contract says. The first line tells that call and its fault, or is `ok` before what the calls made.
+//! Makes the calls of one case. Standard input has the name of the case in its first line, and the
+//! input of the calls after it.
+//!
+//! The tests run it while the system lets one memory allocation after the other fail. The call then
+//! has to return a fault, and to satisfy its contract. The first line of the output has that call
+//! and its fault, or `ok` before the text that the calls made.
 #![tactic(auto)]
 
 mod ended;
@@ -21,7 +23,7 @@ use std::random::RandomSource;
 use std::sync::Wait;
 use std::thread::Threads;
 
-// Makes the calls of the case of this name.
+// Makes the calls of the case with this name.
 fn make<R: Alloc<A = Global> + RandomSource + Threads + Wait + Sync>(
     rt: &R,
     name: &str,

@@ -1,4 +1,4 @@
-// The work queue and the result queue, each with two handles.
+//! The work queue and the result queue, each with two handles.
 ghost use Rattle.std.specs.Prelude.{◌≡◌, IfOk};
 ghost use Rattle.zs_pool.specs.Batches.{AreNumbered};
 
@@ -23,7 +23,7 @@ fn empty(alloc: Global, number: u64) -> Batch
     }
 }
 
-// The number of the next batch.
+// Returns the number of the next batch.
 fn claim<R: Wait>(rt: &R, board: &Board, pass: &mut BoardPass) -> Option<u64>
     requires board { pass.old.board ≡ board.now }
     ensures board { pass.new.board ≡ board.now }
@@ -35,7 +35,7 @@ fn claim<R: Wait>(rt: &R, board: &Board, pass: &mut BoardPass) -> Option<u64>
     }
 }
 
-/// A work queue of three batches: one for each handle, and one that is left.
+/// A work queue of three batches: one for each handle, and one that remains.
 pub fn use_board<R: Wait>(rt: &R, case: &mut Case<'_>) -> Answer {
     let batches = three(case.alloc)?;
     case.call = "Board::new";
@@ -55,7 +55,7 @@ pub fn use_board<R: Wait>(rt: &R, case: &mut Case<'_>) -> Answer {
     Ok(String::new(case.alloc))
 }
 
-// Puts a message of no tasks, and tells whether there was room for it.
+// Puts a message without tasks, and returns whether there was room for it.
 fn put<R: Wait>(rt: &R, alloc: Global, shelf: &Shelf, pass: &mut ShelfPass, number: u64) -> bool
     requires shelf { pass.old.shelf ≡ shelf.now }
     ensures shelf { pass.new.shelf ≡ shelf.now }
@@ -69,7 +69,7 @@ fn put<R: Wait>(rt: &R, alloc: Global, shelf: &Shelf, pass: &mut ShelfPass, numb
     shelf.put(rt, pass, message).is_ok()
 }
 
-// The number of the next message.
+// Returns the number of the next message.
 fn take<R: Wait>(rt: &R, shelf: &Shelf, pass: &mut ShelfPass) -> Option<u64>
     requires shelf { pass.old.shelf ≡ shelf.now }
     ensures shelf { pass.new.shelf ≡ shelf.now }
@@ -81,7 +81,7 @@ fn take<R: Wait>(rt: &R, shelf: &Shelf, pass: &mut ShelfPass) -> Option<u64>
     }
 }
 
-/// A result queue of two places: one message finds no room, one is taken, and one is left.
+/// A result queue of capacity 2: a third message is rejected, one is taken, and one remains.
 pub fn use_shelf<R: Wait>(rt: &R, case: &mut Case<'_>) -> Answer {
     case.call = "Shelf::new";
     let (shelf, pass) = Shelf::new(rt, case.alloc, 2)?;

@@ -1,4 +1,4 @@
-// Batches polled, one by one and by several workers.
+//! Polls batches, singly and on several workers.
 ghost use Rattle.std.specs.Prelude.{◌≡◌, All, IfOk, length, map};
 ghost use Rattle.std.specs.List.Sorted.{IsStrictlyIncreasing};
 ghost use Rattle.zs_pool.specs.Rounds.{IsPollable};
@@ -13,7 +13,7 @@ use zs_pool::{Batch, Cut, OpenGate, Tally, poll_batch, round};
 
 const TASKS: u64 = 2;
 
-// Two tasks of the plan's job, due at 0.
+// Makes two tasks of the plan's job, due at 0.
 fn due_tasks(alloc: Global, plan: &str) -> Result<Vec<Task>, Ended>
     ensures few { IfOk result (λ tasks. length tasks.items ≡ 2) }
     ensures rising { IfOk result (λ tasks. IsStrictlyIncreasing (map (λ task. task.number) tasks.items)) }
@@ -36,7 +36,7 @@ fn due_task(alloc: Global, plan: &str, number: u64) -> Result<Task, Ended>
     }
 }
 
-/// One batch. A task whose poll was refused is broken, and so is the message.
+/// Polls one batch. If a poll runs out of memory, its task is broken, and so is the message.
 pub fn poll_one_batch<R>(rt: &R, case: &mut Case<'_>) -> Answer {
     case.call = "Tally::new";
     let (tally, mut seat) = Tally::new(case.alloc)?;
@@ -52,7 +52,7 @@ pub fn poll_one_batch<R>(rt: &R, case: &mut Case<'_>) -> Answer {
     Ok(String::new(case.alloc))
 }
 
-// Each of two tasks was polled once or is broken, and what was told of them says whether one is broken.
+// Each of two tasks was polled once or is broken, and the message says whether one is broken.
 fn are_polled(tasks: &[Task], is_told_broken: bool) -> Result<(), Ended> {
     let mut is_broken = false;
     for (place, task) in tasks.iter().enumerate() {
@@ -70,7 +70,7 @@ fn are_polled(tasks: &[Task], is_told_broken: bool) -> Result<(), Ended> {
     }
 }
 
-/// A round on two workers.
+/// Polls a round on two workers.
 pub fn one_round<R: Threads + Wait + Sync>(rt: &R, case: &mut Case<'_>) -> Answer {
     let Some(cut) = Cut::new(2, 1) else {
         return Err(Ended::Wrong("no cut"));

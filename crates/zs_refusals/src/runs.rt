@@ -1,4 +1,4 @@
-// Plans, reports, and whole runs.
+//! Plans, reports, and whole runs.
 use crate::ended::{Answer, Case, right_if};
 use std::sync::Wait;
 use std::thread::Threads;
@@ -6,10 +6,10 @@ use zs_engine::run_jobs;
 use zs_pool::OpenGate;
 use zs_run::{Marked, Plan, read_plan, report, run};
 
-// No report of the tests is longer.
+// The capacity for a report. No report of the tests is longer.
 const ROOM: usize = 16384;
 
-/// A plan read from its bytes, its jobs run, and the report of what they came to.
+/// Reads a plan from its bytes, runs its jobs, and makes the report of the result.
 pub fn run_jobs_of<R: Threads + Wait + Sync>(rt: &R, case: &mut Case<'_>) -> Answer {
     case.call = "read_plan";
     let Plan { clock, cut, jobs } = read_plan(case.alloc, case.input.as_bytes())?;
@@ -21,7 +21,7 @@ pub fn run_jobs_of<R: Threads + Wait + Sync>(rt: &R, case: &mut Case<'_>) -> Ans
     Ok(text?)
 }
 
-/// What a whole run writes. One that is refused writes nothing.
+/// Makes a whole run, and returns what it wrote. A run that fails writes nothing.
 pub fn run_plan<R: Threads + Wait + Sync>(rt: &R, case: &mut Case<'_>) -> Answer {
     let mut written: Vec<u8> = Vec::with_capacity(case.alloc, ROOM)?;
     let mut reader = Marked::new(case.input.as_bytes());

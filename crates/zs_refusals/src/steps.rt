@@ -1,4 +1,4 @@
-// Decisions: from a whole history, and step by step. Each answers the third output, as it is written.
+//! Decisions: from a whole history, and step by step. Each case returns the third output as text.
 ghost use Rattle.std.specs.Prelude.{◌≤◌};
 ghost use Rattle.zs_step.specs.Compiled.{last_seen};
 
@@ -9,7 +9,7 @@ use zs_term::{read, write_out};
 
 const HISTORY: [(u64, u64); 3] = [(1, 7), (3, 8), (9, 9)];
 
-/// The answer of this schedule at the end of a history.
+/// Evaluates a schedule at the end of a history.
 pub fn answer_plainly(case: &mut Case<'_>) -> Answer {
     let checked = read(case.alloc, case.input)?;
     case.call = "plain";
@@ -23,7 +23,7 @@ pub fn answer_plainly(case: &mut Case<'_>) -> Answer {
     Ok(text?)
 }
 
-/// All answers of a history.
+/// Steps a schedule through a history.
 pub fn follow_history(case: &mut Case<'_>) -> Answer {
     let checked = read(case.alloc, case.input)?;
     case.call = "follow";
@@ -43,7 +43,7 @@ fn text_of(alloc: Global, third: &Stepped) -> Answer {
     Ok(write_out(alloc, &third.out)?)
 }
 
-/// Three steps of a new state.
+/// Steps a new state three times.
 pub fn step_in_turn(case: &mut Case<'_>) -> Answer {
     let checked = read(case.alloc, case.input)?;
     case.call = "Compiled::new";
@@ -66,7 +66,7 @@ fn three_steps(compiled: &mut Compiled) -> Result<Stepped, Ended>
     step_at(compiled, 9, 9)
 }
 
-// One step. A refused one breaks the state for good.
+// Makes one step. If it fails, the state stays broken.
 fn step_at(compiled: &mut Compiled, now: u64, input: u64) -> Result<Stepped, Ended>
     requires order { last_seen compiled.old ≤ now }
     ensures seen { last_seen compiled.new ≤ now }

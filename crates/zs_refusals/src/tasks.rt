@@ -1,4 +1,4 @@
-// Jobs, and their tasks polled by hand.
+//! Jobs, and their tasks polled by hand.
 ghost use Rattle.std.specs.Prelude.{◌≡◌, ◌≤◌, OnOk};
 ghost use Rattle.zs_drive.specs.Clocks.{max_tick};
 
@@ -10,18 +10,18 @@ use std::random::RandomSource;
 use zs_drive::{Attempted, DriveFault, Job, Keeping, Task};
 use zs_run::read_plan;
 
-// The lines of the first two attempts of the job that is polled, where they are told.
+// The lines of the first two attempts of the job, if they are stored as lines.
 const FIRST: &str = "attempt 1 0..5 ok 7\nstep 1 out ([],Left(0)) next 5\n";
 
 const SECOND: &str = "attempt 2 5..10 ok 8\nstep 2 out ([7],Right(0)) next 15\n";
 
-/// The first job of a plan.
+/// Returns the last job of a plan.
 pub fn job_of(alloc: Global, plan: &str) -> Result<Job, Ended> {
     let mut plan = read_plan(alloc, plan.as_bytes())?;
     plan.jobs.pop().ok_or(Ended::Wrong("no job"))
 }
 
-/// A new task of a plan's job, polled at 0, 5, 10, 15 and 20.
+/// Polls a new task of a plan's job at 0, 5, 10, 15 and 20.
 pub fn poll_in_turn<R: Alloc<A = Global> + RandomSource>(rt: &R, case: &mut Case<'_>) -> Answer {
     let solo = Solo::new(rt, Doorbell::spinning())?;
     let job = job_of(case.alloc, case.input)?;
@@ -30,7 +30,7 @@ pub fn poll_in_turn<R: Alloc<A = Global> + RandomSource>(rt: &R, case: &mut Case
     poll_new(&solo, case, task, 0)
 }
 
-/// The same, of a task that keeps lines.
+/// The same with a task that stores lines.
 pub fn tell_in_turn<R: Alloc<A = Global> + RandomSource>(rt: &R, case: &mut Case<'_>) -> Answer {
     let solo = Solo::new(rt, Doorbell::spinning())?;
     let job = job_of(case.alloc, case.input)?;
@@ -39,7 +39,7 @@ pub fn tell_in_turn<R: Alloc<A = Global> + RandomSource>(rt: &R, case: &mut Case
     poll_new(&solo, case, task, 2)
 }
 
-// Polls a new task, which tells so many attempts in the end.
+// Polls a new task, which stores `told` attempts as lines in the end.
 fn poll_new(solo: &Solo, case: &mut Case<'_>, mut task: Task, told: u64) -> Answer
     requires seen { task.seen ≡ 0 }
 {
@@ -64,7 +64,7 @@ fn poll_five_times(solo: &Solo, task: &mut Task) -> Result<(), Ended>
     right_if(is_right, "other records")
 }
 
-// One due poll. A refused one breaks the task for good, and its records and lines stand.
+// Makes one due poll. If it fails, the task stays broken, with unchanged records and lines.
 fn poll_well(solo: &Solo, task: &mut Task, now: u64) -> Result<(), Ended>
     requires seen { task.old.seen ≤ now }
     requires bounded { now ≤ max_tick }
@@ -85,14 +85,14 @@ fn poll_well(solo: &Solo, task: &mut Task, now: u64) -> Result<(), Ended>
     Err(Ended::from(fault))
 }
 
-// A refused poll left the lines, the records and the due moment of before, and a broken task.
+// A failed poll broke the task, and didn't change its lines, its records and its due moment.
 fn is_as_before(task: &Task, polls: u64, told: u64, records: usize, now: u64) -> Result<(), Ended> {
     let stands = task.polls() == polls && task.told() == told && task.records().len() == records;
     let is_right = stands && has_first(task) && task.due() == Some(now);
     right_if(task.broken() && is_right, "not broken, or changed")
 }
 
-// The fault of a poll, or none where the job goes on.
+// Returns the fault of a poll, or `None` if the job continues or has ended.
 fn poll(solo: &Solo, task: &mut Task) -> Option<DriveFault>
     ensures seen { task.new.seen ≡ task.old.seen }
 {
@@ -105,7 +105,7 @@ fn poll(solo: &Solo, task: &mut Task) -> Option<DriveFault>
     }
 }
 
-// Whether the lines of a task tell the first attempts, and its records are of those that follow.
+// Whether the lines of a task are those of the first attempts, and its records are the next ones.
 fn has_first(task: &Task) -> bool {
     let (lines, records) = (task.lines(), task.records());
     match task.told() {
@@ -116,7 +116,7 @@ fn has_first(task: &Task) -> bool {
     }
 }
 
-// Whether attempts begin as the first of these.
+// Whether attempts begin at the first of these moments.
 fn are_first(records: &[Attempted], wanted: &[u64]) -> bool {
     for (record, begun) in records.iter().zip(wanted) {
         if record.begun != *begun {

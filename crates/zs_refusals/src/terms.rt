@@ -1,9 +1,9 @@
-// Schedules: read from text, checked as trees, and written.
+//! Schedules: parsed from text, checked as trees, and written.
 use crate::ended::{Answer, Case, Ended, SET_UP};
 use std::alloc::Global;
 use zs_term::{Checked, Cmp, Func, Pick, Term, Test, check, read, write};
 
-/// The canonical spelling of a text.
+/// Parses a text, and returns its canonical spelling.
 pub fn read_and_write(case: &mut Case<'_>) -> Answer {
     case.call = "read";
     let checked = read(case.alloc, case.input)?;
@@ -11,7 +11,7 @@ pub fn read_and_write(case: &mut Case<'_>) -> Answer {
     written(case.alloc, checked)
 }
 
-/// The spelling of a tree of many forms.
+/// Checks a tree of many forms, and returns its spelling.
 pub fn check_tree(case: &mut Case<'_>) -> Answer {
     let term = tree(case.alloc)?;
     case.call = "check";

@@ -1,15 +1,16 @@
-// The timer queue: what it holds is what was set, also where a call was refused.
+//! The timer queue: it contains exactly the timers that were armed, also after a call failed.
 use crate::ended::{Answer, Case, Ended, right_if};
 use zs_agenda::{Agenda, AgendaFault};
 
 const JOBS: u64 = 40;
 
-// The moment of a job: four jobs wait for each of ten moments, and the jobs 1, 2 and 3 each for one before all others.
+// The moment of a job. Each of ten moments has four jobs. Jobs 1, 2 and 3 each get a moment before
+// those of all jobs armed so far.
 fn moment_of(job: u64) -> u64 {
     1 + job.wrapping_mul(7).wrapping_add(9) % 10
 }
 
-/// Many timers, and all of them fire. A refused one is armed again.
+/// Arms many timers, and fires all of them. A timer whose call failed is armed again.
 pub fn set_and_take(case: &mut Case<'_>) -> Answer {
     let mut agenda = Agenda::new(case.alloc)?;
     case.call = "set";
@@ -43,7 +44,7 @@ fn set(agenda: &mut Agenda, job: u64) -> Result<Result<(), AgendaFault>, Ended> 
     Ok(agenda.set(job, moment_of(job)))
 }
 
-// Ten takes, each of four jobs in rising number, and one that finds nothing.
+// Ten takes, each of four jobs with rising numbers, and one that returns `None`.
 fn fire_all(agenda: &mut Agenda) -> Result<(), Ended> {
     for moment in 1..11u64 {
         let Some((found, jobs)) = agenda.take()? else {

@@ -1,4 +1,4 @@
--- The last line of a job tells of an end that is there.
+-- The last line of a job shows an end that exists.
 use Rattle.std.proofs.Common.{◌≡◌, ◌+◌, ◌-◌, ℕ, List, [], ◌∷◌, ◌++◌, length, slice_get, Option, Some, None, option_and_then, subst, refl, sym, ap, ◌∙◌, arith}
 use Rattle.std.proofs.lemmas.List.{length-append}
 use Rattle.zs_agenda.specs.Ticks.{Ticks, IsClock}
@@ -38,9 +38,9 @@ last_is earlier a =
     ap (λ i. option_and_then (λ attempt. attempt.ended) (slice_get (earlier ++ a ∷ []) i)) place
     ∙ ap (λ o. option_and_then (λ attempt. attempt.ended) o) (at_last earlier a)
 
--- ---- what the rules say of it
+-- ---- what the rules say about it
 
--- no outcome finishes a job by itself
+-- no outcome ends a job as `Finished`
 never_finished : (mode : Mode) (outcome : Outcome) → ending_by_outcome mode outcome ≡ Some Finished → ⊥
 never_finished Retry (Good value) is = cc
 never_finished Retry (Bad code) is = cc
@@ -71,7 +71,7 @@ module _ (job : JobRecord) (ticks : List ℕ) where
       let l = last_of x xs in
       ended (x ∷ xs) l.0 l.1.begun (timeline_of job ticks).due (timeline_of job ticks).ending l.1.ended (ap last_ended l.2 ∙ last_is l.0 l.1) (rules.last l.0 l.1 (split ∙ l.2))
 
--- the report of a job tells of an end that is there
+-- the report of a job shows an end that exists
 pub end_is_there : (clock : Ticks) (job : JobRecord) → IsClock clock → IsScript job.script
     → HasItsEnd (job_report (ticks_of clock) job).attempts (job_report (ticks_of clock) job).ending
 end_is_there clock job lawful script =

@@ -1,4 +1,4 @@
--- What a task keeps of its attempts, as lines and as records, tells them all.
+-- The lines and the records that a task stores together represent all attempts.
 use Rattle.std.proofs.Common.{◌≡◌, ℕ, ◌+◌, ◌-◌, ◌<◌, List, [], ◌∷◌, ◌++◌, length, drop, map, slice_get, append_assoc, refl, sym, ◌∙◌, ap, arith}
 use Rattle.std.specs.Prelude.{Some, option_map, option_and_then, get_or}
 use Rattle.std.specs.List.{insert_slice}
@@ -13,7 +13,7 @@ use Rattle.zs_drive.specs.Told.{told_of, recorded_of}
 use Rattle.zs_drive.proofs.Logging.{told-recorded, attempts_lines-append}
 use Rattle.zs_run.specs.Report.{last_ended}
 
--- the last element is that of what is left behind all before it
+-- the last element is that of the rest, after everything before it is dropped
 last-left : {A : Type 0} (x : A) (xs : List A)
     → slice_get (drop (length (x ∷ xs) - 1) (x ∷ xs)) (length (drop (length (x ∷ xs) - 1) (x ∷ xs)) - 1) ≡ slice_get (x ∷ xs) (length (x ∷ xs) - 1)
 last-left x xs =
@@ -33,7 +33,7 @@ last_ended-recorded Records attempts = refl
 last_ended-recorded Lines [] = refl
 last_ended-recorded Lines (attempt ∷ attempts) = ap (option_and_then (λ (a : AttemptedValue). a.ended)) (last-left attempt attempts)
 
--- the lines, and behind them those of the records
+-- the lines, followed by those of the records
 pub told-lines : (keeps : Keeping) (attempts : List AttemptedValue)
     → attempts_lines 1 (told_of keeps attempts) ++ attempts_lines (length (told_of keeps attempts) + 1) (recorded_of keeps attempts) ≡ attempts_lines 1 attempts
 told-lines keeps attempts =
@@ -48,7 +48,8 @@ last_ended-of records last is =
     ap (λ (n : ℕ). option_and_then (λ (a : AttemptedValue). a.ended) (slice_get (map attempted_of records) (n - 1))) (length-map records attempted_of)
     ∙ ap (option_and_then (λ (a : AttemptedValue). a.ended)) (slice_get-map attempted_of records (length records - 1) ∙ ap (option_map attempted_of) (sym is))
 
--- the first line of a job before the lines that its task keeps, and those of the records and the last line behind them
+-- the first line of a job, the stored lines, the lines of the records, and the last line, in this
+-- order
 pub lines-enclosed : (keeps : Keeping) (attempts : List AttemptedValue) (head end lines rest : List ℕ) → lines ≡ attempts_lines 1 (told_of keeps attempts)
     → rest ≡ attempts_lines (length (told_of keeps attempts) + 1) (recorded_of keeps attempts) ++ end
     → insert_slice lines 0 head ++ rest ≡ head ++ attempts_lines 1 attempts ++ end

@@ -1,4 +1,4 @@
--- A plan that is accepted passed each demand.
+-- A plan that is accepted passed every check.
 use Rattle.std.proofs.Common.{◌≡◌, ◌≤◌, ◌+◌, ◌&&◌, ◌||◌, ℕ, suc, zero, List, [], ◌∷◌, ◌++◌, length, map, Bool, true, false, not}
 use Rattle.std.proofs.Common.{nat_le, Option, Some, None, Result, Ok, Err, codes, subst, refl, sym, ap, ◌∙◌, arith}
 use Rattle.std.specs.Prelude.{⊤, MatchResult}
@@ -34,7 +34,7 @@ use Rattle.zs_run.specs.Plan.{PlanRecord, is_cut, max_bytes, max_jobs, plan_of_t
 use Rattle.zs_run.specs.Lawful.{IsLawfulJob, IsLawful}
 use Rattle.zs_run.proofs.ScriptLemmas.{script_given}
 
--- ---- what a passed step tells
+-- ---- what a passed step implies
 
 passed : {A B : Type 0} (r : Result A PlanFault) (f : A → Result B PlanFault) (b : B) → (r >>= f) ≡ Ok b → (a : A) × (r ≡ Ok a) × (f a ≡ Ok b)
 passed (Ok a) f b h = (a, refl, h)
@@ -84,11 +84,11 @@ all_at P (x ∷ xs) h = at P x xs h.0 (all_at P xs h.1)
     at P x xs here rest zero d inside = here
     at P x xs here rest (suc k) d inside = rest k d (omega arith)
 
--- what passes each test is a script
+-- entries that pass all tests are a script
 script_is : (beats script : List Beat) → script_of beats ≡ Ok script → IsScript script
 script_is beats script h = let is : (script ≡ beats) × IsScript beats = (script_given beats script).0 h in subst IsScript (sym is.0) is.1
 
--- what a text is read as is a schedule
+-- the schedule of a text is valid
 schedule_is : (text : List ℕ) (t : Schedule) → verdict_of text ≡ Ok t → IsSchedule t
 schedule_is text t h = spelled (verdict_of text) h (verdict_is_the_one text)
   where
@@ -99,7 +99,7 @@ schedule_is text t h = spelled (verdict_of text) h (verdict_is_the_one text)
 
 -- ---- one job
 
--- the steps of a job, from each on
+-- the rest of a job's steps, from each one on
 abbrev made : JobParts → Mode → Schedule → List Beat → Result JobRecord PlanFault
 made parts mode schedule script = Ok (record { name = parts.name; mode = mode; schedule = schedule; start = parts.start; script = script })
 
@@ -157,12 +157,12 @@ job_is number names d job h =
 abbrev with_rest : ℕ → List (List ℕ) → List Data → JobRecord → Result (List JobRecord) PlanFault
 with_rest number names ds job = jobs_of (number + 1) (names ++ job.name ∷ []) ds >>= (λ jobs. Ok (job ∷ jobs))
 
--- the jobs are lawful, their names are none of the earlier ones, and no two of them are alike
+-- the jobs are lawful, no name is an earlier one, and no two names are the same
 abbrev AreLawful : List (List ℕ) → List JobRecord → Type 0
 AreLawful names jobs = AllByRecursion IsLawfulJob jobs × AllByRecursion (λ job. is_one_of names job.name ≡ false) jobs
     × IsDistinct bytes_eq (map (λ job. job.name) jobs)
 
--- names that are none of more names are none of fewer, nor the last of them
+-- a name that isn't in a longer list isn't in its front, nor is it the last of that list
 fewer : (names : List (List ℕ)) (name : List ℕ) (jobs : List JobRecord) → AllByRecursion (λ job. is_one_of (names ++ name ∷ []) job.name ≡ false) jobs
     → AllByRecursion (λ job. is_one_of names job.name ≡ false) jobs × AllByRecursion (λ other. bytes_eq name other ≡ false) (map (λ job. job.name) jobs)
 fewer names name [] h = (tt, tt)
@@ -209,7 +209,7 @@ from_document_keys d clock parts = demand (has_only_keys document_keys d) (fault
 abbrev from_parts : Data → Ticks → Result PlanRecord PlanFault
 from_parts d clock = demand_some (document_parts d) (faults.Shape None) >>= from_document_keys d clock
 
--- as many jobs as documents of them
+-- the number of jobs is that of their documents
 as_many : (number : ℕ) (names : List (List ℕ)) (ds : List Data) (jobs : List JobRecord) → jobs_of number names ds ≡ Ok jobs → length jobs ≡ length ds
 unfolding jobs_of
 as_many number names [] jobs h =

@@ -1,4 +1,4 @@
--- The text of a report tells what is reported, line by line.
+-- The text of a report determines what is reported, line by line.
 use Rattle.std.proofs.Common.{◌≡◌, ◌<◌, ◌+◌, ◌++◌, inl, ℕ, suc, List, [], ◌∷◌, Option, Some, None, codes, refl, sym, ap, ◌∙◌, arith}
 use Rattle.std.proofs.Common.{append_assoc}
 use Rattle.std.specs.Prelude.{⊤, decimal}
@@ -47,7 +47,7 @@ outcome_split (Bad x) (Bad y) r s p q h =
 
 -- ---- a step
 
--- no line of a step comes first
+-- the text doesn't begin with the line of a step
 abbrev pub EndsSteps : List ℕ → Type 0
 EndsSteps [] = ⊤
 EndsSteps (c ∷ r) = c < 115
@@ -144,11 +144,11 @@ attempts_split n (x ∷ xs) (y ∷ ys) r s p q h =
 
 -- ---- the end of a job
 
--- what follows the ending in a job's last line
+-- the part of a job's last line after its ending
 abbrev pub tail_of : ℕ → ℕ → List ℕ → List ℕ
 tail_of moment polls r = codes " at " ++ (decimal moment ++ (codes " polls " ++ (decimal polls ++ (codes "\n" ++ r))))
 
--- what follows `end ` in that line
+-- the part of that line after `end `
 abbrev pub end_text : ℕ → List AttemptedValue → Option Ending → ℕ → List ℕ → List ℕ
 end_text horizon attempts None polls r = codes "unfinished" ++ tail_of horizon polls r
 end_text horizon attempts (Some ending) polls r = ending_text attempts ending ++ tail_of (last_moment attempts) polls r

@@ -1,4 +1,4 @@
--- A loop that looks for something at each of a list.
+-- A loop that looks for something in each element of a list.
 use Rattle.std.proofs.Common.{◌≡◌, ◌<◌, ◌≤◌, ℕ, ◌+◌, List, [], ◌∷◌, ◌++◌, map, drop, length, get_or, Option, Some, None}
 use Rattle.std.proofs.Common.{Ok, Err, option_map, refl, sym, ap, ◌∙◌, append_assoc, append-nil, drop-cons, add-one}
 use Rattle.std.proofs.lemmas.List.{drop_all}
@@ -9,11 +9,11 @@ use Rattle.zs_run.specs.declared.plan_fault.PlanFault.{PlanFault}
 use Rattle.zs_run.specs.Refusals.{demand_some}
 use Rattle.zs_run.specs.Tree.{all_of, ◌>>=◌}
 
--- what was found so far, and then what is found at the rest
+-- what was found so far, followed by what is found in the rest
 abbrev pub and_then : {A : Type 0} → List A → Option (List A) → Option (List A)
 and_then found rest = option_map (λ more. found ++ more) rest
 
--- the values up to the i-th gave what was found
+-- the values before the i-th gave what was found
 abbrev pub HaveGiven : {A : Type 0} → (Data → Option A) → List A → List Value → ℕ → Type 0
 HaveGiven find found values i = and_then found (all_of find (map view (drop i values))) ≡ all_of find (map view values)
 
@@ -22,7 +22,7 @@ moved : {A : Type 0} (found : List A) (y : A) (rest : Option (List A))
 moved found y None = refl
 moved found y (Some more) = ap Some (sym (append_assoc found (y ∷ []) more))
 
--- something is found at one more
+-- something is found in one more
 pub one_more : {A : Type 0} (find : Data → Option A) (found : List A) (values : List Value) (i : ℕ) (value : Value) (y : A)
     → i < length values → get_or values i value ≡ value → find (view value) ≡ Some y
     → HaveGiven find found values i → HaveGiven find (found ++ y ∷ []) values (i + 1)
@@ -32,7 +32,7 @@ one_more find found values i value y inside here given before =
     rw (add-one i, drop-cons values i value inside, here, given) (moved found y _) in
     sym step ∙ before
 
--- nothing is found at one
+-- nothing is found in one
 pub not_all : {A : Type 0} (find : Data → Option A) (found : List A) (values : List Value) (i : ℕ) (value : Value) (fault : PlanFault)
     → i < length values → get_or values i value ≡ value → find (view value) ≡ None
     → HaveGiven find found values i → demand_some (all_of find (map view values)) fault ≡ Err fault
@@ -41,7 +41,7 @@ not_all find found values i value fault inside here given before =
     let none : and_then found (all_of find (map view (drop i values))) ≡ None = rw (drop-cons values i value inside, here, given) refl in
     ap (λ all. demand_some all fault) (sym before ∙ none)
 
--- no value is left
+-- no value remains
 pub all_found : {A : Type 0} (find : Data → Option A) (found : List A) (values : List Value) (i : ℕ) (fault : PlanFault)
     → length values ≤ i → HaveGiven find found values i → demand_some (all_of find (map view values)) fault ≡ Ok found
 unfolding all_of

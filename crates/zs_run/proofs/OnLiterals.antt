@@ -1,4 +1,4 @@
--- What a worked fact unfolds to compute the plan of a literal text.
+-- The definitions that a worked example unfolds to compute the plan of a literal text.
 use Rattle.std.specs.Prelude.{⊤}
 use Rattle.std.specs.Str.{is_utf8, chars}
 use Rattle.serde_json.proofs.OnLiterals.{serde_json_on_literals}

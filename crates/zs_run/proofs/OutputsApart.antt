@@ -1,4 +1,4 @@
--- The text of an output tells the output and where it ends.
+-- The text of an output determines the output and its end.
 use Rattle.std.proofs.Common.{◌≡◌, ◌++◌, inl, inr, ℕ, List, ◌∷◌, codes, refl, sym, ap, ◌∙◌, arith, append_assoc}
 use Rattle.zs_term.specs.Output.{Output, Outputs, number, pair, left, right, listed, none, more}
 use Rattle.zs_term.specs.OutputText.{output_text, outputs_text, behind_text}
@@ -26,7 +26,7 @@ more_text x xs r = simp append_assoc
 behind_more : (x : Output) (xs : Outputs) (r : List ℕ) → behind_text (more x xs) ++ r ≡ 44 ∷ (output_text x ++ (behind_text xs ++ r))
 behind_more x xs r = simp append_assoc
 
--- ---- an output doesn't begin as what follows a list
+-- ---- an output doesn't begin like the text after a list
 
 no_bracket : (x : Output) (r s : List ℕ) → OutputFits x → output_text x ++ r ≡ 93 ∷ s → ⊥
 no_bracket (number n) r s fits h = number_begins n r s 93 fits (inr (omega arith)) h
@@ -42,7 +42,7 @@ behind_ends (more x xs) r = inl (omega arith)
 -- ---- outputs
 
 mutual
-  -- the text of an output, with no digit behind it, tells the output and what is behind it
+  -- the text of an output, without a digit after it, determines the output and the rest
   pub output_split : (x y : Output) (r s : List ℕ) → OutputFits x → OutputFits y → EndsNumber r → EndsNumber s
       → output_text x ++ r ≡ output_text y ++ s → (x ≡ y) × (r ≡ s)
   output_split (number m) (number n) r s p q d e h = let same = number_split m n r s p q d e h in (ap number same.0, same.1)
@@ -84,7 +84,7 @@ mutual
       let inner = outputs_split xs ys r s p q (rest_of_both 91 91 _ _ (sym (list_text xs r) ∙ h ∙ list_text ys s)) in
       (ap listed inner.0, inner.1)
 
-  -- so does that of a list, up to its bracket
+  -- the same for the text of a list, up to its bracket
   outputs_split : (xs ys : Outputs) (r s : List ℕ) → OutputsFit xs → OutputsFit ys
       → outputs_text xs ++ (93 ∷ r) ≡ outputs_text ys ++ (93 ∷ s) → (xs ≡ ys) × (r ≡ s)
   outputs_split none none r s p q h = (refl, rest_of_both 93 93 r s h)

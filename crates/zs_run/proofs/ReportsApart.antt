@@ -1,4 +1,4 @@
--- Equal texts of reports are those of equal jobs.
+-- Reports with equal texts are those of equal jobs.
 use Rattle.std.proofs.Common.{◌≡◌, ◌++◌, ◌&&◌, inl, ℕ, suc, zero, List, [], ◌∷◌, length, Bool, true, false, Option, Some, None, codes}
 use Rattle.std.proofs.Common.{refl, sym, ap, subst, ◌∙◌, arith, append_assoc}
 use Rattle.std.specs.Prelude.{decimal, nat_lt, nat_le, slice_index_or}
@@ -58,11 +58,11 @@ mode_split Repeat Repeat r s h = (refl, append_cancel_left (codes "repeat\n") r 
 
 -- ---- a job
 
--- the end of a job, and what follows it
+-- the end of a job, and the text after it
 abbrev pub end_of : ℕ → JobReport → List ℕ → List ℕ
 end_of h x r = end_text h x.attempts x.ending x.polls r
 
--- what stands behind the name, up to the end of the job
+-- the text after the name, up to the end of the job
 abbrev behind_name : JobReport → List ℕ → List ℕ
 behind_name x r = codes " " ++ (mode_text x.mode ++ (codes "\n" ++ (attempts_lines 1 x.attempts ++ r)))
 
@@ -91,7 +91,7 @@ job_split h k x y r s f g p q same =
 abbrev total : ℕ → List ℕ
 total p = codes "polls " ++ (decimal p ++ codes "\n")
 
--- the jobs' lines, and then the last line
+-- the jobs' lines, followed by the last line
 abbrev lines_of : ℕ → List JobReport → ℕ → List ℕ
 lines_of h xs p = flat_map (job_lines h) xs ++ total p
 
@@ -123,7 +123,7 @@ pub equal_jobs : (h k : ℕ) (xs ys : List JobReport) (p q : ℕ) → Fits h →
     → report_text h xs p ≡ report_text k ys q → xs ≡ ys
 equal_jobs h k xs ys p q f g c d same = (lines_tell h k xs ys p q f g c d (sym (report_is h xs p) ∙ same ∙ report_is k ys q)).0
 
--- they have the same total
+-- their totals are the same
 pub equal_totals : (h k : ℕ) (xs ys : List JobReport) (p q : ℕ) → Fits h → Fits k → All CanBeTold xs → All CanBeTold ys
     → Fits p → Fits q → report_text h xs p ≡ report_text k ys q → p ≡ q
 equal_totals h k xs ys p q f g c d a b same =
@@ -159,7 +159,7 @@ lines_tell_horizon h k (x ∷ xs) p q f g c (suc i, y, inside, is, ending_is) sa
     let rest = (job_split h k x x _ _ f g first first (sym (more_jobs h x xs p) ∙ same ∙ more_jobs k x xs q)).1 in
     lines_tell_horizon h k xs p q f g (others_of_all CanBeTold x xs c) (i, y, omega arith, is, ending_is) rest
 
--- where a job is unfinished, they go up to the same horizon
+-- if a job is unfinished, their horizons are the same
 pub equal_horizons : (h k : ℕ) (xs ys : List JobReport) (p q : ℕ) → Fits h → Fits k → All CanBeTold xs → All CanBeTold ys
     → Any (λ job. job.ending ≡ None) xs → report_text h xs p ≡ report_text k ys q → h ≡ k
 equal_horizons h k xs ys p q f g c d some same =
@@ -173,7 +173,7 @@ horizon_fits : (clock : Ticks) → IsClock clock → Fits (horizon clock)
 horizon_fits (every_ms last) is = omega arith
 horizon_fits (listed ticks) is = omega (arith, is.limit)
 
--- plans with one report tell the same of their jobs
+-- plans with the same report have the same reports of jobs
 pub equal_reports : (p q : PlanRecord) → IsClock p.clock → IsClock q.clock → All CanBeTold (reported p) → All CanBeTold (reported q)
     → report_of p ≡ report_of q → reported p ≡ reported q
 equal_reports p q f g c d same =

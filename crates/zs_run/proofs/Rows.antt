@@ -1,4 +1,5 @@
--- Plans of a few texts, computed: each fault against its neighbours in the order, and what a plan stands for.
+-- Worked examples, by computing: the plan of a text, and each fault against the next ones in the
+-- order.
 use Rattle.std.proofs.Common.{◌≡◌, ℕ, List, [], ◌∷◌, ◌++◌, Ok, Err, Some, None, codes, refl}
 use Rattle.std.specs.Prelude.{Option, Result}
 use Rattle.std.specs.Fmt.{digits}
@@ -22,7 +23,7 @@ abbrev pub fault_of : Result PlanRecord PlanFault → Option PlanFault
 fault_of (Ok plan) = None
 fault_of (Err fault) = Some fault
 
--- the fault of the plan that a text is, if it has one
+-- the fault of a text as a plan, if it has one
 abbrev pub fault_of_text : List ℕ → Option PlanFault
 fault_of_text text = fault_of (plan_of text)
 
@@ -192,7 +193,7 @@ wrong_shape = Some (faults.Shape (Some 0))
 abbrev pub unknown_key : Option PlanFault
 unknown_key = Some (faults.UnknownKey (Some 0))
 
--- the text of a job: its name, its mode, its schedule, and its script with what follows it
+-- the text of a job: its name, its mode, its schedule, and its script with the text after it
 abbrev pub job : List ℕ → List ℕ → List ℕ → List ℕ → List ℕ
 job name mode schedule script =
     codes "{\"name\":\"" ++ name ++ codes "\",\"mode\":\"" ++ mode ++ codes "\",\"schedule\":\"" ++ schedule
@@ -202,7 +203,8 @@ job name mode schedule script =
 abbrev pub failing : List ℕ
 failing = codes "[{\"ms\":5,\"err\":7}]"
 
--- a right job but for its script, a right job, and ones but for the name, for the mode and the script, and for the schedule
+-- a valid job but for its script, a valid job, and three that are valid but for the name, the mode
+-- and script, and the schedule
 abbrev pub with_script : List ℕ → List ℕ
 with_script script = job (codes "a") (codes "retry") (codes "recurs(3)") script
 

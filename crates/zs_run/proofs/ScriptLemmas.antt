@@ -1,4 +1,4 @@
--- The entries of a script by tests, and what is told of them by their first fault.
+-- The entries of a script by tests, and the same by their first fault.
 use Rattle.std.proofs.Common.{◌≡◌, ◌≤◌, ◌<◌, ◌==◌, ◌↔◌, ℕ, List, [], ◌∷◌, length, get_or, Bool, true, false, nat_lt, Result, Ok, Err, if◌then◌else◌, subst, refl, sym, ap, ◌∙◌, arith}
 use Rattle.std.specs.Prelude.{MatchResult}
 use Rattle.std.specs.List.{All, Any, list_any}
@@ -22,7 +22,7 @@ was_more n h = grind (arith, nat_tests, h)
 was_zero : (n : ℕ) → (n == 0) ≡ true → n ≡ 0
 was_zero n h = grind (arith, nat_tests, h)
 
--- ---- from the words to the tests
+-- ---- from the definition to the tests
 
 -- entries that are a script pass all tests
 pub script_passes : (beats : List Beat) → IsScript beats → script_of beats ≡ Ok beats
@@ -33,7 +33,7 @@ script_passes beats h =
     let timed : list_any (λ b. b.ms == 0) beats ≡ false = list_any_none (λ b. b.ms == 0) beats (λ k d inside. more_than_zero _ (h.timed k d inside)) in
     rw (some, few, timed) refl
 
--- entries with a fault fail just at its test
+-- entries with a fault fail exactly at its test
 pub script_fails : (beats : List Beat) (fault : ScriptFault) → IsFirstFault beats fault → script_of beats ≡ Err fault
 unfolding script_of
 script_fails beats Empty h = rw h refl
@@ -47,13 +47,13 @@ script_fails beats ZeroMs h =
     let zero_ms : list_any (λ b. b.ms == 0) beats ≡ true = list_any-from_Any (λ b. b.ms == 0) beats (h.2.0, h.2.1, h.2.2, h.2.3, is_zero _ h.2.4) in
     rw (some, few, zero_ms) refl
 
--- ---- from the tests to the words
+-- ---- from the tests to the definition
 
 no_entries : (beats : List Beat) → length beats ≡ 0 → beats ≡ []
 no_entries [] none = refl
 no_entries (beat ∷ beats) none = absurd (omega (arith, none))
 
--- where no entry takes 0 ms each takes 1 ms or more
+-- if no entry takes 0 ms, each takes 1 ms or more
 all_timed : (beats : List Beat) → list_any (λ b. b.ms == 0) beats ≡ false → All (λ beat. 1 ≤ beat.ms) beats
 all_timed beats none k d inside = by_test ((get_or beats k d).ms == 0) refl
   where
@@ -66,7 +66,7 @@ some_untimed : (beats : List Beat) → list_any (λ b. b.ms == 0) beats ≡ true
 some_untimed beats some =
     let found = Any-from_list_any (λ b. b.ms == 0) beats some in (found.0, found.1, found.2, found.3, was_zero _ found.4)
 
--- what the tests give is a script, or the first fault
+-- what the tests return is a script, or the first fault
 abbrev IsTold : List Beat → Result (List Beat) ScriptFault → Type 0
 IsTold beats told = MatchResult told (λ script. (script ≡ beats) × IsScript beats) (IsFirstFault beats)
 
@@ -89,13 +89,13 @@ tests_tell beats = by_empty (length beats == 0) refl
     by_empty true is = no_entries beats (was_zero (length beats) is)
     by_empty false is = by_length (nat_lt max_beats (length beats)) refl (was_more (length beats) is)
 
--- a script is given just where the entries are one
+-- the tests return a script exactly if the entries are one
 pub script_given : (beats script : List Beat) → (script_of beats ≡ Ok script) ↔ ((script ≡ beats) × IsScript beats)
 script_given beats script = (
   λ given. subst (IsTold beats) given (tests_tell beats),
   λ is. script_passes beats is.1 ∙ ap Ok (sym is.0),
 )
 
--- a fault is given just where it is the first
+-- the tests return a fault exactly if it is the first
 pub fault_given : (beats : List Beat) (fault : ScriptFault) → (script_of beats ≡ Err fault) ↔ IsFirstFault beats fault
 fault_given beats fault = (λ given. subst (IsTold beats) given (tests_tell beats), script_fails beats fault)

@@ -1,11 +1,11 @@
--- A clock is made just of the ticks that pass.
+-- A clock is made exactly of ticks that pass the tests.
 use Rattle.std.proofs.Common.{◌≡◌, ◌≤◌, ◌↔◌, ℕ, List, Bool, true, false, Option, Some, None, if◌then◌else◌, refl}
 use Rattle.std.specs.Prelude.{IsSome, IfSome}
 use Rattle.zs_agenda.specs.Ticks.{Ticks, every_ms, listed, IsClock, IsTickList, max_horizon}
 use Rattle.zs_agenda.specs.Tests.{is_clock}
 use Rattle.zs_agenda.proofs.TestLemmas.{clock_passes, clock_passed}
 
--- a clock, where these ticks are one's
+-- a clock, if these ticks are valid
 clock_where : (clock : Option Ticks) (ticks : Ticks) → (IsSome clock ↔ IsClock ticks) → IfSome clock (λ c. c ≡ ticks)
     → clock ≡ (if is_clock ticks then Some ticks else None)
 clock_where (Some c) ticks within value = rw (clock_passes ticks (within.0 refl), value) refl

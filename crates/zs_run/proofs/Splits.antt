@@ -1,4 +1,4 @@
--- Texts of which the front tells where it ends.
+-- Texts whose first part determines its length.
 use Rattle.std.proofs.Common.{◌≡◌, ◌<◌, ◌^◌, ◌++◌, ◌⊎◌, inl, inr, ℕ, List, [], ◌∷◌, length, refl, sym, arith}
 use Rattle.std.specs.Prelude.{⊤, decimal, nat_eq, false}
 use Rattle.std.proofs.lemmas.Bool.Decides.{nat_tests}
@@ -7,11 +7,11 @@ use Rattle.std.specs.Str.Parse.{AllDigits}
 use Rattle.std.proofs.lemmas.Str.Parse.{digit_from_value}
 use Rattle.std.proofs.lemmas.Fmt.{decimal_is_IsNumeral, decimal_injective}
 
--- no digit
+-- the byte is no digit
 abbrev pub IsMark : ℕ → Type 0
 IsMark c = (c < 48) ⊎ (57 < c)
 
--- no digit comes first
+-- the text doesn't begin with a digit
 abbrev pub EndsNumber : List ℕ → Type 0
 EndsNumber [] = ⊤
 EndsNumber (c ∷ r) = IsMark c
@@ -44,7 +44,7 @@ digits_split (c ∷ ds) (b ∷ es) r s d e p q h =
     let rest : (ds ≡ es) × (r ≡ s) = digits_split ds es r s d.1 e.1 p q (rest_of_both c b (ds ++ r) (es ++ s) h) in
     (cc (rest.0), rest.1)
 
--- a number ends where no digit comes
+-- a number ends before the first byte that is no digit
 pub number_split : (m n : ℕ) (r s : List ℕ) → m < 2 ^ 64 → n < 2 ^ 64 → EndsNumber r → EndsNumber s
     → decimal m ++ r ≡ decimal n ++ s → (m ≡ n) × (r ≡ s)
 number_split m n r s fits fit p q h =

@@ -18,7 +18,7 @@ by_length limit input above (inl more) =
     too_long (take limit input) (omega arith) ∙ sym (too_long input (omega arith))
 by_length limit input above (inr all) = ap plan_of (take_all limit input all)
 
--- One byte more than a plan may have is enough to tell.
+-- One byte more than a plan may have is enough to decide.
 pub plan_of_taken : (limit : ℕ) (input : List ℕ) → max_bytes < limit → plan_of (take limit input) ≡ plan_of input
 plan_of_taken limit input above = by_length limit input above (cases_lt limit (length input))
 

@@ -1,4 +1,5 @@
--- The jobs of a plan, one after another, or the first fault. The causes stand in the order of the faults.
+-- The jobs of a plan, one after the other, or the first fault. The causes are checked in the order
+-- of the faults.
 use Rattle.std.specs.Prelude.{ℕ, ◌+◌, ◌&&◌, ◌||◌, ◌==◌, List, [], ◌∷◌, ◌++◌, length, Bool, not, nat_lt, nat_le}
 use Rattle.std.specs.Prelude.{if◌then◌else◌, Option, Some, None, Result, Ok, Err, codes}
 use Rattle.std.specs.List.{list_all, list_any}
@@ -19,7 +20,7 @@ use Rattle.zs_run.specs.Refusals.{◌>>=◌, demand, demand_some, passed_on}
 use Rattle.zs_run.specs.Tree.{all_of, is_one_of, has_only_keys}
 use Rattle.zs_run.specs.Shapes.{beat_of, entry_keys, job_keys, job_parts}
 
--- the mode that a text names
+-- the mode with this name
 unfoldable pub mode_of : List ℕ → Option Mode
 mode_of text = if bytes_eq text (codes "retry") then Some modes.Retry else (if bytes_eq text (codes "repeat") then Some modes.Repeat else None)
 
@@ -31,12 +32,12 @@ is_name_byte b = is_ascii_alphanumeric b || (b == 45) || (b == 95) || (b == 46)
 unfoldable pub is_name : List ℕ → Bool
 is_name text = nat_lt 0 (length text) && nat_le (length text) 64 && list_all is_name_byte text
 
--- the entries as a script, or the first cause to refuse them
+-- the entries as a script, or the first cause to reject them
 unfoldable pub script_of : List Beat → Result (List Beat) ScriptFault
 script_of beats = if length beats == 0 then Err Empty
     else (if nat_lt max_beats (length beats) then Err TooLong else (if list_any (λ b. b.ms == 0) beats then Err ZeroMs else Ok beats))
 
--- the job with this number, after jobs of these names
+-- the job with this number, after jobs with these names
 unfoldable pub job_of : ℕ → List (List ℕ) → Data → Result JobRecord PlanFault
 job_of number names d = do
   parts ← demand_some (job_parts d) (faults.Shape (Some number))
@@ -49,7 +50,7 @@ job_of number names d = do
   script ← passed_on (faults.Script number) (script_of beats)
   Ok (record { name = parts.name; mode = mode; schedule = schedule; start = parts.start; script = script })
 
--- the jobs from this number on, after jobs of these names
+-- the jobs from this number on, after jobs with these names
 unfoldable pub jobs_of : ℕ → List (List ℕ) → List Data → Result (List JobRecord) PlanFault
 jobs_of number names [] = Ok []
 jobs_of number names (d ∷ ds) = do

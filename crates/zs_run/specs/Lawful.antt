@@ -1,4 +1,4 @@
--- What an accepted plan is, with no word on how it was read.
+-- What an accepted plan is, independent of how it was read.
 use Rattle.std.specs.Prelude.{◌≡◌, ◌≤◌, length, map, true}
 use Rattle.std.specs.List.{All, IsDistinct}
 use Rattle.std.specs.Str.{bytes_eq}
@@ -16,7 +16,7 @@ pub record IsLawfulJob (job : JobRecord) : Type 0 where
   pub schedule : IsSchedule job.schedule
   pub script : IsScript job.script
 
--- a plan whose clock, cut and jobs are what they may be, and of whose jobs no two have one name
+-- a plan with a valid clock, cut and jobs, in which no two jobs have the same name
 pub record IsLawful (plan : PlanRecord) : Type 0 where
   pub clock : IsClock plan.clock
   pub cut : IsCut plan.workers plan.grain

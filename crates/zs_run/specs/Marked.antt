@@ -1,4 +1,4 @@
--- What a clause reads of a `Marked`.
+-- What contracts know about a `Marked`.
 use Rattle.std.specs.Prelude.{ℕ, Bool}
 use Rattle.zs_run.specs.declared.marked.Marked.{Marked}
 
@@ -10,10 +10,10 @@ marked_inner m = m.inner
 abbrev pub marked_failed : {T : Type 0} → Marked T → Bool
 marked_failed m = m.failed
 
--- a flush succeeded, and nothing was taken since
+-- a flush succeeded, and no bytes were taken since
 abbrev pub marked_flushed : {T : Type 0} → Marked T → Bool
 marked_flushed m = m.flushed
 
--- how many pulls it was asked for, cut at 2^64 - 1
+-- the number of pulls, saturated at 2^64 - 1
 abbrev pub marked_pulls : {T : Type 0} → Marked T → ℕ
 marked_pulls m = m.pulls

@@ -1,9 +1,9 @@
--- The set of names beside the list of names that were used.
+-- A set of names that represents the list of the names used so far.
 use Rattle.std.specs.Prelude.{◌≡◌, ℕ, List}
 use Rattle.std.specs.BTreeSet.{BTreeSet, contains_text}
 use Rattle.std.proofs.Common.{String, Global}
 use Rattle.zs_run.specs.Tree.{is_one_of}
 
--- the set has just the names of the list
+-- the set contains exactly the names of the list
 abbrev pub KnowsNames : BTreeSet (String Global) → List (List ℕ) → Type 0
 KnowsNames set names = (name : List ℕ) → contains_text set name ≡ is_one_of names name

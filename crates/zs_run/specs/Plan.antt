@@ -1,5 +1,5 @@
--- The plan of a list of bytes, or its first fault: first the causes in the document, then job by job those in the jobs.
--- The causes stand in the order of the faults.
+-- The plan of a list of bytes, or its first fault: first the causes in the document, then job by
+-- job those in the jobs. The causes are checked in the order of the faults.
 use Rattle.std.specs.Prelude.{ℕ, ◌&&◌, List, [], length, Bool, nat_le, None, Result, Ok, codes}
 use Rattle.serde_json.specs.Data.{Data}
 use Rattle.serde_json.specs.Find.{get}
@@ -14,18 +14,18 @@ use Rattle.zs_run.specs.Tree.{tree_of, has_only_keys}
 use Rattle.zs_run.specs.Shapes.{document_keys, document_parts, ticks_asked}
 use Rattle.zs_run.specs.Jobs.{jobs_of}
 
--- a plan, whatever memory it lies in
+-- a plan as plain mathematics
 pub record PlanRecord : Type 0 where
   pub clock : Ticks
   pub workers : ℕ
   pub grain : ℕ
   pub jobs : List JobRecord
 
--- the most bytes of a plan
+-- the greatest number of bytes of a plan
 abbrev pub max_bytes : ℕ
 max_bytes = 16777216
 
--- the most jobs of a plan: as many as a round may poll
+-- the greatest number of jobs of a plan: a round may poll each of them
 abbrev pub max_jobs : ℕ
 max_jobs = max_tasks
 

@@ -1,4 +1,4 @@
--- What reading a plan from a reader answers.
+-- The result of reading a plan from a reader.
 use Rattle.std.specs.Prelude.{◌≡◌, ◌≢◌, true, false, Result, Ok, Err}
 use Rattle.zs_run.specs.declared.plan_fault.PlanFault.TheVariants as faults
 use Rattle.zs_run.specs.declared.run_fault.RunFault.{RunFault}
@@ -7,7 +7,7 @@ use Rattle.zs_run.specs.declared.plan.Plan as plans
 use Rattle.zs_run.specs.PlanView.{plan_record}
 use Rattle.zs_run.specs.Headline.{IsInput, Reading, WasNoPlan}
 
--- The bytes were a plan, or the reader failed, or the fault is theirs unless memory ran out.
+-- The bytes were a plan, or the reader failed, or they have this fault unless memory ran out.
 abbrev pub Reads : Result plans.Plan RunFault → Reading → Type 0
 Reads (Ok plan) r = (r.failed ≡ false) × IsInput r.before r.left (plan_record plan)
 Reads (Err Read) r = r.failed ≡ true

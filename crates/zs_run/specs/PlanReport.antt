@@ -1,4 +1,5 @@
--- The report of a plan: each job by itself on the clock, as if there were no other, and the number of all due polls.
+-- The report of a plan: each job separately on the clock, as if there were no other, and the number
+-- of all due polls.
 use Rattle.std.specs.Prelude.{ℕ, List, length, map, sum_by, codes, ◌++◌}
 use Rattle.std.specs.List.{flat_map}
 use Rattle.std.specs.Fmt.{decimal}
@@ -9,7 +10,7 @@ use Rattle.zs_engine.specs.Times.{ticks_of}
 use Rattle.zs_run.specs.Plan.{PlanRecord}
 use Rattle.zs_run.specs.Report.{JobReport, job_lines, report_text}
 
--- what a report tells of a job on these ticks
+-- the report of a job on these ticks
 abbrev pub job_report : List ℕ → JobRecord → JobReport
 job_report ticks job =
     let timeline = timeline_of job ticks in
@@ -23,10 +24,10 @@ report_of plan = let jobs = map (job_report (ticks_of plan.clock)) plan.jobs in 
 abbrev pub jobs_text : Ticks → List JobRecord → List ℕ
 jobs_text clock jobs = flat_map (job_lines (horizon clock)) (map (job_report (ticks_of clock)) jobs)
 
--- how many due polls jobs have together
+-- the number of due polls of all jobs together
 abbrev pub polls_of : Ticks → List JobRecord → ℕ
 polls_of clock jobs = sum_by (λ job. job.polls) (map (job_report (ticks_of clock)) jobs)
 
--- the lines of jobs, and behind them the line with their due polls
+-- the lines of jobs, followed by the line with the number of due polls
 abbrev pub with_total : List ℕ → ℕ → List ℕ
 with_total text polls = text ++ codes "polls " ++ decimal polls ++ codes "\n"

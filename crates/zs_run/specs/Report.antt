@@ -1,4 +1,5 @@
--- The text of a report: for each job a line of its name, the lines of its attempts, and how it ended; last the total of due polls.
+-- The text of a report. For each job: a line with its name, the lines of its attempts, and a line
+-- with its ending. The last line has the total of due polls.
 use Rattle.std.specs.Prelude.{ℕ, ◌-◌, List, [], ◌++◌, length, slice_get, Option, Some, None, option_map, option_and_then, unwrap_or, codes, decimal}
 use Rattle.std.specs.List.{flat_map}
 use Rattle.zs_term.specs.OutputText.{output_text}
@@ -19,32 +20,32 @@ mode_text Repeat = codes "repeat"
 abbrev pub last_ended : List AttemptedValue → Option EndedValue
 last_ended attempts = option_and_then (λ attempt. attempt.ended) (slice_get attempts (length attempts - 1))
 
--- the moment of that end
+-- the moment of that end, or 0
 abbrev pub last_moment : List AttemptedValue → ℕ
 last_moment attempts = unwrap_or (option_map (λ ended. ended.at) (last_ended attempts)) 0
 
--- the output of a step, where the schedule was stepped
+-- the text of a step's output, if the schedule was stepped
 abbrev pub step_output : Option Answer → List ℕ
 step_output None = []
 step_output (Some step) = output_text step.output
 
--- the output of the last step
+-- the text of the last step's output
 abbrev pub last_output : List AttemptedValue → List ℕ
 last_output attempts = unwrap_or (option_map (λ ended. step_output ended.step) (last_ended attempts)) []
 
--- how a job with these attempts ended
+-- how a job with these attempts ended, as text
 abbrev pub ending_text : List AttemptedValue → Ending → List ℕ
 ending_text attempts (Succeeded value) = codes "succeeded " ++ decimal value
 ending_text attempts (Failed code) = codes "failed " ++ decimal code
 ending_text attempts Finished = codes "finished " ++ last_output attempts
 
--- the last line of a job: its ending, when that was, and how many due polls it had
+-- the last line of a job: its ending, the moment of it, and the number of due polls
 abbrev pub end_line : ℕ → List AttemptedValue → Option Ending → ℕ → List ℕ
 end_line horizon attempts None polls = codes "end unfinished at " ++ decimal horizon ++ codes " polls " ++ decimal polls ++ codes "\n"
 end_line horizon attempts (Some ending) polls =
     codes "end " ++ ending_text attempts ending ++ codes " at " ++ decimal (last_moment attempts) ++ codes " polls " ++ decimal polls ++ codes "\n"
 
--- what a report tells of a job
+-- the data of a job in a report
 pub record JobReport : Type 0 where
   pub name : List ℕ
   pub mode : Mode

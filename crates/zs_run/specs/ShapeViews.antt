@@ -1,4 +1,4 @@
--- What contracts see of the parts of a document and of a job.
+-- What contracts know about the parts of a document and of a job.
 use Rattle.std.specs.Prelude.{map}
 use Rattle.serde_json.specs.View.{view}
 use Rattle.zs_agenda.specs.Ticks.{Ticks, every_ms, listed}
@@ -8,16 +8,16 @@ use Rattle.zs_run.specs.declared.shapes.DocumentParts as document
 use Rattle.zs_run.specs.declared.shapes.JobParts as job
 use Rattle.zs_run.specs.Shapes.{DocumentParts, JobParts}
 
--- the ticks that a document asks for
+-- the ticks that a document gives
 abbrev pub asked_view : AskedTicks → Ticks
 asked_view (EveryMs last) = every_ms last
 asked_view (Listed moments) = listed moments.items
 
--- the parts of a document by what they stand for
+-- the parts of a document, by their values
 abbrev pub document_view : document.DocumentParts → DocumentParts
 document_view parts = record { workers = parts.workers; grain = parts.grain; jobs = map view parts.jobs.items }
 
--- the parts of a job by what they stand for
+-- the parts of a job, by their values
 abbrev pub job_view : job.JobParts → JobParts
 job_view parts = record {
   name = parts.name.now;

@@ -1,5 +1,5 @@
--- What a document, a job and an entry have to be made of: the parts that must stand there, each of its own type.
--- None is the wrong shape. A part that may be left out has its default here.
+-- What a document, a job and an entry consist of: the required parts, each with its type. `None` is
+-- the wrong shape. A part that may be missing has its default here.
 use Rattle.std.specs.Prelude.{ℕ, List, [], ◌∷◌, Option, Some, None, option_map, codes}
 use Rattle.serde_json.specs.Data.{Data}
 use Rattle.serde_json.specs.Find.{get}
@@ -15,14 +15,14 @@ use Rattle.zs_run.specs.Tree.{◌>>=◌, as_whole, as_wholes, find_whole, find_t
 abbrev pub entry_keys : List (List ℕ)
 entry_keys = codes "ms" ∷ codes "ok" ∷ codes "err" ∷ []
 
--- how an attempt ends, by what stands at `ok` and `err`: just one of the two
+-- the outcome of an attempt, by the values at `ok` and `err`: exactly one of them
 abbrev pub outcome_of : Option Data → Option Data → Option Outcome
 outcome_of (Some ok) None = option_map Good (as_whole ok)
 outcome_of None (Some err) = option_map Bad (as_whole err)
 outcome_of None None = None
 outcome_of (Some ok) (Some err) = None
 
--- how long an attempt takes, and how it ends
+-- the duration of an attempt, and its outcome
 unfoldable pub beat_of : Data → Option Beat
 beat_of d = do
   ms ← find_whole (codes "ms") d
@@ -43,7 +43,7 @@ pub record JobParts : Type 0 where
   pub start : ℕ
   pub entries : List Data
 
--- the job's parts: three texts, a start, which is 0 where it is left out, and the list of a script's entries
+-- the job's parts: three texts, a start with the default 0, and the list of the script's entries
 unfoldable pub job_parts : Data → Option JobParts
 job_parts d = do
   name ← find_text (codes "name") d
@@ -59,20 +59,20 @@ job_parts d = do
 abbrev pub document_keys : List (List ℕ)
 document_keys = codes "horizon" ∷ codes "ticks" ∷ codes "workers" ∷ codes "grain" ∷ codes "jobs" ∷ []
 
--- the ticks that are asked for, by what stands at `horizon` and `ticks`: just one of the two
+-- the ticks of a document, by the values at `horizon` and `ticks`: exactly one of them
 abbrev pub ticks_asked : Option Data → Option Data → Option Ticks
 ticks_asked (Some horizon) None = option_map every_ms (as_whole horizon)
 ticks_asked None (Some ticks) = option_map listed (as_wholes ticks)
 ticks_asked None None = None
 ticks_asked (Some horizon) (Some ticks) = None
 
--- the parts of a document beside its clock
+-- the parts of a document besides its clock
 pub record DocumentParts : Type 0 where
   pub workers : ℕ
   pub grain : ℕ
   pub jobs : List Data
 
--- the document's parts: two numbers, each 1 where it is left out, and the list of jobs
+-- the document's parts: two numbers with the default 1, and the list of jobs
 unfoldable pub document_parts : Data → Option DocumentParts
 document_parts d = do
   workers ← whole_or 1 (get (codes "workers") d)

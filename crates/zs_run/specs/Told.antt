@@ -1,5 +1,6 @@
--- What can be told of a job so that no other job has the same lines: a name, and numbers of 64 bits. Each number of the program
--- is one of 64 bits. In a definition a number may be of any size, and from 10^64 on its text is cut.
+-- What a job has to satisfy so that no other such job has the same lines: a valid name, and numbers
+-- of 64 bits. Every number of the program has 64 bits. In a definition a number may have any size,
+-- and from 10^64 on its text is cut.
 use Rattle.std.specs.Prelude.{◌≡◌, ◌<◌, ◌^◌, ⊤, ℕ, List, Option, Some, None, IfSome, map, true}
 use Rattle.std.specs.List.{All}
 use Rattle.zs_term.specs.Output.{Output, Outputs, number, pair, left, right, listed, none, more}
@@ -21,6 +22,7 @@ use Rattle.zs_run.specs.PlanReport.{job_report}
 abbrev pub Fits : ℕ → Type 0
 Fits n = n < 2 ^ 64
 
+-- outputs and lists of outputs
 abbrev mutual
   -- each number of an output fits
   pub OutputFits : Output → Type 0
@@ -35,7 +37,7 @@ abbrev mutual
   OutputsFit none = ⊤
   OutputsFit (more x xs) = OutputFits x × OutputsFit xs
 
--- the moment at which a schedule goes on fits
+-- the moment at which a schedule continues fits
 abbrev pub DecisionFits : Decision → Type 0
 DecisionFits Stop = ⊤
 DecisionFits (Next at) = Fits at
@@ -66,19 +68,19 @@ EndingFits (Some (Succeeded value)) = Fits value
 EndingFits (Some (Failed code)) = Fits code
 EndingFits (Some Finished) = ⊤
 
--- what can be told of a job: its name is one, and each of its numbers fits
+-- no other such job has the same lines: its name is valid, and each of its numbers fits
 pub record CanBeTold (job : JobReport) : Type 0 where
   pub name : is_name job.name ≡ true
   pub attempts : All AttemptFits job.attempts
   pub ending : EndingFits job.ending
   pub polls : Fits job.polls
 
--- what the report of a plan tells of its jobs
+-- the reports of a plan's jobs
 abbrev pub reported : PlanRecord → List JobReport
 reported plan = map (job_report (ticks_of plan.clock)) plan.jobs
 
--- Where a job has an ending, its last attempt has ended, and where it is `Finished`, the schedule was asked at that end: what the job's
--- last line tells of that end is there.
+-- If a job has an ending, its last attempt has ended. If it is `Finished`, the schedule was stepped
+-- at that end. So the job's last line never shows a default.
 abbrev pub HasItsEnd : List AttemptedValue → Option Ending → Type 0
 HasItsEnd attempts ending =
     IfSome ending (λ e. (end : EndedValue) × (last_ended attempts ≡ Some end) × (e ≡ Finished → (step : Answer) × (end.step ≡ Some step)))

@@ -1,5 +1,5 @@
--- Looking into a JSON document: what stands there, or None where nothing stands or another type does.
--- Numbers are whole where they are written in digits alone and fit 64 bits.
+-- Look-ups in a JSON document: the value, or `None` if it is missing or has another type. A number
+-- is whole if it is written in digits only and fits 64 bits.
 use Rattle.std.specs.Prelude.{ℕ, List, [], ◌∷◌, Bool, true, if◌then◌else◌, Option, Some, None, option_map, option_and_then}
 use Rattle.std.specs.List.{list_all, list_any}
 use Rattle.std.specs.Str.{is_utf8, bytes_eq}
@@ -7,17 +7,17 @@ use Rattle.serde_json.specs.Data.{Data, Items, no_items, item, Members, no_membe
 use Rattle.serde_json.specs.Read.{read}
 use Rattle.serde_json.specs.Find.{get, as_number, as_u64, as_str, as_array, as_object}
 
--- the document that the bytes are, where they are one in UTF-8
+-- the document of these bytes, if they are one in UTF-8
 abbrev pub tree_of : List ℕ → Option Data
 tree_of bytes = if is_utf8 bytes then read bytes else None
 
 infixl 10 ◌>>=◌
--- what comes next, where something was found
+-- the next look-up, if this one found something
 abbrev pub ◌>>=◌ : {A B : Type 0} → Option A → (A → Option B) → Option B
 None >>= f = None
 (Some x) >>= f = f x
 
--- what is found at each of a list, where it is found at all of them
+-- what is found in each element of a list, if it is found in all of them
 unfoldable pub all_of : {A B : Type 0} → (A → Option B) → List A → Option (List B)
 all_of find [] = Some []
 all_of find (x ∷ xs) = do
@@ -58,7 +58,7 @@ find_text k d = option_and_then as_str (get k d)
 abbrev pub find_list : List ℕ → Data → Option (List Data)
 find_list k d = option_and_then as_list (get k d)
 
--- a whole number that may be left out, and what it is then
+-- the whole number, or a default if it is missing
 abbrev pub whole_or : ℕ → Option Data → Option ℕ
 whole_or default None = Some default
 whole_or default (Some d) = as_whole d
@@ -74,11 +74,11 @@ keys_of (member k d ms) = k ∷ keys_of ms
 abbrev pub is_one_of : List (List ℕ) → List ℕ → Bool
 is_one_of known key = list_any (λ k. bytes_eq k key) known
 
--- no key of these members is another than the known ones
+-- each key of these members is a known one
 abbrev pub are_known : List (List ℕ) → Option Members → Bool
 are_known known None = true
 are_known known (Some members) = list_all (is_one_of known) (keys_of members)
 
--- no other key stands in an object
+-- an object has no key but the known ones
 abbrev pub has_only_keys : List (List ℕ) → Data → Bool
 has_only_keys known d = are_known known (as_object d)

@@ -1,4 +1,4 @@
-//! The entries of a script in a plan.
+//! Reads the entries of a script in a plan.
 ghost use Rattle.std.specs.Prelude.{◌≡◌, map, option_map, Some};
 ghost use Rattle.std.specs.List.{list_all};
 ghost use Rattle.serde_json.specs.View.{view};
@@ -13,7 +13,7 @@ use serde_json::Value;
 use std::alloc::Global;
 use zs_effect::{Beat, Outcome};
 
-// How an attempt ends, by what stands at `ok` and `err`: just one of the two.
+// Returns the outcome of an attempt, by the values at `ok` and `err`: exactly one of them.
 fn outcome_of(ok: Option<&Value>, err: Option<&Value>) -> Option<Outcome>
     ensures value { result ≡ outcome_of (option_map (λ v. view v.now) ok.entry) (option_map (λ v. view v.now) err.entry) }
 {
@@ -24,7 +24,7 @@ fn outcome_of(ok: Option<&Value>, err: Option<&Value>) -> Option<Outcome>
     }
 }
 
-// How long an attempt takes, and how it ends.
+// Returns the duration of an attempt, and its outcome.
 #[tactic(auto, unfolding(crate::specs::Shapes::beat_of))]
 fn beat_of(entry: &Value) -> Option<Beat>
     ensures value { result ≡ beat_of (view entry.now) }
@@ -34,7 +34,7 @@ fn beat_of(entry: &Value) -> Option<Beat>
     Some(Beat { ms, outcome })
 }
 
-/// The entries of the script of the job with this number, as beats.
+/// Returns the entries of a script as beats. `number` is that of their job.
 pub(crate) fn beats_of(
     alloc: Global,
     number: u64,
@@ -53,14 +53,14 @@ pub(crate) fn beats_of(
     Ok(beats)
 }
 
-// Whether an entry has no other key.
+// Whether an entry has only known keys.
 fn has_known_keys(entry: &Value) -> bool
     ensures value { result ≡ has_only_keys entry_keys (view entry.now) }
 {
     has_only_keys(entry, &["ms", "ok", "err"])
 }
 
-/// Whether no entry has another key than those of an entry.
+/// Whether all entries have only known keys.
 pub(crate) fn have_known_keys(entries: &[Value]) -> bool
     ensures value { result ≡ list_all (λ v. has_only_keys entry_keys (view v)) entries.now }
 {

@@ -1,4 +1,4 @@
-// Laws of plans and reports, above their definitions.
+//! Laws of plans and reports, stated about their definitions.
 
 ghost use Rattle.std.specs.Prelude.{◌≡◌, ◌↔◌, ◌++◌, ◌+◌, ℕ, List, None, Ok, Err, sum_by};
 ghost use Rattle.std.specs.List.{All, Any, flat_map};
@@ -15,41 +15,44 @@ ghost use Rattle.zs_run.specs.PlanReport.{job_report, jobs_text, polls_of, repor
 ghost use Rattle.zs_run.specs.Report.{JobReport, report_text};
 ghost use Rattle.zs_run.specs.Told.{CanBeTold, Fits, HasItsEnd, reported};
 
-/// A plan's report is that of its parts put together: the jobs' lines of each part in order, and one last line with the sum of their polls.
-/// Neither a part's workers nor its grain matter.
+/// The report of a plan consists of the jobs' lines in order, and a last line with the sum of their
+/// polls. So reports of parts can be joined, whatever the workers and the grain of a part.
 pub fn reports_join()
     ensures part { (p : PlanRecord) → report_of p ≡ with_total (jobs_text p.clock p.jobs) (polls_of p.clock p.jobs) }
+    // For two parts, and for any number of them.
     ensures two { (p : PlanRecord) (xs ys : List JobRecord) → p.jobs ≡ xs ++ ys → report_of p ≡ with_total (jobs_text p.clock xs ++ jobs_text p.clock ys) (polls_of p.clock xs + polls_of p.clock ys) }
     ensures parts { (p : PlanRecord) (parts : List (List JobRecord)) → p.jobs ≡ flat_map (λ part. part) parts → report_of p ≡ with_total (flat_map (jobs_text p.clock) parts) (sum_by (polls_of p.clock) parts) }
 {}
 
-/// The report of a plan doesn't depend on how its work is cut: plans with the same clock and jobs have the same report.
+/// The report of a plan doesn't depend on its cut: plans with the same clock and jobs have the same
+/// report.
 pub fn the_cut_changes_nothing()
     ensures same { (p q : PlanRecord) → p.clock ≡ q.clock → p.jobs ≡ q.jobs → report_of p ≡ report_of q }
 {}
 
-/// A plan that is accepted is lawful: its clock and its cut are such, it has at most 10,000 jobs, no two of them have one name, and each
-/// has a lawful name, a schedule and a script.
+/// Every accepted plan is lawful: its clock and its cut are valid, it has at most 10,000 jobs with
+/// distinct names, and each job has a valid name, schedule and script.
 pub fn accepted_plans_are_lawful()
     ensures lawful { (bytes : List ℕ) (plan : PlanRecord) → plan_of bytes ≡ Ok plan → IsLawful plan }
 {}
 
-/// The tests of entries give a script just where the entries are one, and a fault just where it is their first, so that a reader of
-/// either may believe both.
+/// The tests of entries return a script exactly if the entries are one, and a fault exactly if it
+/// is their first. So a reader may believe either definition.
 pub fn scripts_are_tested()
     ensures scripts { (beats script : List Beat) → (script_of beats ≡ Ok script) ↔ ((script ≡ beats) × IsScript beats) }
     ensures faults { (beats : List Beat) (fault : ScriptFault) → (script_of beats ≡ Err fault) ↔ IsFirstFault beats fault }
 {}
 
-/// No report of a plan tells a default: where a job has an ending, its last attempt has ended, and where it finished, its schedule was
-/// asked at that end.
+/// No report of a plan shows a default: if a job has an ending, its last attempt has ended, and if
+/// it finished, its schedule was stepped at that end.
 pub fn no_default_is_told()
     ensures ends { (clock : Ticks) (job : JobRecord) → IsClock clock → IsScript job.script
         → HasItsEnd (job_report (ticks_of clock) job).attempts (job_report (ticks_of clock) job).ending }
 {}
 
-/// Reports tell apart: lists of jobs with the same text are the same, with the same names, modes, attempts, outputs, endings and polls,
-/// and so are the totals and, where a job is unfinished, the horizons.
+/// Different jobs have different reports. If two reports have the same text, their jobs are equal
+/// in names, modes, attempts, outputs, endings and polls. So are their totals and, if a job is
+/// unfinished, their horizons. The names have to be valid, and the numbers have to fit 64 bits.
 pub fn reports_tell_apart()
     ensures jobs { (h k : ℕ) (xs ys : List JobReport) (p q : ℕ) → Fits h → Fits k → All CanBeTold xs → All CanBeTold ys
         → report_text h xs p ≡ report_text k ys q → xs ≡ ys }
@@ -57,6 +60,7 @@ pub fn reports_tell_apart()
         → Fits p → Fits q → report_text h xs p ≡ report_text k ys q → p ≡ q }
     ensures horizons { (h k : ℕ) (xs ys : List JobReport) (p q : ℕ) → Fits h → Fits k → All CanBeTold xs → All CanBeTold ys
         → Any (λ (job : JobReport). job.ending ≡ None) xs → report_text h xs p ≡ report_text k ys q → h ≡ k }
+    // The same for the reports of two plans.
     ensures plans { (p q : PlanRecord) → IsClock p.clock → IsClock q.clock → All CanBeTold (reported p) → All CanBeTold (reported q)
         → report_of p ≡ report_of q → reported p ≡ reported q }
 {}

@@ -1,10 +1,10 @@
-//! Any reader or writer of `std` with a mark.
+//! Readers and writers of `std` that record a failed call.
 ghost use Rattle.std.specs.Prelude.{◌≡◌, false};
 
 use crate::streams::{Drain, Failed, Source};
 use std::io::{Read, Write};
 
-/// Any reader or writer of `std`, with a mark that a failed call sets.
+/// A reader or writer of `std`, with a mark that a failed call sets.
 #[derive(Drop)]
 pub struct Marked<T> {
     inner: T,
@@ -16,7 +16,7 @@ pub struct Marked<T> {
 impl<T> Marked<T> {
     ghost use Rattle.zs_run.specs.Marked.{marked_inner, marked_failed, marked_pulls};
 
-    /// A reader or writer with a clear mark.
+    /// Wraps a reader or writer. Its mark is clear.
     pub fn new(inner: T) -> Marked<T>
         ensures inner { marked_inner result ≡ inner }
         ensures clear { marked_failed result ≡ false }

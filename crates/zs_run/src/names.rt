@@ -1,4 +1,4 @@
-//! The names of jobs: which texts are names, and which were used before.
+//! The names of jobs: which texts are valid, and which were used before.
 ghost use Rattle.std.specs.Prelude.{◌≡◌, ◌++◌, ◌∷◌, [], ℕ, List, OnOk, string_bytes};
 ghost use Rattle.std.specs.List.{list_all};
 ghost use Rattle.std.specs.BTreeSet.{contains_text};
@@ -8,7 +8,7 @@ ghost use Rattle.zs_run.specs.Names.{KnowsNames};
 use std::alloc::{AllocError, Global};
 use std::collections::BTreeSet;
 
-// The most bytes of a name.
+// The greatest number of bytes of a name.
 const MAX_NAME: usize = 64;
 
 // Whether a name may have the byte.
@@ -19,14 +19,14 @@ fn is_name_byte(byte: u8) -> bool
     byte.is_ascii_alphanumeric() || byte == b'-' || byte == b'_' || byte == b'.'
 }
 
-// Whether a name may have all the bytes.
+// Whether a name may have all these bytes.
 fn all_are_name_bytes(text: &[u8]) -> bool
     ensures value { result ≡ list_all is_name_byte text.now }
 {
     text.iter().all(|byte| is_name_byte(*byte))
 }
 
-/// Whether the text is a name.
+/// Whether the text is a valid name.
 #[tactic(auto, unfolding(crate::specs::Jobs::is_name))]
 pub(crate) fn is_name(text: &str) -> bool
     ensures value { result ≡ is_name text.now }
@@ -35,14 +35,14 @@ pub(crate) fn is_name(text: &str) -> bool
     0 < bytes.len() && bytes.len() <= MAX_NAME && all_are_name_bytes(bytes)
 }
 
-/// Whether the name is one of a set.
+/// Whether the name is in the set.
 pub(crate) fn is_used(names: &BTreeSet<String>, name: &str) -> bool
     ensures value { result ≡ contains_text names.now name.now }
 {
     names.contains(name)
 }
 
-/// Adds a name to a set.
+/// Adds a name to the set.
 #[tactic(auto, using(crate::proofs::NameLemmas::knows_inserted))]
 pub(crate) fn add_name(
     alloc: Global,

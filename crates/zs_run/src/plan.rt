@@ -1,15 +1,15 @@
-//! What is to be run, and how.
+//! A plan: what to run, and how.
 use zs_agenda::Clock;
 use zs_drive::Job;
 use zs_pool::Cut;
 
-/// A plan: jobs with the clock that they run on, and how many run at once.
+/// A plan: jobs, the clock that they run on, and how their polls are shared out.
 #[derive(Drop)]
 pub struct Plan {
     /// The moments at which something can happen.
     pub clock: Clock,
-    /// How many workers there are, and how many tasks a batch has.
+    /// The number of workers, and of tasks in a batch.
     pub cut: Cut,
-    /// The jobs, of which no two have one name.
+    /// The jobs. No two have the same name.
     pub jobs: Vec<Job>,
 }

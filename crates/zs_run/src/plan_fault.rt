@@ -1,4 +1,4 @@
-//! Why bytes are no plan.
+//! Why a plan is invalid.
 ghost use Rattle.std.specs.Prelude.{◌≡◌};
 ghost use Rattle.zs_run.specs.declared.plan_fault.PlanFault.TheVariants.{Memory};
 
@@ -21,23 +21,23 @@ impl fmt::Display for Place {
     }
 }
 
-/// Why bytes are no plan, in the order in which causes are looked for: first in the document, then job by job.
-/// `job` is the place of a job in the plan, from 0, and `None` the document itself.
+/// Why a plan is invalid. The causes are checked in this order, first in the document, then job by
+/// job. `job` is the place of a job in the plan, from 0, or `None` for the document itself.
 #[derive(Clone, Copy, Debug, PartialEq, Eq, Error)]
 pub enum PlanFault {
     /// More than 16,777,216 bytes.
     #[error("plan is longer than 16777216 bytes")]
     TooLong,
-    /// The bytes are no JSON document in UTF-8, or one that is nested deeper than 127.
+    /// The bytes are no JSON document in UTF-8, or it is nested deeper than 127.
     #[error("plan is not JSON")]
     Json,
-    /// Something that has to be there is missing, or has another type.
+    /// A required part is missing, or has another type.
     #[error("{place}: wrong shape", place = Place(*.job))]
     Shape {
         /// The job, or the document.
         job: Option<u64>,
     },
-    /// A key that no plan has at its place.
+    /// A key is unknown at its place.
     #[error("{place}: unknown key", place = Place(*.job))]
     UnknownKey {
         /// The job, or the document.
@@ -61,7 +61,7 @@ pub enum PlanFault {
         /// The later job.
         job: u64,
     },
-    /// The text of the schedule is none.
+    /// The schedule's text is invalid.
     #[error("job {job}: schedule: {fault}")]
     Schedule {
         /// The job.
@@ -69,7 +69,7 @@ pub enum PlanFault {
         /// What is wrong with the text.
         fault: TermFault,
     },
-    /// The entries of the script are none.
+    /// The script is invalid.
     #[error("job {job}: script: {fault}")]
     Script {
         /// The job.
@@ -77,7 +77,7 @@ pub enum PlanFault {
         /// What is wrong with the entries.
         fault: ScriptFault,
     },
-    /// Memory ran out.
+    /// A memory allocation failed.
     #[error("out of memory")]
     Memory,
 }

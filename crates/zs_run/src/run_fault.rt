@@ -1,4 +1,4 @@
-//! Why a run stopped, and the exit status for it.
+//! Why a run fails, and the exit status for it.
 ghost use Rattle.std.specs.Prelude.{◌≡◌};
 ghost use Rattle.std.specs.Process.{exit_status};
 ghost use Rattle.zs_run.specs.Status.{exit_status_of, plan_status_of, status_of};
@@ -8,27 +8,28 @@ use std::process::ExitCode;
 use thiserror::Error;
 use zs_engine::EngineFault;
 
-/// Why a run stopped.
+/// Why a run fails.
 #[derive(Clone, Copy, Debug, PartialEq, Eq, Error)]
 pub enum RunFault {
     /// The reader failed. Nothing was written.
     #[error("read failed")]
     Read,
-    /// What was read is no plan, or memory ran out before it was known to be one. Nothing was written.
+    /// The plan is invalid, or memory ran out before it was validated. Nothing was written.
     #[error(transparent)]
     Plan(PlanFault),
-    /// The jobs of the plan could not be run, or memory ran out for their report. Nothing was written.
+    /// The jobs of the plan could not be run, or memory ran out for their report. Nothing was
+    /// written.
     #[error(transparent)]
     Engine(EngineFault),
-    /// The writer failed. The first `sent` bytes of the report went out, and no others.
+    /// The writer failed. It took the first `sent` bytes of the report, and no others.
     #[error("write failed after {sent} bytes")]
     Write {
-        /// How many bytes went out.
+        /// The number of bytes that the writer took.
         sent: u64,
     },
 }
 
-// The exit status for a fault of a plan.
+// Returns the exit status for a fault of a plan.
 fn plan_status(fault: &PlanFault) -> u8
     ensures value { result ≡ plan_status_of fault.now }
 {
@@ -46,8 +47,8 @@ fn plan_status(fault: &PlanFault) -> u8
     }
 }
 
-/// The exit status of a program that ended by the fault: 2 for a plan that is none, 3 where reading or writing failed,
-/// 4 for want of memory or of a thread.
+/// Returns the exit status of a program that ended with this fault: 2 for an invalid plan, 3 if
+/// reading or writing failed, 4 if memory ran out or a thread couldn't start.
 pub fn status(fault: &RunFault) -> u8
     ensures value { result ≡ status_of fault.now }
 {
@@ -59,7 +60,8 @@ pub fn status(fault: &RunFault) -> u8
     }
 }
 
-/// The exit code of a program whose run ended so: 0 where the report was written, else the status of the fault.
+/// Returns the exit code of a program whose run had this result: 0 if the report was written, else
+/// the status of the fault.
 pub fn exit_code(ended: &Result<(), RunFault>) -> ExitCode
     ensures value { exit_status result ≡ exit_status_of ended.now }
 {

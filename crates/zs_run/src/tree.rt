@@ -1,4 +1,4 @@
-//! Looking into a JSON document.
+//! Look-ups in a JSON document.
 ghost use Rattle.std.specs.Prelude.{◌≡◌, ℕ, List, map, option_map, string_bytes};
 ghost use Rattle.std.specs.List.{list_all};
 ghost use Rattle.serde_json.specs.View.{view};
@@ -10,21 +10,21 @@ use serde_json::{Map, Value};
 use std::alloc::Global;
 use std::mem;
 
-/// The whole number at the key.
+/// Returns the whole number at the key.
 pub(crate) fn whole(value: &Value, key: &str) -> Option<u64>
     ensures value { result ≡ find_whole key.now (view value.now) }
 {
     value.get(key).and_then(Value::as_u64)
 }
 
-/// The text at the key.
+/// Returns the text at the key.
 pub(crate) fn text<'v>(value: &'v Value, key: &str) -> Option<&'v str>
     ensures value { option_map (λ s. s.now) result ≡ find_text key.now (view value.now) }
 {
     value.get(key).and_then(Value::as_str)
 }
 
-/// The items of a list.
+/// Returns the items of a list.
 #[tactic(auto, using(crate::proofs::Trees::list_of_view))]
 pub(crate) fn as_list(value: &Value) -> Option<&[Value]>
     ensures value { option_map (λ vs. map view vs.now) result ≡ as_list (view value.now) }
@@ -35,14 +35,15 @@ pub(crate) fn as_list(value: &Value) -> Option<&[Value]>
     }
 }
 
-/// The list at the key.
+/// Returns the list at the key.
 pub(crate) fn list<'v>(value: &'v Value, key: &str) -> Option<&'v [Value]>
     ensures value { option_map (λ vs. map view vs.now) result ≡ find_list key.now (view value.now) }
 {
     as_list(value.get(key)?)
 }
 
-/// The list at the key, taken out of the tree: each item can be given up as soon as it is read.
+/// Takes the list at the key out of the tree, so that each item can be dropped as soon as it is
+/// read.
 #[tactic(auto, using(crate::proofs::Trees::list_of_view))]
 pub(crate) fn take_list(alloc: Global, value: &mut Value, key: &str) -> Option<Vec<Value>>
     ensures value { option_map (λ vs. map view vs.items) result ≡ find_list key.now (view value.old) }
@@ -53,7 +54,7 @@ pub(crate) fn take_list(alloc: Global, value: &mut Value, key: &str) -> Option<V
     }
 }
 
-/// The whole number at the key, or the default where nothing stands there.
+/// Returns the whole number at the key, or the default if there is none.
 pub(crate) fn whole_or(value: &Value, key: &str, default: u64) -> Option<u64>
     ensures value { result ≡ whole_or default (get key.now (view value.now)) }
 {
@@ -63,7 +64,7 @@ pub(crate) fn whole_or(value: &Value, key: &str, default: u64) -> Option<u64>
     }
 }
 
-// Whether the text is one of a list.
+// Whether the text is in the list.
 #[tactic(auto, using(crate::proofs::Trees::list_any_map))]
 fn is_among(known: &[&str], key: &str) -> bool
     ensures value { result ≡ is_one_of (map (λ k. k.now) known.now) key.now }
@@ -71,14 +72,14 @@ fn is_among(known: &[&str], key: &str) -> bool
     known.contains(&key)
 }
 
-// Whether each key is one of a list.
+// Whether each key is in the list.
 fn keys_are_among(members: &Map<String, Value>, known: &[&str]) -> bool
     ensures value { result ≡ list_all (λ k. is_one_of (map (λ k. k.now) known.now) (string_bytes k)) (keys members.now) }
 {
     members.keys().all(|key| is_among(known, key.as_str()))
 }
 
-/// Whether no other key stands in an object.
+/// Whether an object has no key but the known ones.
 #[tactic(auto, using(crate::proofs::Trees::list_all_keys))]
 pub(crate) fn has_only_keys(value: &Value, known: &[&str]) -> bool
     ensures value { result ≡ has_only_keys (map (λ k. k.now) known.now) (view value.now) }

@@ -1,4 +1,4 @@
-//! What each thread of a round does: it claims, polls and hands in. Helpers are started and joined.
+//! What each thread of a round does: it claims, polls and puts. Helpers are started and joined.
 ghost use Rattle.std.specs.Prelude.{ℕ, ◌≡◌, ◌≢◌, ◌+◌, ◌-◌, All, IfOk, IfErr, [], false, length};
 ghost use Rattle.zs_term.specs.Saturating.{max_moment};
 ghost use Rattle.zs_pool.specs.Board.{claimer};
@@ -10,10 +10,9 @@ ghost use Rattle.zs_pool.specs.declared.fault.PoolFault.TheVariants.{Full, Memor
 use crate::fault::PoolFault;
 use crate::gate::Gate;
 use crate::polled::Polled;
-use crate::poller::Poller;
+use crate::poller::{Poller, Polling};
 use crate::polling::poll_in;
 use crate::rounds::shared::{Rights, Shared};
-use futures::task::Context;
 use std::alloc::{AllocError, Global};
 use std::snapshot::Snapshot;
 use std::sync::Wait;
@@ -22,14 +21,15 @@ use std::thread::{Promise, PromisedHandle, Scope, Threads};
 // The messages for which the shelf had no room.
 pub type Overflow = Result<Vec<Polled>, AllocError>;
 
-// What a thread hands back once the board is empty.
+// What a thread returns once the board is empty.
 #[derive(Drop)]
 pub struct Served {
     pub rights: Rights,
     pub overflow: Overflow,
 }
 
-// What a worker promises: it claimed until the board was empty, and handed in or kept all that it claimed, polled.
+// What a worker promises: it claimed until the board was empty, and each batch that it claimed is
+// polled, and was put on the shelf or is returned.
 #[derive(Drop)]
 pub struct WorkerPromise {
     pub moment: u64,
@@ -45,7 +45,7 @@ impl Promise<Served> for WorkerPromise {
 // A started worker.
 pub type Worker = PromisedHandle<Served, WorkerPromise>;
 
-// Puts what one more worker kept behind what the others did.
+// Adds what one more worker returned to what the others did.
 fn both(overflow: Overflow, more: Overflow) -> Overflow
     ensures both { IfOk result (AreBoth overflow more) }
 {
@@ -54,7 +54,7 @@ fn both(overflow: Overflow, more: Overflow) -> Overflow
     Ok(kept)
 }
 
-// Waits for the workers, up to one that was refused memory: the scope waits for the others.
+// Waits for the workers, up to one that ran out of memory: the scope waits for the others.
 fn wait_for<R: Threads>(rt: &R, workers: Vec<Worker>) -> Result<(), PoolFault>
     ensures fault { IfErr result (λ e. e ≡ Memory) }
 {
@@ -65,13 +65,13 @@ fn wait_for<R: Threads>(rt: &R, workers: Vec<Worker>) -> Result<(), PoolFault>
 }
 
 impl<'s, G: Gate> Shared<'s, G> {
-    // Serves under a context that others have used.
+    // Claims, polls and puts until the board is empty.
     fn serve_in<R: Wait>(
         self,
         rt: &R,
         alloc: Global,
         rights: &mut Rights,
-        cx: &mut Context<'_>,
+        polling: &mut Polling<'_, G>,
     ) -> Overflow
         requires ready { IsReady self rights.old }
         ensures same { IsSame rights.old rights.new }
@@ -82,14 +82,7 @@ impl<'s, G: Gate> Shared<'s, G> {
             let Some(batch) = self.board.claim(rt, &mut rights.board_pass) else {
                 return Ok(kept);
             };
-            let message = poll_in(
-                self.gate,
-                self.tally,
-                &mut rights.seat,
-                self.moment,
-                cx,
-                batch,
-            );
+            let message = poll_in(polling, self.tally, &mut rights.seat, self.moment, batch);
             if let Err((back, _full)) = self.shelf.put(rt, &mut rights.shelf_pass, message) {
                 kept.push(back)?;
             }
@@ -97,7 +90,8 @@ impl<'s, G: Gate> Shared<'s, G> {
         unreachable!()
     }
 
-    // Claims, polls and hands in until nothing is left. A message for which the shelf has no room is kept.
+    // Claims, polls and puts until the board is empty. A message for which the shelf has no room is
+    // returned.
     pub fn serve<R: Wait>(self, rt: &R, alloc: Global, mut rights: Rights) -> Served
         requires ready { IsReady self rights }
         ensures same { IsSame rights result.rights }
@@ -107,9 +101,9 @@ impl<'s, G: Gate> Shared<'s, G> {
             let overflow = Err(AllocError);
             return Served { rights, overflow };
         };
-        let mut cx = poller.solo().begin();
-        let overflow = self.serve_in(rt, alloc, &mut rights, &mut cx);
-        cx.cancel();
+        let mut polling = poller.begin(self.gate);
+        let overflow = self.serve_in(rt, alloc, &mut rights, &mut polling);
+        polling.end();
         Served { rights, overflow }
     }
 
@@ -138,7 +132,7 @@ impl<'s, G: Gate> Shared<'s, G> {
         Ok(scope.spawn_with(promise, run)?)
     }
 
-    // Starts as many workers. Where one can't be started, the others are waited for.
+    // Starts this number of workers. If one can't be started, it waits for the others.
     pub fn start_all<E, R: Threads + Wait + Sync>(
         self,
         rt: &'s R,

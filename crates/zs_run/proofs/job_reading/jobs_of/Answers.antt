@@ -59,7 +59,7 @@ loop-value-preserved c =
           (sym (after_step _ _ _ c.in-Some.value rest _ given) ∙ rw step at c.loop-value.invariant.jobs);
     }
 
--- no job is left
+-- no job remains
 pub returns-clause-jobs : goal.returns-clause-jobs
 returns-clause-jobs c =
     let it = c.loop-value.value-iterator in

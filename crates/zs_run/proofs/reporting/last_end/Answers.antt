@@ -5,7 +5,7 @@ use Rattle.zs_run.specs.Report.{last_ended}
 use Rattle.zs_run.proofs.Keeping.{last_ended-recorded, last_ended-of}
 use Rattle.zs_run.proofs.reporting.last_end.Goals as goal
 
--- the last record tells how the last attempt ended
+-- the last record has the end of the last attempt
 pub returns-in-Some : goal.returns-in-Some
 returns-in-Some c =
     let task = c.args.task.now in
