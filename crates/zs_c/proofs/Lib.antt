@@ -3,3 +3,4 @@ pub mod Rooms
 pub mod Nodes
 pub mod Codes
 pub mod OutputRooms
+pub mod StepLemmas
