@@ -4,3 +4,5 @@ pub mod Nodes
 pub mod Codes
 pub mod OutputRooms
 pub mod StepLemmas
+pub mod ViewLemmas
+pub mod Uniqueness

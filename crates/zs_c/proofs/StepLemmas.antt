@@ -17,14 +17,14 @@ use Rattle.zs_c.specs.Node.{word_at}
 use Rattle.zs_c.specs.Steps.{StepsCode, StepsBoth, StepsThen}
 use Rattle.zs_c.proofs.Codes.{held-length}
 
--- the words of two parts that are both stepped
-pub first-held : (a b : Schedule) (h : History) (words : List ℕ) (n : ℕ) → words ≡ held_of a h ++ held_of b h → n ≡ held_size a → take n words ≡ held_of a h
-first-held a b h words n held sized =
-    ap (λ k. take k words) (sized ∙ held-length a [] h) ∙ ap (take (length (held_of a h))) held ∙ take-append_seam (held_of a h) (held_of b h)
+-- the words of two parts, whatever each of them saw
+pub first-held : (a b : Schedule) (h g : History) (words : List ℕ) (n : ℕ) → words ≡ held_of a h ++ held_of b g → n ≡ held_size a → take n words ≡ held_of a h
+first-held a b h g words n held sized =
+    ap (λ k. take k words) (sized ∙ held-length a [] h) ∙ ap (take (length (held_of a h))) held ∙ take-append_seam (held_of a h) (held_of b g)
 
-pub second-held : (a b : Schedule) (h : History) (words : List ℕ) (n : ℕ) → words ≡ held_of a h ++ held_of b h → n ≡ held_size a → drop n words ≡ held_of b h
-second-held a b h words n held sized =
-    ap (λ k. drop k words) (sized ∙ held-length a [] h) ∙ ap (drop (length (held_of a h))) held ∙ drop-append_seam (held_of a h) (held_of b h)
+pub second-held : (a b : Schedule) (h g : History) (words : List ℕ) (n : ℕ) → words ≡ held_of a h ++ held_of b g → n ≡ held_size a → drop n words ≡ held_of b g
+second-held a b h g words n held sized =
+    ap (λ k. drop k words) (sized ∙ held-length a [] h) ∙ ap (drop (length (held_of a h))) held ∙ drop-append_seam (held_of a h) (held_of b g)
 
 -- a step of `&&`
 pub both-steps : (a b : Schedule) (h : History) (words : List ℕ) (now input : ℕ) (x y d : Decision) (before after : ℕ) →
