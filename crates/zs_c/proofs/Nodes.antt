@@ -16,7 +16,7 @@ use Rattle.zs_c.specs.Code.{cmp_word, pick_word, func_word, func_number, code_of
 use Rattle.zs_c.specs.Node.{cmp_of, test_of, pick_of, func_of, rule_at, node_at, IsNode}
 
 -- a comparison
-cmp-word : (c : Cmp) → cmp_of (cmp_word c) ≡ c
+pub cmp-word : (c : Cmp) → cmp_of (cmp_word c) ≡ c
 cmp-word Lt = refl
 cmp-word Le = refl
 cmp-word Eq = refl
@@ -25,18 +25,18 @@ cmp-word Gt = refl
 cmp-word Ge = refl
 
 -- a test
-test-word : (t : Test) → test_of (cmp_word t.cmp) t.than ≡ t
+pub test-word : (t : Test) → test_of (cmp_word t.cmp) t.than ≡ t
 test-word t = let f : Cmp → Test = λ c. record { cmp = c; than = t.than } in ap f (cmp-word t.cmp)
 
 -- what a test reads
-pick-word : (k : Pick) → pick_of (pick_word k) ≡ k
+pub pick-word : (k : Pick) → pick_of (pick_word k) ≡ k
 pick-word Whole = refl
 pick-word PickFirst = refl
 pick-word PickSecond = refl
 pick-word PickSize = refl
 
 -- a function
-func-word : (f : Func) → func_of (func_word f) (func_number f) ≡ f
+pub func-word : (f : Func) → func_of (func_word f) (func_number f) ≡ f
 func-word First = refl
 func-word Second = refl
 func-word Size = refl
@@ -46,7 +46,7 @@ func-word (Add n) = refl
 func-word (Mul n) = refl
 
 -- a pick and a test
-pick-test-over : (f : Pick → Test → Schedule) (k : Pick) (t : Test) → f (pick_of (pick_word k)) (test_of (cmp_word t.cmp) t.than) ≡ f k t
+pub pick-test-over : (f : Pick → Test → Schedule) (k : Pick) (t : Test) → f (pick_of (pick_word k)) (test_of (cmp_word t.cmp) t.than) ≡ f k t
 pick-test-over f k t = ap (λ x. f x (test_of (cmp_word t.cmp) t.than)) (pick-word k) ∙ ap (f k) (test-word t)
 
 -- what the code of a schedule is read as is what the schedule is made of

@@ -23,5 +23,6 @@ pub use exports::{
 pub use program::exports::{
     zs_compile, zs_program_begin, zs_program_size, zs_program_step,
 };
+pub use program::laws::one_schedule;
 pub use reply::Reply;
 pub use seen::Seen;

@@ -13,3 +13,4 @@ mod running;
 mod stepping;
 
 pub(crate) mod exports;
+pub(crate) mod laws;
