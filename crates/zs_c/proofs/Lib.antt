@@ -6,3 +6,4 @@ pub mod OutputRooms
 pub mod StepLemmas
 pub mod ViewLemmas
 pub mod Uniqueness
+pub mod TextBounds
