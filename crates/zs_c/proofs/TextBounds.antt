@@ -1,5 +1,5 @@
 -- The text of an output is short: its length fits 64 bits.
-use Rattle.std.proofs.Common.{◌≡◌, ℕ, suc, ◌+◌, ◌*◌, ◌^◌, ◌<◌, ◌≤◌, Option, Some, None, List, [], ◌∷◌, ◌++◌, length, refl, sym, ap, ◌∙◌, subst, arith, rules}
+use Rattle.std.proofs.Common.{◌≡◌, ℕ, suc, ◌+◌, ◌*◌, ◌^◌, ◌<◌, ◌≤◌, Option, Some, None, List, [], ◌∷◌, ◌++◌, length, refl, sym, ap, ◌∙◌, subst, arith}
 use Rattle.std.specs.Fmt.{decimal}
 use Rattle.std.proofs.lemmas.Fmt.{length-decimal-le}
 use Rattle.std.proofs.lemmas.List.{length-append}
@@ -23,7 +23,7 @@ fit-second (x ∷ xs) ys all = fit-second xs ys all.1
 
 -- the digits of a number
 pub digits-few : (n : ℕ) → n < 2 ^ 64 → length (decimal n) ≤ 20
-digits-few n small = search (rules, length-decimal-le 20)
+digits-few n small = length-decimal-le 20 n (omega arith) (omega arith) small
 
 -- a pair
 pub pair-text : (a b : Output) (x y : ℕ) → length (output_text a) ≤ x → length (output_text b) ≤ y → length (output_text (pair a b)) ≤ 3 + x + y
