@@ -55,18 +55,25 @@ pub record IsCompiled (text old new : List ℕ) : Type 0 where
   pub compiled : new ≡ program_of term ++ drop (length (program_of term)) old
   pub program : IsProgram new term
 
--- Why a program isn't stepped, or not begun: it is that of no schedule; its state has more words; the words are another program's
--- state; or the moment is below the last one.
+-- Why a program isn't begun: it is that of no schedule; or its state has more words.
+abbrev pub IsUnfit : List ℕ → List ℕ → Denial → Type 0
+IsUnfit program state NoProgram = (t : Schedule) → IsProgram program t → ⊥
+IsUnfit program state NoRoom = (t : Schedule) → IsProgram program t → length state < length (program_state t [])
+IsUnfit program state OtherState = ⊥
+IsUnfit program state Falls = ⊥
+
+-- Why it isn't stepped: for one of these; the words are another program's state; or the moment is below the last one, which is
+-- their second.
 abbrev pub IsDenied : List ℕ → List ℕ → ℕ → Denial → Type 0
-IsDenied program state now NoProgram = (t : Schedule) → IsProgram program t → ⊥
-IsDenied program state now NoRoom = (t : Schedule) → IsProgram program t → length state < length (program_state t [])
+IsDenied program state now NoProgram = IsUnfit program state NoProgram
+IsDenied program state now NoRoom = IsUnfit program state NoRoom
 IsDenied program state now OtherState = (t : Schedule) → IsProgram program t → slice_index_or state 0 0 ≢ program_check t
 IsDenied program state now Falls = now < slice_index_or state 1 0
 
--- a number tells why a program isn't begun or stepped
-pub record IsDeniedFor (program state : List ℕ) (now n : ℕ) : Type 0 where
+-- a number tells why a program isn't begun, or not stepped
+pub record IsDeniedFor (Holds : Denial → Type 0) (n : ℕ) : Type 0 where
   pub why : Denial
-  pub is_so : IsDenied program state now why
+  pub is_so : Holds why
   pub numbered : n ≡ denial_number why
 
 -- a program's state before any step, over the front of words

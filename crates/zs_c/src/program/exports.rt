@@ -3,7 +3,7 @@
 ghost use Rattle.std.specs.Prelude.{◌≡◌, ◌<◌, ◌≤◌, length};
 ghost use Rattle.zs_term.specs.Schedule.{Schedule};
 ghost use Rattle.zs_c.specs.Program.{IsProgram};
-ghost use Rattle.zs_c.specs.Programs.{IsProgramSized, IsCompiled, IsCompileRefusal, IsDeniedFor, IsProgramBegun, IsProgramStepped};
+ghost use Rattle.zs_c.specs.Programs.{IsProgramSized, IsCompiled, IsCompileRefusal, IsUnfit, IsDenied, IsDeniedFor, IsProgramBegun, IsProgramStepped};
 ghost use Rattle.zs_c.specs.States.{IsSizeRefusal, IsRefusedFor};
 
 use crate::program::compiling::{fitting_program, sizes_in};
@@ -70,7 +70,7 @@ pub extern "C" fn zs_compile(
 #[unsafe(no_mangle)]
 pub extern "C" fn zs_program_begin(program: &[u64], state: &mut [u64]) -> u32
     ensures begun { result ≡ 0 → (t : Schedule) → IsProgram program.now t → IsProgramBegun t state.old state.new }
-    ensures refused { 0 < result → IsDeniedFor program.now state.old 0 result }
+    ensures refused { 0 < result → IsDeniedFor (IsUnfit program.now state.old) result }
     ensures kept { 0 < result → state.new ≡ state.old }
 {
     match fitting(program, state) {
@@ -94,7 +94,7 @@ pub extern "C" fn zs_program_step(
     out: &mut [u8],
 ) -> u32
     ensures stepped { result ≤ 1 → (t : Schedule) → IsProgram program.now t → IsProgramStepped t state.old state.new moment input result reply.new out.old out.new }
-    ensures refused { 1 < result → IsDeniedFor program.now state.old moment result }
+    ensures refused { 1 < result → IsDeniedFor (IsDenied program.now state.old moment) result }
     ensures nothing { 1 < result → reply.new ≡ record { next = 0; size = 0; visits = 0; at = 0 } }
     ensures stays { 1 < result → state.new ≡ state.old }
     ensures kept { 1 < result → out.new ≡ out.old }

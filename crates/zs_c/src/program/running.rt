@@ -4,7 +4,7 @@ ghost use Rattle.std.specs.Prelude.{◌≡◌, ◌≤◌, [], ◌∷◌, length,
 ghost use Rattle.zs_term.specs.Schedule.{Schedule};
 ghost use Rattle.zs_c.specs.Program.{IsProgram};
 ghost use Rattle.zs_c.specs.Opened.{Opens};
-ghost use Rattle.zs_c.specs.Programs.{IsDenied, IsProgramBegun, IsProgramStepped};
+ghost use Rattle.zs_c.specs.Programs.{IsUnfit, IsDenied, IsProgramBegun, IsProgramStepped};
 
 use crate::program::clearing::clear;
 use crate::program::denial::Denial;
@@ -24,7 +24,7 @@ const MAX_DEPTH: u64 = 64;
 pub(crate) fn fitting<'a>(program: &'a [u64], state: &[u64]) -> Result<Opened<'a>, Denial>
     ensures ok { IfOk result (λ o. (t : Schedule) → IsProgram program.now t → Opens o t) }
     ensures fits { IfOk result (λ o. o.state + 2 ≤ length state.now) }
-    ensures err { IfErr result (IsDenied program.now state.now 0) }
+    ensures err { IfErr result (IsUnfit program.now state.now) }
 {
     let Some(opened) = open(program) else {
         return Err(Denial::NoProgram);
