@@ -6,4 +6,5 @@ pub mod OutputRooms
 pub mod StepLemmas
 pub mod ViewLemmas
 pub mod Uniqueness
+pub mod Listless
 pub mod TextBounds
