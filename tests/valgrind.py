@@ -5,7 +5,7 @@ where there are several workers by helgrind and drd. The rounds of the heavy job
     python3 tests/valgrind.py
 
 Each report has to be the right one. memcheck has to name no error and no lost memory. helgrind and drd may name only reads
-of a queue's places by the queue itself, as docs/GUARANTEES.md explains. It isn't part of ./check, since it needs valgrind,
+of a queue's places by the queue itself, as docs/TESTING.md explains. It isn't part of ./check, since it needs valgrind,
 and takes some ten minutes. The last line is 'N passed, M failed'."""
 import json
 import pathlib
