@@ -1,4 +1,4 @@
--- The canonical spelling is read as its tokens.
+-- Reading the canonical spelling finds its tokens.
 use Rattle.std.proofs.Common.{◌≡◌, ◌≢◌, ℕ, zero, suc, ◌+◌, ◌<◌, ◌^◌, List, [], ◌∷◌, ◌++◌, length, drop, Bool, true, false, cond, Some, refl, sym, ap, ◌∙◌, subst, arith, append_assoc, length-append, inr}
 use Rattle.std.specs.Prelude.{take_while, slice_index, nat_eq, nat_lt, ◌&&◌, codes}
 use Rattle.std.specs.Char.{is_ascii_alphabetic, is_ascii_digit}
@@ -37,14 +37,14 @@ use Rattle.zs_term.proofs.Completeness.{append_nil}
 use Rattle.zs_term.proofs.Progress.{tokens_append}
 use Rattle.zs_term.proofs.Lexing.{lex_owned, at_token, number_found}
 
--- bytes that no token before them takes in
+-- bytes that no token before them absorbs
 abbrev Loose : List ℕ → Type 0
 Loose rest = (is_ascii_alphabetic (slice_index rest 0) ≡ false) × (is_ascii_digit (slice_index rest 0) ≡ false) × (nat_eq (slice_index rest 0) 61 ≡ false)
 
 abbrev Any : List ℕ → Type 0
 Any rest = Unit {0}
 
--- how the bytes are read, wherever they stand, before such a rest
+-- how the bytes are read at any place, before a rest of this sort
 record ReadAt (bytes : List ℕ) (ts : List Token) (at : ℕ) (rest : List ℕ) : Type 0 where
   placed : List Placed
   same : tokens_of placed ≡ ts
@@ -167,14 +167,14 @@ number_read n h =
     let d = decimal_is_IsNumeral n h in
     digits_read n (decimal n) d.0.1 d.0.0 d.1 (no_led n h)
 
--- a front that is read alike before any rest goes before all
+-- a front that is read alike before any rest may be followed by every rest
 loosely : {bytes : List ℕ} {ts : List Token} → Reads Any bytes ts → Reads Loose bytes ts
 loosely h = λ at rest l. h at rest tt
 
 no_space : (b : ℕ) → is_ascii_alphabetic b ≡ true → b ≢ 32
 no_space b h = λ e. let never : is_ascii_alphabetic 32 ≡ true = subst (λ c. is_ascii_alphabetic c ≡ true) e h in cc
 
--- a word and a symbol or a space behind it
+-- a word, followed by a symbol or a space
 word_open_read : (b : ℕ) (w : List ℕ) → b ≢ 32 → all_pass is_ascii_alphabetic (b ∷ w) ≡ true → Reads Any ((b ∷ w) ++ codes "(") (mark (word_mark (b ∷ w)) ∷ mark Open ∷ [])
 word_open_read b w e h = both_read (word_read b w e h) open_read (λ rest u. (refl, refl, refl))
 
@@ -201,7 +201,7 @@ second_read : Reads Any (codes "_2") (mark (PieceWord PieceSecond) ∷ [])
 unfolding lex
 second_read = λ at rest u. one_read at (mark (PieceWord PieceSecond)) (codes "_2") rest (at + 1 + 1) (omega arith) refl
 
--- with a space behind it
+-- a text, followed by a space
 spaced_read : (bytes : List ℕ) (ts : List Token) → Reads Any bytes ts → Reads Any (bytes ++ codes " ") ts
 spaced_read bytes ts h = λ at rest u. let r = both_read h space_read (λ r u. tt) at rest tt in record { placed = r.placed; same = r.same ∙ append_nil ts; read = r.read }
 
@@ -256,7 +256,7 @@ infix_form_read operator m x y ts us h k o i =
     (λ rest u. subst Loose (sym (append_assoc operator (y ++ codes ")") rest)) (k ((y ++ codes ")") ++ rest))))
     (λ rest u. tt))
 
--- a term, and what is behind its dot
+-- a term, followed by its dot and a method
 method_read : (x behind : List ℕ) (ts us : List Token) → Reads Loose x ts → ((rest : List ℕ) → Loose (behind ++ rest)) → Reads Loose behind us → Reads Loose (x ++ behind) (ts ++ us)
 method_read x behind ts us h k b = both_read h b (λ rest l. k rest)
 
@@ -312,7 +312,7 @@ exponential_read b f h k =
     (both_read (number_read b h) (both_read (spaced_read (codes ",") _ comma_read) (close_behind (decimal f) _ (number_read f k)) (λ rest u. tt)) (λ rest u. (refl, refl, refl)))
     (λ rest u. tt))
 
--- some letters, which are no space
+-- only letters, none of them a space
 abbrev is_letters : List ℕ → Bool
 is_letters [] = false
 is_letters (b ∷ w) = all_pass is_ascii_alphabetic (b ∷ w)
@@ -330,7 +330,7 @@ counted_read : (c : Counted) → Reads Any (counted_word c ++ codes "(") (mark (
 counted_read Recurs = both_read (letters_read (counted_word Recurs) (CountedWord Recurs) refl refl) open_read (λ rest u. (refl, refl, refl))
 counted_read c = both_read (letters_read (counted_word c) (CountedWord c) refl refl) open_read (λ rest u. (refl, refl, refl))
 
--- what spells the leaf, and how its text is read as it
+-- the tokens that spell the leaf, and how its text is read as them
 record SpelledLeaf (l : Leaf) : Type 0 where
   tokens : List Token
   spelled : SpellsLeaf tokens l
@@ -365,7 +365,7 @@ modifier_loose collect_all rest = (refl, refl, refl)
 modifier_loose (mapped f) rest = (refl, refl, refl)
 modifier_loose (reset_when p t) rest = reset_loose _ rest
 
--- what spells the term, and how the canonical text is read as it
+-- the tokens that spell the term, and how its canonical text is read as them
 record Spelled (t : Schedule) : Type 0 where
   tokens : List Token
   spelled : Spells tokens t

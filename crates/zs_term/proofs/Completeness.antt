@@ -1,4 +1,4 @@
--- A spelling leads to the state behind its term, wherever it stands.
+-- A spelling leads to the state after its term, wherever it begins.
 use Rattle.std.proofs.Common.{◌≡◌, ℕ, List, [], ◌∷◌, ◌++◌, Option, Some, None, refl, sym, ap, ◌∙◌, append_assoc, inl, inr}
 use Rattle.zs_term.specs.Schedule.{Schedule, leaf, two, over, Leaf, plain, counted, exponential, Pairing, both, either, and_then, Modifier, while_input, while_output, collect_all, mapped, reset_when}
 use Rattle.zs_term.specs.Token.{Token, number, mark}
@@ -20,7 +20,7 @@ use Rattle.zs_term.specs.declared.forms.Action.TheVariants.{Stopping, Resetting}
 use Rattle.zs_term.specs.declared.forms.Subject.{Subject}
 use Rattle.zs_term.specs.declared.forms.Subject.TheVariants.{Input, Picked}
 
--- nothing to add at the end
+-- appending nothing changes nothing
 pub append_nil : {X : Type 0} (xs : List X) → xs ++ [] ≡ xs
 append_nil [] = refl
 append_nil (x ∷ xs) = ap (λ ys. x ∷ ys) (append_nil xs)
@@ -37,7 +37,7 @@ module _ {A N : Type 0} (make : Make A N) where
   run_none [] = refl
   run_none (t ∷ ts) = run_none ts
 
-  -- where a list of tokens leads, whatever follows it
+  -- the state to which a list of tokens leads, whatever follows it
   abbrev Leads : List Token → A → Type 0
   Leads ts a = (fs : List (Frame A)) (rest : List Token) → run make (Some (at fs start)) (ts ++ rest) ≡ run make (Some (at fs (after a))) rest
 
@@ -59,7 +59,7 @@ module _ {A N : Type 0} (make : Make A N) where
   lead_from : (ts us : List Token) (a : A) → ts ≡ us → Leads us a → Leads ts a
   lead_from ts us a e h = λ fs rest. ap (λ w. run make (Some (at fs start)) (w ++ rest)) e ∙ h fs rest
 
-  -- what stands behind `.word(` for each comparison, pick and function
+  -- the tokens after `.word(` for each comparison, pick and function
   lead_test : (fs : List (Frame A)) (a : A) (s : Subject) (c : Cmp) (n : ℕ) (rest : List Token) → run make (Some (at fs (testing a s))) (mark (Comparison c) ∷ number n ∷ mark Close ∷ rest) ≡ run make (Some (at fs (after (make.test a s c (make.num n))))) rest
   lead_test fs a s c n rest = refl
 
@@ -69,7 +69,7 @@ module _ {A N : Type 0} (make : Make A N) where
   lead_pick PickSize fs a e t rest = lead_test fs a (Picked e PickSize) t.cmp t.than rest
   lead_pick PickWhole fs a e t rest = refl
 
-  -- the arguments and the parenthesis behind them, before any rest
+  -- the arguments and the closing parenthesis, before any rest
   lead_method : (w : Method) (k : Mode A N) (a b : A) (arguments : List Token) (fs : List (Frame A)) (rest : List Token)
       → run make (Some (at fs (after a))) (mark Dot ∷ mark (MethodWord w) ∷ mark Open ∷ (arguments ++ mark Close ∷ rest)) ≡ run make (Some (at fs k)) (arguments ++ mark Close ∷ rest)
       → run make (Some (at fs k)) (arguments ++ mark Close ∷ rest) ≡ run make (Some (at fs (after b))) rest
@@ -92,7 +92,7 @@ module _ {A N : Type 0} (make : Make A N) where
   complete_leaf (plain p) ts h = lead_from ts _ _ h (λ fs rest. refl)
   complete_leaf (counted c n) ts h = lead_from ts _ _ h (λ fs rest. refl)
 
-  -- the token between two schedules leads to the right one
+  -- the token between two schedules leads to the right part
   lead_between : (p : Pairing) (a : A) (fs : List (Frame A)) (rest : List Token) → run make (Some (at (left ∷ fs) (after a))) (mark (pairing_mark p) ∷ rest) ≡ run make (Some (at (right (pairing_infix p) a ∷ fs) start)) rest
   lead_between both a fs rest = refl
   lead_between either a fs rest = refl
@@ -105,7 +105,7 @@ module _ {A N : Type 0} (make : Make A N) where
   lead_modifier (mapped f) a fs rest = lead_map f fs a rest
   lead_modifier (reset_when p t) a fs rest = lead_method ResetWhen (picking Resetting a) a _ (pick_tokens p ++ test_tokens t) fs rest refl (lead_pick p fs a Resetting t rest)
 
-  -- a spelling leads to the state behind its term
+  -- a spelling leads to the state after its term
   pub complete : (t : Schedule) (ts : List Token) → Spells ts t → Leads ts (value make t)
   complete (leaf l) ts h = complete_leaf l ts h
   complete (two p a b) ts h = lead_from ts _ _ h.4 (lead_infix (pairing_infix p) (pairing_mark p) h.0 h.1 (value make a) (value make b) (λ fs rest. lead_between p (value make a) fs rest) (complete a h.0 h.2) (complete b h.1 h.3))

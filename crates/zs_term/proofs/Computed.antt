@@ -1,4 +1,4 @@
--- The verdict that is computed of a text is the one of its spelling and causes.
+-- The computed verdict on a text agrees with its spelling and causes.
 use Rattle.std.proofs.Common.{◌≡◌, ℕ, List, [], ◌∷◌, ◌++◌, length, Bool, true, false, cond, Option, Some, None, refl, sym, ap, ◌∙◌, subst, append_assoc, Ok, Err}
 use Rattle.std.specs.Prelude.{Result, IfOk, IfErr, MatchResult, IsSome}
 use Rattle.zs_term.specs.Schedule.{Schedule, is_within_limits, has_factors, has_windows}
@@ -17,7 +17,7 @@ use Rattle.zs_term.proofs.Runs.{goes_on, goes_nowhere, spells_to, planted}
 use Rattle.zs_term.proofs.Progress.{tokens_append}
 use Rattle.zs_term.proofs.Verdicts.{one_fault, one_verdict, same_term}
 
--- the term that the text spells, or the place at which it is none
+-- the term that the text spells, or the place that `NoTerm` reports
 abbrev IsSpelledTerm : List ℕ → Result Schedule ℕ → Type 0
 IsSpelledTerm text (Ok t) = TextSpells text t
 IsSpelledTerm text (Err place) = IsNoTermAt text place
@@ -27,11 +27,11 @@ module _ (text : List ℕ) where
   abbrev Leads : List Placed → State Schedule ℕ → Type 0
   Leads done s = run plant (Some (at [] start)) (tokens_of done) ≡ Some s
 
-  -- behind all tokens, at a place at which no token stands
+  -- after all tokens, at a place at which no token begins
   stopped_at : (place : ℕ) (s : State Schedule ℕ) → (lexed text).stop ≡ Some place → Leads (lexed text).tokens s → IsNoTermAt text place
   stopped_at place s e goes = no_token place e (goes_on plant (tokens_of (lexed text).tokens) s goes)
 
-  -- behind all tokens, at the end, in a state that no whole term leads to
+  -- after all tokens, at the end, in a state to which no whole term leads
   not_whole : (s : State Schedule ℕ) → (lexed text).stop ≡ None → Leads (lexed text).tokens s → ((t : Schedule) → s ≡ at [] (after t) → ⊥) → IsNoTermAt text (length text)
   not_whole s e goes never = unfinished e (goes_on plant (tokens_of (lexed text).tokens) s goes)
       (λ t h. let go = spells_to plant (tokens_of (lexed text).tokens) t h in let same : Some s ≡ Some (at [] (after (value plant t))) = sym goes ∙ go in let state : s ≡ at [] (after (value plant t)) = cc in never (value plant t) state)
@@ -64,7 +64,7 @@ module _ (text : List ℕ) where
   behind_all (Some place) s e goes = stopped_at place s e goes
   behind_all None s e goes = at_the_end s.frames s.mode e goes
 
-  -- the tokens before a place lead to one more token
+  -- the tokens before a place lead on by one more token
   led : (done : List Placed) (s : State Schedule ℕ) (p : Placed) (o : Option (State Schedule ℕ)) → Leads done s → step plant (Some s) p.token ≡ o → run plant (Some (at [] start)) (tokens_of (done ++ p ∷ [])) ≡ o
   led done s p o goes e =
       ap (run plant (Some (at [] start))) (tokens_append done (p ∷ [])) ∙ run_append plant (Some (at [] start)) (tokens_of done) (p.token ∷ [])
@@ -84,7 +84,7 @@ module _ (text : List ℕ) where
   spelled : IsSpelledTerm text (spelled_term text)
   spelled = from_here [] (lexed text).tokens (at [] start) refl refl
 
-  -- what the verdict has to be
+  -- what the verdict must satisfy
   abbrev IsVerdict : Result Schedule TermFault → Type 0
   IsVerdict verdict = MatchResult verdict (λ t. SpellsSchedule text t) (λ fault. IsCause text fault × (fault ≡ Memory → ⊥))
 
@@ -112,11 +112,11 @@ module _ (text : List ℕ) where
     on true w = numbered t (first_huge (lexed text).tokens) h w refl
     on false w = ((t, h, w), λ m. cc)
 
--- the schedule is the one that the text spells, and the fault the least whose cause stands in it
+-- the computed schedule is the one that the text spells, and the computed fault is the first
 pub verdict_is_the_one : VerdictIsTheOne
 verdict_is_the_one text = verdict text (spelled_term text) (spelled text)
 
--- what is answered of a text by the relations is what is computed of it
+-- a result that satisfies the relations is the computed verdict
 module _ (text : List ℕ) where
   schedule_is : (t : Schedule) (v : Result Schedule TermFault) → SpellsSchedule text t → IsVerdict text v → v ≡ Ok t
   schedule_is t (Ok u) h k = ap Ok (same_term text u t k.read.spelled h.read.spelled)
@@ -132,7 +132,7 @@ module _ (text : List ℕ) where
   pub verdict_of_fault : (fault : TermFault) → IsCause text fault → (fault ≡ Memory → ⊥) → verdict_of text ≡ Err fault
   verdict_of_fault fault h n = fault_is fault (verdict_of text) h n (verdict_is_the_one text)
 
-  -- so it is of an answer that says either
+  -- the same for a result whose clauses say so
   pub verdict_said : {C : Type 0} (view : C → Schedule) (answer : Result C TermFault) → IfOk answer (λ c. SpellsSchedule text (view c)) → IfErr answer (IsCause text)
       → MatchResult answer (λ c. verdict_of text ≡ Ok (view c)) (λ fault. (fault ≡ Memory → ⊥) → verdict_of text ≡ Err fault)
   verdict_said view (Ok c) h k = verdict_of_schedule (view c) h

@@ -15,7 +15,7 @@ use Rattle.zs_term.specs.Token.{Token, number, mark, Placed, lexed}
 use Rattle.zs_term.specs.Grammar.{SpellsLeaf, pairing_mark, modifier_tokens, Spells, with_number, with_infix, with_method, test_tokens, pick_tokens, func_tokens}
 use Rattle.zs_term.specs.Causes.{tokens_of, TextSpells, is_huge, first_huge}
 
--- no token is a number that does not fit
+-- no token is a number above 2^64 - 1
 abbrev AllFit : List Token → Type 0
 AllFit [] = Unit {0}
 AllFit (t ∷ ts) = (is_huge t ≡ false) × AllFit ts
@@ -56,7 +56,7 @@ leaf_fits (counted c n) ts s h = not_huge n (subst AllFit s h).1.1.0
 leaf_fits (exponential b f) ts (inl s) h = (not_huge b (subst AllFit s.0 h).1.1.0, omega (arith, s.1))
 leaf_fits (exponential b f) ts (inr s) h = (not_huge b (subst AllFit s h).1.1.0, not_huge f (subst AllFit s h).1.1.1.1.0)
 
--- what stands behind a schedule, where all its tokens fit
+-- the modifier after a schedule, if all its tokens fit
 modifier_fits : (m : Modifier) → AllFit (modifier_tokens m) → ModifierFits m
 modifier_fits (while_input t) h = not_huge t.than h.1.1.1.1.0
 modifier_fits (while_output p t) h = not_huge t.than (fit_back (pick_tokens p) (test_tokens t) (fit_front (pick_tokens p ++ test_tokens t) (mark Close ∷ []) h.1.1.1)).1.0
@@ -69,7 +69,7 @@ fits_from_tokens (leaf l) ts s h = leaf_fits l ts s h
 fits_from_tokens (two p a b) ts s h = let k = fits_infix s.0 s.1 (pairing_mark p) (subst AllFit s.4 h) in (fits_from_tokens a s.0 s.2 k.0, fits_from_tokens b s.1 s.3 k.1)
 fits_from_tokens (over a m) ts s h = let k = subst AllFit s.2 h in (fits_from_tokens a s.0 s.1 (fit_front s.0 _ k), modifier_fits m (fit_back s.0 _ k))
 
--- a text without a number above 2 ^ 64 - 1 spells a term whose numbers fit
+-- a text without a number above 2^64 - 1 spells a term whose numbers fit
 pub fits_in : (text : List ℕ) (t : Schedule) → TextSpells text t → first_huge (lexed text).tokens ≡ None → HasFittingNumbers t
 fits_in text t s h = fits_from_tokens t (tokens_of (lexed text).tokens) s.spelled (all_fit (lexed text).tokens h)
 
@@ -129,6 +129,6 @@ tokens_fit (leaf l) ts s h = leaf_tokens_fit l ts s h
 tokens_fit (two p a b) ts s h = subst AllFit (sym s.4) (infix_fits s.0 s.1 (pairing_mark p) (tokens_fit a s.0 s.2 h.0) (tokens_fit b s.1 s.3 h.1))
 tokens_fit (over a m) ts s h = subst AllFit (sym s.2) (fit_both s.0 _ (tokens_fit a s.0 s.1 h.0) (modifier_tokens_fit m h.1))
 
--- a text that spells a term whose numbers fit has no number above 2 ^ 64 - 1
+-- a text that spells a term whose numbers fit has no number above 2^64 - 1
 pub none_too_large : (text : List ℕ) (t : Schedule) → TextSpells text t → HasFittingNumbers t → first_huge (lexed text).tokens ≡ None
 none_too_large text t s h = none_huge (lexed text).tokens (tokens_fit t (tokens_of (lexed text).tokens) s.spelled h)

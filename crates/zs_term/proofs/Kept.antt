@@ -1,4 +1,4 @@
--- What is kept of a whole term: its sizes, and the term itself where terms are built.
+-- What is stored of a whole term: its sizes, and the term itself if terms are built.
 use Rattle.std.proofs.Common.{◌≡◌, ℕ, ◌+◌, ◌*◌, ◌^◌, ◌<◌, ◌≤◌, List, Bool, true, false, Option, Some, None, refl, sym, ap, ◌∙◌, arith, max}
 use Rattle.std.specs.Prelude.{nat_le, nat_lt, option_map, ◌&&◌}
 use Rattle.std.proofs.lemmas.Bool.Decides.{nat_tests}
@@ -14,18 +14,18 @@ use Rattle.zs_term.specs.Causes.{TextSpells, first_huge}
 use Rattle.zs_term.proofs.Fitting.{fits_in}
 use Rattle.zs_term.proofs.Runs.{planted_pair}
 
--- a form over one part is one deeper
+-- one part under an operator is one level deeper
 depth_over : (a d : ℕ) → a ≡ saturated d → saturated (a + 1) ≡ saturated (1 + d)
 depth_over a d e = omega arith
 
--- a form over one part weighs one more
+-- one part under an operator weighs one more
 weight_over : (a w : ℕ) → a ≡ saturated w → one_more a ≡ saturated (1 + w)
 weight_over a w e = omega arith
 
 weight_once : (a w : ℕ) → a ≡ saturated w → one_more a ≡ saturated (1 + 1 * w)
 weight_once a w e = omega arith
 
--- a form that may be reset weighs its part twice
+-- a reset counts the weight of its part twice
 weight_twice : (a w : ℕ) → a ≡ saturated w → one_more (saturated (a + a)) ≡ saturated (1 + 2 * w)
 weight_twice a w e = omega arith
 
@@ -55,7 +55,7 @@ weight_map build (Const n) a w e = weight_over a.weight w e
 weight_map build (Add n) a w e = weight_over a.weight w e
 weight_map build (Mul n) a w e = weight_over a.weight w e
 
--- a leaf's sizes
+-- the sizes of a leaf
 leaf_kept : (build : Bool) (l : Leaf) → ((leaf_value (keep build) l).depth ≡ 1) × ((leaf_value (keep build) l).weight ≡ 1)
 leaf_kept build (plain p) = (refl, refl)
 leaf_kept build (counted c n) = (refl, refl)
@@ -77,13 +77,13 @@ weight_modified build collect_all a w e = weight_once a.weight w e
 weight_modified build (mapped f) a w e = weight_map build f a w e ∙ ap saturated (omega arith)
 weight_modified build (reset_when p t) a w e = weight_twice a.weight w e
 
--- the depth that is kept
+-- the stored depth is the depth
 depth_kept : (build : Bool) (t : Schedule) → (value (keep build) t).depth ≡ saturated (depth t)
 depth_kept build (leaf l) = (leaf_kept build l).0
 depth_kept build (two p a b) = depth_both _ _ (depth a) (depth b) (depth_kept build a) (depth_kept build b)
 depth_kept build (over s m) = depth_modified build m (value (keep build) s) (depth s) (depth_kept build s)
 
--- the weight that is kept
+-- the stored weight is the weight
 weight_kept : (build : Bool) (t : Schedule) → (value (keep build) t).weight ≡ saturated (weight t)
 weight_kept build (leaf l) = (leaf_kept build l).1
 weight_kept build (two p a b) = weight_both _ _ (weight a) (weight b) (weight_kept build a) (weight_kept build b)
@@ -92,11 +92,11 @@ weight_kept build (over s m) = weight_modified build m (value (keep build) s) (w
 fits_test : (n : ℕ) → n < 2 ^ 64 → nat_lt n (2 ^ 64) ≡ true
 fits_test n h = grind (arith, nat_tests)
 
--- a number below 2 ^ 64 is kept
+-- a number below 2^64 fits
 fit_is : (n : ℕ) → n < 2 ^ 64 → fit n ≡ Some n
 fit_is n h = let e = fits_test n h in rw e refl
 
--- two parts that are kept, together
+-- two values that are there, composed
 two_kept : {X Y Z : Type 0} (f : X → Y → Z) (o : Option X) (q : Option Y) (x : X) (y : Y) → o ≡ Some x → q ≡ Some y → with_both f o q ≡ Some (f x y)
 two_kept f o q x y h k = ap (λ u. with_both f u q) h ∙ ap (with_both f (Some x)) k
 
@@ -109,13 +109,13 @@ schedule_map (Const n) a h p = two_kept (λ t k. over t (mapped (Const k))) _ (f
 schedule_map (Add n) a h p = two_kept (λ t k. over t (mapped (Add k))) _ (fit n) a n p (fit_is n h)
 schedule_map (Mul n) a h p = two_kept (λ t k. over t (mapped (Mul k))) _ (fit n) a n p (fit_is n h)
 
--- the leaf that is kept
+-- the leaf that is built
 leaf_built : (l : Leaf) → LeafFits l → (leaf_value (keep true) l).schedule ≡ Some (leaf l)
 leaf_built (plain p) h = refl
 leaf_built (counted c n) h = ap (option_map (λ k. leaf (counted c k))) (fit_is n h)
 leaf_built (exponential b f) h = two_kept (λ x y. leaf (exponential x y)) (fit b) (fit f) b f (fit_is b h.0) (fit_is f h.1)
 
--- the modifier that is kept
+-- the modifier that is built
 modifier_built : (m : Modifier) (a : Schedule) → ModifierFits m → (value (keep true) a).schedule ≡ Some a → (modifier_value (keep true) (value (keep true) a) m).schedule ≡ Some (over a m)
 modifier_built (while_input t) a h p = two_kept (λ x k. over x (while_input (record { cmp = t.cmp; than = k }))) _ (fit t.than) a t.than p (fit_is t.than h)
 modifier_built (while_output k t) a h p = two_kept (λ x n. over x (while_output k (record { cmp = t.cmp; than = n }))) _ (fit t.than) a t.than p (fit_is t.than h)
@@ -123,7 +123,7 @@ modifier_built collect_all a h p = ap (option_map (λ x. over x collect_all)) p
 modifier_built (mapped f) a h p = schedule_map f a h p
 modifier_built (reset_when k t) a h p = two_kept (λ x n. over x (reset_when k (record { cmp = t.cmp; than = n }))) _ (fit t.than) a t.than p (fit_is t.than h)
 
--- the term that is kept, where terms are built and its numbers fit
+-- the term that is built, if terms are built and its numbers fit
 schedule_kept : (t : Schedule) → HasFittingNumbers t → (value (keep true) t).schedule ≡ Some t
 schedule_kept (leaf l) h = leaf_built l h
 schedule_kept (two p a b) h = two_kept (two (infix_pairing (pairing_infix p))) _ _ a b (schedule_kept a h.0) (schedule_kept b h.1) ∙ ap (λ o. Some (two o a b)) (planted_pair p)
@@ -147,7 +147,7 @@ false_and : (a b : Bool) → a ≡ false → (a && b) ≡ false
 false_and true b h = cc
 false_and false b h = refl
 
--- what the sizes that are kept of a whole term say of the term
+-- what the stored sizes say of the term
 module _ (build : Bool) (t : Schedule) (a : Kept) (e : value (keep build) t ≡ a) where
   sizes : (a.depth ≡ saturated (depth t)) × (a.weight ≡ saturated (weight t))
   sizes = (ap (λ k. k.depth) (sym e) ∙ depth_kept build t, ap (λ k. k.weight) (sym e) ∙ weight_kept build t)
@@ -164,11 +164,11 @@ module _ (build : Bool) (t : Schedule) (a : Kept) (e : value (keep build) t ≡ 
       let light : weight t ≤ 1000 = omega (arith, sizes.1) in
       and_true (nat_le (depth t) 64) (nat_le (weight t) 1000) (le_test (depth t) 64 low) (le_test (weight t) 1000 light)
 
--- the term that was built of a text whose numbers fit
+-- a text whose numbers fit has a stored term, if terms are built
 pub there : (text : List ℕ) (t : Schedule) (a : Kept) → TextSpells text t → value (keep true) t ≡ a → first_huge (lexed text).tokens ≡ None → a.schedule ≡ Some t
 there text t a s e h = ap (λ k. k.schedule) (sym e) ∙ schedule_kept t (fits_in text t s h)
 
--- nothing is built where nothing is to be
+-- nothing is stored over a part that isn't built
 map_nothing : (f : Func) (a : Kept) → a.schedule ≡ None → (apply_func (keep false) a f).schedule ≡ None
 map_nothing First a h = ap (option_map (λ t. over t (mapped First))) h
 map_nothing Second a h = ap (option_map (λ t. over t (mapped Second))) h
@@ -192,7 +192,7 @@ nothing_kept (leaf (exponential b f)) = refl
 nothing_kept (two p a b) = ap (λ o. with_both (two (infix_pairing (pairing_infix p))) o (value (keep false) b).schedule) (nothing_kept a)
 nothing_kept (over s m) = modifier_nothing m (value (keep false) s) (nothing_kept s)
 
--- the term that was built of a text whose numbers fit, where one was
+-- a stored term of a text whose numbers fit is the text's term
 pub the_term : (build : Bool) (text : List ℕ) (t s : Schedule) (a : Kept) → TextSpells text t → value (keep build) t ≡ a → first_huge (lexed text).tokens ≡ None → a.schedule ≡ Some s → t ≡ s
 the_term true text t s a h e f k = let both : Some t ≡ Some s = sym (there text t a h e f) ∙ k in cc
 the_term false text t s a h e f k = let never : None ≡ Some s = sym (nothing_kept t) ∙ ap (λ x. x.schedule) e ∙ k in cc

@@ -1,4 +1,4 @@
--- A text that spells no term goes wrong at one place.
+-- A text that spells no term fails at exactly one place.
 use Rattle.std.proofs.Common.{◌≡◌, ℕ, List, [], ◌∷◌, ◌++◌, Some, None, sym, ap, ◌∙◌, subst, append_assoc, refl}
 use Rattle.zs_term.specs.Schedule.{Schedule}
 use Rattle.zs_term.specs.Token.{Token, Placed, lexed}
@@ -6,7 +6,7 @@ use Rattle.zs_term.specs.Grammar.{Spells, IsOpen}
 use Rattle.zs_term.specs.Causes.{tokens_of, TextSpells, IsNoTermAt, refused, no_token, unfinished}
 use Rattle.zs_term.proofs.Progress.{tokens_append}
 
--- no place where a spelling goes wrong
+-- a text that spells a term fails at no place
 pub spells_or_not : (text : List ℕ) (t : Schedule) (at : ℕ) → TextSpells text t → IsNoTermAt text at → ⊥
 spells_or_not text t _ s (refused before p behind e o n) =
     let shape : tokens_of (lexed text).tokens ≡ (tokens_of before ++ p.token ∷ []) ++ tokens_of behind =
@@ -15,7 +15,7 @@ spells_or_not text t _ s (refused before p behind e o n) =
 spells_or_not text t _ s (no_token at e o) = let never : None ≡ Some at = sym s.to_the_end ∙ e in cc
 spells_or_not text t _ s (unfinished e o n) = n t s.spelled
 
--- a token with tokens behind it is open only if those before it and it are
+-- if tokens begin a spelling, the first of them do too
 longer_open : (xs ys : List Token) → IsOpen (xs ++ ys) → IsOpen xs
 longer_open xs ys o = (ys ++ o.0, o.1, subst (λ ts. Spells ts o.1) (append_assoc xs ys o.0) o.2)
 
@@ -25,7 +25,7 @@ inside before p behind = tokens_append before (p ∷ behind) ∙ sym (append_ass
 front_open : (all before : List Placed) (p : Placed) (behind : List Placed) → all ≡ before ++ p ∷ behind → IsOpen (tokens_of all) → IsOpen (tokens_of before ++ p.token ∷ [])
 front_open all before p behind e o = longer_open (tokens_of before ++ p.token ∷ []) (tokens_of behind) (subst IsOpen (ap tokens_of e ∙ inside before p behind) o)
 
--- the first of two places, or the second, or they are one
+-- of two places, one is before the other, or they are equal
 data Places (b : List Placed) (p : Placed) (c : List Placed) (q : Placed) : Type 0 where
   one : p ≡ q → Places b p c q
   first : (rest : List Placed) → c ≡ b ++ p ∷ rest → Places b p c q

@@ -1,4 +1,4 @@
--- The tokens that are read of a text are those that stand in it, place by place.
+-- The tokens that are computed from a text are those that are in it, place by place.
 use Rattle.std.proofs.Common.{◌≡◌, ◌≢◌, ℕ, zero, suc, ◌+◌, ◌-◌, ◌<◌, ◌≤◌, List, [], ◌∷◌, length, take, drop, Bool, true, false, cond, Option, Some, None, refl, sym, ap, ◌∙◌, subst, arith, length-drop, length-take-le}
 use Rattle.std.specs.Prelude.{take_while, slice_index, nat_eq, nat_lt, ◌==◌, ◌&&◌}
 use Rattle.std.specs.Char.{is_ascii_alphabetic, is_ascii_digit}
@@ -11,7 +11,7 @@ use Rattle.zs_term.specs.Places.{IsRun, IsTokenOf, word, digits, pair, single, A
 use Rattle.zs_term.specs.declared.token.Mark.{Mark}
 use Rattle.zs_term.proofs.Lexing.{lex_end, lex_space, lex_stuck, lex_found, number_found}
 
--- the first byte of a symbol fails
+-- a test of bytes that the first byte of every symbol fails
 record FailsSymbols (p : ℕ → Bool) : Type 0 where
   marks : (p 95 ≡ false) × (p 38 ≡ false) × (p 124 ≡ false) × (p 60 ≡ false) × (p 33 ≡ false) × (p 62 ≡ false)
   bytes : (p 40 ≡ false) × (p 41 ≡ false) × (p 44 ≡ false) × (p 46 ≡ false) × (p 61 ≡ false) × (p 43 ≡ false) × (p 42 ≡ false)
@@ -25,7 +25,7 @@ digits_fail = record { marks = (refl, refl, refl, refl, refl, refl); bytes = (re
 true_or_false : {P : Type 0} (b : Bool) → b ≡ true → b ≡ false → P
 true_or_false b h k = let e : true ≡ false = sym h ∙ k in cc
 
--- a byte that passes is none that fails
+-- a byte that passes differs from one that fails
 other_byte : (p : ℕ → Bool) (a k : ℕ) → p a ≡ true → p k ≡ false → nat_eq a k ≡ false
 other_byte p a k h e = on (nat_eq a k) refl where
   on : (b : Bool) → nat_eq a k ≡ b → nat_eq a k ≡ false
@@ -59,7 +59,7 @@ no_single p a f h =
 some_of : {X : Type 0} (o : Option X) (x : X) → o ≡ Some x → o ≡ None → ⊥
 some_of o x h k = let e : Some x ≡ None = sym h ∙ k in cc
 
--- what begins a symbol of two bytes, or of one, fails
+-- the first byte of every symbol fails
 pair_fails : (p : ℕ → Bool) (a b : ℕ) (m : Mark) → FailsSymbols p → pair_mark a b ≡ Some m → p a ≡ false
 pair_fails p a b m f h = on (p a) refl where
   on : (x : Bool) → p a ≡ x → p a ≡ false
@@ -72,7 +72,7 @@ single_fails p a m f h = on (p a) refl where
   on true e = absurd (some_of (single_mark a) m h (no_single p a f e))
   on false e = e
 
--- a digit is no letter
+-- a digit isn't a letter
 digit_no_letter : (b : ℕ) → is_ascii_digit b ≡ true → is_ascii_alphabetic b ≡ false
 digit_no_letter b h = grind (arith, nat_tests)
 
@@ -98,7 +98,7 @@ at_symbol bytes h k =
     second_case (is_ascii_alphabetic (slice_index bytes 0)) (Some (word_at bytes)) (cond (is_ascii_digit (slice_index bytes 0)) (number_at bytes) (symbol_at bytes)) h
     ∙ second_case (is_ascii_digit (slice_index bytes 0)) (number_at bytes) (symbol_at bytes) k
 
--- a longest run is what `take_while` takes
+-- `take_while` takes exactly the longest run
 run_len : (p : ℕ → Bool) (n : ℕ) (bytes : List ℕ) → IsRun p n bytes → prefix_len p bytes ≡ n
 run_len p n bytes r = prefix_len_is p bytes n 0 r.inside r.all r.ends
 
@@ -110,7 +110,7 @@ run_of p bytes h = record {
   ends = λ l. prefix_len_stops p bytes 0 l;
 }
 
--- what is said of a token at the front
+-- the computed token at the front is this token
 record Found (bytes : List ℕ) (t : Token) (n : ℕ) : Type 0 where
   inside : 0 < length bytes
   some : 0 < n
@@ -120,7 +120,7 @@ record Found (bytes : List ℕ) (t : Token) (n : ℕ) : Type 0 where
 passes_first : (p : ℕ → Bool) (n : ℕ) (bytes : List ℕ) → IsRun p n bytes → p 32 ≡ false → (0 < length bytes) × (slice_index bytes 0 ≢ 32)
 passes_first p n bytes r e = (omega (arith, r.some, r.inside), λ s. true_or_false (p 32) (sym (ap p s) ∙ r.all 0 r.some) e)
 
--- several digits, of which the first is no 0
+-- several digits, the first of which isn't 0
 no_led_zero : (ds : List ℕ) (n : ℕ) (first : ℕ) → length ds ≡ n → (0 < n → slice_index ds 0 ≡ first) → (1 < n → first ≢ 48) → (nat_lt 1 (length ds) && slice_index ds 0 == 48) ≡ false
 no_led_zero ds n first e same h = on (nat_lt 1 (length ds)) refl where
   on : (b : Bool) → nat_lt 1 (length ds) ≡ b → (b && nat_eq (slice_index ds 0) 48) ≡ false
@@ -185,12 +185,12 @@ found_of bytes _ _ (single m none e) =
       one_inside [] k = absurd (some_of (single_mark 0) m k refl)
       one_inside (x ∷ xs) k = omega arith
 
--- where the first byte passes, some pass
+-- if the first byte passes, the run isn't empty
 some_pass : (p : ℕ → Bool) (bytes : List ℕ) → 0 < length bytes → p (slice_index bytes 0) ≡ true → 0 < prefix_len p bytes
 some_pass p [] h e = absurd (omega arith)
 some_pass p (b ∷ bytes) h e = rw e (omega arith)
 
--- what is found at the front stands there
+-- the token that is computed at the front is there
 token_of : (bytes : List ℕ) → 0 < length bytes → (found : Token × ℕ) → token_at bytes ≡ Some found → IsTokenOf bytes found.0 found.1
 token_of bytes inside found h = letter (is_ascii_alphabetic a) refl where
   a : ℕ
@@ -246,7 +246,7 @@ token_of bytes inside found h = letter (is_ascii_alphabetic a) refl where
   letter false e = digit e (is_ascii_digit (slice_index bytes 0)) refl
 
 module _ (text : List ℕ) where
-  -- spaces are passed over
+  -- spaces are skipped
   skip : (d from : ℕ) → ((i : ℕ) → from ≤ i → i < from + d → (i < length text) × (slice_index text i ≡ 32)) → lex 0 from (drop from text) ≡ lex 0 (from + d) (drop (from + d) text)
   skip zero from h = let e : from + zero ≡ from = omega arith in rw e refl
   skip (suc d) from h =
@@ -259,7 +259,7 @@ module _ (text : List ℕ) where
       let e : from + (to - from) ≡ to = omega (arith, le) in
       skip (to - from) from (λ i l m. (omega (arith, m, le, within), s i l (omega (arith, m, le)))) ∙ ap (λ n. lex 0 n (drop n text)) e
 
-  -- the byte at a place, and the first of those from it on
+  -- the byte at a place is the first byte of the text from that place on
   first_of_rest : (at : ℕ) → slice_index (drop at text) 0 ≡ slice_index text at
   first_of_rest at = at_front at text where
     at_front : (n : ℕ) (bs : List ℕ) → slice_index (drop n bs) 0 ≡ slice_index bs n
@@ -267,7 +267,7 @@ module _ (text : List ℕ) where
     at_front (suc n) [] = refl
     at_front (suc n) (b ∷ bs) = at_front n bs
 
-  -- what stands in the text is what is read of it
+  -- the tokens in the text are the computed ones
   is_read : (ps : List Placed) (stop : Option ℕ) (from : ℕ) → AreTokensFrom text from ps stop → lex 0 from (drop from text) ≡ record { tokens = ps; stop = stop }
   is_read [] None from s =
       let end = from + (length text - from) in
@@ -285,7 +285,7 @@ module _ (text : List ℕ) where
       ∙ lex_found text p.place h.0 p.token inside (λ s. f.no_space (first_of_rest p.place ∙ s)) f.some f.is
       ∙ ap (with_token p.place p.token) (is_read ps stop (p.place + h.0) h.4)
 
-  -- one space more before them
+  -- one more space before them
   more_spaces : (from to : ℕ) → slice_index text from ≡ 32 → AreSpaces text (from + 1) to → AreSpaces text from to
   more_spaces from to e s = λ i l m. on i l m (nat_eq i from) refl where
     on : (i : ℕ) → from ≤ i → i < to → (b : Bool) → nat_eq i from ≡ b → slice_index text i ≡ 32
@@ -300,7 +300,7 @@ module _ (text : List ℕ) where
   abbrev Reading : ℕ → Type 0
   Reading from = (found : Lexed) × AreTokensFrom text from found.tokens found.stop
 
-  -- some tokens stand in every text: from a place, where they do from each later one
+  -- every text has tokens: from a place, if it has them from every later place
   module _ (fuel from : ℕ) (h : length text ≤ from + suc fuel) (later : (n : ℕ) → length text ≤ n + fuel → Reading n) where
     reading_token : from < length text → slice_index text from ≢ 32 → (o : Option (Token × ℕ)) → token_at (drop from text) ≡ o → Reading from
     reading_token inside other None e =
@@ -326,7 +326,7 @@ module _ (text : List ℕ) where
   reading zero from h = (nothing, λ i l m. absurd (omega (arith, h, l, m)))
   reading (suc fuel) from h = reading_place fuel from h (λ n k. reading fuel n k) (nat_lt from (length text)) refl
 
--- the tokens of a text are those that stand in it
+-- the computed tokens are exactly those in the text
 pub tokens_of_text : TokensOfText
 tokens_of_text text found =
     let r = reading text (length text) 0 (omega arith) in

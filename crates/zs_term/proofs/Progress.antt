@@ -1,4 +1,4 @@
--- From what has been read so far to what `read` answers.
+-- From what has been read so far to what `read` returns.
 use Rattle.std.proofs.Common.{◌≡◌, ℕ, ◌≤◌, List, [], ◌∷◌, ◌++◌, length, drop, Bool, true, false, cond, Option, Some, None, refl, sym, ap, ◌∙◌, subst, arith, append_assoc}
 use Rattle.zs_term.specs.Schedule.{Schedule}
 use Rattle.zs_term.specs.Token.{Token, Placed, nothing, stuck, with_token, lex, lexed}
@@ -50,7 +50,7 @@ module _ (build : Bool) (text : List ℕ) (s : State Kept (Option ℕ)) (huge : 
       let same : r.done ≡ (lexed text).tokens = sym (ap (λ l. l.tokens) all ∙ append_nil r.done) in
       no_token p (ap (λ l. l.stop) all) (subst (λ ps. IsOpen (tokens_of ps)) same (goes_on (keep build) (tokens_of r.done) s r.goes))
 
-  -- at the end
+  -- at the end of the text
   module _ (e : lex 0 from (drop from text) ≡ nothing) where
     stopped : (lexed text).stop ≡ None
     stopped = ap (λ l. l.stop) (r.shape ∙ ap (behind_tokens r.done) e)

@@ -1,4 +1,4 @@
--- Texts, spellings and outputs with known answers, computed by the definitions.
+-- Texts, spellings and outputs with known results, computed by the definitions.
 use Rattle.std.proofs.Common.{◌≡◌, refl, Ok, Err}
 use Rattle.std.specs.Prelude.{codes}
 use Rattle.std.specs.Fmt.{digits}
@@ -108,7 +108,7 @@ the_empty_list = refl
 
 -- ---- sizes
 
--- a schedule that begins anew at 0
+-- a schedule that starts over at 0
 abbrev again : Schedule → Schedule
 again s = over s (reset_when Whole (record { cmp = Eq; than = 0 }))
 

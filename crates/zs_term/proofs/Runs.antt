@@ -1,4 +1,4 @@
--- The state after some tokens says just which tokens may come.
+-- The state after some tokens determines which tokens may come.
 use Rattle.std.proofs.Common.{◌≡◌, ℕ, List, [], ◌∷◌, ◌++◌, Some, None, refl, sym, ap, ◌∙◌}
 use Rattle.zs_term.specs.Schedule.{Schedule, leaf, two, over, Leaf, plain, counted, exponential, Pairing, both, either, and_then, Modifier, while_input, while_output, collect_all, mapped, reset_when}
 use Rattle.zs_term.specs.Token.{Token, number, mark}
@@ -30,7 +30,7 @@ module _ {A N : Type 0} (make : Make A N) where
     term : A
     goes : run make (Some s) rest ≡ Some (at [] (after term))
 
-  -- some tokens, and then those that lead on
+  -- some tokens, and then those that lead to a whole term
   first_then : (s s' : State A N) (ts : List Token) → run make (Some s) ts ≡ Some s' → Ends s' → Ends s
   first_then s s' ts h e = record { rest = ts ++ e.rest; term = e.term; goes = run_append make (Some s) ts e.rest ∙ ap (λ o. run make o e.rest) h ∙ e.goes }
 
@@ -78,7 +78,7 @@ module _ {A N : Type 0} (make : Make A N) where
   ends_at fs (mapping a) = ends_mapping fs a
   ends_at fs (scaling a g) = ends_scale fs a g
 
-  -- what leads to a state is the front of a spelling
+  -- tokens that lead to a state begin a spelling
   pub goes_on : (ts : List Token) (s : State A N) → run make (Some (at [] start)) ts ≡ Some s → IsOpen ts
   unfolding first_then
   goes_on ts s h =
@@ -86,11 +86,11 @@ module _ {A N : Type 0} (make : Make A N) where
       let t = sound make e.rest e.term e.goes in
       ((ends_at s.frames s.mode).rest, t.0, t.1)
 
-  -- the state behind a whole spelling
+  -- the state after a whole spelling
   pub spells_to : (ts : List Token) (t : Schedule) → Spells ts t → run make (Some (at [] start)) ts ≡ Some (at [] (after (value make t)))
   spells_to ts t h = ap (run make (Some (at [] start))) (sym (append_nil ts)) ∙ complete make t ts h [] []
 
-  -- what leads to no state is no such front
+  -- tokens that lead to no state don't begin a spelling
   pub goes_nowhere : (ts : List Token) → run make (Some (at [] start)) ts ≡ None → IsOpen ts → ⊥
   goes_nowhere ts h o =
       let e = spells_to (ts ++ o.0) o.1 o.2 in
@@ -124,7 +124,7 @@ planted_modifier collect_all a = refl
 planted_modifier (mapped f) a = planted_map f a
 planted_modifier (reset_when p t) a = refl
 
--- a term put together as a term is itself
+-- a term composed as a term is itself
 pub planted : (t : Schedule) → value plant t ≡ t
 planted (leaf l) = planted_leaf l
 planted (two p a b) = ap (λ o. two o (value plant a) (value plant b)) (planted_pair p) ∙ ap (λ v. two p v (value plant b)) (planted a) ∙ ap (two p a) (planted b)

@@ -1,4 +1,4 @@
--- What leads to the state behind a whole term spells it.
+-- Tokens that lead to the state after a whole term spell it.
 use Rattle.std.proofs.Common.{◌≡◌, ℕ, List, [], ◌∷◌, ◌++◌, Option, Some, None, refl, sym, ap, ◌∙◌, subst, append_assoc, inl, inr}
 use Rattle.std.specs.Prelude.{option_map}
 use Rattle.zs_term.specs.Schedule.{Schedule, leaf, two, over, plain, counted, exponential, both, either, and_then, while_input, while_output, collect_all, mapped, reset_when}
@@ -35,7 +35,7 @@ module _ {A N : Type 0} (make : Make A N) where
     spelled : Spells ts term
     is : value make term ≡ a
 
-  -- a term of this value, and these tokens behind it
+  -- a term of this value, followed by these tokens
   record Follows (a : A) (tail : List Token) (ts : List Token) : Type 0 where
     front : List Token
     stands : Stands front a
@@ -110,11 +110,11 @@ module _ {A N : Type 0} (make : Make A N) where
   stands_doubling : (b : ℕ) → Stands (with_number ExponentialWord b) (make.growing (make.num b) (make.num 2))
   stands_doubling b = record { term = leaf (exponential b 2); spelled = inl (refl, refl); is = refl }
 
-  -- one more token behind a term
+  -- a term followed by one more token
   longer : (a : A) (tail ts : List Token) (t : Token) → Follows a tail ts → Follows a (tail ++ t ∷ []) (ts ++ t ∷ [])
   longer a tail ts t h = record { front = h.front; stands = h.stands; whole = ap (λ w. w ++ t ∷ []) h.whole ∙ append_assoc h.front tail (t ∷ []) }
 
-  -- the same under another name of the tail
+  -- the same for an equal tail
   as_tail : (a : A) (tail tail' ts : List Token) → tail ≡ tail' → Follows a tail ts → Follows a tail' ts
   as_tail a tail tail' ts e h = subst (λ w. Follows a w ts) e h
 
@@ -127,7 +127,7 @@ module _ {A N : Type 0} (make : Make A N) where
   end_of : List Token → Token → List Token
   end_of ts t = ts ++ t ∷ []
 
-  -- the token behind is one of the mode, and leads to the next
+  -- a token that the mode allows leads to the next mode
   since_begin : (m : Mark) (k : Mode A N) (ts : List Token) → Since start ts → begin_leaf make m ≡ Some k → Since k (ts ++ mark m ∷ [])
   since_begin (PlainWord p) k ts s h = let e : after (make.plain p) ≡ k = cc in to_mode _ k _ e (stands_as _ (mark (PlainWord p) ∷ []) _ (ap (λ w. w ++ mark (PlainWord p) ∷ []) s) (stands_plain p))
   since_begin (CountedWord c) k ts s h = let e : opening c ≡ k = cc in to_mode _ k _ e (ap (λ w. w ++ mark (CountedWord c) ∷ []) s)
@@ -240,7 +240,7 @@ module _ {A N : Type 0} (make : Make A N) where
     back : Since x.mode since
     whole : ts ≡ before ++ since
 
-  -- one more token in the innermost place
+  -- one more token after the innermost frame
   further : (fs : List (Frame A)) (j k : Mode A N) (ts : List Token) (t : Token) (r : ReadsTo (at fs j) ts) → Since k (r.since ++ t ∷ []) → ReadsTo (at fs k) (ts ++ t ∷ [])
   further fs j k ts t r h = record {
     before = r.before;
@@ -254,7 +254,7 @@ module _ {A N : Type 0} (make : Make A N) where
   framed : (fs : List (Frame A)) (ts us : List Token) → Before fs us → ts ≡ us → ReadsTo (at fs start) ts
   framed fs ts us h e = record { before = us; since = []; front = h; back = refl; whole = e ∙ sym (append_nil us) }
 
-  -- behind `(S`
+  -- after `(S`
   step_operator : (fs : List (Frame A)) (a : A) (m : Mark) (x : State A N) (ts : List Token) → ReadsTo (at (left ∷ fs) (after a)) ts → operator_mark fs a m ≡ Some x → ReadsTo x (ts ++ mark m ∷ [])
   step_operator fs a (Operator i) x ts r h =
       let us = r.front.0 in
@@ -264,7 +264,7 @@ module _ {A N : Type 0} (make : Make A N) where
       subst (λ v. ReadsTo v (ts ++ mark (Operator i) ∷ [])) e (framed (right i a ∷ fs) (ts ++ mark (Operator i) ∷ []) _ (us, r.since, r.front.1, r.back, refl) shape)
   step_operator fs a _ x ts r h = absurd cc
 
-  -- behind `(S op S`
+  -- after `(S op S`
   step_closed : (i : Infix) (fs : List (Frame A)) (a b : A) (m : Mark) (x : State A N) (ts : List Token) → ReadsTo (at (right i a ∷ fs) (after b)) ts → option_map (λ k. at fs k) (close_mark (after (make.join i a b)) m) ≡ Some x → ReadsTo x (ts ++ mark m ∷ [])
   step_closed i fs a b Close x ts r h =
       let us = r.front.0 in
@@ -314,7 +314,7 @@ module _ {A N : Type 0} (make : Make A N) where
       subst (λ v. ReadsTo v (ts ++ number n ∷ [])) took.2 (further x.frames x.mode took.0 ts (number n) r (since_number x.mode n took.0 r.since r.back took.1))
   step_reads x y (mark m) ts r h = step_marks x.frames x.mode m y ts r h
 
-  -- what was read to come to a state, if any
+  -- the tokens that led to a state, if there is one
   abbrev ReadsAny : Option (State A N) → List Token → Type 0
   ReadsAny None ts = Unit {0}
   ReadsAny (Some s) ts = ReadsTo s ts
@@ -335,7 +335,7 @@ module _ {A N : Type 0} (make : Make A N) where
       let first : ReadsTo (at [] start) [] = record { before = []; since = []; front = refl; back = refl; whole = refl } in
       subst (λ o. ReadsAny o ts) h (reads ts (Some (at [] start)) [] first)
 
-  -- what leads to a whole term spells it
+  -- tokens that lead to a whole term spell it
   pub sound : (ts : List Token) (a : A) → run make (Some (at [] start)) ts ≡ Some (at [] (after a)) → (t : Schedule) × Spells ts t × (value make t ≡ a)
   sound ts a h =
       let r = reads_from_start ts (at [] (after a)) h in

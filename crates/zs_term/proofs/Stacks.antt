@@ -1,4 +1,4 @@
--- Forms that are opened, read on and closed.
+-- Infix forms that are opened, continued and closed.
 use Rattle.std.proofs.Common.{◌≡◌, ℕ, zero, suc, ◌<◌, ◌≤◌, ◌-◌, List, [], ◌∷◌, ◌++◌, ◌+◌, length, Option, Some, None, refl, ap, ◌∙◌, arith, add-one}
 use Rattle.std.specs.Prelude.{option_map}
 use Rattle.zs_term.specs.Machine.{Mode, at, Frame, left, right}
@@ -6,20 +6,20 @@ use Rattle.zs_term.specs.Parts.{Kept, kept_of, mode_of, bare_onto, joined_onto}
 use Rattle.zs_term.specs.declared.parser.Mode.{Mode as ModeKept}
 use Rattle.zs_term.specs.declared.parser.Joined.{Joined}
 
--- one `(` more
+-- one more `(`
 pub bare_more : (n : ℕ) (fs : List (Frame Kept)) → bare_onto (n + 1) fs ≡ left ∷ bare_onto n fs
 bare_more n fs = ap (λ k. bare_onto k fs) (add-one n)
 
--- the innermost of some `(`
+-- the innermost of some `(` without an operator
 pub bare_first : (n : ℕ) (fs : List (Frame Kept)) → 0 < n → bare_onto n fs ≡ left ∷ bare_onto (n - 1) fs
 bare_first n fs h = let e : n ≡ (n - 1) + 1 = omega (arith, h) in ap (λ k. bare_onto k fs) e ∙ bare_more (n - 1) fs
 
--- none is innermost
+-- no `(` without an operator is open
 pub bare_none : (n : ℕ) (fs : List (Frame Kept)) → n ≤ 0 → bare_onto n fs ≡ fs
 bare_none zero fs h = refl
 bare_none (suc n) fs h = absurd (omega (arith, h))
 
--- one form more of which the operator was read
+-- one more form whose operator was read
 onto_push : (fs : List (Frame Kept)) (ks : List Joined) (k : Joined) → joined_onto fs (ks ++ k ∷ []) ≡ right k.form (kept_of k.left) ∷ bare_onto k.before (joined_onto fs ks)
 onto_push fs [] k = refl
 onto_push fs (j ∷ ks) k = onto_push (right j.form (kept_of j.left) ∷ bare_onto j.before fs) ks k
@@ -27,7 +27,7 @@ onto_push fs (j ∷ ks) k = onto_push (right j.form (kept_of j.left) ∷ bare_on
 pub joined_push : (ks : List Joined) (k : Joined) → joined_onto [] (ks ++ k ∷ []) ≡ right k.form (kept_of k.left) ∷ bare_onto k.before (joined_onto [] ks)
 joined_push ks k = onto_push [] ks k
 
--- nothing is open
+-- no form is open
 bare_length : (n : ℕ) (fs : List (Frame Kept)) → length fs ≤ length (bare_onto n fs)
 bare_length zero fs = omega arith
 bare_length (suc n) fs = omega (arith, bare_length n fs)

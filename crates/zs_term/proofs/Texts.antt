@@ -10,19 +10,19 @@ use Rattle.zs_term.specs.declared.outputs.Out.{Out}
 use Rattle.zs_term.proofs.Completeness.{append_nil}
 use Rattle.zs_term.proofs.Values.{outputs_of-take}
 
--- one output more behind the first
+-- one more output after the first
 behind_last : (xs : Outputs) (y : Output) → behind_text (with_last xs y) ≡ behind_text xs ++ (codes "," ++ output_text y)
 behind_last none y = ap (λ w. codes "," ++ w) (append_nil (output_text y))
 behind_last (more x xs) y = ap (λ w. codes "," ++ (output_text x ++ w)) (behind_last xs y) ∙ ap (λ w. codes "," ++ w) (sym (append_assoc (output_text x) (behind_text xs) (codes "," ++ output_text y)))
 
--- one output more
+-- one more output at the end
 text_last : (xs : List Out) (i : ℕ) (y : Output) → i ≡ length xs → outputs_text (with_last (outputs_of xs) y) ≡ outputs_text (outputs_of xs) ++ (comma_before i ++ output_text y)
 text_last [] zero y e = append_nil (output_text y)
 text_last [] (suc i) y e = absurd (omega (arith, e))
 text_last (x ∷ xs) zero y e = absurd (omega (arith, e))
 text_last (x ∷ xs) (suc i) y e = ap (λ w. output_text (output_of x) ++ w) (behind_last (outputs_of xs) y) ∙ sym (append_assoc (output_text (output_of x)) (behind_text (outputs_of xs)) (codes "," ++ output_text y))
 
--- a text that one more output of a list was added to
+-- the text of a list with one more output
 pub text_grown : (start text middle longer : List ℕ) (xs : List Out) (i : ℕ) (y : Out) → i < length xs → y ≡ get_or xs i y
     → text ≡ start ++ outputs_text (outputs_of (take i xs)) → middle ≡ text ++ comma_before i → longer ≡ middle ++ output_text (output_of y)
     → longer ≡ start ++ outputs_text (outputs_of (take (i + 1) xs))
@@ -35,7 +35,7 @@ text_grown start text middle longer xs i y inside is before comma added =
     ∙ append_assoc (start ++ front) (comma_before i) (output_text (output_of y)) ∙ append_assoc start front (comma_before i ++ output_text (output_of y))
     ∙ ap (λ w. start ++ w) (sym whole)
 
--- the text of a list between its brackets, where the last of them was written
+-- the text of a list in brackets, after the closing one was appended
 pub text_enclosed : {T E : Type 0} (last : Result T E) (start one two three inner : List ℕ) → one ≡ start ++ codes "[" → two ≡ one ++ inner
     → three ≡ (if is_ok last then two ++ codes "]" else two) → OnOk last (three ≡ start ++ (codes "[" ++ (inner ++ codes "]")))
 text_enclosed (Ok u) start one two three inner e f g =
@@ -46,7 +46,7 @@ text_enclosed (Err u) start one two three inner e f g = tt
 pub begins_with_itself : (xs : List ℕ) → IsBeginning xs xs
 begins_with_itself xs = take-length xs
 
--- a text begins with what it was before a call that may have added to it
+-- a text begins with what it was before a call that may have appended to it
 pub begins_pushed : {T E : Type 0} (pushed : Result T E) (old new added : List ℕ) → new ≡ (if is_ok pushed then old ++ added else old) → IsBeginning old new
 begins_pushed (Ok u) old new added is = subst (IsBeginning old) (sym is) (take-append_seam old added)
 begins_pushed (Err u) old new added is = subst (IsBeginning old) (sym is) (begins_with_itself old)
@@ -59,7 +59,7 @@ begins_both xs ys zs first second =
     let grown = whole ∙ ap (λ w. w ++ drop (length ys) zs) middle ∙ append_assoc xs (drop (length xs) ys) (drop (length ys) zs) in
     subst (IsBeginning xs) (sym grown) (take-append_seam xs (drop (length xs) ys ++ drop (length ys) zs))
 
--- a text that begins with another may be cut after it
+-- a text that begins with another may be cut after that
 pub cut_after : {A B : Type 0} (old : String A) (new : String B) → IsBeginning (string_bytes old) (string_bytes new) → IsCharBoundary (string_bytes new) (length (string_bytes old))
 cut_after old new begins =
     let bytes = string_bytes new in

@@ -20,7 +20,7 @@ outputs_of_push (y ∷ xs) x = ap (λ v. more (output_of y) v) (outputs_of_push 
 pub outputs_of-take : (xs : List Out) (i : ℕ) (d : Out) → i < length xs → outputs_of (take (i + 1) xs) ≡ with_last (outputs_of (take i xs)) (output_of (get_or xs i d))
 outputs_of-take xs i d h = ap outputs_of (take_more xs i d h) ∙ outputs_of_push (take i xs) (get_or xs i d)
 
--- one more output copied: the values of the copies stay those of the outputs passed
+-- one more copied output: the copies have the values of the outputs so far
 pub outputs_of-copied : (xs ys zs : List Out) (i : ℕ) (x y : Out) → zs ≡ xs ++ x ∷ [] → output_of x ≡ output_of y → y ≡ get_or ys i y →
     i < length ys → outputs_of xs ≡ outputs_of (take i ys) → outputs_of zs ≡ outputs_of (take (i + 1) ys)
 outputs_of-copied xs ys zs i x y pushed same is lt before =

@@ -16,19 +16,19 @@ use Rattle.zs_term.proofs.Canonical.{canonical_spells}
 use Rattle.zs_term.proofs.Fitting.{none_too_large}
 use Rattle.zs_term.proofs.OnePlace.{spells_or_not, one_place}
 
--- a text spells one term
+-- a text spells at most one term
 pub same_term : (text : List ℕ) (a b : Schedule) → TextSpells text a → TextSpells text b → a ≡ b
 same_term text a b s r = spells_one (tokens_of (lexed text).tokens) a b s.spelled r.spelled
 
--- a truth of the term and its opposite
+-- a property of the term can't be true and false
 apart : (p : Schedule → Bool) (text : List ℕ) (a b : Schedule) → TextSpells text a → TextSpells text b → p a ≡ true → p b ≡ false → ⊥
 apart p text a b s r h k = let e = ap p (same_term text a b s r) in cc
 
--- no number is too large, and one is
+-- a text can't have a number above 2^64 - 1 and have none
 no_huge : (o : Option ℕ) (at : ℕ) → o ≡ None → o ≡ Some at → ⊥
 no_huge o at h k = cc
 
--- a kind and none
+-- a kind can't be there and missing
 no_kind : (o : Option OutputKind) → IsSome o → o ≡ None → ⊥
 no_kind None h e = cc
 no_kind (Some k) h e = cc
@@ -39,7 +39,7 @@ other_kind text a b s r h k = no_kind (kind_of a) h (ap kind_of (same_term text 
 one_number : (o : Option ℕ) (a b : ℕ) → o ≡ Some a → o ≡ Some b → a ≡ b
 one_number o a b h k = let e : Some a ≡ Some b = sym h ∙ k in cc
 
--- two faults other than want of memory
+-- two faults other than `Memory` are equal
 pub one_fault : OneFault
 one_fault text (NoTerm a) (NoTerm b) c d m n = ap NoTerm (one_place text a b c d)
 one_fault text (NoTerm a) TooBig c d m n = absurd (spells_or_not text d.0 a d.1 c)
@@ -95,13 +95,13 @@ one_verdict text t r NoKind c = absurd (other_kind text t c.0 r.read.spelled c.1
 one_verdict text t r BadWindow c = absurd (apart has_windows text t c.0 r.read.spelled c.1.spelled r.schedule.windows c.4)
 one_verdict text t r Memory c = refl
 
--- the canonical spelling of a schedule is read as it
+-- reading the canonical spelling of a schedule returns the schedule
 pub round_trip : RoundTrip
 round_trip t i h =
     let s = canonical_spells t h in
     record { read = record { spelled = s; within = i.small; fits = none_too_large (canonical_text t) t s h }; schedule = i }
 
--- what a term is checked as, by the tests in their order
+-- the verdict on a term, by the tests in their order
 module _ (t : Schedule) where
   small_as : is_within_limits t ≡ true → checked_as t ≡ with_numbers_at t None
   small_as w = ap (λ b. cond b (with_numbers_at t None) (Err TooBig)) w
@@ -138,12 +138,12 @@ term_cause text t r NoKind c = (t, r, c.1, c.2)
 term_cause text t r BadWindow c = (t, r, c.1, c.2, c.3)
 term_cause text t r Memory c = tt
 
--- what `check` refuses of a text's term
+-- a fault of `check` is one of the text that spells the term
 pub term_refused : {C : Type 0} (text : List ℕ) (t : Schedule) → IsRead text t → (answer : Result C TermFault) → IfErr answer (IsTermCause t) → IfErr answer (IsCause text)
 term_refused text t r (Ok c) h = h
 term_refused text t r (Err fault) h = term_cause text t r fault h
 
--- what `check` accepts of a text's term
+-- what `check` accepts is the schedule of the text
 pub term_accepted : {C : Type 0} (view : C → Schedule) (text : List ℕ) (term : C) → IsRead text (view term) → (answer : Result C TermFault)
     → IfOk answer (λ c. c ≡ term) → IfOk answer (λ c. IsSchedule (view c)) → IfOk answer (λ c. SpellsSchedule text (view c))
 term_accepted view text term r (Ok c) h k = record { read = subst (λ x. IsRead text (view x)) (sym h) r; schedule = k }

@@ -11,7 +11,7 @@ use Rattle.zs_term.specs.declared.term.Pick.TheVariants.{Whole as PickWhole, Fir
 use Rattle.zs_term.specs.declared.term.Func.{Func}
 use Rattle.zs_term.specs.declared.term.Func.TheVariants.{First, Second, Size, Merge, Const, Add, Mul}
 
--- a comparison and the space behind it
+-- a comparison and the space after it
 abbrev pub cmp_text : Cmp → List ℕ
 cmp_text Lt = codes "< "
 cmp_text Le = codes "<= "
@@ -20,14 +20,14 @@ cmp_text Ne = codes "!= "
 cmp_text Gt = codes "> "
 cmp_text Ge = codes ">= "
 
--- a pick and the space behind it, where one is written
+-- a pick and the space after it; nothing for the whole output
 abbrev pub pick_text : Pick → List ℕ
 pick_text PickWhole = []
 pick_text PickFirst = codes "_1 "
 pick_text PickSecond = codes "_2 "
 pick_text PickSize = codes "size "
 
--- a function
+-- the text of a function
 abbrev pub func_text : Func → List ℕ
 func_text First = codes "_1"
 func_text Second = codes "_2"
@@ -41,27 +41,31 @@ func_text (Mul n) = codes "* " ++ decimal n
 abbrev pub number_text : List ℕ → ℕ → List ℕ
 number_text word n = word ++ (codes "(" ++ (decimal n ++ codes ")"))
 
--- `(S op S)`
+-- `(S op S)`, with the spaces in the operator's text
 abbrev pub infix_text : List ℕ → List ℕ → List ℕ → List ℕ
 infix_text left operator right = codes "(" ++ (left ++ (operator ++ (right ++ codes ")")))
 
--- `C N)`
+-- `C N)`: a comparison, a number and the closing parenthesis
 abbrev pub test_text : Test → List ℕ
 test_text t = cmp_text t.cmp ++ (decimal t.than ++ codes ")")
 
--- the longer texts between the parts
+-- ` andThenEither `, the operator's text; the longer texts are unfolded one by one
 unfoldable pub and_then_text : List ℕ
 and_then_text = codes " andThenEither "
 
+-- the text before the base of an `exponential`
 unfoldable pub exponential_text : List ℕ
 exponential_text = codes "exponential("
 
+-- the text before a test of the input
 unfoldable pub while_input_text : List ℕ
 while_input_text = codes ".whileInput("
 
+-- the text before a test of the output
 unfoldable pub while_output_text : List ℕ
 while_output_text = codes ".whileOutput("
 
+-- the text before the test of a reset
 unfoldable pub reset_when_text : List ℕ
 reset_when_text = codes ".resetWhen("
 
@@ -71,13 +75,13 @@ leaf_text (plain p) = plain_word p
 leaf_text (counted c n) = number_text (counted_word c) n
 leaf_text (exponential b f) = exponential_text ++ (decimal b ++ (codes ", " ++ (decimal f ++ codes ")")))
 
--- what stands between two schedules
+-- the text between two schedules
 abbrev pub pairing_text : Pairing → List ℕ
 pairing_text both = codes " && "
 pairing_text either = codes " || "
 pairing_text and_then = and_then_text
 
--- what stands behind a schedule
+-- the text after a schedule
 abbrev pub modifier_text : Modifier → List ℕ
 modifier_text (while_input t) = while_input_text ++ test_text t
 modifier_text (while_output p t) = while_output_text ++ (pick_text p ++ test_text t)
@@ -85,7 +89,7 @@ modifier_text collect_all = codes ".collectAll"
 modifier_text (mapped f) = codes ".map(" ++ (func_text f ++ codes ")")
 modifier_text (reset_when p t) = reset_when_text ++ (pick_text p ++ test_text t)
 
--- the spelling that `write` gives
+-- the spelling that `write` returns
 abbrev pub canonical_text : Schedule → List ℕ
 canonical_text (leaf l) = leaf_text l
 canonical_text (two p a b) = infix_text (canonical_text a) (pairing_text p) (canonical_text b)

@@ -1,4 +1,4 @@
--- What a text or a term is refused for, and where: the causes in their order, stated over spellings.
+-- Why a text or a term is rejected, and where: the causes in their order, stated over spellings.
 use Rattle.std.specs.Prelude.{◌≡◌, ℕ, ◌^◌, nat_le, IsSome, Bool, true, false, List, [], ◌∷◌, ◌++◌, map, length, Option, Some, None, if◌then◌else◌}
 use Rattle.zs_term.specs.Schedule.{Schedule, is_within_limits, has_factors, has_windows}
 use Rattle.zs_term.specs.Kinds.{kind_of, IsSchedule}
@@ -16,28 +16,28 @@ pub record TextSpells (text : List ℕ) (term : Schedule) : Type 0 where
   pub to_the_end : (lexed text).stop ≡ None
   pub spelled : Spells (tokens_of (lexed text).tokens) term
 
--- The text is no spelling of a term, and this is the place where that shows.
+-- The text spells no term, and this is the place that `NoTerm` reports.
 pub data IsNoTermAt (text : List ℕ) : ℕ → Type 0 where
-  -- the first token with which no spelling goes on
+  -- the first token with which no spelling can go on
   refused : (before : List Placed) (p : Placed) (behind : List Placed) → (lexed text).tokens ≡ before ++ p ∷ behind
       → IsOpen (tokens_of before) → (IsOpen (tokens_of before ++ p.token ∷ []) → ⊥) → IsNoTermAt text p.place
-  -- the first byte at which no token stands
+  -- the first byte at which no token begins
   no_token : (at : ℕ) → (lexed text).stop ≡ Some at → IsOpen (tokens_of (lexed text).tokens) → IsNoTermAt text at
-  -- the end, where all tokens are the front of a spelling and no spelling
+  -- the end of the text, if all tokens begin a spelling but are none
   unfinished : (lexed text).stop ≡ None → IsOpen (tokens_of (lexed text).tokens)
       → ((term : Schedule) → Spells (tokens_of (lexed text).tokens) term → ⊥) → IsNoTermAt text (length text)
 
--- a number above 2 ^ 64 - 1
+-- a number above 2^64 - 1
 abbrev pub is_huge : Token → Bool
 is_huge (number n) = nat_le (2 ^ 64) n
 is_huge (mark m) = false
 
--- the place of the first such number
+-- the place of the first number above 2^64 - 1
 abbrev pub first_huge : List Placed → Option ℕ
 first_huge [] = None
 first_huge (p ∷ ps) = if is_huge p.token then Some p.place else first_huge ps
 
--- the text spells the term, which is within the limits, and its numbers fit
+-- the text spells the term, which is within the limits, and its numbers fit in 64 bits
 pub record IsRead (text : List ℕ) (term : Schedule) : Type 0 where
   pub spelled : TextSpells text term
   pub within : is_within_limits term ≡ true
@@ -48,7 +48,7 @@ pub record SpellsSchedule (text : List ℕ) (term : Schedule) : Type 0 where
   pub read : IsRead text term
   pub schedule : IsSchedule term
 
--- the cause of the fault stands in the text, and that of no fault before it
+-- the text has the cause of this fault, and of no fault that is checked before it
 abbrev pub IsCause : List ℕ → TermFault → Type 0
 IsCause text (NoTerm at) = IsNoTermAt text at
 IsCause text TooBig = (term : Schedule) × TextSpells text term × (is_within_limits term ≡ false)
@@ -58,7 +58,7 @@ IsCause text NoKind = (term : Schedule) × IsRead text term × (has_factors term
 IsCause text BadWindow = (term : Schedule) × IsRead text term × (has_factors term ≡ true) × IsSome (kind_of term) × (has_windows term ≡ false)
 IsCause text Memory = Unit {0}
 
--- the cause of the fault stands in a term, and that of no fault before it
+-- the term has the cause of this fault, and of no fault that is checked before it
 abbrev pub IsTermCause : Schedule → TermFault → Type 0
 IsTermCause term (NoTerm at) = ⊥
 IsTermCause term TooBig = is_within_limits term ≡ false

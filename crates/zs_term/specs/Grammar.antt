@@ -1,4 +1,4 @@
--- Which token lists spell which terms: one line for each form, with numbers of any size.
+-- Which token lists spell which terms: one equation for each shape, with numbers of any size.
 use Rattle.std.specs.Prelude.{◌≡◌, ℕ, List, [], ◌∷◌, ◌++◌, ◌⊎◌}
 use Rattle.zs_term.specs.Schedule.{Schedule, leaf, two, over, Leaf, plain, counted, exponential, Pairing, both, either, and_then, Modifier, while_input, while_output, collect_all, mapped, reset_when}
 use Rattle.zs_term.specs.Token.{Token, number, mark}
@@ -15,7 +15,7 @@ use Rattle.zs_term.specs.declared.term.Pick.TheVariants.{Whole as PickWhole, Fir
 use Rattle.zs_term.specs.declared.term.Func.{Func}
 use Rattle.zs_term.specs.declared.term.Func.TheVariants.{First, Second, Size, Merge, Const, Add, Mul}
 
--- the token of a pick; none for the whole output
+-- the token of a pick; nothing for the whole output
 abbrev pub pick_tokens : Pick → List Token
 pick_tokens PickWhole = []
 pick_tokens PickFirst = mark (PieceWord PieceFirst) ∷ []
@@ -52,12 +52,12 @@ with_method word arguments = mark Dot ∷ mark (MethodWord word) ∷ mark Open �
 abbrev pub test_tokens : Test → List Token
 test_tokens t = mark (Comparison t.cmp) ∷ number t.than ∷ []
 
--- `(S op S)`, where these say what spells each S
+-- `(S op S)`, with a relation for what spells each S
 abbrev pub IsInfix : (List Token → Type 0) → Mark → (List Token → Type 0) → List Token → Type 0
 IsInfix Left operator Right tokens =
     (left : List Token) × (right : List Token) × Left left × Right right × (tokens ≡ with_infix left operator right)
 
--- S and these tokens, where this says what spells S
+-- S followed by these tokens, with a relation for what spells S
 abbrev pub IsFollowed : (List Token → Type 0) → List Token → List Token → Type 0
 IsFollowed Front behind tokens = (front : List Token) × Front front × (tokens ≡ front ++ behind)
 
@@ -73,7 +73,7 @@ pairing_mark both = Operator Both
 pairing_mark either = Operator Either
 pairing_mark and_then = Operator AndThen
 
--- the tokens behind a schedule
+-- the tokens after a schedule
 abbrev pub modifier_tokens : Modifier → List Token
 modifier_tokens (while_input t) = with_method WhileInput (test_tokens t)
 modifier_tokens (while_output p t) = with_method WhileOutput (pick_tokens p ++ test_tokens t)
@@ -87,6 +87,6 @@ Spells tokens (leaf l) = SpellsLeaf tokens l
 Spells tokens (two p a b) = IsInfix (λ x. Spells x a) (pairing_mark p) (λ y. Spells y b) tokens
 Spells tokens (over s m) = IsFollowed (λ x. Spells x s) (modifier_tokens m) tokens
 
--- the tokens are the front of a spelling, or a whole one
+-- the tokens begin a spelling, or are a whole one
 abbrev pub IsOpen : List Token → Type 0
 IsOpen tokens = (rest : List Token) × (term : Schedule) × Spells (tokens ++ rest) term

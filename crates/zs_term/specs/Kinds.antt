@@ -1,4 +1,4 @@
--- The kinds of terms: what a pick or a function of an output needs, and what terms have such outputs.
+-- The kinds of terms: what a pick or a function needs, and which terms have such outputs.
 use Rattle.std.specs.Prelude.{◌≡◌, Bool, true, false, Option, Some, None, IsSome, if◌then◌else◌}
 use Rattle.zs_term.specs.declared.term.Pick.{Pick}
 use Rattle.zs_term.specs.declared.term.Pick.TheVariants.{Whole, First as PickFirst, Second as PickSecond, Size as PickSize}
@@ -8,7 +8,7 @@ use Rattle.zs_term.specs.declared.kind.Kind.{Kind}
 use Rattle.zs_term.specs.OutputKind.{OutputKind, output_kind_of, num, pair_of, sum_of, list_of, is_same_kind}
 use Rattle.zs_term.specs.Schedule.{Schedule, leaf, two, over, Pairing, both, either, and_then, Modifier, while_input, while_output, collect_all, mapped, reset_when, is_within_limits, has_factors, has_windows}
 
--- whether a kind is that of numbers
+-- whether a kind is number
 abbrev pub is_num : OutputKind → Bool
 is_num num = true
 is_num (pair_of a b) = false
@@ -34,7 +34,7 @@ fits PickSize (pair_of a b) = false
 fits PickSize (sum_of a b) = false
 fits PickSize (list_of a) = true
 
--- the kind of a function's answers
+-- the kind of a function's results
 abbrev pub answers : Func → OutputKind → Option OutputKind
 answers First num = None
 answers First (pair_of a b) = Some a
@@ -65,13 +65,13 @@ answers (Mul n) (pair_of a b) = None
 answers (Mul n) (sum_of a b) = None
 answers (Mul n) (list_of a) = None
 
--- two kinds joined, where both are there
+-- the kind of two joined schedules, if both have one
 abbrev pub joined : (OutputKind → OutputKind → OutputKind) → Option OutputKind → Option OutputKind → Option OutputKind
 joined f (Some a) (Some b) = Some (f a b)
 joined f (Some a) None = None
 joined f None b = None
 
--- the kind of a part, where the pick fits it
+-- the kind of a part, if the pick fits it
 abbrev pub where_fits : Pick → Option OutputKind → Option OutputKind
 where_fits k (Some a) = (if fits k a then Some a else None)
 where_fits k None = None
@@ -81,18 +81,18 @@ abbrev pub list_kind : Option OutputKind → Option OutputKind
 list_kind (Some a) = Some (list_of a)
 list_kind None = None
 
--- the kind of a function's answers over a part
+-- the kind of a function's results over a part
 abbrev pub mapped_kind : Func → Option OutputKind → Option OutputKind
 mapped_kind f (Some a) = answers f a
 mapped_kind f None = None
 
--- the kind of two schedules' outputs
+-- the kind of the outputs of two joined schedules
 abbrev pub pairing_kind : Pairing → OutputKind → OutputKind → OutputKind
 pairing_kind both a b = pair_of a b
 pairing_kind either a b = pair_of a b
 pairing_kind and_then a b = sum_of a b
 
--- the kind of a modifier's outputs over a part
+-- the kind of the outputs of a modifier over a part
 abbrev pub modifier_kind : Modifier → Option OutputKind → Option OutputKind
 modifier_kind (while_input t) a = a
 modifier_kind (while_output k t) a = where_fits k a
@@ -100,13 +100,13 @@ modifier_kind collect_all a = list_kind a
 modifier_kind (mapped f) a = mapped_kind f a
 modifier_kind (reset_when k t) a = where_fits k a
 
--- the kind of a term, where it has one; each leaf's outputs are numbers
+-- the kind of a term, if it has one; each leaf returns numbers
 abbrev pub kind_of : Schedule → Option OutputKind
 kind_of (leaf l) = Some num
 kind_of (two p a b) = joined (pairing_kind p) (kind_of a) (kind_of b)
 kind_of (over s m) = modifier_kind m (kind_of s)
 
--- whether a kind is made of others, and so takes memory: that of two schedules, and that of lists
+-- whether the kind has parts, so that storing it takes memory: that of two schedules, or of lists
 abbrev pub takes_memory : Schedule → Bool
 takes_memory (leaf l) = false
 takes_memory (two p a b) = true
@@ -116,14 +116,14 @@ takes_memory (over s collect_all) = true
 takes_memory (over s (mapped f)) = takes_memory s
 takes_memory (over s (reset_when k t)) = takes_memory s
 
--- a term that is a schedule: it is within the limits, has factors of at least 1, a kind, and windows of at least 1
+-- a term is a schedule: within the limits, with a kind, and factors and windows of at least 1
 pub record IsSchedule (t : Schedule) : Type 0 where
   pub small : is_within_limits t ≡ true
   pub factors : has_factors t ≡ true
   pub kinded : IsSome (kind_of t)
   pub windows : has_windows t ≡ true
 
--- the erased kind that the code found, where it found one: for private contracts
+-- the kind that the code found, if any, as plain data: for private contracts
 abbrev pub found_kind_of : Option Kind → Option OutputKind
 found_kind_of None = None
 found_kind_of (Some k) = Some (output_kind_of k)

@@ -1,4 +1,4 @@
--- Laws of spellings, texts and faults, in the subject's own words. The functions of `src/laws.rt` promise them.
+-- Laws of spellings, texts and faults. The functions of `src/laws.rt` prove them.
 use Rattle.std.specs.Prelude.{◌≡◌, ℕ, List}
 use Rattle.zs_term.specs.Schedule.{Schedule}
 use Rattle.zs_term.specs.Number.{HasFittingNumbers}
@@ -14,18 +14,18 @@ use Rattle.zs_term.specs.declared.fault.TermFault.TheVariants.{Memory}
 abbrev pub OneTerm : Type 0
 OneTerm = (tokens : List Token) (a b : Schedule) → Spells tokens a → Spells tokens b → a ≡ b
 
--- of the causes other than want of memory at most one stands in a text as the least, at one place
+-- two faults of a text are the same fault at the same place, unless one is `Memory`
 abbrev pub OneFault : Type 0
 OneFault = (text : List ℕ) (e f : TermFault) → IsCause text e → IsCause text f → (e ≡ Memory → ⊥) → (f ≡ Memory → ⊥) → e ≡ f
 
--- in a text that spells a schedule no cause stands but want of memory
+-- a text that spells a schedule has no fault but `Memory`
 abbrev pub OneVerdict : Type 0
 OneVerdict = (text : List ℕ) (t : Schedule) → SpellsSchedule text t → (fault : TermFault) → IsCause text fault → fault ≡ Memory
 
--- the canonical spelling spells the term
+-- the canonical spelling of a term spells the term
 abbrev pub CanonicalSpells : Type 0
 CanonicalSpells = (t : Schedule) → HasFittingNumbers t → TextSpells (canonical_text t) t
 
--- the canonical spelling of a schedule is read as it
+-- reading the canonical spelling of a schedule returns the schedule
 abbrev pub RoundTrip : Type 0
 RoundTrip = (t : Schedule) → IsSchedule t → HasFittingNumbers t → SpellsSchedule (canonical_text t) t

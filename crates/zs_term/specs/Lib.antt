@@ -1,4 +1,4 @@
--- What the clauses of callers name, and so what has to be believed.
+-- Named by public clauses: a reader who relies on a clause has to believe what it names.
 pub mod Saturating
 pub mod Output
 pub mod Schedule
@@ -12,10 +12,11 @@ pub mod Canonical
 pub mod Laws
 pub mod Places
 pub mod OutputText
--- What `read` computes a verdict by. `verdict_is_the_one` ties it to `Grammar` and `Causes`, so nobody has to believe it.
+-- How `read` computes its verdict. The law `verdict_is_the_one` ties it to `Grammar` and `Causes`,
+-- so a reader needn't believe it.
 pub mod Machine
 pub mod Verdict
--- What the bodies keep: private contracts alone name these.
+-- What the code stores. Only private contracts name these.
 pub mod Scan
 pub mod Parts
 pub mod Shape

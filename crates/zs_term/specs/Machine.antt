@@ -1,4 +1,5 @@
--- The state after some tokens: what is still open, and what may come next.
+-- The parser as a machine: its state after some tokens is what is open and what may come next. It
+-- holds for every way of composing parts (`Make`).
 use Rattle.std.specs.Prelude.{ℕ, List, [], ◌∷◌, Option, Some, None, option_map}
 use Rattle.zs_term.specs.Schedule.{Schedule, leaf, two, over, Leaf, plain, counted, exponential, Pairing, both, either, and_then, while_input, while_output, collect_all, mapped, reset_when, Modifier}
 use Rattle.zs_term.specs.Token.{Token, number, mark}
@@ -25,24 +26,25 @@ use Rattle.zs_term.specs.declared.forms.Piece.TheVariants.{First as PieceFirst, 
 use Rattle.zs_term.specs.declared.forms.Scale.{Scale}
 use Rattle.zs_term.specs.declared.forms.Scale.TheVariants.{Constant, Plus, Times}
 
--- the piece that a test reads
+-- the piece as what a test reads
 abbrev pub piece_pick : Piece → Pick
 piece_pick PieceFirst = PickFirst
 piece_pick PieceSecond = PickSecond
 piece_pick PieceSize = PickSize
 
--- the function that answers a piece
+-- the piece as a function
 abbrev pub piece_func : Piece → Func
 piece_func PieceFirst = First
 piece_func PieceSecond = Second
 piece_func PieceSize = Size
 
+-- the function with a number
 abbrev pub scale_by : Scale → ℕ → Func
 scale_by Constant n = Const n
 scale_by Plus n = Add n
 scale_by Times n = Mul n
 
--- how terms are put together, from numbers as N keeps them
+-- how terms are composed as values of A, from numbers as values of N
 pub record Make (A N : Type 0) : Type 0 where
   pub num : ℕ → N
   pub plain : Plain → A
@@ -54,12 +56,12 @@ pub record Make (A N : Type 0) : Type 0 where
   pub apply : A → Func → A
   pub scale : A → Scale → N → A
 
--- what has been read of an infix form: `(`, or `(S op`
+-- the part of an infix form that was read: `(`, or `(S op`
 pub data Frame (A : Type 0) : Type 0 where
   left : Frame A
   right : Infix → A → Frame A
 
--- what was read since the innermost frame, and so what may come next
+-- what was read since the innermost frame, which determines what may come next
 pub data Mode (A N : Type 0) : Type 0 where
   start : Mode A N
   opening : Counted → Mode A N
@@ -78,21 +80,23 @@ pub data Mode (A N : Type 0) : Type 0 where
   mapping : A → Mode A N
   scaling : A → Scale → Mode A N
 
+-- a state: the open infix forms, the innermost first, and what was read since
 pub record State (A N : Type 0) : Type 0 where
   pub frames : List (Frame A)
   pub mode : Mode A N
 
+-- the state of these frames and this mode
 abbrev pub at : {A N : Type 0} → List (Frame A) → Mode A N → State A N
 at fs m = record { frames = fs; mode = m }
 
--- the mode behind `.word(`
+-- the mode after `.word(`
 abbrev pub argument : {A N : Type 0} → Method → A → Mode A N
 argument WhileInput a = testing a Input
 argument WhileOutput a = picking Stopping a
 argument Map a = mapping a
 argument ResetWhen a = picking Resetting a
 
--- the first token of a term, but for `(`
+-- the first token of a term, if it isn't `(`
 abbrev pub begin_leaf : {A N : Type 0} → Make A N → Mark → Option (Mode A N)
 begin_leaf make (PlainWord p) = Some (after (make.plain p))
 begin_leaf make (CountedWord c) = Some (opening c)
@@ -109,13 +113,13 @@ abbrev pub close_mark : {A N : Type 0} → Mode A N → Mark → Option (Mode A 
 close_mark next Close = Some next
 close_mark next _ = None
 
--- behind `exponential(N`
+-- the token after `exponential(N`
 abbrev pub base_mark : {A N : Type 0} → Make A N → N → Mark → Option (Mode A N)
 base_mark make n Close = Some (after (make.growing n (make.num 2)))
 base_mark make n Comma = Some (factored n)
 base_mark make n _ = None
 
--- behind `S.`
+-- the token after `S.`
 abbrev pub dot_mark : {A N : Type 0} → Make A N → A → Mark → Option (Mode A N)
 dot_mark make a CollectAllWord = Some (after (make.collect a))
 dot_mark make a (MethodWord k) = Some (method k a)
@@ -132,7 +136,7 @@ abbrev pub test_mark : {A N : Type 0} → A → Subject → Mark → Option (Mod
 test_mark a s (Comparison c) = Some (comparing a s c)
 test_mark a s _ = None
 
--- a function, or the front of one with a number
+-- a function, or the word of one with a number
 abbrev pub map_mark : {A N : Type 0} → Make A N → A → Mark → Option (Mode A N)
 map_mark make a (PieceWord p) = Some (closing (make.apply a (piece_func p)))
 map_mark make a MergeWord = Some (closing (make.apply a Merge))
@@ -161,45 +165,49 @@ inner_number make (comparing a s c) n = Some (closing (make.test a s c n))
 inner_number make (scaling a g) n = Some (closing (make.scale a g n))
 inner_number make _ n = None
 
--- an operator between two terms
+-- the operator after the left part of an infix form
 abbrev pub operator_mark : {A N : Type 0} → List (Frame A) → A → Mark → Option (State A N)
 operator_mark fs a (Operator i) = Some (at (right i a ∷ fs) start)
 operator_mark fs a _ = None
 
--- behind a whole term in a frame
+-- the token after a whole term in a frame
 abbrev pub join_mark : {A N : Type 0} → Make A N → List (Frame A) → A → Mark → Option (State A N)
 join_mark make [] a m = None
 join_mark make (left ∷ fs) a m = operator_mark fs a m
 join_mark make (right i a ∷ fs) b m = option_map (λ next. at fs next) (close_mark (after (make.join i a b)) m)
 
--- `(` or a leaf, where a term begins
+-- `(` or a leaf, at which a term begins
 abbrev pub start_mark : {A N : Type 0} → Make A N → List (Frame A) → Mark → Option (State A N)
 start_mark make fs Open = Some (at (left ∷ fs) start)
 start_mark make fs m = option_map (λ next. at fs next) (begin_leaf make m)
 
--- behind a whole term
+-- the token after a whole term
 abbrev pub after_mark : {A N : Type 0} → Make A N → List (Frame A) → A → Mark → Option (State A N)
 after_mark make fs a Dot = Some (at fs (dotted a))
 after_mark make fs a m = join_mark make fs a m
 
+-- the state after a word or symbol, if it may come
 abbrev pub step_mark : {A N : Type 0} → Make A N → List (Frame A) → Mode A N → Mark → Option (State A N)
 step_mark make fs start m = start_mark make fs m
 step_mark make fs (after a) m = after_mark make fs a m
 step_mark make fs k m = option_map (λ next. at fs next) (inner_mark make k m)
 
+-- the state after a number, if it may come
 abbrev pub step_number : {A N : Type 0} → Make A N → List (Frame A) → Mode A N → N → Option (State A N)
 step_number make fs k n = option_map (λ next. at fs next) (inner_number make k n)
 
+-- the state after one more token, if there is one
 abbrev pub step : {A N : Type 0} → Make A N → Option (State A N) → Token → Option (State A N)
 step make None t = None
 step make (Some s) (number n) = step_number make s.frames s.mode (make.num n)
 step make (Some s) (mark m) = step_mark make s.frames s.mode m
 
+-- the state after some tokens, if there is one
 abbrev pub run : {A N : Type 0} → Make A N → Option (State A N) → List Token → Option (State A N)
 run make s [] = s
 run make s (t ∷ ts) = run make (step make s t) ts
 
--- a function of a term's output, with its number or without
+-- the value of a function over a part, with its number if it has one
 abbrev pub apply_func : {A N : Type 0} → Make A N → A → Func → A
 apply_func make a (Const n) = make.scale a Constant (make.num n)
 apply_func make a (Add n) = make.scale a Plus (make.num n)
@@ -215,6 +223,7 @@ leaf_value make (plain p) = make.plain p
 leaf_value make (counted c n) = make.counted c (make.num n)
 leaf_value make (exponential b f) = make.growing (make.num b) (make.num f)
 
+-- the infix form of an operator
 abbrev pub pairing_infix : Pairing → Infix
 pairing_infix both = Both
 pairing_infix either = Either
@@ -240,13 +249,13 @@ infix_pairing Both = both
 infix_pairing Either = either
 infix_pairing AndThen = and_then
 
--- what a test stands for behind a schedule
+-- the modifier of a test
 abbrev pub test_modifier : Subject → Test → Modifier
 test_modifier Input t = while_input t
 test_modifier (Picked Stopping p) t = while_output p t
 test_modifier (Picked Resetting p) t = reset_when p t
 
--- terms put together as terms
+-- composes terms as plain schedules
 abbrev pub plant : Make Schedule ℕ
 plant = record {
   num = λ n. n;

@@ -1,14 +1,14 @@
--- Numbers that fit 64 bits.
+-- Numbers that fit in 64 bits.
 use Rattle.std.specs.Prelude.{ℕ, nat_lt, ◌^◌, ◌<◌, Option, Some, None, if◌then◌else◌}
 use Rattle.zs_term.specs.declared.term.Func.{Func}
 use Rattle.zs_term.specs.declared.term.Func.TheVariants.{First, Second, Size, Merge, Const, Add, Mul}
 use Rattle.zs_term.specs.Schedule.{Schedule, leaf, two, over, Leaf, plain, counted, exponential, Modifier, while_input, while_output, collect_all, mapped, reset_when}
 
--- a number, where it fits 64 bits
+-- a number, if it fits in 64 bits
 abbrev pub fit : ℕ → Option ℕ
 fit n = if nat_lt n (2 ^ 64) then Some n else None
 
--- the number of a function fits
+-- the number of a function fits, if it has one
 abbrev pub FuncFits : Func → Type 0
 FuncFits First = Unit {0}
 FuncFits Second = Unit {0}
@@ -24,7 +24,7 @@ LeafFits (plain p) = Unit {0}
 LeafFits (counted c n) = n < 2 ^ 64
 LeafFits (exponential b f) = (b < 2 ^ 64) × (f < 2 ^ 64)
 
--- the number of a modifier fits
+-- the number of a modifier fits, if it has one
 abbrev pub ModifierFits : Modifier → Type 0
 ModifierFits (while_input t) = t.than < 2 ^ 64
 ModifierFits (while_output p t) = t.than < 2 ^ 64

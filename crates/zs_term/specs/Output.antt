@@ -1,4 +1,4 @@
--- Outputs as plain values, and what tests and functions make of them.
+-- Outputs as plain values, and what tests and functions compute from them.
 use Rattle.std.specs.Prelude.{ℕ, ◌+◌, ◌*◌, Bool, not, List, [], ◌∷◌, nat_lt, nat_le, nat_eq}
 use Rattle.zs_term.specs.Saturating.{saturated}
 use Rattle.zs_term.specs.declared.outputs.Out.{Out, Num, Pair', Left', Right', Items'}
@@ -12,7 +12,7 @@ use Rattle.zs_term.specs.declared.term.Pick.TheVariants.{Whole, First as PickFir
 use Rattle.zs_term.specs.declared.term.Func.{Func}
 use Rattle.zs_term.specs.declared.term.Func.TheVariants.{First, Second, Size, Merge, Const, Add, Mul}
 
--- an output, whatever memory it lies in: a number, a pair, a side of a choice or a list
+-- an output, apart from memory: a number, a pair, a side of a choice or a list
 mutual
   pub data Output : Type 0 where
     number : ℕ → Output
@@ -52,20 +52,21 @@ abbrev pub stored_list : Storage → List Out
 stored_list (Own' shape all) = items-the_row-Out _ all
 stored_list (Shared' p shape all) = items-the_row-Out _ all
 
--- the list of outputs that an `Outs` keeps
+-- the list of outputs that an `Outs` stores
 abbrev pub outs_list : Outs → List Out
 outs_list o = stored_list o.storage
 
--- one more value at the end
+-- the values with one appended
 abbrev pub with_last : Outputs → Output → Outputs
 with_last none y = more y none
 with_last (more x xs) y = more x (with_last xs y)
 
+-- the number of values
 abbrev pub count : Outputs → ℕ
 count none = 0
 count (more x xs) = 1 + count xs
 
--- whether a number passes a comparison with another
+-- whether a comparison of two numbers is true
 abbrev pub compares : Cmp → ℕ → ℕ → Bool
 compares Lt x y = nat_lt x y
 compares Le x y = nat_le x y
@@ -74,10 +75,11 @@ compares Ne x y = not (nat_eq x y)
 compares Gt x y = nat_lt y x
 compares Ge x y = nat_le y x
 
+-- whether a number passes a test
 abbrev pub passes : Test → ℕ → Bool
 passes t x = compares t.cmp x t.than
 
--- the number of a value, where it is one
+-- the number, or 0 of any other output
 abbrev pub number_in : Output → ℕ
 number_in (number n) = n
 number_in (pair a b) = 0
@@ -85,6 +87,7 @@ number_in (left a) = 0
 number_in (right a) = 0
 number_in (listed xs) = 0
 
+-- the first part of a pair, or the output itself
 abbrev pub first_in : Output → Output
 first_in (number n) = number n
 first_in (pair a b) = a
@@ -92,6 +95,7 @@ first_in (left a) = left a
 first_in (right a) = right a
 first_in (listed xs) = listed xs
 
+-- the second part of a pair, or the output itself
 abbrev pub second_in : Output → Output
 second_in (number n) = number n
 second_in (pair a b) = b
@@ -99,6 +103,7 @@ second_in (left a) = left a
 second_in (right a) = right a
 second_in (listed xs) = listed xs
 
+-- the number of items of a list, or 0 of any other output
 abbrev pub size_in : Output → ℕ
 size_in (number n) = 0
 size_in (pair a b) = 0
@@ -106,6 +111,7 @@ size_in (left a) = 0
 size_in (right a) = 0
 size_in (listed xs) = count xs
 
+-- the content of a side of a choice, or the output itself
 abbrev pub merge_in : Output → Output
 merge_in (number n) = number n
 merge_in (pair a b) = pair a b
@@ -113,16 +119,18 @@ merge_in (left a) = a
 merge_in (right a) = a
 merge_in (listed xs) = listed xs
 
--- the number that a test reads of an output. Where a pick doesn't fit: `First` and `Second` read the output itself, 0 is read
--- of what is no number, and what is no list has 0 items. No output of a schedule is read so, since it has its kind.
+-- The number that a test reads of an output. If a pick doesn't fit, `First` and `Second` read the
+-- output itself, an output that isn't a number reads as 0, and one that isn't a list has 0 items.
+-- No output of a schedule has these cases, since the schedule has a kind.
 abbrev pub picked : Pick → Output → ℕ
 picked Whole v = number_in v
 picked PickFirst v = number_in (first_in v)
 picked PickSecond v = number_in (second_in v)
 picked PickSize v = size_in v
 
--- a function's answer. Where it doesn't fit: `First`, `Second` and `Merge` give the output itself, `Size` gives 0, and `Add` and
--- `Mul` take 0 for what is no number. No output of a schedule meets these cases, since it has its kind.
+-- The result of a function. If it doesn't fit, `First`, `Second` and `Merge` return the output
+-- itself, `Size` returns 0, and `Add` and `Mul` read an output that isn't a number as 0. No output
+-- of a schedule has these cases, since the schedule has a kind.
 abbrev pub applied : Func → Output → Output
 applied First v = first_in v
 applied Second v = second_in v

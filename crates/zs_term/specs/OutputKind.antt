@@ -1,23 +1,24 @@
--- Kinds as plain data, and which values have them.
+-- Kinds as plain data, and which outputs have them.
 use Rattle.std.specs.Prelude.{Bool, true, false, ◌&&◌}
 use Rattle.zs_term.specs.declared.kind.Kind.{Kind}
 use Rattle.zs_term.specs.declared.kind.Kind.TheVariants.{Num, Pair', Sum', Items'}
 use Rattle.zs_term.specs.Output.{Output, Outputs, number, pair, left, right, listed, none, more}
 
--- a kind, whatever memory it lies in
+-- a kind, apart from memory
 pub data OutputKind : Type 0 where
   num : OutputKind
   pair_of : OutputKind → OutputKind → OutputKind
   sum_of : OutputKind → OutputKind → OutputKind
   list_of : OutputKind → OutputKind
 
+-- the kind that the code stores, as plain data
 abbrev pub output_kind_of : Kind → OutputKind
 output_kind_of Num = num
 output_kind_of (Pair' p a q b) = pair_of (output_kind_of a) (output_kind_of b)
 output_kind_of (Sum' p a q b) = sum_of (output_kind_of a) (output_kind_of b)
 output_kind_of (Items' p a) = list_of (output_kind_of a)
 
--- whether two kinds are one
+-- whether two kinds are equal
 abbrev pub is_same_kind : OutputKind → OutputKind → Bool
 is_same_kind num num = true
 is_same_kind num (pair_of c d) = false
@@ -36,7 +37,7 @@ is_same_kind (list_of a) (pair_of c d) = false
 is_same_kind (list_of a) (sum_of c d) = false
 is_same_kind (list_of a) (list_of c) = is_same_kind a c
 
--- a value has a kind
+-- an output has a kind
 abbrev mutual
   pub HasKind : Output → OutputKind → Type 0
   HasKind (number n) num = Unit {0}

@@ -12,17 +12,17 @@ abbrev mutual
   output_text (right a) = codes "Right(" ++ (output_text a ++ codes ")")
   output_text (listed xs) = codes "[" ++ (outputs_text xs ++ codes "]")
 
-  -- the texts of a list's outputs, with a comma between two
+  -- the texts of a list's outputs, separated by commas
   pub outputs_text : Outputs → List ℕ
   outputs_text none = []
   outputs_text (more x xs) = output_text x ++ behind_text xs
 
-  -- the texts of the outputs behind the first, each with a comma before it
+  -- the texts of the outputs after the first, each after a comma
   pub behind_text : Outputs → List ℕ
   behind_text none = []
   behind_text (more x xs) = codes "," ++ (output_text x ++ behind_text xs)
 
--- the comma before an output of a list, but for the first: for a private contract
+-- the comma before an output of a list, except before the first: for a private contract
 abbrev pub comma_before : ℕ → List ℕ
 comma_before zero = []
 comma_before (suc place) = codes ","

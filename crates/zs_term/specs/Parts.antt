@@ -1,4 +1,4 @@
--- What the code keeps of the terms that it has read.
+-- What the code stores of the terms that it has read.
 use Rattle.std.specs.Prelude.{ℕ, ◌+◌, max, Bool, List, [], ◌∷◌, ◌++◌, replicate, Option, Some, None, option_map, if◌then◌else◌}
 use Rattle.zs_term.specs.Schedule.{Schedule, leaf, two, over, plain, counted, exponential, collect_all, mapped, schedule_of}
 use Rattle.zs_term.specs.Saturating.{saturated}
@@ -17,37 +17,37 @@ use Rattle.zs_term.specs.declared.parser.Joined.{Joined}
 use Rattle.zs_term.specs.declared.parser.Mode.{Mode as ModeKept}
 use Rattle.zs_term.specs.declared.parser.Mode.TheVariants.{Start, Opening, Counting, ExpOpening, ExpCounting, Based, Factored, Closing, After, Dotted, Method, Picking, Testing, Comparing, Mapping, Scaling}
 
--- the sizes of a term, saturated at 2 ^ 64 - 1, and the term where terms are built and its numbers fit
+-- the sizes of a term, saturated at 2^64 - 1, and the term if terms are built and its numbers fit
 pub record Kept : Type 0 where
   pub depth : ℕ
   pub weight : ℕ
   pub schedule : Option Schedule
 
--- both parts, where both are there
+-- a function of two values, if both are there
 abbrev pub with_both : {X Y Z : Type 0} → (X → Y → Z) → Option X → Option Y → Option Z
 with_both f (Some x) (Some y) = Some (f x y)
 with_both f (Some x) None = None
 with_both f None y = None
 
--- a leaf, where terms are built
+-- a leaf, which is stored if terms are built
 abbrev pub keep_leaf : Bool → Option Schedule → Kept
 keep_leaf build t = record { depth = 1; weight = 1; schedule = if build then t else None }
 
--- a form over one part, of this weight
+-- one part under an operator, with this weight
 abbrev pub keep_over : Kept → ℕ → Option Schedule → Kept
 keep_over a w t = record { depth = saturated (a.depth + 1); weight = w; schedule = t }
 
--- one node more
+-- the weight of one more node
 abbrev pub one_more : ℕ → ℕ
 one_more w = saturated (w + 1)
 
--- the weight of a form with a test over a part of this weight
+-- the weight of a test over a part of this weight
 abbrev pub test_weight : Subject → ℕ → ℕ
 test_weight Input w = one_more w
 test_weight (Picked Stopping p) w = one_more w
 test_weight (Picked Resetting p) w = one_more (saturated (w + w))
 
--- two parts and the operator between them
+-- two parts joined by an operator
 abbrev pub keep_join : Infix → Kept → Kept → Kept
 keep_join i a b = record {
   depth = saturated (max a.depth b.depth + 1);
@@ -71,7 +71,7 @@ keep_apply a f = keep_over a (one_more a.weight) (option_map (λ t. over t (mapp
 abbrev pub keep_scale : Kept → Scale → Option ℕ → Kept
 keep_scale a g n = keep_over a (one_more a.weight) (with_both (λ t k. over t (mapped (scale_by g k))) a.schedule n)
 
--- the sizes of terms, and the terms where they are built
+-- composes the sizes of terms, and the terms if they are built
 abbrev pub keep : Bool → Make Kept (Option ℕ)
 keep build = record {
   num = fit;
@@ -85,24 +85,24 @@ keep build = record {
   scale = keep_scale;
 }
 
--- what the code keeps of a term
+-- a stored part, as plain data
 abbrev pub kept_of : Part → Kept
 kept_of p = record { depth = p.depth; weight = p.weight; schedule = option_map (λ b. schedule_of b.value) p.term }
 
--- forms of which no operator was read, innermost
+-- innermost forms whose operator wasn't read yet
 abbrev pub bare_onto : ℕ → List (Frame Kept) → List (Frame Kept)
 bare_onto n fs = replicate n left ++ fs
 
--- forms of which the operator was read, the innermost first
+-- forms whose operator was read, the innermost first
 abbrev pub joined_onto : List (Frame Kept) → List Joined → List (Frame Kept)
 joined_onto fs [] = fs
 joined_onto fs (k ∷ ks) = joined_onto (right k.form (kept_of k.left) ∷ bare_onto k.before fs) ks
 
--- what the code keeps of all open forms
+-- all open forms, as the code stores them
 abbrev pub stack_of : Frames → List (Frame Kept)
 stack_of frames = bare_onto frames.bare (joined_onto [] frames.joined.items)
 
--- what the code keeps of the innermost form
+-- the mode, as the code stores it
 abbrev pub mode_of : ModeKept → Mode Kept (Option ℕ)
 mode_of Start = start
 mode_of (Opening c) = opening c

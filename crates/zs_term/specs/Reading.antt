@@ -6,11 +6,11 @@ use Rattle.zs_term.specs.Schedule.{Schedule}
 use Rattle.zs_term.specs.Parts.{Kept, keep}
 use Rattle.zs_term.specs.Causes.{tokens_of, TextSpells, is_huge, first_huge}
 
--- tokens before a rest
+-- tokens placed before those of a rest
 abbrev pub behind_tokens : List Placed → Lexed → Lexed
 behind_tokens done rest = record { tokens = done ++ rest.tokens; stop = rest.stop }
 
--- the tokens before this place lead to the state, and this is the first of them that is a number above 2 ^ 64 - 1
+-- the tokens before this place lead to the state, and `huge` is the first number above 2^64 - 1
 pub record SoFar (build : Bool) (text : List ℕ) (s : State Kept (Option ℕ)) (huge : Option ℕ) (from : ℕ) : Type 0 where
   pub done : List Placed
   pub shape : lexed text ≡ behind_tokens done (lex 0 from (drop from text))
@@ -18,11 +18,11 @@ pub record SoFar (build : Bool) (text : List ℕ) (s : State Kept (Option ℕ)) 
   pub numbers : huge ≡ first_huge done
   pub inside : from ≤ length text
 
--- the place of the first number above 2 ^ 64 - 1, with one token more
+-- the place of the first number above 2^64 - 1, after one more token
 abbrev pub huge_with : Option ℕ → ℕ → Token → Option ℕ
 huge_with (Some h) place t = Some h
 huge_with None place t = if is_huge t then Some place else None
 
--- the whole text spells a term of which this is kept, with the place of its first number above 2 ^ 64 - 1
+-- the text spells a term; `kept` is stored of it, and `huge` is its first number above 2^64 - 1
 abbrev pub IsWhole : Bool → List ℕ → Kept → Option ℕ → Type 0
 IsWhole build text kept huge = (t : Schedule) × TextSpells text t × (value (keep build) t ≡ kept) × (huge ≡ first_huge (lexed text).tokens)

@@ -1,6 +1,7 @@
--- Terms as plain data, without their places in memory, and their sizes. Numbers are of any size here.
--- The 18 forms have three shapes: a leaf, two schedules and the operator between them, and an operator over one schedule.
--- What goes through a whole schedule asks for the shape alone; what a form means is said of the leaf or of the operator.
+-- Terms as plain data, apart from memory, and their sizes. Numbers have any size here.
+-- The 18 forms have three shapes: a leaf, two schedules with an operator, and one with a modifier.
+-- Definitions over whole schedules match the shape alone. The meaning of a form is defined for its
+-- leaf or operator.
 use Rattle.std.specs.Prelude.{ℕ, ◌+◌, ◌*◌, max, Bool, true, ◌&&◌, nat_le}
 use Rattle.zs_term.specs.declared.term.Term.{Term}
 use Rattle.zs_term.specs.declared.term.Term.TheVariants.{Forever, Recurs, Spaced, Fixed, Exponential, Fibonacci, Identity, Elapsed, Linear, Windowed, Both', Either', AndThen', WhileInput', WhileOutput', CollectAll', Map', ResetWhen'}
@@ -12,47 +13,55 @@ use Rattle.zs_term.specs.declared.forms.Plain.TheVariants.{Forever as PlainForev
 use Rattle.zs_term.specs.declared.forms.Counted.{Counted}
 use Rattle.zs_term.specs.declared.forms.Counted.TheVariants.{Recurs as CountedRecurs, Spaced as CountedSpaced, Fixed as CountedFixed, Fibonacci as CountedFibonacci, Linear as CountedLinear, Windowed as CountedWindowed}
 
--- a schedule without parts: a word, a word with a number, or `exponential` with its base and factor
+-- a schedule without parts: a word, a word with a number, or `exponential(base, factor)`
 pub data Leaf : Type 0 where
   plain : Plain → Leaf
   counted : Counted → ℕ → Leaf
   exponential : ℕ → ℕ → Leaf
 
--- the leaves by their words
+-- the leaves by their words, the first of them `forever`
 abbrev pub forever : Leaf
 forever = plain PlainForever
 
+-- `identity`
 abbrev pub identity : Leaf
 identity = plain PlainIdentity
 
+-- `elapsed`
 abbrev pub elapsed : Leaf
 elapsed = plain PlainElapsed
 
+-- `recurs(k)`
 abbrev pub recurs : ℕ → Leaf
 recurs k = counted CountedRecurs k
 
+-- `spaced(d)`
 abbrev pub spaced : ℕ → Leaf
 spaced d = counted CountedSpaced d
 
+-- `fixed(p)`
 abbrev pub fixed : ℕ → Leaf
 fixed p = counted CountedFixed p
 
+-- `fibonacci(o)`
 abbrev pub fibonacci : ℕ → Leaf
 fibonacci o = counted CountedFibonacci o
 
+-- `linear(n)`
 abbrev pub linear : ℕ → Leaf
 linear n = counted CountedLinear n
 
+-- `windowed(n)`
 abbrev pub windowed : ℕ → Leaf
 windowed n = counted CountedWindowed n
 
--- what stands between two schedules
+-- an operator between two schedules: `&&`, `||`, `andThenEither`
 pub data Pairing : Type 0 where
   both : Pairing
   either : Pairing
   and_then : Pairing
 
--- what stands behind one schedule
+-- an operator over one schedule, which follows it
 pub data Modifier : Type 0 where
   while_input : Test → Modifier
   while_output : Pick → Test → Modifier
@@ -60,13 +69,13 @@ pub data Modifier : Type 0 where
   mapped : Func → Modifier
   reset_when : Pick → Test → Modifier
 
--- a term, whatever memory it lies in
+-- a schedule, apart from memory: a leaf, two schedules with an operator, one with a modifier
 pub data Schedule : Type 0 where
   leaf : Leaf → Schedule
   two : Pairing → Schedule → Schedule → Schedule
   over : Schedule → Modifier → Schedule
 
--- the schedule that a term writes
+-- the schedule of a term
 abbrev pub schedule_of : Term → Schedule
 schedule_of Forever = leaf forever
 schedule_of (Recurs k) = leaf (recurs k)
@@ -87,13 +96,13 @@ schedule_of (CollectAll' p s) = over (schedule_of s) collect_all
 schedule_of (Map' p s f) = over (schedule_of s) (mapped f)
 schedule_of (ResetWhen' p s k t) = over (schedule_of s) (reset_when k t)
 
--- a leaf has depth 1, and another term 1 more than its deepest part
+-- the depth: 1 for a leaf, else 1 more than that of the deepest part
 abbrev pub depth : Schedule → ℕ
 depth (leaf l) = 1
 depth (two p a b) = 1 + max (depth a) (depth b)
 depth (over s m) = 1 + depth s
 
--- how often a node counts its part: twice where it may be reset
+-- how often a node counts its part: `resetWhen` counts it twice
 abbrev pub times : Modifier → ℕ
 times (while_input t) = 1
 times (while_output k t) = 1
@@ -101,36 +110,36 @@ times collect_all = 1
 times (mapped f) = 1
 times (reset_when k t) = 2
 
--- the number of nodes; a node that may be reset counts its part twice
+-- the number of nodes, where `resetWhen` counts its part twice
 abbrev pub weight : Schedule → ℕ
 weight (leaf l) = 1
 weight (two p a b) = 1 + weight a + weight b
 weight (over s m) = 1 + times m * weight s
 
--- whether each leaf passes
+-- whether every leaf passes
 abbrev pub all_leaves : (Leaf → Bool) → Schedule → Bool
 all_leaves p (leaf l) = p l
 all_leaves p (two o a b) = all_leaves p a && all_leaves p b
 all_leaves p (over s m) = all_leaves p s
 
--- whether a leaf's factor is at least 1, where it has one
+-- whether the factor of a leaf is at least 1, if it has one
 abbrev pub has_factor : Leaf → Bool
 has_factor (exponential b f) = nat_le 1 f
 has_factor _ = true
 
--- whether a leaf's window is at least 1, where it has one
+-- whether the window of a leaf is at least 1, if it has one
 abbrev pub has_window : Leaf → Bool
 has_window (counted CountedWindowed n) = nat_le 1 n
 has_window _ = true
 
--- whether each factor is at least 1
+-- whether every factor is at least 1
 abbrev pub has_factors : Schedule → Bool
 has_factors s = all_leaves has_factor s
 
--- whether each window is at least 1
+-- whether every window is at least 1
 abbrev pub has_windows : Schedule → Bool
 has_windows s = all_leaves has_window s
 
--- whether a term keeps within the greatest depth and weight
+-- whether a schedule is within the greatest depth, 64, and weight, 1,000
 abbrev pub is_within_limits : Schedule → Bool
 is_within_limits t = nat_le (depth t) 64 && nat_le (weight t) 1000

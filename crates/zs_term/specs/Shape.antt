@@ -1,4 +1,4 @@
--- What the code takes a term apart into.
+-- What the code takes a term apart into, and how long it takes to free one.
 use Rattle.std.specs.Prelude.{ℕ, ◌+◌, ◌*◌}
 use Rattle.zs_term.specs.Schedule.{Schedule, leaf, two, over, plain, counted, exponential, collect_all, mapped, schedule_of}
 use Rattle.zs_term.specs.Machine.{infix_pairing, test_modifier}
@@ -15,7 +15,7 @@ shape_schedule (Tested s j t) = over (schedule_of s.now) (test_modifier j t)
 shape_schedule (Collected s) = over (schedule_of s.now) collect_all
 shape_schedule (Mapped s f) = over (schedule_of s.now) (mapped f)
 
--- in how many steps a term is given up, at most: what stands on the left of an operator is turned to the right first
+-- the most steps that it takes to free a term: each left part is rotated to the right first
 abbrev pub steps_to_give_up : Schedule → ℕ
 steps_to_give_up (leaf l) = 1
 steps_to_give_up (two p a b) = 2 * steps_to_give_up a + steps_to_give_up b

@@ -1,4 +1,5 @@
--- The tokens of a text: words, numbers and symbols, with spaces (32) between them. No other white space is a token or parts tokens.
+-- The tokens of a text: words, numbers and symbols, separated by spaces (32). Other white space
+-- isn't allowed.
 use Rattle.std.specs.Prelude.{ℕ, zero, suc, ◌+◌, ◌-◌, ◌==◌, ◌&&◌, nat_lt, List, [], ◌∷◌, length, take_while, slice_index, Option, Some, None, if◌then◌else◌, codes}
 use Rattle.std.specs.Char.{is_ascii_alphabetic, is_ascii_digit}
 use Rattle.std.specs.Str.{bytes_eq}
@@ -36,7 +37,7 @@ counted_word Fibonacci = codes "fibonacci"
 counted_word Linear = codes "linear"
 counted_word Windowed = codes "windowed"
 
--- the leaf without numbers of a word
+-- the leaf without numbers that a word names
 abbrev pub plain_of : List ℕ → Option Plain
 plain_of w =
     if bytes_eq w (plain_word Forever) then Some Forever
@@ -44,7 +45,7 @@ plain_of w =
     else (if bytes_eq w (plain_word Elapsed) then Some Elapsed
     else None))
 
--- the leaf with one number of a word
+-- the leaf with one number that a word names
 abbrev pub counted_of : List ℕ → Option Counted
 counted_of w =
     if bytes_eq w (counted_word Recurs) then Some Recurs
@@ -55,7 +56,7 @@ counted_of w =
     else (if bytes_eq w (counted_word Windowed) then Some Windowed
     else None)))))
 
--- what a word does behind a dot, before its arguments
+-- the method with arguments that a word names
 abbrev pub method_of : List ℕ → Option Method
 method_of w =
     if bytes_eq w (codes "whileInput") then Some WhileInput
@@ -64,7 +65,7 @@ method_of w =
     else (if bytes_eq w (codes "resetWhen") then Some ResetWhen
     else None)))
 
--- another word; one that no form of a term has is OtherWord
+-- any other word; OtherWord if no form of a term has it
 abbrev pub other_mark : List ℕ → Mark
 other_mark w =
     if bytes_eq w (codes "exponential") then ExponentialWord
@@ -75,12 +76,12 @@ other_mark w =
     else (if bytes_eq w (codes "as") then ScaleWord Constant
     else OtherWord)))))
 
--- the mark of what was found, or another
+-- the mark of the value, or the other mark if there is no value
 abbrev pub mark_or : {X : Type 0} → (X → Mark) → Option X → Mark → Mark
 mark_or as_mark (Some x) other = as_mark x
 mark_or as_mark None other = other
 
--- a word
+-- the mark of a word
 abbrev pub word_mark : List ℕ → Mark
 word_mark w = mark_or PlainWord (plain_of w) (mark_or CountedWord (counted_of w) (mark_or MethodWord (method_of w) (other_mark w)))
 
@@ -120,7 +121,7 @@ number_at bytes =
     let digits = take_while is_ascii_digit bytes in
     if nat_lt 1 (length digits) && slice_index digits 0 == 48 then None else Some (number (digits_value 10 digits), length digits)
 
--- the longer symbol of two that fit
+-- of two symbols that fit, the longer one
 abbrev pub longest : Option Mark → Option Mark → Option (Token × ℕ)
 longest (Some m) o = Some (mark m, 2)
 longest None (Some m) = Some (mark m, 1)
@@ -130,7 +131,7 @@ longest None None = None
 abbrev pub symbol_at : List ℕ → Option (Token × ℕ)
 symbol_at bytes = longest (pair_mark (slice_index bytes 0) (slice_index bytes 1)) (single_mark (slice_index bytes 0))
 
--- the token at the front, and how many bytes it has
+-- the token at the front, and its length in bytes
 abbrev pub token_at : List ℕ → Option (Token × ℕ)
 token_at bytes =
     let first = slice_index bytes 0 in
@@ -143,29 +144,29 @@ pub record Placed : Type 0 where
   pub place : ℕ
   pub token : Token
 
--- what a text is read as: tokens, and the first byte at which no token stands, where there is one
+-- the tokens of a text, and the first byte at which no token begins, if there is one
 pub record Lexed : Type 0 where
   pub tokens : List Placed
   pub stop : Option ℕ
 
--- no token, up to the end
+-- no more tokens up to the end
 abbrev pub nothing : Lexed
 nothing = record { tokens = []; stop = None }
 
--- no token stands at this byte
+-- no token begins at this byte
 abbrev pub stuck : ℕ → Lexed
 stuck at = record { tokens = []; stop = Some at }
 
--- one token more at the front
+-- one more token before the rest
 abbrev pub with_token : ℕ → Token → Lexed → Lexed
 with_token at t rest = record { tokens = record { place = at; token = t } ∷ rest.tokens; stop = rest.stop }
 
--- a token at this place, and what is read behind it
+-- the token at this place, and those after it
 abbrev pub next_token : ℕ → Option (Token × ℕ) → (ℕ → Lexed) → Lexed
 next_token at None behind = stuck at
 next_token at (Some found) behind = with_token at found.0 (behind (found.1 - 1))
 
--- what is read from this place on, where the first bytes still belong to the token before
+-- the tokens from a place on; the first `owned` bytes still belong to the token before
 unfoldable pub lex : ℕ → ℕ → List ℕ → Lexed
 lex owned at [] = nothing
 lex (suc owned) at (b ∷ bytes) = lex owned (at + 1) bytes
@@ -173,6 +174,6 @@ lex zero at (b ∷ bytes) =
     if b == 32 then lex 0 (at + 1) bytes
     else next_token at (token_at (b ∷ bytes)) (λ owned. lex owned (at + 1) bytes)
 
--- what a text is read as
+-- the tokens of a text
 abbrev pub lexed : List ℕ → Lexed
 lexed text = lex 0 0 text

@@ -1,5 +1,6 @@
--- What a text is read as: the schedule that it spells, or its one fault, as a function that computes.
--- `src/laws.rt` ties it to the relations of `Causes`: a law says that the schedule is the one of the text, and the fault the least.
+-- What reading a text returns, as a function that computes: its schedule or its one fault.
+-- The law `verdict_is_the_one` of `src/laws.rt` ties it to the relations of `Causes`: the schedule
+-- is the one that the text spells, and the fault is the first in the order of `TermFault`.
 use Rattle.std.specs.Prelude.{◌≡◌, ℕ, List, [], ◌∷◌, length, Option, Some, None, if◌then◌else◌, Result, Ok, Err, MatchResult}
 use Rattle.zs_term.specs.Schedule.{Schedule, is_within_limits, has_factors, has_windows}
 use Rattle.zs_term.specs.OutputKind.{OutputKind}
@@ -10,52 +11,53 @@ use Rattle.zs_term.specs.Causes.{first_huge, SpellsSchedule, IsCause}
 use Rattle.zs_term.specs.declared.fault.TermFault.{TermFault}
 use Rattle.zs_term.specs.declared.fault.TermFault.TheVariants.{NoTerm, TooBig, BadNumber, BadFactor, NoKind, BadWindow, Memory}
 
--- a whole term, where nothing is open, or the place behind all tokens
+-- the whole term if no form is open, else the place after all tokens
 abbrev pub finished_at : ℕ → List (Frame Schedule) → Mode Schedule ℕ → Result Schedule ℕ
 finished_at end [] (after t) = Ok t
 finished_at end fs mode = Err end
 
--- the tokens from a state on: a whole term, or the first place with which no spelling goes on
+-- continues from a state, or stops at the place at which no spelling can go on
 abbrev pub go_on : ℕ → Option (State Schedule ℕ) → (State Schedule ℕ → Result Schedule ℕ) → Result Schedule ℕ
 go_on place None rest = Err place
 go_on place (Some s) rest = rest s
 
+-- the tokens from a state on: the whole term, or the first place at which no spelling can go on
 abbrev pub term_from : ℕ → Option ℕ → State Schedule ℕ → List Placed → Result Schedule ℕ
 term_from end (Some place) s [] = Err place
 term_from end None s [] = finished_at end s.frames s.mode
 term_from end stop s (p ∷ ps) = go_on p.place (step plant (Some s) p.token) (λ next. term_from end stop next ps)
 
--- the term that a text spells, or the place at which it is none
+-- the term that a text spells, or the place that `NoTerm` reports
 abbrev pub spelled_term : List ℕ → Result Schedule ℕ
 spelled_term text = term_from (length text) (lexed text).stop (at [] start) (lexed text).tokens
 
--- a term with its kind as the schedule that it is, or its fault
+-- the verdict on a term with its kind, if it has one
 abbrev pub with_kind : Schedule → Option OutputKind → Result Schedule TermFault
 with_kind t None = Err NoKind
 with_kind t (Some kind) = if has_windows t then Ok t else Err BadWindow
 
--- a term within the limits, with the place of its first number above 2 ^ 64 - 1
+-- the verdict on a term within the limits, given the place of its first number above 2^64 - 1
 abbrev pub with_numbers_at : Schedule → Option ℕ → Result Schedule TermFault
 with_numbers_at t (Some place) = Err (BadNumber place)
 with_numbers_at t None = if has_factors t then with_kind t (kind_of t) else Err BadFactor
 
--- a term with the place of its first number above 2 ^ 64 - 1
+-- the verdict on a term, given the place of its first number above 2^64 - 1
 abbrev pub judged_term : Schedule → Option ℕ → Result Schedule TermFault
 judged_term t huge = if is_within_limits t then with_numbers_at t huge else Err TooBig
 
--- a term made by hand, whose numbers all fit: the schedule that it is, or its one fault
+-- the verdict on a term made by hand, whose numbers all fit
 abbrev pub checked_as : Schedule → Result Schedule TermFault
 checked_as t = judged_term t None
 
--- a text of which this is the term, or the place at which it is none
+-- the verdict on a text, given its term or the place that `NoTerm` reports
 abbrev pub judged : List ℕ → Result Schedule ℕ → Result Schedule TermFault
 judged text (Err place) = Err (NoTerm place)
 judged text (Ok t) = judged_term t (first_huge (lexed text).tokens)
 
--- the schedule that a text spells, or its one fault
+-- the verdict on a text: the schedule that it spells, or its one fault
 abbrev pub verdict_of : List ℕ → Result Schedule TermFault
 verdict_of text = judged text (spelled_term text)
 
--- the schedule is the one that the text spells, and the fault the least whose cause stands in it
+-- the computed schedule is the one that the text spells, and the computed fault is the first
 abbrev pub VerdictIsTheOne : Type 0
 VerdictIsTheOne = (text : List ℕ) → MatchResult (verdict_of text) (λ t. SpellsSchedule text t) (λ fault. IsCause text fault × (fault ≡ Memory → ⊥))

@@ -1,4 +1,4 @@
-// Terms that were checked.
+//! Checked terms: schedules that can be stepped.
 
 ghost use Rattle.std.specs.Prelude.{◌≡◌, ◌≢◌, ◌+◌, ◌*◌, ◌<◌, Some, IfOk, IfErr, MatchResult, true, false, ◌↔◌};
 ghost use Rattle.zs_term.specs.Schedule.{schedule_of, is_within_limits, has_factors, weight};
@@ -17,7 +17,8 @@ use std::alloc::Global;
 use std::marker::Model;
 use std::mem::replace;
 
-/// A schedule: a term within the limits, with factors of at least 1, a kind, and windows of at least 1. Contracts see it as the term.
+/// A schedule: a term within the limits that has a kind, with factors and windows of at least 1.
+/// Contracts see it as its term.
 #[derive(Drop)]
 pub struct Checked {
     term: Term,
@@ -43,7 +44,7 @@ impl Model for Checked {
 }
 
 impl Checked {
-    /// The term.
+    /// Returns the term.
     pub fn term(&self) -> &Term
         ensures term { result.now ≡ self.now }
         ensures schedule { IsSchedule (schedule_of self.now) }
@@ -51,14 +52,14 @@ impl Checked {
         &self.term
     }
 
-    /// The kind of its outputs.
+    /// Returns the kind of its outputs.
     pub fn kind(&self) -> &Kind
         ensures kind { kind_of (schedule_of self.now) ≡ Some (output_kind_of result.now) }
     {
         &self.kind
     }
 
-    /// Its weight, 1 to 1,000: no step asks more nodes. It takes time by the weight.
+    /// Returns the weight, from 1 to 1,000. No step visits more nodes. The call visits every node.
     pub fn weight(&self) -> u64
         ensures value { result ≡ weight (schedule_of self.now) }
     {
@@ -66,7 +67,8 @@ impl Checked {
     }
 }
 
-/// Checks a term: the schedule that it is, or the first fault of it. The term is given up on a refusal, in the same stack however deep it is.
+/// Checks a term: returns it as a schedule, or its first fault in the order of `TermFault`. A
+/// rejected term is freed in constant stack, however deep it is.
 #[tactic(auto, using(crate::proofs::Verdicts::fault_as))]
 pub fn check(alloc: Global, term: Term) -> Result<Checked, TermFault>
     ensures ok { IfOk result (λ checked. checked ≡ term) }
@@ -75,7 +77,9 @@ pub fn check(alloc: Global, term: Term) -> Result<Checked, TermFault>
     ensures err { IfErr result (IsTermCause (schedule_of term)) }
     ensures too_big { result ≡ Err TermFault.TooBig ↔ is_within_limits (schedule_of term) ≡ false }
     ensures bad_factor { result ≡ Err TermFault.BadFactor ↔ ((is_within_limits (schedule_of term) ≡ true) × (has_factors (schedule_of term) ≡ false)) }
+    // Once more, by the definition that computes.
     ensures verdict { MatchResult result (λ checked. checked_as (schedule_of term) ≡ Ok (schedule_of checked)) (λ fault. fault ≢ TermFault.Memory → checked_as (schedule_of term) ≡ Err fault) }
+    // Only a kind that has parts takes memory.
     ensures memory { result ≡ Err TermFault.Memory → takes_memory (schedule_of term) ≡ true }
 {
     if !is_within_limits(&term) {
@@ -103,7 +107,7 @@ pub(crate) fn check_small(alloc: Global, term: Term) -> Result<Checked, TermFaul
     }
 }
 
-// The kind of a term that is a schedule, or its first fault.
+// Returns the kind of a term that is a schedule, or its first fault.
 fn kind_in(alloc: Global, term: &Term) -> Result<Kind, TermFault>
     requires within { is_within_limits (schedule_of term.now) ≡ true }
     ensures schedule { IfOk result (λ kind. IsSchedule (schedule_of term.now)) }
@@ -129,7 +133,7 @@ fn kind_in(alloc: Global, term: &Term) -> Result<Kind, TermFault>
     }
 }
 
-// Gives a term up node by node, since dropping it would take more of the stack the deeper it is.
+// Frees a term node by node. To drop it would take stack in proportion to its depth.
 fn give_up(term: Term) {
     let mut rest = term;
     loop {
@@ -154,7 +158,8 @@ fn give_up(term: Term) {
     }
 }
 
-// Two parts with a node less, or turned to the right: `((a op b) op c)` becomes `(a op (b op c))`.
+// Joins two parts with one node less, or rotates to the right: `((a op b) op c)` becomes
+// `(a op (b op c))`.
 #[tactic(auto, using(crate::proofs::Sizes::steps_positive))]
 fn turned(left: Box<Term>, right: Box<Term>) -> Term
     ensures less { steps_to_give_up (schedule_of result) < 2 * steps_to_give_up (schedule_of left.value) + steps_to_give_up (schedule_of right.value) }

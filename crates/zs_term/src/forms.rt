@@ -1,4 +1,4 @@
-// The forms of terms: what the reader puts a term together from, and what a term is taken apart into.
+//! The forms of terms. The parser builds terms from them, and `Term::shape` takes terms apart.
 
 ghost use Rattle.std.specs.Prelude.{◌≡◌};
 ghost use Rattle.zs_term.specs.Schedule.{schedule_of, leaf, two, over, plain, counted};
@@ -48,7 +48,7 @@ pub enum Infix {
     AndThen,
 }
 
-/// What follows a term and a dot, and has arguments.
+/// What follows a term and a dot, and takes arguments.
 #[derive(Clone, Copy, Drop)]
 pub enum Method {
     /// `.whileInput`
@@ -64,13 +64,13 @@ pub enum Method {
 /// What a test of a part of the output does.
 #[derive(Clone, Copy, Drop)]
 pub enum Action {
-    /// `.whileOutput`: the schedule stops where the test is false.
+    /// `.whileOutput`: the schedule stops if the test is false.
     Stopping,
-    /// `.resetWhen`: the part begins anew where the test is true.
+    /// `.resetWhen`: the part starts over if the test is true.
     Resetting,
 }
 
-/// What a comparison is about.
+/// What a comparison reads.
 #[derive(Clone, Copy, Drop)]
 pub enum Subject {
     /// The input.
@@ -79,7 +79,7 @@ pub enum Subject {
     Picked(Action, Pick),
 }
 
-/// A piece of an output: for a test to read, or for a function to answer.
+/// A piece of an output, which a test reads or a function returns.
 #[derive(Clone, Copy, Drop)]
 pub enum Piece {
     /// `_1`
@@ -101,7 +101,8 @@ pub enum Scale {
     Times,
 }
 
-/// What a term is made of. In this crate its forms are all told apart here alone.
+/// What a term consists of. `Term::shape` matches every variant of `Term`; so do only the two
+/// functions of `checked.rt` that free a term.
 #[derive(Clone, Copy, Drop)]
 pub enum Shape<'t> {
     /// A leaf without numbers.
@@ -112,16 +113,16 @@ pub enum Shape<'t> {
     Exponential(u64, u64),
     /// Two terms and the operator between them.
     Joined(Infix, &'t Term, &'t Term),
-    /// A term with a test behind it.
+    /// A term followed by a test.
     Tested(&'t Term, Subject, Test),
-    /// A term with `.collectAll` behind it.
+    /// A term followed by `.collectAll`.
     Collected(&'t Term),
-    /// A term with `.map` behind it.
+    /// A term followed by `.map`.
     Mapped(&'t Term, Func),
 }
 
 impl Term {
-    /// What the term is made of.
+    /// Returns what the term consists of.
     pub(crate) fn shape(&self) -> Shape<'_>
         ensures value { shape_schedule result ≡ schedule_of self.now }
     {
@@ -153,7 +154,7 @@ impl Term {
 }
 
 impl Plain {
-    /// The word.
+    /// Returns the word.
     pub fn word(self) -> &'static str
         ensures value { result.now ≡ plain_word self }
     {
@@ -164,7 +165,7 @@ impl Plain {
         }
     }
 
-    /// The term.
+    /// Returns the term.
     pub fn of(self) -> Term
         ensures value { schedule_of result ≡ leaf (plain self) }
     {
@@ -177,7 +178,7 @@ impl Plain {
 }
 
 impl Counted {
-    /// The word.
+    /// Returns the word.
     pub fn word(self) -> &'static str
         ensures value { result.now ≡ counted_word self }
     {
@@ -191,7 +192,7 @@ impl Counted {
         }
     }
 
-    /// The term with a number.
+    /// Returns the term with a number.
     pub fn of(self, n: u64) -> Term
         ensures value { schedule_of result ≡ leaf (counted self n) }
     {
@@ -207,7 +208,7 @@ impl Counted {
 }
 
 impl Infix {
-    /// The term over two parts.
+    /// Returns the term over two parts.
     pub fn of(self, left: Box<Term>, right: Box<Term>) -> Term
         ensures value { schedule_of result ≡ two (infix_pairing self) (schedule_of left.value) (schedule_of right.value) }
     {
@@ -220,7 +221,7 @@ impl Infix {
 }
 
 impl Subject {
-    /// The term with this test over a part.
+    /// Returns the term with this test over a part.
     pub fn of(self, term: Box<Term>, test: Test) -> Term
         ensures value { schedule_of result ≡ over (schedule_of term.value) (test_modifier self test) }
     {
@@ -231,7 +232,7 @@ impl Subject {
         }
     }
 
-    /// The weight of a form with this test over a part of a weight.
+    /// Returns the weight of this test over a part of the given weight.
     pub fn weight_over(self, weight: u64) -> u64
         ensures value { result ≡ test_weight self weight }
     {
@@ -245,7 +246,7 @@ impl Subject {
 }
 
 impl Piece {
-    /// The piece that a test reads.
+    /// Returns the piece as what a test reads.
     pub fn pick(self) -> Pick
         ensures value { result ≡ piece_pick self }
     {
@@ -256,7 +257,7 @@ impl Piece {
         }
     }
 
-    /// The function that answers the piece.
+    /// Returns the piece as a function.
     pub fn func(self) -> Func
         ensures value { result ≡ piece_func self }
     {
@@ -269,7 +270,7 @@ impl Piece {
 }
 
 impl Scale {
-    /// The function with this number.
+    /// Returns the function with this number.
     pub fn by(self, n: u64) -> Func
         ensures value { result ≡ scale_by self n }
     {

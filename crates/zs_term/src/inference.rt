@@ -1,4 +1,4 @@
-// The kinds of terms.
+//! The kind of a term's outputs.
 
 ghost use Rattle.std.specs.Prelude.{◌≡◌, Some, None, true, IfOk, IfErr, if◌then◌else◌};
 ghost use Rattle.zs_term.specs.Schedule.{schedule_of};
@@ -11,7 +11,7 @@ use crate::kind::Kind;
 use crate::term::{Func, Pick, Term};
 use std::alloc::{AllocError, Global};
 
-// The kind of a term, where it has one.
+// Returns the kind of a term, if it has one.
 pub(crate) fn kind_of(alloc: Global, term: &Term) -> Result<Option<Kind>, AllocError>
     ensures value { IfOk result (λ k. found_kind_of k ≡ kind_of (schedule_of term.now)) }
     ensures memory { IfErr result (λ _. takes_memory (schedule_of term.now) ≡ true) }
@@ -26,7 +26,7 @@ pub(crate) fn kind_of(alloc: Global, term: &Term) -> Result<Option<Kind>, AllocE
     }
 }
 
-// The kind of two schedules' outputs, where both have one.
+// Returns the kind of the outputs of two joined schedules, if both have one.
 fn joined(
     alloc: Global,
     form: Infix,
@@ -48,7 +48,7 @@ fn joined(
     }
 }
 
-// The kind of lists of a part's outputs, where the part has one.
+// Returns the kind of lists of a part's outputs, if the part has one.
 fn list_kind(alloc: Global, part: Option<Kind>) -> Result<Option<Kind>, AllocError>
     ensures value { IfOk result (λ k. found_kind_of k ≡ list_kind (found_kind_of part)) }
 {
@@ -58,7 +58,7 @@ fn list_kind(alloc: Global, part: Option<Kind>) -> Result<Option<Kind>, AllocErr
     }
 }
 
-// The kind of a part, where the pick fits it.
+// Returns the kind of a part, if the pick fits it.
 fn where_fits(pick: Pick, part: Option<Kind>) -> Option<Kind>
     ensures value { found_kind_of result ≡ where_fits pick (found_kind_of part) }
 {
@@ -66,21 +66,21 @@ fn where_fits(pick: Pick, part: Option<Kind>) -> Option<Kind>
     if fits(pick, &x) { Some(x) } else { None }
 }
 
-// The kind of a function's answers over a part, where the part has one.
+// Returns the kind of a function's results over a part, if the part has one.
 fn mapped_kind(func: Func, part: Option<Kind>) -> Option<Kind>
     ensures value { found_kind_of result ≡ mapped_kind func (found_kind_of part) }
 {
     kind_after(func, part?)
 }
 
-// A kind on the heap.
+// Moves a kind to the heap.
 fn boxed(alloc: Global, kind: Kind) -> Result<Box<Kind>, AllocError>
     ensures value { IfOk result (λ b. b.value ≡ kind) }
 {
     Ok(Box::new(alloc, kind)?)
 }
 
-// Whether a kind is that of numbers.
+// Whether a kind is number.
 fn is_num(kind: &Kind) -> bool
     ensures value { result ≡ is_num (output_kind_of kind.now) }
 {
@@ -111,7 +111,7 @@ fn fits(pick: Pick, kind: &Kind) -> bool
     }
 }
 
-// Whether two kinds are one.
+// Whether two kinds are equal.
 fn same_kind(a: &Kind, b: &Kind) -> bool
     ensures value { result ≡ is_same_kind (output_kind_of a.now) (output_kind_of b.now) }
 {
@@ -132,7 +132,7 @@ fn same_kind(a: &Kind, b: &Kind) -> bool
     }
 }
 
-// The kind of a function's answers.
+// Returns the kind of a function's results, if the function fits the kind.
 fn kind_after(func: Func, kind: Kind) -> Option<Kind>
     ensures value { found_kind_of result ≡ answers func (output_kind_of kind) }
 {
@@ -147,14 +147,14 @@ fn kind_after(func: Func, kind: Kind) -> Option<Kind>
     }
 }
 
-// The kind of numbers, where a function fits.
+// Returns the kind number if a function fits, else no kind.
 fn num_if(fits: bool) -> Option<Kind>
     ensures value { found_kind_of result ≡ (if fits then Some num else None) }
 {
     if fits { Some(Kind::Num) } else { None }
 }
 
-// Whether a kind is that of lists.
+// Whether a kind is a list.
 fn is_list(kind: &Kind) -> bool
     ensures value { result ≡ fits Pick.Size (output_kind_of kind.now) }
 {
@@ -164,7 +164,7 @@ fn is_list(kind: &Kind) -> bool
     }
 }
 
-// The kind of the left part of a pair.
+// Returns the kind of the first part of a pair.
 fn first_of(kind: Kind) -> Option<Kind>
     ensures value { found_kind_of result ≡ answers Func.First (output_kind_of kind) }
 {
@@ -174,7 +174,7 @@ fn first_of(kind: Kind) -> Option<Kind>
     }
 }
 
-// The kind of the right part of a pair.
+// Returns the kind of the second part of a pair.
 fn second_of(kind: Kind) -> Option<Kind>
     ensures value { found_kind_of result ≡ answers Func.Second (output_kind_of kind) }
 {
@@ -184,7 +184,7 @@ fn second_of(kind: Kind) -> Option<Kind>
     }
 }
 
-// The kind of both sides of a choice, where they have one.
+// Returns the kind of both sides of a choice, if it is the same.
 fn merged(kind: Kind) -> Option<Kind>
     ensures value { found_kind_of result ≡ answers Func.Merge (output_kind_of kind) }
 {

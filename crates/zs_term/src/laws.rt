@@ -1,10 +1,10 @@
-// Laws of spellings, texts and faults.
+//! Laws of spellings, texts and faults.
 
 ghost use Rattle.zs_term.specs.Laws.{OneTerm, OneFault, OneVerdict, CanonicalSpells, RoundTrip};
 ghost use Rattle.zs_term.specs.Places.{TokensOfText};
 ghost use Rattle.zs_term.specs.Verdict.{VerdictIsTheOne};
 
-/// The tokens of a text are those that stand in it: each is the longest at its place, with nothing but spaces before it.
+/// The tokens of a text are determined: each is the longest at its place, after nothing but spaces.
 pub fn tokens_of_text()
     ensures law { TokensOfText }
 {}
@@ -14,12 +14,12 @@ pub fn one_term()
     ensures law { OneTerm }
 {}
 
-/// Of the faults that a text can have, want of memory left out, just one is the least, at one place.
+/// A text has at most one fault that is checked first, at one place. `Memory` doesn't count.
 pub fn one_fault()
     ensures law { OneFault }
 {}
 
-/// A text that spells a schedule is refused for no cause but want of memory.
+/// A text that spells a schedule has no fault but `Memory`.
 pub fn one_verdict()
     ensures law { OneVerdict }
 {}
@@ -29,12 +29,12 @@ pub fn canonical_spells()
     ensures law { CanonicalSpells }
 {}
 
-/// The canonical spelling of a schedule is read as the schedule.
+/// Reading the canonical spelling of a schedule returns the schedule.
 pub fn round_trip()
     ensures law { RoundTrip }
 {}
 
-/// The verdict that is computed of a text is the one schedule that it spells, or the least fault that stands in it.
+/// The computed verdict on a text is the one schedule that it spells, or its first fault.
 pub fn verdict_is_the_one()
     ensures law { VerdictIsTheOne }
 {}

@@ -1,4 +1,4 @@
-// The tokens of a text, found one by one.
+//! The tokens of a text, found one by one.
 
 ghost use Rattle.std.specs.Prelude.{◌≡◌, ℕ, ◌+◌, ◌*◌, ◌<◌, ◌≤◌, length, take_while, slice_index, drop, ◌≢◌, MatchOption, Some, None, true, nat_lt, ◌&&◌, ◌==◌};
 ghost use Rattle.std.specs.Char.{is_ascii_alphabetic, is_ascii_digit, digit_value};
@@ -13,21 +13,21 @@ use crate::forms::{Counted, Infix, Method, Piece, Plain, Scale};
 use crate::term::Cmp;
 use crate::token::{Lexeme, Mark};
 
-// How many letters stand at the front.
+// Counts the letters at the front.
 fn letter_count(bytes: &[u8]) -> usize
     ensures value { result ≡ length (take_while is_ascii_alphabetic bytes.now) }
 {
     bytes.iter().take_while(|b| b.is_ascii_alphabetic()).count()
 }
 
-// How many digits stand at the front.
+// Counts the digits at the front.
 fn digit_count(bytes: &[u8]) -> usize
     ensures value { result ≡ length (take_while is_ascii_digit bytes.now) }
 {
     bytes.iter().take_while(|b| b.is_ascii_digit()).count()
 }
 
-// The letters at the front.
+// Returns the letters at the front.
 #[tactic(auto, using(crate::proofs::Lexing::take_front, crate::proofs::Lexing::front_within))]
 fn letters(bytes: &[u8]) -> &[u8]
     ensures value { result.now ≡ take_while is_ascii_alphabetic bytes.now }
@@ -36,7 +36,7 @@ fn letters(bytes: &[u8]) -> &[u8]
     &bytes[..letter_count(bytes)]
 }
 
-// The digits at the front.
+// Returns the digits at the front.
 #[tactic(auto, using(crate::proofs::Lexing::take_front, crate::proofs::Lexing::front_within))]
 fn digits(bytes: &[u8]) -> &[u8]
     ensures value { result.now ≡ take_while is_ascii_digit bytes.now }
@@ -45,14 +45,14 @@ fn digits(bytes: &[u8]) -> &[u8]
     &bytes[..digit_count(bytes)]
 }
 
-// Whether letters are those of a word.
+// Whether letters spell a word.
 fn is_word(letters: &[u8], word: &str) -> bool
     ensures value { result ≡ bytes_eq letters.now word.now }
 {
     letters == word.as_bytes()
 }
 
-// The leaf without numbers of these letters.
+// Returns the leaf without numbers that these letters name.
 fn plain(letters: &[u8]) -> Option<Plain>
     ensures value { result ≡ plain_of letters.now }
 {
@@ -68,7 +68,7 @@ fn plain(letters: &[u8]) -> Option<Plain>
     None
 }
 
-// The leaf with one number of these letters.
+// Returns the leaf with one number that these letters name.
 fn counted(letters: &[u8]) -> Option<Counted>
     ensures value { result ≡ counted_of letters.now }
 {
@@ -93,7 +93,7 @@ fn counted(letters: &[u8]) -> Option<Counted>
     None
 }
 
-// What these letters do behind a dot, before their arguments.
+// Returns the method with arguments that these letters name.
 fn method(letters: &[u8]) -> Option<Method>
     ensures value { result ≡ method_of letters.now }
 {
@@ -112,7 +112,7 @@ fn method(letters: &[u8]) -> Option<Method>
     None
 }
 
-// What other letters are.
+// Returns what any other letters mean.
 fn other(letters: &[u8]) -> Mark
     ensures value { result ≡ other_mark letters.now }
 {
@@ -137,7 +137,7 @@ fn other(letters: &[u8]) -> Mark
     Mark::OtherWord
 }
 
-// The word of these letters.
+// Returns what a word means.
 fn word(letters: &[u8]) -> Mark
     ensures value { result ≡ word_mark letters.now }
 {
@@ -153,7 +153,7 @@ fn word(letters: &[u8]) -> Mark
     other(letters)
 }
 
-// The symbol of two bytes.
+// Returns the symbol of two bytes.
 fn pair(first: u8, second: u8) -> Option<Mark>
     ensures value { result ≡ pair_mark first second }
 {
@@ -169,7 +169,7 @@ fn pair(first: u8, second: u8) -> Option<Mark>
     }
 }
 
-// The symbol of one byte.
+// Returns the symbol of one byte.
 fn single(byte: u8) -> Option<Mark>
     ensures value { result ≡ single_mark byte }
 {
@@ -187,7 +187,7 @@ fn single(byte: u8) -> Option<Mark>
     }
 }
 
-// The number that digits write, where it fits 64 bits.
+// Returns the number that digits write, if it fits in 64 bits.
 #[tactic(auto, using(std::proofs::lemmas::Str::Parse::digit_at, std::proofs::lemmas::Int::Digits::digits_value_more))]
 fn value(digits: &[u8]) -> Option<u64>
     requires digits { AllDigits 10 digits.now }
@@ -200,7 +200,7 @@ fn value(digits: &[u8]) -> Option<u64>
     sum
 }
 
-// One digit more.
+// Appends one digit to a number.
 fn more(sum: Option<u64>, digit: u8) -> Option<u64>
     requires digit { IsInRange 48 57 digit }
     ensures value { (n : ℕ) → sum ≡ fit n → result ≡ fit (n * 10 + digit_value digit) }
@@ -209,21 +209,21 @@ fn more(sum: Option<u64>, digit: u8) -> Option<u64>
     sum.checked_mul(10)?.checked_add(u64::from(digit - b'0'))
 }
 
-/// A token at the front of some bytes, and how many of them are its own.
+/// A token at the front of some bytes, with its length in bytes.
 #[derive(Clone, Copy, Drop)]
 pub struct Found {
     pub lexeme: Lexeme,
     pub len: usize,
 }
 
-// Whether several digits begin with a 0.
+// Whether a number has several digits and begins with a 0.
 fn is_padded(digits: &[u8]) -> bool
     ensures value { result ≡ (nat_lt 1 (length digits.now) && slice_index digits.now 0 == 48) }
 {
     1 < digits.len() && digits[0] == b'0'
 }
 
-// The number at the front, which begins with a digit.
+// Returns the number at the front, which begins with a digit.
 #[tactic(auto, using(crate::proofs::Lexing::all_digits, crate::proofs::Lexing::some_digits))]
 fn number(bytes: &[u8]) -> Option<Found>
     requires digit { is_ascii_digit (slice_index bytes.now 0) ≡ true }
@@ -238,7 +238,7 @@ fn number(bytes: &[u8]) -> Option<Found>
     Some(Found { lexeme, len })
 }
 
-// The word at the front, which begins with a letter.
+// Returns the word at the front, which begins with a letter.
 #[tactic(auto, using(crate::proofs::Lexing::some_letters))]
 fn word_at(bytes: &[u8]) -> Found
     requires letter { is_ascii_alphabetic (slice_index bytes.now 0) ≡ true }
@@ -251,7 +251,7 @@ fn word_at(bytes: &[u8]) -> Found
     }
 }
 
-// The symbol at the front, the longer one of two that fit.
+// Returns the symbol at the front; of two that fit, the longer one.
 fn symbol(bytes: &[u8]) -> Option<Found>
     requires some { 0 < length bytes.now }
     ensures value { MatchOption result (symbol_at bytes.now ≡ None) (λ found. IsFoundAs (symbol_at bytes.now) bytes.now found) }
@@ -271,7 +271,7 @@ fn symbol(bytes: &[u8]) -> Option<Found>
     })
 }
 
-// The token at the front.
+// Returns the token at the front.
 fn token_at(bytes: &[u8]) -> Option<Found>
     requires some { 0 < length bytes.now }
     ensures value { MatchOption result (token_at bytes.now ≡ None) (λ found. IsFoundAs (token_at bytes.now) bytes.now found) }
@@ -286,8 +286,8 @@ fn token_at(bytes: &[u8]) -> Option<Found>
     symbol(bytes)
 }
 
-/// What stands at a place of a text, behind any spaces: the end, a byte at which no token stands, or a token, with
-/// its place and the place behind it.
+/// What comes next in a text after any spaces: the end, a byte at which no token begins, or a token
+/// with its place and the place after it.
 #[derive(Clone, Copy, Drop)]
 pub enum Scan {
     End,
@@ -295,7 +295,7 @@ pub enum Scan {
     Next(usize, Lexeme, usize),
 }
 
-// The place behind the spaces that stand at a place.
+// Returns the place after the spaces at a place.
 #[tactic(auto, using(crate::proofs::Lexing::lex_space))]
 fn behind_spaces(text: &[u8], from: usize) -> usize
     requires within { from ≤ length text.now }
@@ -314,7 +314,7 @@ fn behind_spaces(text: &[u8], from: usize) -> usize
     at
 }
 
-// What stands from a place on.
+// Returns the text from a place on.
 fn behind(text: &[u8], at: usize) -> &[u8]
     requires within { at ≤ length text.now }
     ensures value { result.now ≡ drop at text.now }
@@ -322,7 +322,7 @@ fn behind(text: &[u8], at: usize) -> &[u8]
     &text[at..]
 }
 
-/// What stands at a place of a text.
+/// Returns what comes next in a text from a place on.
 #[tactic(auto, using(crate::proofs::Lexing::lex_end))]
 pub fn scan_at(text: &[u8], from: usize) -> Scan
     requires within { from ≤ length text.now }

@@ -1,7 +1,8 @@
 //! Terms of schedules: their text, their kinds and their outputs.
 //!
-//! A `Checked` is the one term of its text: `read` gives it or the first fault of the text, with its byte, and `write` gives
-//! its one canonical spelling. Start with `specs/Grammar.antt` and `specs/Causes.antt`.
+//! A `Checked` is the one schedule of its text. `read` returns it, or the first fault of the text
+//! with its byte. `write` returns its one canonical spelling. Start with `specs/Grammar.antt` and
+//! `specs/Causes.antt`.
 //!
 //! ```rust
 //! let schedule = read(alloc, "(exponential(10) && recurs(3))")?;

@@ -1,4 +1,4 @@
-// The limits of terms.
+//! The limits of terms: depth, weight, factors and windows.
 
 ghost use Rattle.std.specs.Prelude.{◌≡◌, ◌<◌, ◌≤◌, ◌+◌, ◌⊎◌, true, IfSome, IfNone};
 ghost use Rattle.zs_term.specs.Schedule.{schedule_of, is_within_limits, has_factors, has_windows, depth, weight};
@@ -12,14 +12,14 @@ pub(crate) const MAX_DEPTH: u64 = 64;
 /// The greatest weight of a schedule.
 pub(crate) const MAX_WEIGHT: u64 = 1000;
 
-// Whether a term keeps within the greatest depth and weight. It looks no deeper than that depth.
+// Whether a term is within the greatest depth and weight. Looks no deeper than that depth.
 pub(crate) fn is_within_limits(term: &Term) -> bool
     ensures value { result ≡ is_within_limits (schedule_of term.now) }
 {
     room_left(term, MAX_DEPTH, MAX_WEIGHT).is_some()
 }
 
-// The weight of a term that is within the limits.
+// Returns the weight of a term that is within the limits.
 pub(crate) fn weight_within(term: &Term) -> u64
     requires within { is_within_limits (schedule_of term.now) ≡ true }
     ensures value { result ≡ weight (schedule_of term.now) }
@@ -30,7 +30,8 @@ pub(crate) fn weight_within(term: &Term) -> u64
     }
 }
 
-// The nodes that are left of a number, if a term has no more and is no deeper than a limit.
+// Returns the number of nodes that remain of `nodes`, if the term has no more of them and no more
+// levels than `levels`.
 fn room_left(term: &Term, levels: u64, nodes: u64) -> Option<u64>
     ensures room { IfSome result (λ r. (r + weight (schedule_of term.now) ≡ nodes) × (depth (schedule_of term.now) ≤ levels)) }
     ensures none { IfNone result ((levels < depth (schedule_of term.now)) ⊎ (nodes < weight (schedule_of term.now))) }
@@ -52,7 +53,7 @@ fn room_left(term: &Term, levels: u64, nodes: u64) -> Option<u64>
     }
 }
 
-// Whether each factor is at least 1.
+// Whether every factor is at least 1.
 pub(crate) fn has_factors(term: &Term) -> bool
     ensures value { result ≡ has_factors (schedule_of term.now) }
 {
@@ -64,7 +65,7 @@ pub(crate) fn has_factors(term: &Term) -> bool
     }
 }
 
-// Whether each window is at least 1.
+// Whether every window is at least 1.
 pub(crate) fn has_windows(term: &Term) -> bool
     ensures value { result ≡ has_windows (schedule_of term.now) }
 {

@@ -1,4 +1,4 @@
-// The text of outputs.
+//! The text of outputs.
 
 ghost use Rattle.std.specs.Prelude.{◌≡◌, ◌++◌, IfOk, OnOk, OnErr, string_bytes};
 ghost use Rattle.std.specs.Fmt.{decimal};
@@ -9,10 +9,10 @@ use crate::outputs::{Out, Outs, Storage};
 use itoa::Buffer;
 use std::alloc::{AllocError, Global};
 
-/// Memory ran out.
+/// A memory allocation failed.
 pub type NoMemory = AllocError;
 
-/// Writes the text of an output.
+/// Returns the text of an output.
 pub fn write_out(alloc: Global, out: &Out) -> Result<String, NoMemory>
     ensures ok { IfOk result (λ text. string_bytes text ≡ output_text (output_of out.now)) }
 {
@@ -21,10 +21,11 @@ pub fn write_out(alloc: Global, out: &Out) -> Result<String, NoMemory>
     Ok(text)
 }
 
-/// Adds the text of an output at the end of a text. If that fails, the text is unchanged.
+/// Appends the text of an output to a text. If that fails, the text is unchanged.
 pub fn append_out(text: &mut String, out: &Out) -> Result<(), NoMemory>
     ensures ok { OnOk result (string_bytes text.new ≡ string_bytes text.old ++ output_text (output_of out.now)) }
     ensures err { OnErr result (string_bytes text.new ≡ string_bytes text.old) }
+    // The text so far stays at the front in any case.
     ensures kept { IsBeginning (string_bytes text.old) (string_bytes text.new) }
 {
     let len = text.len();
@@ -35,7 +36,7 @@ pub fn append_out(text: &mut String, out: &Out) -> Result<(), NoMemory>
     added
 }
 
-// Adds the text of an output. If that fails, the text may end with a part of it.
+// Appends the text of an output. If that fails, the text may end with a part of it.
 #[tactic(auto, using(crate::proofs::Texts::begins_with_itself, crate::proofs::Texts::begins_pushed, crate::proofs::Texts::begins_both))]
 #[cycle(texts)]
 fn push_out(text: &mut String, out: &Out) -> Result<(), NoMemory>
@@ -69,7 +70,7 @@ fn push_out(text: &mut String, out: &Out) -> Result<(), NoMemory>
     }
 }
 
-// Adds the digits of a number behind a text.
+// Appends the digits of a number to a text.
 #[tactic(auto, using(crate::proofs::Texts::begins_with_itself, crate::proofs::Texts::begins_pushed, crate::proofs::Texts::begins_both))]
 fn append_number(text: &mut String, n: u64) -> Result<(), NoMemory>
     ensures ok { OnOk result (string_bytes text.new ≡ string_bytes text.old ++ decimal n) }
@@ -79,7 +80,7 @@ fn append_number(text: &mut String, n: u64) -> Result<(), NoMemory>
     text.push_str(buffer.format(n))
 }
 
-// Adds the texts of a list's outputs.
+// Appends the texts of a list's outputs.
 #[tactic(auto, using(crate::proofs::Texts::begins_with_itself, crate::proofs::Texts::begins_pushed, crate::proofs::Texts::begins_both))]
 #[cycle(texts)]
 fn append_list(text: &mut String, outs: &Outs) -> Result<(), NoMemory>
@@ -92,7 +93,7 @@ fn append_list(text: &mut String, outs: &Outs) -> Result<(), NoMemory>
     }
 }
 
-// Adds the texts of outputs, with a comma between two.
+// Appends the texts of outputs, separated by commas.
 #[tactic(auto, using(crate::proofs::Texts::begins_with_itself, crate::proofs::Texts::begins_pushed, crate::proofs::Texts::begins_both))]
 #[cycle(texts)]
 fn append_items(text: &mut String, items: &[Out]) -> Result<(), NoMemory>
@@ -106,7 +107,7 @@ fn append_items(text: &mut String, items: &[Out]) -> Result<(), NoMemory>
     Ok(())
 }
 
-// Adds the comma before an output of a list, but for the first.
+// Appends the comma before an output of a list, except before the first.
 #[tactic(auto, using(crate::proofs::Texts::begins_with_itself, crate::proofs::Texts::begins_pushed, crate::proofs::Texts::begins_both))]
 fn append_comma(text: &mut String, place: usize) -> Result<(), NoMemory>
     ensures ok { OnOk result (string_bytes text.new ≡ string_bytes text.old ++ comma_before place) }

@@ -1,4 +1,4 @@
-// The outputs of schedules.
+//! The outputs of schedules, and what tests and functions make of them.
 
 ghost use Rattle.std.specs.Prelude.{◌≡◌, IfOk, OnOk};
 ghost use Rattle.std.specs.Arc.{arc_value};
@@ -17,22 +17,22 @@ pub enum Out {
     Num(u64),
     /// A pair of outputs.
     Pair(Box<Out>, Box<Out>),
-    /// An output of the first of two schedules in turn.
+    /// An output of the first of two schedules that follow one another.
     Left(Box<Out>),
-    /// An output of the second of two schedules in turn.
+    /// An output of the second of two schedules that follow one another.
     Right(Box<Out>),
     /// A list of outputs.
     Items(Outs),
 }
 
-/// A list of outputs. Lists may lie in the same memory; each reads as if it were alone.
+/// A list of outputs. Lists may share memory; each reads as if it were alone.
 #[derive(Drop)]
 #[cycle(out)]
 pub struct Outs {
     pub(crate) storage: Storage,
 }
 
-// The memory of a list: its own, or one that other lists may lie in too.
+// The memory of a list: private, or shared with other lists.
 #[derive(Drop)]
 #[cycle(out)]
 pub(crate) enum Storage {
@@ -41,7 +41,7 @@ pub(crate) enum Storage {
 }
 
 impl Outs {
-    /// The list of these outputs.
+    /// Makes a list of these outputs.
     pub fn new(items: Vec<Out>) -> Outs
         ensures value { outs_list result ≡ items.items }
     {
@@ -50,7 +50,7 @@ impl Outs {
         }
     }
 
-    /// The outputs in order.
+    /// Returns the outputs in order.
     pub fn items(&self) -> &[Out]
         ensures value { result.now ≡ outs_list self.now }
     {
@@ -60,7 +60,7 @@ impl Outs {
         }
     }
 
-    /// The same list once more, in the same memory. If that fails, this one is unchanged.
+    /// Returns the same list once more, in the same memory. If that fails, this one is unchanged.
     pub fn share(&mut self, alloc: Global) -> Result<Outs, AllocError>
         ensures ok { IfOk result (λ r. outs_list r ≡ outs_list self.old) }
         ensures same { outs_list self.new ≡ outs_list self.old }
@@ -86,7 +86,8 @@ impl Outs {
         }
     }
 
-    /// Adds an output at the end: in place where no other list lies in this one's memory, and else in a copy.
+    /// Appends an output. The list is changed in place if no other list shares its memory, else
+    /// copied.
     pub fn push(&mut self, alloc: Global, out: Out) -> Result<(), AllocError>
         ensures pushed { OnOk result (outputs_of (outs_list self.new) ≡ with_last (outputs_of (outs_list self.old)) (output_of out)) }
     {
@@ -97,7 +98,7 @@ impl Outs {
     }
 }
 
-// Adds an output to a list that nobody else lies in.
+// Appends an output to a list with private memory.
 #[tactic(auto, using(crate::proofs::Values::outputs_of_push))]
 fn push_own(items: &mut Vec<Out>, out: Out) -> Result<(), AllocError>
     ensures pushed { OnOk result (outputs_of items.new.items ≡ with_last (outputs_of items.old.items) (output_of out)) }
@@ -106,7 +107,7 @@ fn push_own(items: &mut Vec<Out>, out: Out) -> Result<(), AllocError>
     Ok(())
 }
 
-// Adds an output to a list that others may lie in too.
+// Appends an output to a list with shared memory.
 fn push_shared(shared: &mut Arc<Vec<Out>>, alloc: Global, out: Out) -> Result<(), AllocError>
     ensures pushed { OnOk result (outputs_of (arc_value shared.new).items ≡ with_last (outputs_of (arc_value shared.old).items) (output_of out)) }
 {
@@ -120,7 +121,7 @@ fn push_shared(shared: &mut Arc<Vec<Out>>, alloc: Global, out: Out) -> Result<()
 }
 
 impl Out {
-    // An output of the same value. Its lists may lie in the same memory; nothing else of it does.
+    // Returns an output of the same value. Only its lists may share memory with this one.
     #[cycle(copy)]
     pub(crate) fn copy(&self, alloc: Global) -> Result<Out, AllocError>
         ensures ok { IfOk result (λ r. output_of r ≡ output_of self.now) }
@@ -138,7 +139,7 @@ impl Out {
         }
     }
 
-    /// Puts a number in the output's place.
+    /// Replaces the output by a number.
     #[inline(always)]
     pub fn put_number(&mut self, n: u64)
         ensures value { output_of self.new ≡ number n }
@@ -152,7 +153,7 @@ impl Out {
         }
     }
 
-    /// The number, or 0 of another output.
+    /// Returns the number, or 0 for any other output.
     pub(crate) fn number(&self) -> u64
         ensures value { result ≡ number_in (output_of self.now) }
     {
@@ -162,7 +163,7 @@ impl Out {
         }
     }
 
-    /// The number of items, or 0 of another output.
+    /// Returns the number of items, or 0 for any other output.
     pub(crate) fn size(&self) -> u64
         ensures value { result ≡ size_in (output_of self.now) }
     {
@@ -172,7 +173,7 @@ impl Out {
         }
     }
 
-    /// The first part of a pair, or the output itself.
+    /// Returns the first part of a pair, or the output itself.
     pub(crate) fn into_first(self) -> Out
         ensures value { output_of result ≡ first_in (output_of self) }
     {
@@ -185,7 +186,7 @@ impl Out {
         }
     }
 
-    /// The second part of a pair, or the output itself.
+    /// Returns the second part of a pair, or the output itself.
     pub(crate) fn into_second(self) -> Out
         ensures value { output_of result ≡ second_in (output_of self) }
     {
@@ -198,7 +199,7 @@ impl Out {
         }
     }
 
-    /// What stands in a side of a choice, or the output itself.
+    /// Returns the content of `Left` or `Right`, or the output itself.
     pub(crate) fn into_merged(self) -> Out
         ensures value { output_of result ≡ merge_in (output_of self) }
     {
@@ -213,7 +214,7 @@ impl Out {
 }
 
 impl Outs {
-    // A list of the same values.
+    // Returns a list of the same values.
     #[cycle(copy)]
     fn copy(&self, alloc: Global) -> Result<Outs, AllocError>
         ensures ok { IfOk result (λ r. outputs_of (outs_list r) ≡ outputs_of (outs_list self.now)) }
@@ -227,7 +228,7 @@ impl Outs {
     }
 }
 
-// Puts an output in place of another one, which is dropped here, and not where each caller would make room for it.
+// Replaces an output. The old one is dropped here, so that the callers' stack frames don't grow.
 #[inline(never)]
 fn put(out: &mut Out, value: Out)
     ensures value { out.new ≡ value }
@@ -235,7 +236,7 @@ fn put(out: &mut Out, value: Out)
     *out = value;
 }
 
-// Outputs of the same values. Their lists may lie in the same memory; nothing else of them does.
+// Returns outputs of the same values. Only their lists may share memory with these.
 #[cycle(copy)]
 fn copy_all(alloc: Global, outs: &[Out]) -> Result<Vec<Out>, AllocError>
     ensures ok { IfOk result (λ r. outputs_of r.items ≡ outputs_of outs.now) }
@@ -247,7 +248,7 @@ fn copy_all(alloc: Global, outs: &[Out]) -> Result<Vec<Out>, AllocError>
     Ok(copies)
 }
 
-/// A pair of two outputs.
+/// Makes a pair of two outputs.
 pub fn make_pair(alloc: Global, first: Out, second: Out) -> Result<Out, AllocError>
     ensures ok { IfOk result (λ r. output_of r ≡ pair (output_of first) (output_of second)) }
 {
@@ -256,21 +257,21 @@ pub fn make_pair(alloc: Global, first: Out, second: Out) -> Result<Out, AllocErr
     Ok(Out::Pair(first, second))
 }
 
-/// An output of a first schedule.
+/// Makes a `Left` of an output.
 pub fn make_left(alloc: Global, out: Out) -> Result<Out, AllocError>
     ensures ok { IfOk result (λ r. output_of r ≡ left (output_of out)) }
 {
     Ok(Out::Left(Box::new(alloc, out)?))
 }
 
-/// An output of a second schedule.
+/// Makes a `Right` of an output.
 pub fn make_right(alloc: Global, out: Out) -> Result<Out, AllocError>
     ensures ok { IfOk result (λ r. output_of r ≡ right (output_of out)) }
 {
     Ok(Out::Right(Box::new(alloc, out)?))
 }
 
-/// An output that is a list.
+/// Makes an output of a list.
 pub fn make_list(items: Vec<Out>) -> Out
     ensures value { output_of result ≡ listed (outputs_of items.items) }
 {
@@ -278,7 +279,7 @@ pub fn make_list(items: Vec<Out>) -> Out
 }
 
 impl Test {
-    /// Whether a number passes.
+    /// Whether a number passes the test.
     pub fn passes(self, x: u64) -> bool
         ensures value { result ≡ passes self x }
     {
@@ -294,8 +295,8 @@ impl Test {
 }
 
 impl Pick {
-    /// The number that is picked. Where the pick doesn't fit: `_1` and `_2` read the output itself, 0 is read of what is no number,
-    /// and what is no list has 0 items.
+    /// Returns the picked number. If the pick doesn't fit, `_1` and `_2` read the output itself, an
+    /// output that isn't a number reads as 0, and one that isn't a list has 0 items.
     pub fn read(self, out: &Out) -> u64
         ensures value { result ≡ picked self (output_of out.now) }
     {
@@ -315,8 +316,9 @@ impl Pick {
 }
 
 impl Func {
-    /// The function's answer. Where it doesn't fit: `_1`, `_2` and `merge` give the output itself, `size` gives 0, and `+` and `*`
-    /// take 0 for what is no number.
+    /// Returns the function's result. If the function doesn't fit, `_1`, `_2` and `merge` return
+    /// the output itself, `size` returns 0, and `+` and `*` read an output that isn't a number as
+    /// 0.
     pub fn apply(self, mut out: Out) -> Out
         ensures value { output_of result ≡ applied self (output_of out) }
     {
@@ -324,7 +326,7 @@ impl Func {
         out
     }
 
-    /// The same, in the output's place.
+    /// Like `apply`, in place of the output.
     pub fn apply_in(self, out: &mut Out)
         ensures value { output_of out.new ≡ applied self (output_of out.old) }
     {
@@ -340,7 +342,7 @@ impl Func {
     }
 }
 
-// The first part of a pair in the pair's place.
+// Replaces a pair by its first part.
 #[inline(never)]
 fn keep_first(out: &mut Out)
     ensures value { output_of out.new ≡ first_in (output_of out.old) }
@@ -349,7 +351,7 @@ fn keep_first(out: &mut Out)
     *out = whole.into_first();
 }
 
-// The second part of a pair in the pair's place.
+// Replaces a pair by its second part.
 #[inline(never)]
 fn keep_second(out: &mut Out)
     ensures value { output_of out.new ≡ second_in (output_of out.old) }
@@ -358,7 +360,7 @@ fn keep_second(out: &mut Out)
     *out = whole.into_second();
 }
 
-// What stands in a side of a choice in the side's place.
+// Replaces a `Left` or `Right` by its content.
 #[inline(never)]
 fn keep_merged(out: &mut Out)
     ensures value { output_of out.new ≡ merge_in (output_of out.old) }

@@ -1,4 +1,4 @@
-// What has been read of a text, and which token may come next.
+//! The parser: what has been read of a text, and which token may come next.
 
 ghost use Rattle.std.specs.Prelude.{◌≡◌, ◌∷◌, option_map, IfOk, OnOk};
 ghost use Rattle.zs_term.specs.Machine.{argument, begin_leaf, open_mark, close_mark, base_mark, dot_mark, pick_mark, test_mark, map_mark, inner_mark, join_mark, step_mark, step_number, at, left};
@@ -10,27 +10,27 @@ use crate::term::{Cmp, Func, Pick};
 use crate::token::Mark;
 use std::alloc::{AllocError, Global};
 
-/// The infix forms that are open. A `(` takes no memory before its operator is read.
+/// The open infix forms. A `(` takes no memory until its operator is read.
 #[derive(Drop)]
 pub struct Frames {
-    /// How many `(` without an operator are innermost.
+    /// The number of innermost `(` without an operator.
     pub bare: u64,
-    /// The forms outside of these of which the operator was read, the innermost last.
+    /// The forms outside of these whose operator was read, the innermost last.
     pub joined: Vec<Joined>,
 }
 
-/// `(S op`
+/// `(S op`: an infix form with its left part.
 #[derive(Drop)]
 pub struct Joined {
-    /// How many `(` without an operator are open right before it.
+    /// The number of `(` without an operator right before it.
     pub before: u64,
     /// The operator.
     pub form: Infix,
-    /// The part on its left.
+    /// The left part.
     pub left: Part,
 }
 
-/// What was read since the innermost frame, and so what may come next.
+/// What was read since the innermost frame, which determines what may come next.
 #[derive(Drop)]
 pub enum Mode {
     /// Nothing: a term begins here.
@@ -47,7 +47,7 @@ pub enum Mode {
     Based(Option<u64>),
     /// `exponential(N,`
     Factored(Option<u64>),
-    /// A term but for its last `)`.
+    /// A term without its last `)`.
     Closing(Part),
     /// A term.
     After(Part),
@@ -57,9 +57,9 @@ pub enum Mode {
     Method(Method, Part),
     /// `S.whileOutput(` or `S.resetWhen(`
     Picking(Action, Part),
-    /// `S.word(` and its pick.
+    /// `S.word(` with its pick.
     Testing(Part, Subject),
-    /// `S.word(` and its pick and comparison.
+    /// `S.word(` with its pick and comparison.
     Comparing(Part, Subject, Cmp),
     /// `S.map(`
     Mapping(Part),
@@ -67,7 +67,7 @@ pub enum Mode {
     Scaling(Part, Scale),
 }
 
-// The first token of a term, but for `(`.
+// The first token of a term, if it isn't `(`.
 fn begin_leaf(alloc: Global, build: bool, mark: Mark) -> Result<Option<Mode>, AllocError>
     ensures value { IfOk result (λ next. option_map mode_of next ≡ begin_leaf (keep build) mark) }
 {
@@ -82,7 +82,7 @@ fn begin_leaf(alloc: Global, build: bool, mark: Mark) -> Result<Option<Mode>, Al
     }
 }
 
-// Behind `exponential(N`.
+// The token after `exponential(N`.
 fn behind_base(
     alloc: Global,
     build: bool,
@@ -101,7 +101,7 @@ fn behind_base(
     }
 }
 
-// Behind `S.`.
+// The token after `S.`.
 fn behind_dot(
     alloc: Global,
     build: bool,
@@ -120,7 +120,7 @@ fn behind_dot(
     }
 }
 
-// Behind `S.word(`.
+// The mode after `S.word(`.
 fn argument_of(method: Method, part: Part) -> Mode
     ensures value { mode_of result ≡ argument method (kept_of part) }
 {
@@ -157,7 +157,7 @@ fn compare(part: Part, subject: Subject, mark: Mark) -> Option<Mode>
     }
 }
 
-// A function, or the front of one with a number.
+// A function without a number, or the word of one with a number.
 fn func_or_scale(
     alloc: Global,
     build: bool,
@@ -200,7 +200,7 @@ fn on_close(next: Mode, mark: Mark) -> Option<Mode>
     }
 }
 
-// One `(` more. As many as would not fit the count are never open: no text is that long.
+// Counts one more `(`. The counter can't overflow, since no text is that long.
 #[tactic(auto, using(crate::proofs::Stacks::bare_more))]
 fn open(frames: &mut Frames) -> Result<(), AllocError>
     ensures value { OnOk result (stack_of frames.new ≡ left ∷ stack_of frames.old) }
@@ -209,7 +209,7 @@ fn open(frames: &mut Frames) -> Result<(), AllocError>
     Ok(())
 }
 
-// The token behind a whole term, but for a dot.
+// The token after a whole term, if it isn't a dot.
 #[tactic(auto, using(crate::proofs::Stacks::joined_push, crate::proofs::Stacks::bare_first, crate::proofs::Stacks::bare_none))]
 fn join_behind(
     alloc: Global,
@@ -274,7 +274,7 @@ fn within_form(
     }
 }
 
-/// What may come behind a word or symbol, if it may come itself.
+/// Returns the mode after a word or symbol, or nothing if it may not come.
 #[tactic(auto, using(crate::proofs::Stacks::map_map))]
 pub fn after_mark(
     alloc: Global,
@@ -301,7 +301,7 @@ pub fn after_mark(
     }
 }
 
-/// What may come behind a number, if it may come itself.
+/// Returns the mode after a number, or nothing if it may not come.
 pub fn after_number(
     alloc: Global,
     build: bool,

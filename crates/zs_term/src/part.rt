@@ -1,4 +1,4 @@
-// Whole terms that the reader has put together.
+//! Whole terms that the parser has composed.
 
 ghost use Rattle.std.specs.Prelude.{◌≡◌, IfOk};
 ghost use Rattle.zs_term.specs.Parts.{kept_of, keep, keep_join, keep_test, keep_collect, keep_apply, keep_scale};
@@ -7,19 +7,20 @@ use crate::forms::{Counted, Infix, Plain, Scale, Subject};
 use crate::term::{Cmp, Func, Term, Test};
 use std::alloc::{AllocError, Global};
 
-/// A whole term that was read: its sizes, and the term itself where terms are built and its numbers fit.
+/// A whole term that was read: its sizes, and the term itself if terms are built and its numbers
+/// fit.
 #[derive(Drop)]
 pub struct Part {
-    /// The depth, at most 2 ^ 64 - 1.
+    /// The depth; saturates at 2^64 - 1.
     pub depth: u64,
-    /// The weight, at most 2 ^ 64 - 1.
+    /// The weight; saturates at 2^64 - 1.
     pub weight: u64,
     /// The term, if it was built.
     pub term: Option<Box<Term>>,
 }
 
 impl Part {
-    /// A leaf without numbers.
+    /// Makes a leaf without numbers.
     pub fn plain(alloc: Global, build: bool, form: Plain) -> Result<Part, AllocError>
         ensures value { IfOk result (λ part. kept_of part ≡ (keep build).plain form) }
     {
@@ -30,7 +31,7 @@ impl Part {
         Ok(Part::leaf(term))
     }
 
-    /// A leaf with a number.
+    /// Makes a leaf with a number.
     pub fn counted(
         alloc: Global,
         build: bool,
@@ -48,7 +49,7 @@ impl Part {
         Ok(Part::leaf(term))
     }
 
-    /// An `exponential` with its base and factor.
+    /// Makes an `exponential` with its base and factor.
     pub fn growing(
         alloc: Global,
         build: bool,
@@ -68,7 +69,7 @@ impl Part {
         Ok(Part::leaf(term))
     }
 
-    // A leaf's sizes.
+    // Makes a leaf, with its sizes.
     fn leaf(term: Option<Box<Term>>) -> Part
         ensures value { result ≡ record { depth = 1; weight = 1; term = term } }
     {
@@ -79,7 +80,7 @@ impl Part {
         }
     }
 
-    /// Two parts and the operator between them.
+    /// Joins two parts by an operator.
     pub fn join(alloc: Global, form: Infix, left: Part, right: Part) -> Result<Part, AllocError>
         ensures value { IfOk result (λ part. kept_of part ≡ keep_join form (kept_of left) (kept_of right)) }
     {
@@ -98,7 +99,7 @@ impl Part {
         })
     }
 
-    /// A part under a test.
+    /// Puts a test over a part.
     pub fn test(
         alloc: Global,
         part: Part,
@@ -123,7 +124,7 @@ impl Part {
         })
     }
 
-    /// A part under `collectAll`.
+    /// Puts `collectAll` over a part.
     pub fn collect(alloc: Global, part: Part) -> Result<Part, AllocError>
         ensures value { IfOk result (λ whole. kept_of whole ≡ keep_collect (kept_of part)) }
     {
@@ -140,7 +141,7 @@ impl Part {
         })
     }
 
-    /// A part under a function without a number.
+    /// Puts a function without a number over a part.
     pub fn apply(alloc: Global, part: Part, func: Func) -> Result<Part, AllocError>
         ensures value { IfOk result (λ whole. kept_of whole ≡ keep_apply (kept_of part) func) }
     {
@@ -157,7 +158,7 @@ impl Part {
         })
     }
 
-    /// A part under a function with a number.
+    /// Puts a function with a number over a part.
     pub fn scale(
         alloc: Global,
         part: Part,

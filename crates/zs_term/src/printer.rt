@@ -1,4 +1,4 @@
-// The canonical spelling of schedules.
+//! The canonical spelling of schedules.
 
 ghost use Rattle.std.specs.Prelude.{◌≡◌, ◌<◌, ◌^◌, ◌++◌, IfOk, OnOk, string_bytes, codes};
 ghost use Rattle.std.specs.Fmt.{decimal};
@@ -14,9 +14,10 @@ use crate::out_text::NoMemory;
 use crate::term::{Cmp, Func, Pick, Term, Test};
 use std::alloc::{AllocError, Global};
 
-/// Writes the one canonical spelling of a schedule; `read` gives the schedule back.
+/// Returns the one canonical spelling of a schedule. `read` returns the schedule again.
 pub fn write(alloc: Global, checked: &Checked) -> Result<String, NoMemory>
     ensures ok { IfOk result (λ text. string_bytes text ≡ canonical_text (schedule_of checked.now)) }
+    // Reading the text returns the schedule.
     ensures read_again { IfOk result (λ text. SpellsSchedule (string_bytes text) (schedule_of checked.now)) }
 {
     let mut text = String::new(alloc);
@@ -26,7 +27,7 @@ pub fn write(alloc: Global, checked: &Checked) -> Result<String, NoMemory>
     Ok(text)
 }
 
-// Adds the canonical spelling of a term.
+// Appends the canonical spelling of a term.
 #[cycle(spelling)]
 fn append(text: &mut String, term: &Term) -> Result<(), AllocError>
     ensures text { OnOk result (string_bytes text.new ≡ string_bytes text.old ++ canonical_text (schedule_of term.now)) }
@@ -51,7 +52,7 @@ fn append(text: &mut String, term: &Term) -> Result<(), AllocError>
     }
 }
 
-// Adds two terms with an operator between them.
+// Appends two terms with an operator between them.
 #[cycle(spelling)]
 fn append_infix(text: &mut String, a: &Term, operator: &str, b: &Term) -> Result<(), AllocError>
     ensures text { OnOk result (string_bytes text.new ≡ string_bytes text.old ++ infix_text (canonical_text (schedule_of a.now)) operator.now (canonical_text (schedule_of b.now))) }
@@ -63,7 +64,7 @@ fn append_infix(text: &mut String, a: &Term, operator: &str, b: &Term) -> Result
     text.push_str(")")
 }
 
-// Adds a word and a number in parentheses.
+// Appends a word and a number in parentheses.
 fn append_number(text: &mut String, word: &str, number: u64) -> Result<(), AllocError>
     ensures text { OnOk result (string_bytes text.new ≡ string_bytes text.old ++ number_text word.now number) }
 {
@@ -72,7 +73,7 @@ fn append_number(text: &mut String, word: &str, number: u64) -> Result<(), Alloc
     write!(text, "{number})")
 }
 
-// Adds an exponential.
+// Appends an `exponential`.
 fn append_exponential(text: &mut String, base: u64, factor: u64) -> Result<(), AllocError>
     ensures text { OnOk result (string_bytes text.new ≡ string_bytes text.old ++ leaf_text (exponential base factor)) }
 {
@@ -81,7 +82,7 @@ fn append_exponential(text: &mut String, base: u64, factor: u64) -> Result<(), A
     write!(text, "{factor})")
 }
 
-// Adds what stands before the base of an exponential.
+// Appends the text before the base of an `exponential`.
 #[tactic(auto, unfolding(crate::specs::Canonical::exponential_text))]
 fn append_exponential_word(text: &mut String) -> Result<(), AllocError>
     ensures text { OnOk result (string_bytes text.new ≡ string_bytes text.old ++ exponential_text) }
@@ -89,7 +90,7 @@ fn append_exponential_word(text: &mut String) -> Result<(), AllocError>
     text.push_str("exponential(")
 }
 
-// Adds a test and the parenthesis behind it.
+// Appends a test and the parenthesis after it.
 fn append_test(text: &mut String, test: Test) -> Result<(), AllocError>
     ensures text { OnOk result (string_bytes text.new ≡ string_bytes text.old ++ test_text test) }
 {
@@ -98,7 +99,7 @@ fn append_test(text: &mut String, test: Test) -> Result<(), AllocError>
     write!(text, "{than})")
 }
 
-// What stands between two schedules.
+// Returns the text between two schedules.
 #[tactic(auto, unfolding(crate::specs::Canonical::and_then_text))]
 fn infix_text(form: Infix) -> &'static str
     ensures text { result.now ≡ pairing_text (infix_pairing form) }
@@ -110,7 +111,7 @@ fn infix_text(form: Infix) -> &'static str
     }
 }
 
-// What stands before the test of an input.
+// Returns the text before a test of the input.
 #[tactic(auto, unfolding(crate::specs::Canonical::while_input_text))]
 fn while_input_word() -> &'static str
     ensures text { result.now ≡ while_input_text }
@@ -118,7 +119,7 @@ fn while_input_word() -> &'static str
     ".whileInput("
 }
 
-// What stands before the test of an output.
+// Returns the text before a test of the output.
 #[tactic(auto, unfolding(crate::specs::Canonical::while_output_text))]
 fn while_output_word() -> &'static str
     ensures text { result.now ≡ while_output_text }
@@ -126,7 +127,7 @@ fn while_output_word() -> &'static str
     ".whileOutput("
 }
 
-// What stands before the test of a reset.
+// Returns the text before the test of a reset.
 #[tactic(auto, unfolding(crate::specs::Canonical::reset_when_text))]
 fn reset_when_word() -> &'static str
     ensures text { result.now ≡ reset_when_text }
@@ -134,7 +135,7 @@ fn reset_when_word() -> &'static str
     ".resetWhen("
 }
 
-// Adds what stands behind a schedule and its dot for a test.
+// Appends the modifier with a test that follows a schedule.
 fn append_tested(text: &mut String, subject: Subject, test: Test) -> Result<(), AllocError>
     ensures text { OnOk result (string_bytes text.new ≡ string_bytes text.old ++ modifier_text (test_modifier subject test)) }
 {
@@ -158,7 +159,7 @@ fn append_tested(text: &mut String, subject: Subject, test: Test) -> Result<(), 
     }
 }
 
-// Adds a word and a pick with its test.
+// Appends a word and a pick with its test.
 fn append_picked(text: &mut String, word: &str, pick: Pick, test: Test) -> Result<(), AllocError>
     ensures text { OnOk result (string_bytes text.new ≡ string_bytes text.old ++ (word.now ++ (pick_text pick ++ test_text test))) }
 {
@@ -167,7 +168,7 @@ fn append_picked(text: &mut String, word: &str, pick: Pick, test: Test) -> Resul
     append_test(text, test)
 }
 
-// Adds the change by a function.
+// Appends `.map` with a function.
 fn append_map(text: &mut String, func: Func) -> Result<(), AllocError>
     ensures text { OnOk result (string_bytes text.new ≡ string_bytes text.old ++ (codes ".map(" ++ (func_text func ++ codes ")"))) }
 {
@@ -176,7 +177,7 @@ fn append_map(text: &mut String, func: Func) -> Result<(), AllocError>
     text.push_str(")")
 }
 
-// A comparison and the space behind it.
+// Returns a comparison and the space after it.
 fn cmp_text(cmp: Cmp) -> &'static str
     ensures value { result.now ≡ cmp_text cmp }
 {
@@ -190,7 +191,7 @@ fn cmp_text(cmp: Cmp) -> &'static str
     }
 }
 
-// A pick and the space behind it, where one is written.
+// Returns a pick and the space after it, or nothing for the whole output.
 fn pick_text(pick: Pick) -> &'static str
     ensures value { result.now ≡ pick_text pick }
 {
@@ -202,7 +203,7 @@ fn pick_text(pick: Pick) -> &'static str
     }
 }
 
-// Adds a function.
+// Appends a function.
 fn append_func(text: &mut String, func: Func) -> Result<(), AllocError>
     ensures text { OnOk result (string_bytes text.new ≡ string_bytes text.old ++ func_text func) }
 {
@@ -217,7 +218,8 @@ fn append_func(text: &mut String, func: Func) -> Result<(), AllocError>
     }
 }
 
-// The numbers of a term fit 64 bits. It does nothing else: the proof that the spelling is read again rests on it.
+// Does nothing: its contract says that the numbers of a term fit in 64 bits. `write` needs this
+// fact for the clause that its text is read again.
 fn numbers_fit(term: &Term)
     ensures value { HasFittingNumbers (schedule_of term.now) }
 {
@@ -244,12 +246,12 @@ fn numbers_fit(term: &Term)
     }
 }
 
-// A number of the code fits 64 bits.
+// A number of the code fits in 64 bits.
 fn in_range(n: u64)
     ensures value { n < 2 ^ 64 }
 {}
 
-// The number of a test fits 64 bits.
+// The number of a test fits in 64 bits.
 fn test_fits(subject: Subject, test: Test)
     ensures value { ModifierFits (test_modifier subject test) }
 {
@@ -259,7 +261,7 @@ fn test_fits(subject: Subject, test: Test)
     }
 }
 
-// The number of a function fits 64 bits.
+// The number of a function fits in 64 bits.
 fn func_fits(func: Func)
     ensures value { FuncFits func }
 {

@@ -1,4 +1,4 @@
-// Terms from their text.
+//! Reads schedules from their text.
 
 ghost use Rattle.std.specs.Prelude.{◌≡◌, ℕ, Option, Some, None, option_map, IfOk, IfErr, [], ◌≢◌, MatchOption, MatchResult, true};
 ghost use Rattle.zs_term.specs.Schedule.{Schedule, schedule_of};
@@ -21,7 +21,7 @@ use crate::term::Term;
 use crate::token::Lexeme;
 use std::alloc::{AllocError, Global};
 
-// What may come behind a token, if the token may come.
+// Returns the mode after a token, or nothing if the token may not come.
 fn after_lexeme(
     alloc: Global,
     build: bool,
@@ -37,7 +37,7 @@ fn after_lexeme(
     }
 }
 
-// The place of the first number that does not fit, with one token more.
+// Returns the place of the first number that doesn't fit, after one more token.
 fn huge_behind(huge: Option<u64>, place: usize, lexeme: Lexeme) -> Option<u64>
     ensures value { (t : Token) → IsLexeme lexeme t → result ≡ huge_with huge place t }
 {
@@ -50,7 +50,7 @@ fn huge_behind(huge: Option<u64>, place: usize, lexeme: Lexeme) -> Option<u64>
     }
 }
 
-// The whole term that was read, if nothing is open.
+// Returns the whole term that was read, if no form is open.
 #[tactic(auto, using(crate::proofs::Stacks::stack_empty))]
 fn finish(frames: &Frames, mode: Mode) -> Option<Part>
     ensures value { MatchOption result ((a : Kept) → at (stack_of frames.now) (mode_of mode) ≢ at [] (after a)) (λ part. at (stack_of frames.now) (mode_of mode) ≡ at [] (after (kept_of part))) }
@@ -78,7 +78,7 @@ fn finish(frames: &Frames, mode: Mode) -> Option<Part>
     }
 }
 
-// What the whole text is read as.
+// Parses the whole text: returns the part, and the place of the first number that doesn't fit.
 fn whole(alloc: Global, build: bool, text: &[u8]) -> Result<(Part, Option<u64>), TermFault>
     ensures ok { IfOk result (λ found. IsWhole build text.now (kept_of found.0) found.1) }
     ensures err { IfErr result (IsCause text.now) }
@@ -118,7 +118,7 @@ fn whole(alloc: Global, build: bool, text: &[u8]) -> Result<(Part, Option<u64>),
     }
 }
 
-// The term of a text that spells one within the limits, with numbers that fit.
+// Builds the term of a text that spells a term within the limits, with numbers that fit.
 fn built(alloc: Global, text: &[u8]) -> Result<Term, TermFault>
     requires spelled { (t : Schedule) × IsRead text.now t }
     ensures ok { IfOk result (λ term. IsRead text.now (schedule_of term)) }
@@ -131,11 +131,13 @@ fn built(alloc: Global, text: &[u8]) -> Result<Term, TermFault>
     }
 }
 
-// The longest text, in bytes, of which a term is built before its sizes are known: it is at most 512 deep.
+// The length in bytes up to which a term is built at once, before its sizes are known. A text of
+// this length is at most 512 deep.
 const SHORT: usize = 4096;
 
-// The term that a text spells, where it is within the limits and its numbers fit. A short text is read once. A longer one is
-// read twice: no term is built until its sizes are known.
+// Returns the term that a text spells, if it is within the limits and its numbers fit. A text of at
+// most `SHORT` bytes is read once. A longer text is read twice: no term is built until its sizes
+// are known.
 fn term_in(alloc: Global, text: &[u8]) -> Result<Term, TermFault>
     ensures ok { IfOk result (λ term. IsRead text.now (schedule_of term)) }
     ensures err { IfErr result (IsCause text.now) }
@@ -154,7 +156,7 @@ fn term_in(alloc: Global, text: &[u8]) -> Result<Term, TermFault>
     }
 }
 
-// The schedule that a text spells.
+// Parses and checks a text.
 fn judged(alloc: Global, text: &str) -> Result<Checked, TermFault>
     ensures ok { IfOk result (λ checked. SpellsSchedule text.now (schedule_of checked)) }
     ensures err { IfErr result (IsCause text.now) }
@@ -163,10 +165,12 @@ fn judged(alloc: Global, text: &str) -> Result<Checked, TermFault>
     check_small(alloc, term)
 }
 
-/// Reads the schedule that a text spells. Of the faults of the text the first is answered, in the order of `TermFault`.
+/// Returns the schedule that a text spells, or the first fault of the text in the order of
+/// `TermFault`.
 pub fn read(alloc: Global, text: &str) -> Result<Checked, TermFault>
     ensures ok { IfOk result (λ checked. SpellsSchedule text.now (schedule_of checked)) }
     ensures err { IfErr result (IsCause text.now) }
+    // Once more, by the definition that computes: `verdict_of` determines the result.
     ensures verdict { MatchResult result (λ checked. verdict_of text.now ≡ Ok (schedule_of checked)) (λ fault. (fault ≡ Memory → ⊥) → verdict_of text.now ≡ Err fault) }
 {
     judged(alloc, text)

@@ -1,4 +1,4 @@
-// The terms of schedules.
+//! The terms of schedules.
 
 /// How a test compares a value with a number.
 #[derive(Clone, Copy, Debug, PartialEq, Eq)]
@@ -7,9 +7,9 @@ pub enum Cmp {
     Lt,
     /// At most the number.
     Le,
-    /// The number itself.
+    /// Equal to the number.
     Eq,
-    /// Another than the number.
+    /// Not equal to the number.
     Ne,
     /// Greater than the number.
     Gt,
@@ -39,7 +39,7 @@ pub enum Pick {
     Size,
 }
 
-/// What `map` makes of an output.
+/// What `map` computes from an output.
 #[derive(Clone, Copy, Debug, PartialEq, Eq)]
 pub enum Func {
     /// The left part of a pair.
@@ -48,9 +48,9 @@ pub enum Func {
     Second,
     /// The number of items of a list.
     Size,
-    /// What stands on the left or on the right.
+    /// The content of `Left` or `Right`.
     Merge,
-    /// The number, whatever the output is: `as`.
+    /// The number, for every output: `as`.
     Const(u64),
     /// The sum of a number and this one, at most 18446744073709551615.
     Add(u64),
@@ -58,44 +58,46 @@ pub enum Func {
     Mul(u64),
 }
 
-/// A schedule as it is written. A term is dropped in as much of the stack as it is deep; `check` gives a term up in the same
-/// stack, whatever its depth.
+/// A schedule as it is written. Dropping a term takes stack in proportion to its depth; `check`
+/// frees a term in constant stack.
 #[derive(Drop)]
 pub enum Term {
-    /// Continues at once, always: `forever`.
+    /// Always continues at once: `forever`.
     Forever,
-    /// Continues at once, so many times: `recurs`.
+    /// Continues at once, n times: `recurs`.
     Recurs(u64),
-    /// Continues so many milliseconds later: `spaced`.
+    /// Continues after a delay in milliseconds: `spaced`.
     Spaced(u64),
-    /// Continues at the next multiple of so many milliseconds since the first step, or at once where it is behind: `fixed`.
+    /// Continues at the next boundary of a period in milliseconds, or at once if it is late:
+    /// `fixed`.
     Fixed(u64),
     /// Continues after a delay in milliseconds that grows by a factor: `exponential`.
     Exponential(u64, u64),
     /// Continues after a delay in milliseconds that grows as the Fibonacci numbers: `fibonacci`.
     Fibonacci(u64),
-    /// Continues at once and answers its input: `identity`.
+    /// Continues at once and returns its input: `identity`.
     Identity,
-    /// Continues at once and answers the milliseconds since the first step: `elapsed`.
+    /// Continues at once and returns the milliseconds since the first step: `elapsed`.
     Elapsed,
-    /// Continues after a delay in milliseconds that grows by itself: `linear`.
+    /// Continues after a delay in milliseconds that grows by its first value each step: `linear`.
     Linear(u64),
-    /// Continues at the end of the window of so many milliseconds: `windowed`.
+    /// Continues at the end of the current window of a length in milliseconds: `windowed`.
     Windowed(u64),
-    /// Continues while both do, at the later moment: `&&`.
+    /// Continues while both continue, at the later moment: `&&`.
     Both(Box<Term>, Box<Term>),
-    /// Continues while one of both does, at the earlier moment: `||`.
+    /// Continues while at least one continues, at the earlier moment: `||`.
     Either(Box<Term>, Box<Term>),
     /// Follows the first until it is done, then the second: `andThenEither`.
     AndThen(Box<Term>, Box<Term>),
-    /// Stops where the input does not pass: `whileInput`.
+    /// Stops if the input fails the test: `whileInput`.
     WhileInput(Box<Term>, Test),
-    /// Stops where the picked part of the output does not pass: `whileOutput`.
+    /// Stops if the picked part of the output fails the test: `whileOutput`.
     WhileOutput(Box<Term>, Pick, Test),
-    /// Answers the list of its part's outputs at the earlier steps, without those at which it was done: `collectAll`.
+    /// Returns the list of its part's outputs at the earlier steps at which the part continued:
+    /// `collectAll`.
     CollectAll(Box<Term>),
-    /// Answers a function of the output: `map`.
+    /// Returns a function of the output: `map`.
     Map(Box<Term>, Func),
-    /// Begins anew where the picked part of the output passes: `resetWhen`.
+    /// Starts over if the picked part of the output passes the test: `resetWhen`.
     ResetWhen(Box<Term>, Pick, Test),
 }

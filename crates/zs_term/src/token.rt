@@ -1,9 +1,9 @@
-// The tokens of the text of terms.
+//! The tokens of the text of terms.
 
 use crate::forms::{Counted, Infix, Method, Piece, Plain, Scale};
 use crate::term::Cmp;
 
-/// A word or a symbol, by what it is in a term.
+/// A word or a symbol, by its role in a term.
 #[derive(Clone, Copy, Drop)]
 pub enum Mark {
     /// The word of a leaf without numbers.
@@ -12,9 +12,9 @@ pub enum Mark {
     CountedWord(Counted),
     /// `exponential`
     ExponentialWord,
-    /// What stands between two terms.
+    /// What is between two terms.
     Operator(Infix),
-    /// What stands behind a dot, and has arguments.
+    /// What follows a dot, and takes arguments.
     MethodWord(Method),
     /// `collectAll`
     CollectAllWord,
@@ -38,7 +38,7 @@ pub enum Mark {
     Dot,
 }
 
-/// A token as the code keeps it: a number above 2 ^ 64 - 1 is `None`.
+/// A token as the code stores it: a number above 2^64 - 1 is `None`.
 #[derive(Clone, Copy, Drop)]
 pub enum Lexeme {
     /// A number.

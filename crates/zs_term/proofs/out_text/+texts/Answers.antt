@@ -6,7 +6,7 @@ use Rattle.zs_term.proofs.Values.{stored_outputs_are}
 use Rattle.zs_term.proofs.Texts.{text_grown, text_enclosed, begins_both}
 use Rattle.zs_term.proofs.out_text.+texts.Goals as goal
 
--- a list and its brackets
+-- a list with its brackets
 pub push_out-returns-in_ok-append_list-in-Items-clause-ok :
     goal.push_out-returns-in_ok-append_list-in-Items-clause-ok
 push_out-returns-in_ok-append_list-in-Items-clause-ok t c =
@@ -14,7 +14,7 @@ push_out-returns-in_ok-append_list-in-Items-clause-ok t c =
     let text = text_enclosed c.push_str-in-Items-2.result _ _ _ _ _ c.in_ok-push_str-in-Items.ensures.bytes c.in_ok-append_list-in-Items.ensures.ok c.push_str-in-Items-2.ensures.bytes in
     subst (λ w. OnOk c.push_str-in-Items-2.result (string_bytes c.push_str-in-Items-2.new.self ≡ string_bytes c.args.text.now ++ w)) (sym (ap output_text same)) text
 
--- one output more of a list
+-- one more output of a list
 pub append_items-loop-i-preserved : goal.append_items-loop-i-preserved
 append_items-loop-i-preserved t c = (
   text_grown _ _ _ _ _ _ _ c.loop-i-test.true c.index-items-i.is c.loop-i.invariant.0 c.in_ok-append_comma.ensures.ok c.in_ok-push_out.ensures.ok,

@@ -13,7 +13,7 @@ unreachable-requires c =
     let known = rw c.in-None.is at (there c.args.text.now w.0 (kept_of c.in_ok-part.part) w.1 w.2 c.requires.spelled.1.fits) in
     cc
 
--- the term that was built is the one of the text
+-- the built term is the one of the text
 pub returns-clause-ok : goal.returns-clause-ok
 returns-clause-ok c =
     let text = c.args.text.now in
