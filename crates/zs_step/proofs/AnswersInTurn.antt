@@ -1,4 +1,4 @@
--- Answers one after another.
+-- Results of steps, one after another.
 use Rattle.std.proofs.Common.{◌≡◌, ℕ, ◌+◌, ◌<◌, ◌≤◌, List, [], ◌∷◌, ◌++◌, length, take, drop, get_or, sym, ap, ◌∙◌, arith, subst, below_more}
 use Rattle.std.proofs.lemmas.List.{get_or_append_left, get_or_at}
 use Rattle.zs_term.specs.Schedule.{Schedule}
@@ -13,7 +13,7 @@ order-behind : (k h : History) → IsInOrder (k ++ h) → IsInOrder h
 order-behind [] h o = o
 order-behind (p ∷ k) h o = order-behind k h o.1
 
--- in a list whose moments don't fall, each moment is at or past the one before it
+-- in a list whose moments don't fall, each moment is at or after the one before it
 pub order-at : (xs : List (ℕ × ℕ)) (i : ℕ) (d : ℕ × ℕ) → i < length xs → IsInOrder (history_of xs) → last_moment (history_of (take i xs)) ≤ (get_or xs i d).0
 order-at xs i d lt order =
     let whole : IsInOrder (history_of (drop (i + 1) xs) ++ history_of (take (i + 1) xs)) = subst IsInOrder (history-cut xs (i + 1)) order in
@@ -21,7 +21,7 @@ order-at xs i d lt order =
     subst IsInOrder (history-take xs i d lt) (order-behind (history_of (drop (i + 1) xs)) (history_of (take (i + 1) xs)) whole) in
     part.0
 
--- one more answer
+-- one more result
 pub answers-push : (t : Schedule) (xs : List (ℕ × ℕ)) (ys zs : List Stepped) (i : ℕ) (r : Stepped) → zs ≡ ys ++ r ∷ [] → length ys ≡ i →
     ((j : ℕ) (d : Stepped) → j < i → IsAnswer t (history_of (take (j + 1) xs)) (get_or ys j d)) → IsAnswer t (history_of (take (i + 1) xs)) r →
     (j : ℕ) (d : Stepped) → j < i + 1 → IsAnswer t (history_of (take (j + 1) xs)) (get_or zs j d)

@@ -12,11 +12,11 @@ first-last [] order = omega arith
 first-last (p ∷ []) order = omega arith
 first-last (p ∷ (q ∷ h)) order = omega (arith, order.0, first-last (q ∷ h) order.1)
 
--- a number is at most another one, or past it
+-- a number is at most another one, or greater
 at_most_or_past : (k q : ℕ) → (k ≤ q) ⊎ (suc q ≤ k)
 at_most_or_past k q = grind arith
 
--- no boundary lies between the last one at or before a moment and the next one
+-- no boundary is after the last one at or before a moment and before the next one
 boundary-past : (n first now q k : ℕ) → first + n * q ≤ now → now < first + n * k → first + n * suc q ≤ first + n * k
 boundary-past n first now q k before after =
     elim (at_most_or_past k q) [
@@ -24,7 +24,7 @@ boundary-past n first now q k before after =
       | inr large ↦ omega (arith, mul-le-mul_left n large)
     ]
 
--- the next boundary, where so many whole periods and a rest are past
+-- the next boundary, after some whole periods and a remainder
 boundary-from : (n first now x q r : ℕ) → first ≤ now → n * q + r ≡ now - first → r < n → IsNextBoundary n first now x → x ≡ now + n - r
 boundary-from n first now x q r le past rest b =
     let step = mul-suc n q in
@@ -33,13 +33,13 @@ boundary-from n first now x q r le past rest b =
     let lower = boundary-past n first now q b.boundary.periods (omega (arith, past, le)) after in
     omega (arith, upper, lower, b.boundary.is, step, past, rest, le)
 
--- the first boundary behind the first moment
+-- the first boundary after the first moment
 pub first-boundary : (n now x : ℕ) → 1 ≤ n → IsNextBoundary n now now x → now + n ≡ x
 first-boundary n now x pos b =
     let e = boundary-from n now now x 0 0 (omega arith) (omega arith) pos b in
     omega (arith, e)
 
--- the next boundary by the rest of a division
+-- the next boundary, by the remainder of a division
 next-boundary : (n first now x : ℕ) → 1 ≤ n → first ≤ now → IsNextBoundary n first now x → x ≡ now + n - (now - first) % n
 next-boundary n first now x pos le b =
     boundary-from n first now x ((now - first) / n) ((now - first) % n) le (div-add-mod (now - first) n) (mod-lt (now - first) pos) b
@@ -58,13 +58,13 @@ not_behind a b le = grind arith
 is_behind : (a b : ℕ) → a < b → nat_lt a b ≡ true
 is_behind a b lt = grind arith
 
--- the next run at a step that is not behind
+-- the next run at a step that isn't late
 pub run_after-is : (n first run now x : ℕ) → 1 ≤ n → first ≤ now → now ≤ run + n → IsNextBoundary n first now x → run_after n first run now ≡ saturated x
 run_after-is n first run now x pos le timely b =
     let early : nat_lt (run + n) now || nat_eq n 0 ≡ false = ap (λ c. c || nat_eq n 0) (not_behind (run + n) now timely) ∙ nonzero n pos in
     ap (λ c. if c then now else saturated (now + n - (now - first) % n)) early ∙ ap saturated (sym (next-boundary n first now x pos le b))
 
--- the next run at a step that is behind
+-- the next run at a step that is late
 pub run_after-behind : (n first run now : ℕ) → run + n < now → run_after n first run now ≡ now
 run_after-behind n first run now late =
     ap (λ c. if c || nat_eq n 0 then now else saturated (now + n - (now - first) % n)) (is_behind (run + n) now late)

@@ -6,13 +6,13 @@ use Rattle.zs_step.specs.Answer.{Answer, answer, is_next, done_from, from_done, 
 use Rattle.zs_step.specs.Laws.{GoesOnThroughout, IsFromFirstDone}
 use Rattle.zs_step.proofs.Sequels.{from_done-behind}
 
--- nothing is found where nothing was found before and the schedule goes on
+-- nothing is found if nothing was found before and the schedule continues
 done_from-none : (o : Option History) (p : ℕ × ℕ) (b : Bool) → done_from o p b ≡ None → (o ≡ None) × (b ≡ true)
 done_from-none (Some g) p b e = cc
 done_from-none None p true e = (refl, refl)
 done_from-none None p false e = cc
 
--- where no step is found, the schedule goes on at each
+-- if no step is found, the schedule continues at each
 pub none-goes_on : (f : History → Answer) (h : History) → from_done f h ≡ None → GoesOnThroughout f h
 none-goes_on f [] e [] before p whole = cc
 none-goes_on f [] e (r ∷ later) before p whole = cc
@@ -21,14 +21,14 @@ none-goes_on f (q ∷ h) e [] before p whole =
 none-goes_on f (q ∷ h) e (r ∷ later) before p whole =
     none-goes_on f h (done_from-none (from_done f h) q (is_next (f (q ∷ h)).decision) e).0 later before p (ap earlier whole)
 
--- and where it goes on at each, none is found
+-- if the schedule continues at each step, none is found
 pub goes_on-none : (f : History → Answer) (h : History) → GoesOnThroughout f h → from_done f h ≡ None
 goes_on-none f [] goes = refl
 goes_on-none f (p ∷ h) goes =
     ap (λ o. done_from o p (is_next (f (p ∷ h)).decision)) (goes_on-none f h (λ later before q whole. goes (p ∷ later) before q (ap (λ k. p ∷ k) whole)))
     ∙ ap (done_from None p) (goes [] h p refl)
 
--- a part, where there is one
+-- the part, or an empty history
 abbrev part_in : Option History → History
 part_in (Some g) = g
 part_in None = []
@@ -65,17 +65,17 @@ found-is-first f [] g e = cc
 found-is-first f (p ∷ h) g e =
     found-step f p h g (from_done f h) (is_next (f (p ∷ h)).decision) refl refl (λ k before. found-is-first f h k before) e
 
--- and that part is found
+-- the part from that step on is the one that is found
 pub first-is-found : (f : History → Answer) (h g : History) → IsFromFirstDone f h g → from_done f h ≡ Some g
 first-is-found f h g r =
     let start : from_done f (r.first ∷ r.before) ≡ Some (r.first ∷ []) =
     ap (λ o. done_from o r.first (is_next (f (r.first ∷ r.before)).decision)) (goes_on-none f r.before r.least) ∙ ap (done_from None r.first) r.done in
     ap (from_done f) r.whole ∙ from_done-behind f r.later (r.first ∷ r.before) (r.first ∷ []) start ∙ ap (λ k. Some k) (sym r.is)
 
--- the answer from that step on
+-- the result from that step on
 pub sequel-found : (f g : History → Answer) (h part : History) → IsFromFirstDone f h part → sequel f g h ≡ answer (right (g part).output) (g part).decision
 sequel-found f g h part r = ap (λ o. sequel_of o (f h) g) (first-is-found f h part r)
 
--- the answer before it
+-- the result before that step
 pub sequel-before : (f g : History → Answer) (h : History) → GoesOnThroughout f h → sequel f g h ≡ answer (left (f h).output) (f h).decision
 sequel-before f g h goes = ap (λ o. sequel_of o (f h) g) (goes_on-none f h goes)

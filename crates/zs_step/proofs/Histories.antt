@@ -1,4 +1,4 @@
--- A list of pairs in the order of time, as a history.
+-- Lists of pairs, oldest first, as histories.
 use Rattle.std.proofs.Common.{◌≡◌, ℕ, ◌+◌, ◌-◌, ◌<◌, ◌≤◌, List, [], ◌∷◌, ◌++◌, length, take, get_or, refl, sym, ap, ◌∙◌, arith}
 use Rattle.std.proofs.lemmas.List.{reverse-append, length-reverse, length-take, take_more, take_all, get_or-take}
 use Rattle.zs_step.specs.Answer.{next_run, run_after}
@@ -8,7 +8,7 @@ use Rattle.zs_step.specs.History.{History, history_of, first_moment, earlier}
 pub history-push : (xs : List (ℕ × ℕ)) (p : ℕ × ℕ) → history_of (xs ++ p ∷ []) ≡ p ∷ history_of xs
 history-push xs p = reverse-append xs (p ∷ [])
 
--- the history of one pair more
+-- the history after one more pair
 pub history-take : (xs : List (ℕ × ℕ)) (i : ℕ) (d : ℕ × ℕ) → i < length xs →
     history_of (take (i + 1) xs) ≡ get_or xs i d ∷ history_of (take i xs)
 history-take xs i d h = ap history_of (take_more xs i d h) ∙ history-push (take i xs) (get_or xs i d)
@@ -30,7 +30,7 @@ pub length-earlier : (h : History) → length (earlier h) ≡ length h - 1
 length-earlier [] = omega arith
 length-earlier (p ∷ h) = omega arith
 
--- a later step leaves the first moment
+-- a later step doesn't change the first moment
 pub first_moment-behind : (p : ℕ × ℕ) (h : History) → 0 < length h → first_moment (p ∷ h) ≡ first_moment h
 first_moment-behind p [] l = absurd (omega arith)
 first_moment-behind p (q ∷ h) l = refl

@@ -7,7 +7,7 @@ use Rattle.zs_step.specs.History.{History}
 use Rattle.zs_step.specs.Answer.{Answer, since_reset, reset_if}
 use Rattle.zs_step.specs.Laws.{IsWithoutReset, resets_at}
 
--- steps that don't reset are added to the part since the last reset
+-- steps that don't reset extend the part since the last reset
 pub since_reset-behind : (a : History → Answer) (k : Pick) (t : Test) (later before : History) → IsWithoutReset a k t later before →
     since_reset a k t (later ++ before) ≡ later ++ since_reset a k t before
 since_reset-behind a k t [] before without = refl

@@ -1,4 +1,4 @@
--- No decision lies before the moment of its step.
+-- No decision is before the moment of its step.
 use Rattle.std.proofs.Common.{◌≡◌, ℕ, zero, suc, ◌+◌, ◌-◌, ◌*◌, ◌%◌, ◌^◌, ◌≤◌, Bool, true, false, ◌||◌, nat_lt, nat_eq, if◌then◌else◌, Option, Some, None, [], ◌∷◌, length, refl, sym, ap, subst, arith}
 use Rattle.zs_term.specs.Saturating.{saturated, max_moment}
 use Rattle.zs_term.specs.Output.{passes, picked}
@@ -30,7 +30,7 @@ earlier_of-late m (Next x) (Next y) s t = omega arith
 earlier_of-late m (Next x) Stop s t = s
 earlier_of-late m Stop e s t = t
 
--- a delay that is cut
+-- a delay that saturates
 saturated-late : (m x : ℕ) → m ≤ max_moment → m ≤ saturated (m + x)
 saturated-late m x le = omega arith
 
@@ -39,12 +39,12 @@ choice-late : (b : Bool) (m x : ℕ) → m ≤ x → m ≤ (if b then m else x)
 choice-late true m x le = omega arith
 choice-late false m x le = le
 
--- a choice with true in it
+-- a disjunction with true
 or-true : (b : Bool) → (b || true) ≡ true
 or-true true = refl
 or-true false = refl
 
--- the rest of a period behind a moment isn't negative
+-- what remains of a period after a moment isn't negative
 rest-late : (m x n : ℕ) → m ≤ max_moment → m ≤ saturated (m + suc n - x % suc n)
 rest-late m x n le = grind arith
 
@@ -66,7 +66,7 @@ next_run-late p [] le = omega arith
 next_run-late p (q ∷ []) le = saturated-late q.0 p le
 next_run-late p (q ∷ (r ∷ h)) le = run_after-late p (first_moment (r ∷ h)) (next_run p (r ∷ h)) q.0 le
 
--- the last moment of a part, where there is one
+-- the last moment of a part, if there is one
 abbrev moment_in : ℕ → Option History → ℕ
 moment_in d (Some g) = last_moment g
 moment_in d None = d
@@ -77,7 +77,7 @@ done_from-last (Some k) p b g e = sym (ap (moment_in 0) e)
 done_from-last None p true g e = cc
 done_from-last None p false g e = sym (ap (moment_in 0) e)
 
--- and so for each history
+-- the same for the search through a history
 from_done-last : (f : History → Answer) (h g : History) → from_done f h ≡ Some g → last_moment g ≡ last_moment h
 from_done-last f [] g e = cc
 from_done-last f (p ∷ h) g e = done_from-last (from_done f h) p (is_next (f (p ∷ h)).decision) g e
@@ -88,7 +88,7 @@ sequel-late : (m : ℕ) (o : Option History) (a : Answer) (b : History → Answe
 sequel-late m None a b last first second = first
 sequel-late m (Some g) a b last first second = second g (last g refl)
 
--- a reset keeps the last step
+-- a reset doesn't change the last step
 reset_if-last : (b : Bool) (p : ℕ × ℕ) (g : History) → last_moment (reset_if b p g) ≡ p.0
 reset_if-last true p g = refl
 reset_if-last false p g = refl
@@ -98,11 +98,11 @@ since_reset-moment : (a : History → Answer) (k : Pick) (t : Test) (h : History
 since_reset-moment a k t [] = refl
 since_reset-moment a k t (p ∷ h) = reset_if-last (passes t (picked k (a (p ∷ since_reset a k t h)).output)) p (since_reset a k t h)
 
--- no decision of a schedule lies before the moment of its step
+-- no decision of a schedule is before the moment of its step
 abbrev IsLate : (History → Answer) → Type 0
 IsLate a = (h : History) → last_moment h ≤ max_moment → IsNotBefore (last_moment h) (a h).decision
 
--- the same at a moment that is known to be the last one
+-- the same at a moment that is the last one
 late-at : (a : History → Answer) → IsLate a → (m : ℕ) (g : History) → last_moment g ≡ m → m ≤ max_moment → IsNotBefore m (a g).decision
 late-at a late m g e le = subst (λ n. IsNotBefore n (a g).decision) e (late g (subst (λ n. n ≤ max_moment) (sym e) le))
 
@@ -137,6 +137,6 @@ answer_of-late (leaf l) h le = leaf-late l h le
 answer_of-late (two p a b) h le = paired-late p (answer_of a) (answer_of b) (λ g. answer_of-late a g) (λ g. answer_of-late b g) h le
 answer_of-late (over s m) h le = modified-late m (answer_of s) (λ g. answer_of-late s g) h le
 
--- a number is below a limit exactly where it is so after it was cut
+-- a number is below a limit exactly if it is after saturation
 pub below-saturated : (n k : ℕ) → k ≤ max_moment → nat_lt n k ≡ nat_lt (saturated n) k
 below-saturated n k le = grind arith

@@ -12,22 +12,22 @@ use Rattle.zs_term.specs.Kinds.{kind_of, pairing_kind, modifier_kind, answers, j
 use Rattle.zs_step.specs.History.{History, earlier}
 use Rattle.zs_step.specs.Answer.{Answer, leaf_answer, paired, modified, answer_of, is_next, from_done, sequel_of, collect_if, collected, since_reset}
 
--- a value has a kind, where there is one
+-- an output has a kind, if there is one
 abbrev pub Has : Output → Option OutputKind → Type 0
 Has v None = Unit {0}
 Has v (Some a) = HasKind v a
 
--- the left of two facts
+-- the left of a conjunction
 and-left : (b c : Bool) → (b && c) ≡ true → b ≡ true
 and-left true c e = refl
 and-left false c e = e
 
--- the right of two facts
+-- the right of a conjunction
 and-right : (b c : Bool) → (b && c) ≡ true → c ≡ true
 and-right true c e = e
 and-right false c e = cc
 
--- kinds that compare as one are one
+-- kinds that compare as equal are equal
 is_same_kind-true : (a b : OutputKind) → is_same_kind a b ≡ true → a ≡ b
 is_same_kind-true num num e = refl
 is_same_kind-true num (pair_of c d) e = cc
@@ -81,12 +81,12 @@ has-fits : (k : Pick) (v : Output) (o : Option OutputKind) → Has v o → Has v
 has-fits k v None s = tt
 has-fits k v (Some a) s = elim (fits k a) as (λ b. Has v (if b then Some a else None)) [ true ↦ s | false ↦ tt ]
 
--- one more output in a list
+-- one more output at the end of a list
 all-with_last : (xs : Outputs) (x : Output) (a : OutputKind) → AllHaveKind xs a → HasKind x a → AllHaveKind (with_last xs x) a
 all-with_last none x a s t = (t, tt)
 all-with_last (more y ys) x a s t = (s.0, all-with_last ys x a s.1 t)
 
--- one more output where a schedule goes on
+-- one more output, if the schedule continues
 all-collect : (b : Bool) (xs : Outputs) (x : Output) (a : OutputKind) → AllHaveKind xs a → HasKind x a → AllHaveKind (collect_if b xs x) a
 all-collect true xs x a s t = all-with_last xs x a s t
 all-collect false xs x a s t = s
@@ -96,17 +96,17 @@ all-collected : (f : History → Answer) (a : OutputKind) → ((h : History) →
 all-collected f a s [] = tt
 all-collected f a s (p ∷ h) = all-collect (is_next (f (p ∷ h)).decision) (collected f h) (f (p ∷ h)).output a (all-collected f a s h) (s (p ∷ h))
 
--- a collected list, where its outputs have a kind
+-- a collected list, if its outputs have a kind
 has-list : (f : History → Answer) (o : Option OutputKind) → ((h : History) → Has (f h).output o) → (h : History) → Has (listed (collected f h)) (list_kind o)
 has-list f None s h = tt
 has-list f (Some a) s h = all-collected f a s h
 
--- what stands on the right of two sides of one kind
+-- the content of a right side, if both sides have the same kind
 has-merged : (x : Output) (a b : OutputKind) (c : Bool) → is_same_kind a b ≡ c → HasKind x b → Has x (if c then Some a else None)
 has-merged x a b true e s = subst (HasKind x) (sym (is_same_kind-true a b e)) s
 has-merged x a b false e s = tt
 
--- what a function makes of an output of a kind
+-- the result of a function over an output with a kind
 applied-has : (f : Func) (v : Output) (a : OutputKind) → HasKind v a → Has (applied f v) (answers f a)
 applied-has First v num s = tt
 applied-has First (number n) (pair_of a b) s = absurd s
@@ -149,7 +149,7 @@ applied-has (Mul n) v (pair_of a b) s = tt
 applied-has (Mul n) v (sum_of a b) s = tt
 applied-has (Mul n) v (list_of a) s = tt
 
--- a function's answer, where it has a kind
+-- the result of a function, if it has a kind
 has-applied : (f : Func) (v : Output) (o : Option OutputKind) → Has v o → Has (applied f v) (mapped_kind f o)
 has-applied f v None s = tt
 has-applied f v (Some a) s = applied-has f v a s
@@ -175,7 +175,7 @@ modified-has collect_all a o s h = has-list a o s (earlier h)
 modified-has (mapped f) a o s h = has-applied f (a h).output o (s h)
 modified-has (reset_when k t) a o s h = has-fits k (a (since_reset a k t h)).output o (s (since_reset a k t h))
 
--- each schedule's output has its kind, where it has one
+-- the output of every schedule has its kind, if there is one
 pub answer_of-has : (t : Schedule) (h : History) → Has (answer_of t h).output (kind_of t)
 answer_of-has (leaf l) h = leaf-has l h
 answer_of-has (two p a b) h = paired-has p (answer_of a) (answer_of b) (kind_of a) (kind_of b) (λ g. answer_of-has a g) (λ g. answer_of-has b g) h

@@ -1,4 +1,4 @@
--- The step at which a schedule was reset for the last time.
+-- The step at which a schedule was last reset.
 use Rattle.std.proofs.Common.{◌≡◌, ℕ, ◌+◌, ◌<◌, ◌≤◌, Bool, true, false, List, [], ◌∷◌, length, take, drop, get_or, sym, ap, ◌∙◌, arith}
 use Rattle.std.proofs.lemmas.List.{take_more, drop-append-le, drop_all, length-take}
 use Rattle.zs_term.specs.Output.{passes, picked}
@@ -40,7 +40,7 @@ reset-goes-on f k t xs i s a b lt le before is test fails =
     ∙ ap (λ c. reset_if c (get_or xs i (0, 0)) (history_of (drop s (take i xs)))) fails
     ∙ sym (part-more xs s i (0, 0) lt le)
 
--- a step at which the test passes begins that part anew
+-- a step at which the test passes starts that part over
 pub reset-begins : (f : History → Answer) (k : Pick) (t : Test) (xs : List (ℕ × ℕ)) (i s : ℕ) (a : Answer) (b : Bool) → i < length xs → s ≤ i →
     since_reset f k t (history_of (take i xs)) ≡ history_of (drop s (take i xs)) → a ≡ f (history_of (drop s (take (i + 1) xs))) →
     b ≡ passes t (picked k a.output) → b ≡ true →

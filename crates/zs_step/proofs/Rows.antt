@@ -1,4 +1,4 @@
--- Worked examples of the definitions of answers and of visits. Each holds by computing alone.
+-- Worked examples of results and visits. Each is proved by computing the definitions.
 use Rattle.std.proofs.Common.{◌≡◌, ℕ, List, [], ◌∷◌, refl}
 use Rattle.std.specs.Prelude.{reverse}
 use Rattle.zs_term.specs.Output.{Output, number, pair, left, right, listed, none, more}
@@ -11,25 +11,25 @@ use Rattle.zs_step.specs.History.{History, history_of}
 use Rattle.zs_step.specs.Answer.{Answer, answer, answer_of}
 use Rattle.zs_step.specs.Visits.{visits}
 
--- the answers at each prefix of a history, the last one first
+-- the results after each step of a history, newest first
 abbrev answers_back : Schedule → History → List Answer
 answers_back t [] = []
 answers_back t (p ∷ h) = answer_of t (p ∷ h) ∷ answers_back t h
 
--- the answers at each prefix of a list of pairs in the order of time
+-- the results after each pair of a list, oldest first
 abbrev answers : Schedule → List (ℕ × ℕ) → List Answer
 answers t h = reverse (answers_back t (history_of h))
 
--- the visits at each prefix of a history, the last ones first
+-- the visits of each step of a history, newest first
 abbrev visits_back : Schedule → History → List ℕ
 visits_back t [] = []
 visits_back t (p ∷ h) = visits t (p ∷ h) ∷ visits_back t h
 
--- the visits at each prefix of a list of pairs in the order of time
+-- the visits of each step of a list of pairs, oldest first
 abbrev visits_each : Schedule → List (ℕ × ℕ) → List ℕ
 visits_each t h = reverse (visits_back t (history_of h))
 
--- a number, and a moment to go on at
+-- a number, and a moment at which the schedule continues
 abbrev num : ℕ → ℕ → Answer
 num n x = answer (number n) (Next x)
 
@@ -85,7 +85,7 @@ linear_delays = refl
 windowed_waits_for_the_boundary : answers (leaf (windowed 100)) ((50, 1) ∷ (400, 1) ∷ (460, 1) ∷ []) ≡ num 0 150 ∷ num 1 450 ∷ num 2 550 ∷ []
 windowed_waits_for_the_boundary = refl
 
--- ---- sums and products that are cut at the greatest moment
+-- ---- sums and products that saturate
 
 abbrev two_steps : List (ℕ × ℕ)
 two_steps = (1, 0) ∷ (2, 0) ∷ []

@@ -1,18 +1,18 @@
--- Sums and products that are cut at the greatest number on the way.
+-- Sums and products that saturate on the way.
 use Rattle.std.proofs.Common.{◌≡◌, ℕ, zero, suc, ◌+◌, ◌-◌, ◌*◌, ◌^◌, ◌≤◌, ◌⊎◌, inl, inr, min, arith, sym, ap, ◌∙◌}
 use Rattle.std.proofs.Math.Nat.{pow-suc, mul_assoc}
 use Rattle.zs_term.specs.Saturating.{saturated}
 use Rattle.zs_step.specs.Answer.{fibonacci_number}
 
--- a sum may be cut on the way
+-- saturation of the terms doesn't change a saturated sum
 pub saturated-sum : (x y : ℕ) → saturated (saturated x + saturated y) ≡ saturated (x + y)
 saturated-sum x y = omega arith
 
--- a number is cut or not
+-- a number saturates or doesn't
 small_or_large : (x : ℕ) → (saturated x ≡ x) ⊎ ((saturated x ≡ 18446744073709551615) × (18446744073709551615 ≤ x))
 small_or_large x = grind arith
 
--- a number that is cut
+-- a number that saturates
 saturated-large : (x : ℕ) → 18446744073709551615 ≤ x → saturated x ≡ 18446744073709551615
 saturated-large x h = omega arith
 
@@ -20,7 +20,7 @@ saturated-large x h = omega arith
 times-suc-le : (m x f : ℕ) → m ≤ x → m ≤ x * suc f
 times-suc-le m x f h = grind arith
 
--- a product may be cut on the way
+-- saturation of a factor doesn't change a saturated product
 pub saturated-product : (x f : ℕ) → saturated (saturated x * f) ≡ saturated (x * f)
 saturated-product x zero = omega arith
 saturated-product x (suc f) =
@@ -37,7 +37,7 @@ power-turn b f n d r before is =
     is ∙ ap (λ y. saturated (y * f)) before ∙ saturated-product (b * f ^ n) f
     ∙ ap saturated (mul_assoc b (f ^ n) f ∙ ap (λ y. b * y) (sym (pow-suc f n)))
 
--- one more number of Fibonacci
+-- one more Fibonacci number
 pub fibonacci_number-turn : (o n x y r : ℕ) → x ≡ saturated (o * fibonacci_number n) → y ≡ saturated (o * fibonacci_number (suc n)) → r ≡ min (x + y) (2 ^ 64 - 1) →
     r ≡ saturated (o * fibonacci_number (suc (suc n)))
 fibonacci_number-turn o n x y r first second is =

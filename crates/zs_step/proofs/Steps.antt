@@ -23,6 +23,6 @@ exponential-stands s b f x y now input s_is y_is h stood = power-turn b f (lengt
 pub output_of_items : (o : Outs) → output_of (Items o) ≡ listed (outputs_of (outs_list o))
 output_of_items o = ap listed (stored_outputs_are o.storage)
 
--- a node is one visit at least
+-- a node counts at least one visit
 pub node-fits : (s : State) (v : ℕ) → v + weight (state_schedule s) < 2 ^ 64 → Fits w64 (v + 1)
 node-fits s v within = let some = weight-positive (state_schedule s) in omega arith

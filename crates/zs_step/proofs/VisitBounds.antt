@@ -1,4 +1,4 @@
--- A step visits at most as many nodes as the schedule weighs.
+-- The visits of a step are at most the schedule's weight.
 use Rattle.std.proofs.Common.{ℕ, ◌+◌, ◌*◌, ◌≤◌, Bool, true, false, Option, Some, None, [], ◌∷◌, arith}
 use Rattle.zs_term.specs.Output.{passes, picked}
 use Rattle.zs_term.specs.Schedule.{Schedule, weight, times, leaf, two, over, Pairing, both, either, and_then, Modifier, while_input, while_output, collect_all, mapped, reset_when}

@@ -1,4 +1,4 @@
--- The words of a schedule's state are as many behind any steps.
+-- The number of words of a schedule's state is the same after any steps.
 use Rattle.std.proofs.Common.{◌≡◌, ℕ, suc, ◌+◌, Option, Some, None, List, [], ◌++◌, length, refl, ap, arith}
 use Rattle.std.proofs.lemmas.List.{length-append}
 use Rattle.zs_term.specs.Schedule.{Schedule, leaf, two, over, plain, counted, exponential, both, either, and_then, while_input, while_output, collect_all, mapped, reset_when}
@@ -8,11 +8,11 @@ use Rattle.zs_step.specs.History.{History}
 use Rattle.zs_step.specs.Answer.{answer_of, from_done, since_reset}
 use Rattle.zs_step.specs.Words.{words_of, sequel_words, state_words}
 
--- two lists behind one another
+-- two lists appended
 both-lengths : (xs ys us vs : List ℕ) → length xs ≡ length us → length ys ≡ length vs → length (xs ++ ys) ≡ length (us ++ vs)
 both-lengths xs ys us vs first second = omega (arith, length-append xs ys, length-append us vs, first, second)
 
--- whichever part is on
+-- the words of `andThenEither`, whichever part is current
 sequel-lengths : (o p : Option History) (x y : History → List ℕ) (h g : History) → ((k l : History) → length (x k) ≡ length (x l)) →
     ((k l : History) → length (y k) ≡ length (y l)) → length (sequel_words o x y h) ≡ length (sequel_words p x y g)
 sequel-lengths None None x y h g first second = ap (λ n. suc n) (both-lengths (x h) (y []) (x g) (y []) (first h g) refl)
@@ -42,6 +42,6 @@ words-length (over s collect_all) h g = words-length s h g
 words-length (over s (mapped f)) h g = words-length s h g
 words-length (over s (reset_when k t)) h g = words-length s (since_reset (answer_of s) k t h) (since_reset (answer_of s) k t g)
 
--- and with the last moment
+-- the same with the last moment
 pub state-length : (t : Schedule) (h g : History) → length (state_words t h) ≡ length (state_words t g)
 state-length t h g = ap (λ n. suc n) (words-length t h g)

@@ -1,7 +1,8 @@
--- What a schedule answers at the last step of a history: its output and its decision, by cases on the schedule.
--- Each equation is the rule of the ZIO operator of that name, and knows no state: a part is asked anew at each history that its
--- rule names. docs/SEMANTICS.md says the rules in words. `proofs/Rows.antt` has worked examples; the laws in `src/laws.rt` say
--- in other words what the definitions here say step by step.
+-- What a schedule returns at the last step of a history: its output and its decision, by cases.
+-- Each equation is the rule of the ZIO operator of that name. It uses no state: a part is evaluated
+-- anew on every history that its rule names. docs/SEMANTICS.md has the rules in words, and
+-- `proofs/Rows.antt` has worked examples. The laws in `src/laws.rt` state over whole histories what
+-- is defined here step by step.
 use Rattle.std.specs.Prelude.{ℕ, zero, suc, ◌+◌, ◌-◌, ◌*◌, ◌%◌, ◌^◌, min, max, Bool, true, false, ◌||◌, nat_lt, nat_eq, if◌then◌else◌, Option, Some, None, [], ◌∷◌, length}
 use Rattle.zs_term.specs.Saturating.{saturated}
 use Rattle.zs_term.specs.Output.{Output, Outputs, number, pair, left, right, listed, none, with_last, passes, picked, applied}
@@ -19,81 +20,82 @@ pub record Answer : Type 0 where
   pub output : Output
   pub decision : Decision
 
--- an answer of its two parts
+-- the result with this output and this decision
 abbrev pub answer : Output → Decision → Answer
 answer v d = record { output = v; decision = d }
 
--- whether a decision is to go on
+-- whether a decision is to continue
 abbrev pub is_next : Decision → Bool
 is_next Stop = false
 is_next (Next x) = true
 
--- a decision that stops unless a test passes
+-- the decision, or done if a test fails
 abbrev pub only_if : Bool → Decision → Decision
 only_if b d = (if b then d else Stop)
 
--- the later of two moments, where both continue
+-- the later of two moments if both continue, else done
 abbrev pub later_of : Decision → Decision → Decision
 later_of (Next x) (Next y) = Next (max x y)
 later_of (Next x) Stop = Stop
 later_of Stop d = Stop
 
--- the earlier of two moments, or that of the one that continues
+-- the earlier of two moments, or the one that there is
 abbrev pub earlier_of : Decision → Decision → Decision
 earlier_of (Next x) (Next y) = Next (min x y)
 earlier_of (Next x) Stop = Next x
 earlier_of Stop d = d
 
--- the n-th number of Fibonacci: 0, 1, 1, 2, 3, ..
+-- the n-th Fibonacci number: 0, 1, 1, 2, 3, ..
 abbrev pub fibonacci_number : ℕ → ℕ
 fibonacci_number zero = 0
 fibonacci_number (suc zero) = 1
 fibonacci_number (suc (suc n)) = fibonacci_number n + fibonacci_number (suc n)
 
--- The next run of a period at a step after the first: a missed run isn't made up for, and runs keep to the first moment.
+-- The next run of a period p, at a step after the first: at once if it is late, so missed runs
+-- don't pile up, else at the next boundary, counted from the first moment.
 abbrev pub run_after : ℕ → ℕ → ℕ → ℕ → ℕ
 run_after p first run now =
     if nat_lt (run + p) now || nat_eq p 0 then now else saturated (now + p - (now - first) % p)
 
--- the next run of a period
+-- the next run of a period, at any step
 abbrev pub next_run : ℕ → History → ℕ
 next_run p [] = 0
 next_run p (q ∷ []) = saturated (q.0 + p)
 next_run p (q ∷ (r ∷ h)) = run_after p (first_moment (r ∷ h)) (next_run p (r ∷ h)) q.0
 
--- the end of the window that a moment lies in; a window isn't empty
+-- the end of the window that contains a moment; a window of 0 ends at once
 abbrev pub window_end : ℕ → ℕ → ℕ → ℕ
 window_end n first now = if nat_eq n 0 then now else saturated (now + n - (now - first) % n)
 
--- an answer of a step that waits for its own output
+-- a step that returns a delay and continues after it
 abbrev pub waits : ℕ → History → Answer
 waits x h = answer (number x) (Next (saturated (last_moment h + x)))
 
--- The answers of two schedules that are stepped together.
+-- two schedules that are stepped together: a pair, and a decision of both
 abbrev pub together : (Decision → Decision → Decision) → Answer → Answer → Answer
 together f a b = answer (pair a.output b.output) (f a.decision b.decision)
 
--- one more pair behind the part from the first done step on, where there is one, or that pair alone where it stops here
+-- extends the part that was found by a pair; without one, the part begins at a pair that stops
 abbrev pub done_from : Option History → ℕ × ℕ → Bool → Option History
 done_from (Some g) p again = Some (p ∷ g)
 done_from None p true = None
 done_from None p false = Some (p ∷ [])
 
--- The part of a history from the first step on at which a schedule is done, where there is one.
+-- the part of a history from the first done step on, if there is one
 abbrev pub from_done : (History → Answer) → History → Option History
 from_done a [] = None
 from_done a (p ∷ h) = done_from (from_done a h) p (is_next (a (p ∷ h)).decision)
 
--- the first schedule's answer, or that of the second to the part from the first's end on
+-- the first schedule's result, or the second one's on the part from the first's end on
 abbrev pub sequel_of : Option History → Answer → (History → Answer) → Answer
 sequel_of None a b = answer (left a.output) a.decision
 sequel_of (Some g) a b = answer (right (b g).output) (b g).decision
 
--- the first schedule until it is done, and the second from that step on
+-- the first schedule until it is done, and the second from that very step on
 abbrev pub sequel : (History → Answer) → (History → Answer) → History → Answer
 sequel a b h = sequel_of (from_done a h) (a h) b
 
--- one more output at a step that continues
+-- appends the output if the step continues
 abbrev pub collect_if : Bool → Outputs → Output → Outputs
 collect_if true xs x = with_last xs x
 collect_if false xs x = xs
@@ -103,17 +105,17 @@ abbrev pub collected : (History → Answer) → History → Outputs
 collected a [] = none
 collected a (p ∷ h) = collect_if (is_next (a (p ∷ h)).decision) (collected a h) (a (p ∷ h)).output
 
--- the history behind the last reset, with the last pair, or the last pair alone where a test passes there
+-- the pair alone if it resets, else the part so far with the pair
 abbrev pub reset_if : Bool → ℕ × ℕ → History → History
 reset_if true p g = p ∷ []
 reset_if false p g = p ∷ g
 
--- The part of a history since the last reset: a step resets where a test is true of the output that it would have without.
+-- the history from the last reset on: a step resets if its output so far passes the test
 abbrev pub since_reset : (History → Answer) → Pick → Test → History → History
 since_reset a k t [] = []
 since_reset a k t (p ∷ h) = reset_if (passes t (picked k (a (p ∷ since_reset a k t h)).output)) p (since_reset a k t h)
 
--- The rules of the leaves.
+-- the rules of the leaves
 abbrev pub leaf_answer : Leaf → History → Answer
 leaf_answer (plain Forever) h = answer (number (saturated (length (earlier h)))) (Next (last_moment h))
 leaf_answer (counted Recurs k) h = answer (number (saturated (length (earlier h)))) (only_if (nat_lt (length (earlier h)) k) (Next (last_moment h)))
@@ -127,13 +129,13 @@ leaf_answer (counted Linear n) h = waits (saturated (n * length h)) h
 leaf_answer (counted Windowed n) h =
     answer (number (saturated (length (earlier h)))) (Next (window_end n (first_moment h) (last_moment h)))
 
--- The rules of the operators between two schedules, given what each of them answers to every history.
+-- the rules of the operators between two schedules, given their results on every history
 abbrev pub paired : Pairing → (History → Answer) → (History → Answer) → History → Answer
 paired both a b h = together later_of (a h) (b h)
 paired either a b h = together earlier_of (a h) (b h)
 paired and_then a b h = sequel a b h
 
--- The rules of the operators over one schedule, given what it answers to every history.
+-- the rules of the operators over one schedule, given its results on every history
 abbrev pub modified : Modifier → (History → Answer) → History → Answer
 modified (while_input t) a h = answer (a h).output (only_if (passes t (last_input h)) (a h).decision)
 modified (while_output k t) a h = answer (a h).output (only_if (passes t (picked k (a h).output)) (a h).decision)
@@ -141,7 +143,7 @@ modified collect_all a h = answer (listed (collected a (earlier h))) (a h).decis
 modified (mapped f) a h = answer (applied f (a h).output) (a h).decision
 modified (reset_when k t) a h = a (since_reset a k t h)
 
--- the answer of a schedule at the last step of a history that isn't empty
+-- the result of a schedule at the last step of a history that isn't empty
 abbrev pub answer_of : Schedule → History → Answer
 answer_of (leaf l) h = leaf_answer l h
 answer_of (two p a b) h = paired p (answer_of a) (answer_of b) h

@@ -1,4 +1,4 @@
--- What callers know of a compiled schedule.
+-- What callers know about a compiled schedule.
 use Rattle.std.specs.Prelude.{◌≡◌, ◌≤◌, ℕ, Bool, false, Some}
 use Rattle.zs_term.specs.declared.term.Term.{Term}
 use Rattle.zs_term.specs.Schedule.{Schedule, schedule_of, weight}
@@ -24,18 +24,18 @@ compiled_schedule c = schedule_of c.checked
 abbrev pub is_broken : Compiled → Bool
 is_broken c = c.broken
 
--- the last moment that it has seen, or 0
+-- the last moment that it was stepped with, or 0
 abbrev pub last_seen : Compiled → ℕ
 last_seen c = c.last
 
--- it is unbroken, and stands for a history, or for the empty list
+-- it isn't broken, and its state represents this history
 pub record StandsFor (c : Compiled) (h : History) : Type 0 where
   pub whole : c.broken ≡ false
   pub made_of : state_schedule c.state ≡ schedule_of c.checked
   pub state : Represents c.state h
   pub last : c.last ≡ last_moment h
 
--- a step's answer is that of a schedule at the last step of a history
+-- the result of a step is that of the schedule at the last step of the history
 pub record IsAnswer (t : Schedule) (h : History) (r : Stepped) : Type 0 where
   pub answered : answer (output_of r.out) r.decision ≡ answer_of t h
   pub visited : r.visits ≡ visits t h

@@ -1,4 +1,4 @@
--- What the state of a leaf stands for: what the rule of its next step has to know of the steps so far.
+-- What the state of a leaf represents: what the rule of its next step needs to know of the history.
 use Rattle.std.specs.Prelude.{◌≡◌, suc, ◌*◌, ◌^◌, length}
 use Rattle.zs_term.specs.Saturating.{saturated}
 use Rattle.zs_term.specs.Schedule.{Leaf, forever, recurs, spaced, fixed, exponential, fibonacci, identity, elapsed, linear, windowed}
@@ -8,7 +8,7 @@ use Rattle.zs_step.specs.declared.leaf_state.LeafState.TheVariants.{Forever, Rec
 use Rattle.zs_step.specs.History.{History, first_moment}
 use Rattle.zs_step.specs.Answer.{fibonacci_number, next_run}
 
--- the leaf that a state was made of
+-- the leaf of a state
 abbrev pub state_leaf : LeafState → Leaf
 state_leaf (Forever n) = forever
 state_leaf (Recurs k n) = recurs k
@@ -25,7 +25,7 @@ state_leaf (Windowed p past) = windowed p
 abbrev pub StandsForSteps : Past → History → Type 0
 StandsForSteps past h = (past.steps ≡ saturated (length h)) × (past.first ≡ first_moment h)
 
--- a leaf's state stands for a history, or for the empty list
+-- a leaf's state represents a history
 abbrev pub LeafRepresents : LeafState → History → Type 0
 LeafRepresents (Forever n) h = n ≡ saturated (length h)
 LeafRepresents (Recurs k n) h = n ≡ saturated (length h)

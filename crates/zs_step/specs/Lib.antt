@@ -1,4 +1,4 @@
--- What the clauses of callers name, and so what has to be believed.
+-- Named by public clauses: a reader who relies on a clause has to believe what it names.
 pub mod History
 pub mod Answer
 pub mod Visits
@@ -10,5 +10,5 @@ pub mod Compiled
 pub mod Memory
 pub mod Words
 pub mod Laws
--- What the bodies keep: private contracts alone name these.
+-- What the code stores. Only private contracts name these.
 pub mod Turn

@@ -1,4 +1,4 @@
--- Which schedules answer without memory.
+-- Which schedules are stepped without memory allocation.
 use Rattle.std.specs.Prelude.{Bool, true, false}
 use Rattle.zs_term.specs.Schedule.{Schedule, leaf, two, over, Modifier, while_input, while_output, collect_all, mapped, reset_when}
 
@@ -8,7 +8,7 @@ is_leaf (leaf l) = true
 is_leaf (two p a b) = false
 is_leaf (over s m) = false
 
--- the same with a modifier over it: a list alone takes memory
+-- the same for a schedule under a modifier: only a list takes memory
 abbrev pub is_bare_over : Modifier → Bool → Bool
 is_bare_over (while_input t) bare = bare
 is_bare_over (while_output k t) bare = bare

@@ -1,5 +1,5 @@
--- What a state that is stepped in place stands for. A state is judged by the history that it took the place of; `step_node` keeps
--- that relation, and answers by it.
+-- Which histories a state represents: its next step returns what `answer_of` returns on the longer
+-- history. `step_node` preserves this relation.
 use Rattle.std.specs.Prelude.{◌≡◌, ℕ, ◌≤◌, Bool, true, false, Option, Some, None, [], ◌∷◌}
 use Rattle.zs_term.specs.Schedule.{Schedule, weight, leaf, two, over, both, either, and_then, while_input, while_output, collect_all, mapped, reset_when}
 use Rattle.zs_step.specs.declared.state.State.{State}
@@ -10,7 +10,7 @@ use Rattle.zs_step.specs.Collected.{collected_outputs}
 use Rattle.zs_step.specs.Answer.{Answer, answer_of, from_done, collected, since_reset}
 use Rattle.zs_step.specs.Visits.{visits}
 
--- the schedule that a state was made of
+-- the schedule of a state
 abbrev pub state_schedule : State → Schedule
 state_schedule (Leaf l) = leaf (state_leaf l)
 state_schedule (Both' p a q b) = two both (state_schedule a) (state_schedule b)
@@ -22,14 +22,15 @@ state_schedule (CollectAll' p s kept) = over (state_schedule s) collect_all
 state_schedule (Map' p s f) = over (state_schedule s) (mapped f)
 state_schedule (ResetWhen' p s k t) = over (state_schedule s) (reset_when k t)
 
--- The first part stands for the history and the second for none; or, once the first was done, the second for the history from there on.
+-- The first part represents the history and the second an empty one. Once the first part is done,
+-- the second represents the history from there on.
 abbrev pub SequelRepresents : Bool → Option History → Type 0 → (History → Type 0) → Type 0
 SequelRepresents false None first second = first × second []
 SequelRepresents true (Some g) first second = second g
 SequelRepresents false (Some g) first second = ⊥
 SequelRepresents true None first second = ⊥
 
--- a state stands for a history, or for the empty list
+-- a state represents a history
 abbrev pub Represents : State → History → Type 0
 Represents (Leaf l) h = LeafRepresents l h
 Represents (Both' p a q b) h = Represents a h × Represents b h
@@ -42,7 +43,8 @@ Represents (CollectAll' p s kept) h = Represents s h × (collected_outputs kept.
 Represents (Map' p s f) h = Represents s h
 Represents (ResetWhen' p s k t) h = Represents s (since_reset (answer_of (state_schedule s)) k t h)
 
--- A step at a moment with an input: the answer and the visits for each history that the state stood for, and what it stands for then.
+-- One step at a moment with an input: result and visits for every history that the old state
+-- represents, and the new state represents that history with the step.
 pub record StepsTo (old new : State) (now input : ℕ) (a : Answer) (n : ℕ) : Type 0 where
   pub same : state_schedule new ≡ state_schedule old
   pub bound : n ≤ weight (state_schedule old)

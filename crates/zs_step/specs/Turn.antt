@@ -1,4 +1,4 @@
--- How a node's step ends, and what it counts and answers: for private contracts alone.
+-- How the step of one node ends, what it counts and what it returns: for private contracts alone.
 use Rattle.std.specs.Prelude.{◌≡◌, ℕ, ◌+◌, ◌≤◌, Option, Some, None, ◌∷◌}
 use Rattle.zs_term.specs.Schedule.{weight}
 use Rattle.zs_step.specs.declared.state.State.{State}
@@ -11,21 +11,22 @@ use Rattle.zs_step.specs.Answer.{Answer, answer_of}
 use Rattle.zs_step.specs.Visits.{visits}
 use Rattle.zs_step.specs.State.{state_schedule, Represents}
 
--- the decision of a step that wasn't refused memory
+-- the decision of a step, if its allocations succeeded
 abbrev pub decided : Turn → Option Decision
 decided Stop = Some DecisionStop
 decided (Next x) = Some (DecisionNext x)
 decided Refused = None
 
--- an answer of a state's step at a moment with an input: that of each history that the state stands for
+-- a result of a state's step is that of every history that the state represents
 pub record Answers (s : State) (now input : ℕ) (a : Answer) : Type 0 where
   pub answered : (h : History) → Represents s h → a ≡ answer_of (state_schedule s) ((now, input) ∷ h)
 
--- the decision alone
+-- a decision of a state's step is that of every history that the state represents
 pub record Decides (s : State) (now input : ℕ) (d : Decision) : Type 0 where
   pub decides : (h : History) → Represents s h → d ≡ (answer_of (state_schedule s) ((now, input) ∷ h)).decision
 
--- A step that counts its visits on: `before` has those before it and the node's own, `after` those of its parts too.
+-- A step counts visits: `before` has those before it with the node itself, `after` also those of
+-- its parts.
 pub record CountsOn (old new : State) (now input before after : ℕ) : Type 0 where
   pub bound : 1 + after ≤ before + weight (state_schedule old)
   pub visited : (h : History) → Represents old h → 1 + after ≡ before + visits (state_schedule old) ((now, input) ∷ h)

@@ -1,5 +1,5 @@
--- What a schedule has to remember between two steps, as words: by the schedule and the history alone. A list, which `collectAll`
--- keeps, has no place in them.
+-- The state between two steps as words, defined by the schedule and the history alone. The lists of
+-- `collectAll` aren't among the words.
 use Rattle.std.specs.Prelude.{◌≡◌, ℕ, suc, ◌*◌, ◌^◌, Option, Some, None, List, [], ◌∷◌, ◌++◌, length}
 use Rattle.zs_term.specs.Saturating.{saturated}
 use Rattle.zs_term.specs.Schedule.{Schedule, leaf, two, over, Leaf, plain, counted, exponential, both, either, and_then, Modifier, while_input, while_output, collect_all, mapped, reset_when}
@@ -21,7 +21,8 @@ leaf_words (plain Elapsed) h = saturated (length h) ∷ (first_moment h ∷ [])
 leaf_words (counted Linear n) h = saturated (n * length h) ∷ []
 leaf_words (counted Windowed n) h = saturated (length h) ∷ (first_moment h ∷ [])
 
--- The words of two parts in turn: whether the first is done, and both; the first is as new once it is done, and the second until then.
+-- The words of `andThenEither`: whether the first part is done, and both parts. The first part is
+-- as new once it is done, the second until then.
 abbrev pub sequel_words : Option History → (History → List ℕ) → (History → List ℕ) → History → List ℕ
 sequel_words None a b h = 0 ∷ (a h ++ b [])
 sequel_words (Some g) a b h = 1 ∷ (a [] ++ b g)
@@ -38,15 +39,15 @@ words_of (over s collect_all) h = words_of s h
 words_of (over s (mapped f)) h = words_of s h
 words_of (over s (reset_when k t)) h = words_of s (since_reset (answer_of s) k t h)
 
--- the words of a schedule that is stepped: the last moment, and what it has to remember
+-- the words of a stepped schedule: the last moment, and those of its state
 abbrev pub state_words : Schedule → History → List ℕ
 state_words t h = last_moment h ∷ words_of t h
 
--- some words begin with those of a schedule's state behind a history
+-- some words begin with those of a schedule's state after a history
 abbrev pub KeepsState : Schedule → History → List ℕ → Type 0
 KeepsState t h words = (more : List ℕ) × (words ≡ state_words t h ++ more)
 
--- an operator that keeps no list
+-- a modifier that stores no list
 abbrev pub CollectsNothing : Modifier → Type 0
 CollectsNothing (while_input t) = Unit {0}
 CollectsNothing (while_output k t) = Unit {0}
@@ -54,7 +55,7 @@ CollectsNothing collect_all = ⊥
 CollectsNothing (mapped f) = Unit {0}
 CollectsNothing (reset_when k t) = Unit {0}
 
--- a schedule that keeps no list
+-- a schedule that stores no list
 abbrev pub KeepsNoList : Schedule → Type 0
 KeepsNoList (leaf l) = Unit {0}
 KeepsNoList (two p a b) = KeepsNoList a × KeepsNoList b

@@ -1,4 +1,4 @@
-// The outputs that a schedule has collected.
+//! The outputs that a `collectAll` has collected.
 
 ghost use Rattle.std.specs.Prelude.{◌≡◌, None, IfOk, OnOk};
 ghost use Rattle.zs_term.specs.Output.{output_of, outputs_of, outs_list, listed, none};
@@ -8,8 +8,8 @@ use crate::decision::Decision;
 use std::alloc::{AllocError, Global};
 use zs_term::{Out, Outs};
 
-// A list that its outputs share, and the output of the last step, which joins it at the next one. So the list grows in
-// place where the last output is gone by then.
+// A list that outputs share, and the output of the last step, which joins the list at the next
+// step. So the list grows in place if the output before is dropped by then.
 #[derive(Drop)]
 pub(crate) struct Collected {
     list: Outs,
@@ -19,7 +19,7 @@ pub(crate) struct Collected {
 impl Collected {
     ghost use Rattle.zs_step.specs.Collected.{collected_outputs};
 
-    // Nothing so far.
+    // Starts with nothing collected.
     pub(crate) fn nothing(alloc: Global) -> Collected
         ensures value { collected_outputs result ≡ none }
     {
@@ -29,7 +29,8 @@ impl Collected {
         }
     }
 
-    // One more step: answers what was collected before it, and keeps its output where it goes on.
+    // Takes one more step: returns what was collected before it, and collects its output if the
+    // schedule continues.
     pub(crate) fn step(
         &mut self,
         alloc: Global,
@@ -47,7 +48,7 @@ impl Collected {
         Ok(Out::Items(before))
     }
 
-    // The last output joins the list.
+    // Appends the last output to the list.
     fn join(&mut self, alloc: Global) -> Result<(), AllocError>
         ensures joined { OnOk result (outputs_of (outs_list self.new.list) ≡ collected_outputs self.old) }
         ensures none { OnOk result (self.new.last ≡ None) }

@@ -1,4 +1,4 @@
-// A schedule that is stepped in place.
+//! A schedule that is stepped in place.
 
 ghost use Rattle.std.specs.Prelude.{◌≡◌, ◌<◌, ◌≤◌, ◌^◌};
 ghost use Rattle.zs_term.specs.Schedule.{weight};
@@ -13,9 +13,9 @@ use zs_term::{Checked, Out};
 
 /// A schedule with a state in place of its history.
 ///
-/// The nodes that a step asks, and the memory of the state but for the lists of `collectAll`, are bounded by the size of
-/// the schedule, however many steps there were. Such a list grows with the steps; one copies it where an earlier output
-/// still lies in its memory.
+/// The schedule's size bounds the nodes that a step visits and the memory of the state, however
+/// long the history is. Only the lists of `collectAll` grow with each step. A step copies such a
+/// list if an earlier output still shares its memory.
 #[derive(Drop)]
 pub struct Compiled {
     checked: Checked,
@@ -33,9 +33,11 @@ impl Compiled {
     ghost use Rattle.zs_step.specs.History.{History};
     ghost use Rattle.zs_step.specs.Compiled.{compiled_term, compiled_schedule, is_broken, last_seen, StandsFor, IsAnswer};
 
-    /// The schedule before its first step. Fails with `Memory` alone, and the schedule is then given up.
+    /// Compiles a schedule, before its first step. Fails only with `Memory`, and then drops the
+    /// schedule.
     pub fn new(alloc: Global, checked: Checked) -> Result<Compiled, StepFault>
         ensures term { IfOk result (λ c. compiled_term c ≡ checked) }
+        // It represents the empty history.
         ensures stands { IfOk result (λ c. StandsFor c []) }
         ensures succeeds { is_leaf (schedule_of checked) ≡ true → IsOk result }
     {
@@ -49,37 +51,43 @@ impl Compiled {
         })
     }
 
-    /// The schedule that was compiled.
+    /// Returns the schedule that was compiled.
     pub fn term(&self) -> &Checked
         ensures value { result.now ≡ compiled_term self.now }
     {
         &self.checked
     }
 
-    /// Whether a step was refused memory. It is then broken for good.
+    /// Whether a step ran out of memory. The schedule then stays broken.
     pub fn broken(&self) -> bool
         ensures value { result ≡ is_broken self.now }
     {
         self.broken
     }
 
-    /// The answer to one more moment, in milliseconds, and input. A refused step breaks the schedule for good: each later
-    /// one answers `Memory` and changes nothing.
+    /// Steps the schedule with a moment in milliseconds and an input. If the step runs out of
+    /// memory, the schedule is broken: each later step fails with `Memory` and changes nothing.
     pub fn step(&mut self, now: u64, input: u64) -> Result<Stepped, StepFault>
         requires order { last_seen self.old ≤ now }
         ensures term { compiled_term self.new ≡ compiled_term self.old }
+        // The result is that of every history that the state represents, with this step.
         ensures answered { IfOk result (λ r. (h : History) → StandsFor self.old h → IsAnswer (compiled_schedule self.old) ((now, input) ∷ h) r) }
+        // The state then represents that history with this step.
         ensures stands { OnOk result ((h : History) → StandsFor self.old h → StandsFor self.new ((now, input) ∷ h)) }
+        // A schedule that makes no pair, no side of a choice and no list needs no memory.
         ensures succeeds { (h : History) → StandsFor self.old h → is_bare (compiled_schedule self.old) ≡ true → IsOk result }
         ensures seen { last_seen self.new ≤ now }
+        // A step that fails breaks the schedule, and a broken one never changes.
         ensures breaks { is_broken self.new ≡ is_err result }
         ensures stays { IsTrue (is_broken self.old) → self.new ≡ self.old }
     {
         self.step_over(now, input, Out::Num(0))
     }
 
-    /// The same, with the output made in the memory of one that is given up, as far as it fits: the boxes of a pair serve the next pair.
+    /// Like `step`, and reuses the memory of a spare output if it fits: the boxes of a pair become
+    /// those of the new pair.
     pub fn step_over(&mut self, now: u64, input: u64, spare: Out) -> Result<Stepped, StepFault>
+        // The clauses of `step`.
         requires order { last_seen self.old ≤ now }
         ensures term { compiled_term self.new ≡ compiled_term self.old }
         ensures answered { IfOk result (λ r. (h : History) → StandsFor self.old h → IsAnswer (compiled_schedule self.old) ((now, input) ∷ h) r) }

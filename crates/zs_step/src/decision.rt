@@ -6,17 +6,17 @@ ghost use Rattle.zs_step.specs.Answer.{later_of, earlier_of, only_if, is_next};
 
 use crate::interval::Interval;
 
-/// Whether a schedule goes on, and from which moment.
+/// Whether a schedule continues, and from which moment.
 #[derive(Clone, Copy, Debug, PartialEq, Eq)]
 pub enum Decision {
     /// The schedule is done.
     Stop,
-    /// The schedule goes on at this moment, in milliseconds.
+    /// The schedule continues at this moment, in milliseconds.
     Next(u64),
 }
 
 impl Decision {
-    // Goes on where both do, at the later moment.
+    // Continues if both do, at the later moment.
     pub(crate) fn later(self, other: Decision) -> Decision
         ensures value { result ≡ later_of self other }
     {
@@ -31,7 +31,7 @@ impl Decision {
         }
     }
 
-    // Goes on where one of them does, at the earlier moment.
+    // Continues if at least one does, at the earlier moment.
     pub(crate) fn earlier(self, other: Decision) -> Decision
         ensures value { result ≡ earlier_of self other }
     {
@@ -53,7 +53,7 @@ impl Decision {
         if passed { self } else { Decision::Stop }
     }
 
-    // Whether it goes on.
+    // Whether the schedule continues.
     pub(crate) fn is_next(self) -> bool
         ensures value { result ≡ is_next self }
     {
@@ -63,7 +63,7 @@ impl Decision {
         }
     }
 
-    // Goes on a delay after a moment.
+    // Continues a delay after a moment; saturates.
     pub(crate) fn after(moment: u64, delay: u64) -> Decision
         ensures value { result ≡ Decision.Next (saturated (moment + delay)) }
     {

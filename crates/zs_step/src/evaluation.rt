@@ -1,4 +1,4 @@
-// What a schedule answers to a whole history.
+//! Evaluates a schedule over a whole history: the definition as a program.
 
 ghost use Rattle.std.specs.Prelude.{◌≡◌, ◌<◌, ◌≤◌, ◌+◌, length, drop, take, IfOk, IsOk, OnOk, IfSome, IfNone, true};
 ghost use Rattle.zs_term.specs.Schedule.{schedule_of, two, over, and_then, while_output, collect_all, reset_when};
@@ -21,13 +21,13 @@ use zs_term::{
     Checked, Func, Out, Outs, Pick, Term, Test, make_left, make_list, make_pair, make_right,
 };
 
-// Moments and inputs, oldest first.
+// Pairs of a moment and an input, oldest first.
 type Pairs<'p> = &'p [(u64, u64)];
 
 // An output and a decision.
 type Answer = (Out, Decision);
 
-// The answer of a term at the last pair of a list of moments and inputs.
+// Evaluates a term at the last pair of a list of pairs.
 #[cycle(evaluation)]
 fn evaluate(alloc: Global, term: &Term, history: Pairs<'_>) -> Result<Answer, AllocError>
     requires some { 0 < length history.now }
@@ -80,7 +80,8 @@ fn evaluate(alloc: Global, term: &Term, history: Pairs<'_>) -> Result<Answer, Al
     }
 }
 
-// The answer of two terms in turn: the first, or the second from the pair on at which the first is done.
+// Evaluates `andThenEither`: the first part, or the second from the pair on at which the first is
+// done.
 #[cycle(evaluation)]
 fn in_turn(
     alloc: Global,
@@ -104,7 +105,7 @@ fn in_turn(
     }
 }
 
-// The answer of a term that goes on while its output passes.
+// Evaluates a term that continues while its output passes.
 #[cycle(evaluation)]
 fn while_output(
     alloc: Global,
@@ -122,7 +123,7 @@ fn while_output(
     Ok(only_if(x, passed))
 }
 
-// The answer of a term whose outputs are collected.
+// Evaluates a term whose outputs are collected.
 #[cycle(evaluation)]
 fn collecting(alloc: Global, part: &Term, history: Pairs<'_>) -> Result<Answer, AllocError>
     requires some { 0 < length history.now }
@@ -133,7 +134,7 @@ fn collecting(alloc: Global, part: &Term, history: Pairs<'_>) -> Result<Answer, 
     Ok((make_list(items), decision_of(last)))
 }
 
-// The answer of a term since its last reset.
+// Evaluates a term from its last reset on.
 #[cycle(evaluation)]
 fn since_last_reset(
     alloc: Global,
@@ -150,14 +151,14 @@ fn since_last_reset(
     evaluate(alloc, part, from_index(history, start))
 }
 
-// A pair of two outputs, with a decision.
+// Makes a pair of two outputs, with a decision.
 fn paired(alloc: Global, first: Out, second: Out, decision: Decision) -> Result<Answer, AllocError>
     ensures value { IfOk result (λ r. answer (output_of r.0) r.1 ≡ answer (pair (output_of first) (output_of second)) decision) }
 {
     Ok((make_pair(alloc, first, second)?, decision))
 }
 
-// An answer that stops unless a test passed.
+// Stops unless a test passed.
 fn only_if(from: Answer, passed: bool) -> Answer
     ensures value { answer (output_of result.0) result.1 ≡ answer (output_of from.0) (only_if passed from.1) }
 {
@@ -165,7 +166,7 @@ fn only_if(from: Answer, passed: bool) -> Answer
     (out, decision.only_if(passed))
 }
 
-// An answer with a function of its output.
+// Applies a function to the output.
 fn mapped(from: Answer, func: Func) -> Answer
     ensures value { answer (output_of result.0) result.1 ≡ answer (applied func (output_of from.0)) from.1 }
 {
@@ -173,7 +174,7 @@ fn mapped(from: Answer, func: Func) -> Answer
     (func.apply(out), decision)
 }
 
-// An answer with the number of earlier steps.
+// Returns the number of earlier steps, with a decision.
 fn counted(history: Pairs<'_>, decision: Decision) -> Answer
     requires some { 0 < length history.now }
     ensures value { answer (output_of result.0) result.1 ≡ answer (number (saturated (length (earlier (history_of history.now))))) decision }
@@ -181,7 +182,7 @@ fn counted(history: Pairs<'_>, decision: Decision) -> Answer
     (Out::Num(steps_before(history)), decision)
 }
 
-// An answer that waits for a delay.
+// Returns a delay as the output, and continues after it.
 fn waiting(history: Pairs<'_>, delay: u64) -> Answer
     requires some { 0 < length history.now }
     ensures value { answer (output_of result.0) result.1 ≡ waits delay (history_of history.now) }
@@ -192,7 +193,7 @@ fn waiting(history: Pairs<'_>, delay: u64) -> Answer
     )
 }
 
-// The pairs from an index on.
+// Returns the pairs from an index on.
 fn from_index(history: Pairs<'_>, k: usize) -> Pairs<'_>
     requires some { k < length history.now }
     ensures rest { result.now ≡ drop k history.now }
@@ -201,7 +202,7 @@ fn from_index(history: Pairs<'_>, k: usize) -> Pairs<'_>
     &history[k..]
 }
 
-// The decision of an answer alone.
+// Returns the decision alone.
 fn decision_of(answer: Answer) -> Decision
     ensures value { result ≡ answer.1 }
 {
@@ -209,7 +210,7 @@ fn decision_of(answer: Answer) -> Decision
     decision
 }
 
-// Keeps the output of an answer that continues.
+// Appends the output of a step that continues.
 fn collect(items: &mut Vec<Out>, answer: Answer) -> Result<(), AllocError>
     ensures value { OnOk result (outputs_of items.new.items ≡ collect_if (is_next answer.1) (outputs_of items.old.items) (output_of answer.0)) }
 {
@@ -220,7 +221,7 @@ fn collect(items: &mut Vec<Out>, answer: Answer) -> Result<(), AllocError>
     Ok(())
 }
 
-// The index of the pair at which a schedule is done for the first time.
+// Finds the index of the first pair at which a schedule is done.
 #[cycle(evaluation)]
 fn first_done(alloc: Global, term: &Term, history: Pairs<'_>) -> Result<Option<usize>, AllocError>
     ensures none { IfOk result (λ k. IfNone k (from_done (answer_of (schedule_of term.now)) (history_of history.now) ≡ None)) }
@@ -237,7 +238,7 @@ fn first_done(alloc: Global, term: &Term, history: Pairs<'_>) -> Result<Option<u
     Ok(None)
 }
 
-// The pairs from an index on, up to another one and with it.
+// Returns the pairs from one index up to and including another.
 fn between(history: Pairs<'_>, from: usize, last: usize) -> Pairs<'_>
     requires order { from ≤ last }
     requires within { last < length history.now }
@@ -248,7 +249,7 @@ fn between(history: Pairs<'_>, from: usize, last: usize) -> Pairs<'_>
     from_index(front, from)
 }
 
-// The index of the pair at which a schedule was reset for the last time, or 0.
+// Finds the index of the pair at which a schedule was last reset, or 0.
 #[cycle(evaluation)]
 fn reset_start(
     alloc: Global,
@@ -272,7 +273,7 @@ fn reset_start(
     Ok(start)
 }
 
-// Whether the output of an answer passes a test.
+// Whether the output passes a test.
 fn passed(answer: Answer, pick: Pick, test: Test) -> bool
     ensures value { result ≡ passes test (picked pick (output_of answer.0)) }
 {
@@ -280,7 +281,7 @@ fn passed(answer: Answer, pick: Pick, test: Test) -> bool
     test.passes(pick.read(&out))
 }
 
-// The outputs of a schedule at the earlier steps at which it continued.
+// Collects the outputs of a schedule at the earlier steps at which it continued.
 #[cycle(evaluation)]
 fn outputs_before(alloc: Global, term: &Term, history: Pairs<'_>) -> Result<Vec<Out>, AllocError>
     requires some { 0 < length history.now }
@@ -294,10 +295,10 @@ fn outputs_before(alloc: Global, term: &Term, history: Pairs<'_>) -> Result<Vec<
     Ok(items)
 }
 
-/// The answer of a schedule at the last pair (moment, input) of a whole history, oldest pair first.
+/// Evaluates a schedule at the last pair (moment, input) of a whole history, oldest pair first.
 ///
-/// It asks the schedule's parts anew at each earlier pair where their rule needs it, and is the reference for
-/// [`Compiled`](crate::Compiled). Fails with `Memory` alone.
+/// It evaluates the schedule's parts anew at each earlier pair that their rule needs, and is the
+/// reference for [`Compiled`](crate::Compiled). Fails only with `Memory`.
 pub fn plain(
     alloc: Global,
     checked: &Checked,
@@ -307,6 +308,7 @@ pub fn plain(
     requires order { IsInOrder (history_of history.now) }
     ensures answered { IfOk result (λ r. answer (output_of r.0) r.1 ≡ answer_of (schedule_of checked.now) (history_of history.now)) }
     ensures kinded { IfOk result (λ r. (a : OutputKind) → kind_of (schedule_of checked.now) ≡ Some a → HasKind (output_of r.0) a) }
+    // A schedule that makes no pair, no side of a choice and no list needs no memory.
     ensures succeeds { is_bare (schedule_of checked.now) ≡ true → IsOk result }
 {
     Ok(evaluate(alloc, checked.term(), history)?)

@@ -1,4 +1,4 @@
-// How a step can fail.
+//! How a step can fail.
 
 ghost use Rattle.std.specs.Prelude.{◌≡◌};
 ghost use Rattle.zs_step.specs.declared.fault.StepFault.TheVariants.{Memory};
@@ -6,10 +6,10 @@ ghost use Rattle.zs_step.specs.declared.fault.StepFault.TheVariants.{Memory};
 use std::alloc::AllocError;
 use thiserror::Error;
 
-/// Why there is no answer.
+/// Why a step has no result.
 #[derive(Clone, Copy, Debug, PartialEq, Eq, Error)]
 pub enum StepFault {
-    /// A growth was refused, or an earlier step was.
+    /// A memory allocation failed, at this step or an earlier one.
     #[error("out of memory")]
     Memory,
 }

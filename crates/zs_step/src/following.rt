@@ -1,4 +1,4 @@
-// The answers to a list of moments and inputs.
+//! Steps a schedule through a list of moments and inputs.
 
 ghost use Rattle.std.specs.Prelude.{◌≡◌, ℕ, ◌+◌, ◌<◌, length, take, slice_index_or, vec_len, ◌++◌, ◌∷◌, [], IfOk, OnOk};
 ghost use Rattle.zs_term.specs.Schedule.{schedule_of};
@@ -12,7 +12,8 @@ use crate::stepped::Stepped;
 use std::alloc::Global;
 use zs_term::Checked;
 
-/// The answer at each pair (moment, input), oldest first, by a new `Compiled` that is stepped once for each. Fails with `Memory` alone.
+/// Steps a new `Compiled` once for each pair (moment, input), oldest first, and returns all
+/// results. Fails only with `Memory`.
 pub fn follow(
     alloc: Global,
     checked: Checked,
@@ -31,7 +32,7 @@ pub fn follow(
     Ok(answers)
 }
 
-// Keeps one more answer.
+// Appends one more result.
 fn keep(answers: &mut Vec<Stepped>, stepped: Stepped) -> Result<(), StepFault>
     ensures ok { OnOk result (answers.new.items ≡ answers.old.items ++ stepped ∷ []) }
 {

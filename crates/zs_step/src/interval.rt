@@ -1,4 +1,4 @@
-// Intervals of time that are open to the right.
+//! Intervals of time without an end.
 
 ghost use Rattle.std.specs.Prelude.{◌≡◌, min, max};
 ghost use Rattle.zs_step.specs.Intervals.{starts_at};
@@ -10,21 +10,21 @@ pub struct Interval {
 }
 
 impl Interval {
-    /// All moments from a moment on.
+    /// Makes the interval of all moments from a moment on.
     pub fn after(moment: u64) -> Interval
         ensures value { starts_at result ≡ moment }
     {
         Interval { start: moment }
     }
 
-    /// The first moment.
+    /// Returns the first moment.
     pub fn start(&self) -> u64
         ensures value { result ≡ starts_at self.now }
     {
         self.start
     }
 
-    /// The moments of both, from the later start on.
+    /// Returns the moments in both, from the later start on.
     pub fn intersect(&self, other: &Interval) -> Interval
         ensures value { starts_at result ≡ max (starts_at self.now) (starts_at other.now) }
     {
@@ -33,7 +33,7 @@ impl Interval {
         }
     }
 
-    /// The moments of one or both, from the earlier start on.
+    /// Returns the moments in at least one, from the earlier start on.
     pub fn union(&self, other: &Interval) -> Interval
         ensures value { starts_at result ≡ min (starts_at self.now) (starts_at other.now) }
     {

@@ -1,4 +1,4 @@
-// The state of a schedule without parts.
+//! The state of a schedule without parts.
 
 ghost use Rattle.std.specs.Prelude.{◌≡◌, ℕ, ◌+◌, List, ◌∷◌, ◌++◌, [], length, nat_eq, if◌then◌else◌, true, OnOk};
 ghost use Rattle.zs_term.specs.Saturating.{saturated};
@@ -15,7 +15,7 @@ use crate::leaves::{run_after, window_end};
 use std::alloc::AllocError;
 use zs_term::Term;
 
-// The number of steps so far, and the moment of the first one.
+// The number of steps so far, and the moment of the first one, or 0.
 #[derive(Drop)]
 pub(crate) struct Past {
     steps: u64,
@@ -23,14 +23,14 @@ pub(crate) struct Past {
 }
 
 impl Past {
-    // No step so far.
+    // Starts without a step.
     pub(crate) fn none() -> Past
         ensures represents { StandsForSteps result [] }
     {
         Past { steps: 0, first: 0 }
     }
 
-    // One more step: answers how many there were before it.
+    // Counts one more step, and returns the number of steps before it.
     fn count(&mut self, now: u64) -> u64
         ensures before { result ≡ self.old.steps }
         ensures steps { self.new.steps ≡ saturated (self.old.steps + 1) }
@@ -45,7 +45,7 @@ impl Past {
     }
 }
 
-// A leaf's own numbers, and what its next step has to know of the steps so far.
+// A leaf's parameters, and what its next step needs to know of the steps so far.
 #[derive(Drop)]
 pub(crate) enum LeafState {
     Forever { steps: u64 },
@@ -65,7 +65,7 @@ pub(crate) enum LeafState {
 }
 
 impl LeafState {
-    // One more step: its output and its decision.
+    // Takes one more step: returns its output and its decision.
     pub(crate) fn step(&mut self, now: u64, input: u64) -> (u64, Decision)
         ensures same { state_leaf self.new ≡ state_leaf self.old }
         ensures answered { (h : History) → LeafRepresents self.old h → answer (number result.0) result.1 ≡ leaf_answer (state_leaf self.old) ((now, input) ∷ h) }
@@ -116,7 +116,7 @@ impl LeafState {
         }
     }
 
-    // Makes it stand for the empty list again.
+    // Resets the state, so that it represents the empty history.
     pub(crate) fn clear(&mut self)
         ensures same { state_leaf self.new ≡ state_leaf self.old }
         ensures represents { LeafRepresents self.new [] }
@@ -142,7 +142,7 @@ impl LeafState {
     }
 }
 
-// Counts a step, and answers how many there were before it.
+// Counts one more step, and returns the number of steps before it.
 fn count(steps: &mut u64) -> u64
     ensures before { result ≡ steps.old }
     ensures counted { steps.new ≡ saturated (steps.old + 1) }
@@ -152,7 +152,7 @@ fn count(steps: &mut u64) -> u64
     before
 }
 
-// The state of a term without parts before its first step.
+// Returns the state of a term without parts before its first step.
 pub(crate) fn leaf_of(term: &Term) -> LeafState
     requires leaf { is_leaf (schedule_of term.now) ≡ true }
     ensures made_of { leaf (state_leaf result) ≡ schedule_of term.now }
@@ -195,7 +195,7 @@ pub(crate) fn leaf_of(term: &Term) -> LeafState
     }
 }
 
-// Takes the first of some words, or 0 where there is none, and answers those behind it.
+// Reads the first word, or 0 if there is none, and returns the words after it.
 pub(crate) fn take<'a>(number: &mut u64, words: &'a [u64]) -> &'a [u64]
     ensures first { (w : ℕ) (rest : List ℕ) → words.now ≡ w ∷ rest → (number.new ≡ w) × (result.now ≡ rest) }
 {
@@ -211,7 +211,7 @@ pub(crate) fn take<'a>(number: &mut u64, words: &'a [u64]) -> &'a [u64]
     }
 }
 
-// Takes the number of steps and the moment of the first one, and answers the words behind them.
+// Reads the number of steps and the moment of the first one, and returns the words after them.
 fn take_past<'a>(past: &mut Past, words: &'a [u64]) -> &'a [u64]
     ensures both { (m n : ℕ) (rest : List ℕ) → words.now ≡ m ∷ (n ∷ rest) → (past.new.steps ≡ m) × (past.new.first ≡ n) × (result.now ≡ rest) }
 {
@@ -219,7 +219,7 @@ fn take_past<'a>(past: &mut Past, words: &'a [u64]) -> &'a [u64]
     take(&mut past.first, rest)
 }
 
-// Gives a leaf what its words tell, and answers the words behind them.
+// Reads a leaf's state from words, and returns the words after it.
 pub(crate) fn load_leaf<'a>(leaf: &mut LeafState, words: &'a [u64]) -> &'a [u64]
     ensures same { state_leaf leaf.new ≡ state_leaf leaf.old }
     ensures stands { (h : History) (rest : List ℕ) → words.now ≡ leaf_words (state_leaf leaf.old) h ++ rest → LeafRepresents leaf.new h × (result.now ≡ rest) }
@@ -244,7 +244,7 @@ pub(crate) fn load_leaf<'a>(leaf: &mut LeafState, words: &'a [u64]) -> &'a [u64]
     }
 }
 
-// Writes what a leaf remembers behind some words.
+// Appends the words of a leaf's state.
 pub(crate) fn save_leaf(leaf: &LeafState, words: &mut Vec<u64>) -> Result<(), AllocError>
     ensures ok { OnOk result ((h : History) → LeafRepresents leaf.now h → words.new.items ≡ words.old.items ++ leaf_words (state_leaf leaf.now) h) }
     ensures len { OnOk result (length words.new.items ≡ length words.old.items + length (leaf_words (state_leaf leaf.now) [])) }

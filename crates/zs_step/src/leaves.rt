@@ -1,11 +1,11 @@
-// What the leaves of a schedule read off a whole history, and the next run of a period.
+//! What leaves compute from a whole history, and the next run of a period.
 
 ghost use Rattle.std.specs.Prelude.{◌≡◌, ◌<◌, ◌+◌, ◌-◌, ◌%◌, ◌*◌, ◌^◌, length};
 ghost use Rattle.zs_term.specs.Saturating.{saturated};
 ghost use Rattle.zs_step.specs.History.{history_of, last_moment, last_input, first_moment, earlier};
 ghost use Rattle.zs_step.specs.Answer.{fibonacci_number, next_run, run_after, window_end};
 
-// The number of steps before the last one.
+// Returns the number of steps before the last one.
 pub(crate) fn steps_before(history: &[(u64, u64)]) -> u64
     requires some { 0 < length history.now }
     ensures value { result ≡ length (earlier (history_of history.now)) }
@@ -14,7 +14,7 @@ pub(crate) fn steps_before(history: &[(u64, u64)]) -> u64
     history.len() as u64 - 1
 }
 
-// The moment of the last step.
+// Returns the moment of the last step.
 pub(crate) fn last_moment(history: &[(u64, u64)]) -> u64
     requires some { 0 < length history.now }
     ensures value { result ≡ last_moment (history_of history.now) }
@@ -22,7 +22,7 @@ pub(crate) fn last_moment(history: &[(u64, u64)]) -> u64
     history[history.len() - 1].0
 }
 
-// The input of the last step.
+// Returns the input of the last step.
 pub(crate) fn last_input(history: &[(u64, u64)]) -> u64
     requires some { 0 < length history.now }
     ensures value { result ≡ last_input (history_of history.now) }
@@ -30,7 +30,7 @@ pub(crate) fn last_input(history: &[(u64, u64)]) -> u64
     history[history.len() - 1].1
 }
 
-// The moment of the first step.
+// Returns the moment of the first step.
 pub(crate) fn first_moment(history: &[(u64, u64)]) -> u64
     requires some { 0 < length history.now }
     ensures value { result ≡ first_moment (history_of history.now) }
@@ -38,7 +38,7 @@ pub(crate) fn first_moment(history: &[(u64, u64)]) -> u64
     history[0].0
 }
 
-// The delay of an exponential schedule: the base times the factor once for each earlier step.
+// Returns the delay of `exponential`: the base times the factor once for each earlier step.
 pub(crate) fn exponential_delay(base: u64, factor: u64, history: &[(u64, u64)]) -> u64
     requires some { 0 < length history.now }
     ensures value { result ≡ saturated (base * factor ^ length (earlier (history_of history.now))) }
@@ -50,7 +50,7 @@ pub(crate) fn exponential_delay(base: u64, factor: u64, history: &[(u64, u64)]) 
     delay
 }
 
-// The delay of a Fibonacci schedule: its unit times the number of Fibonacci of this step.
+// Returns the delay of `fibonacci`: the unit times the Fibonacci number of this step.
 pub(crate) fn fibonacci_delay(one: u64, history: &[(u64, u64)]) -> u64
     ensures value { result ≡ saturated (one * fibonacci_number (length (history_of history.now))) }
 {
@@ -64,7 +64,7 @@ pub(crate) fn fibonacci_delay(one: u64, history: &[(u64, u64)]) -> u64
     delay
 }
 
-// The next run of a fixed period, from the first step on.
+// Returns the next run of `fixed`, computed from the first step on.
 pub(crate) fn fixed_run(period: u64, history: &[(u64, u64)]) -> u64
     requires some { 0 < length history.now }
     ensures value { result ≡ next_run period (history_of history.now) }
@@ -77,14 +77,14 @@ pub(crate) fn fixed_run(period: u64, history: &[(u64, u64)]) -> u64
     run
 }
 
-// The delay of a linear schedule: its unit times the number of steps.
+// Returns the delay of `linear`: the unit times the number of steps.
 pub(crate) fn linear_delay(unit: u64, history: &[(u64, u64)]) -> u64
     ensures value { result ≡ saturated (unit * length (history_of history.now)) }
 {
     unit.saturating_mul(history.len() as u64)
 }
 
-// The end of the window that a moment lies in.
+// Returns the end of the window that contains a moment.
 pub(crate) fn window_end(period: u64, first: u64, now: u64) -> u64
     ensures value { result ≡ window_end period first now }
 {
@@ -95,7 +95,7 @@ pub(crate) fn window_end(period: u64, first: u64, now: u64) -> u64
     now.saturating_add(period - late)
 }
 
-// The next run of a fixed period at a step after the first.
+// Returns the next run of `fixed` at a step after the first.
 pub(crate) fn run_after(period: u64, first: u64, run: u64, now: u64) -> u64
     ensures value { result ≡ run_after period first run now }
 {

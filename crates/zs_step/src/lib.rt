@@ -1,7 +1,7 @@
 //! When a job runs again: ZIO schedules, from a whole history and one step at a time.
 //!
-//! `plain` reads the answer off a whole history, and is the reference. `Compiled` keeps a state in place of the
-//! history. Both give `answer_of` (`specs/Answer.antt`), so a caller may take either.
+//! `plain` evaluates a whole history, and is the reference. `Compiled` has a state in place of the
+//! history. Both return `answer_of` (`specs/Answer.antt`), so a caller may use either.
 //!
 //! ```rust
 //! let schedule = zs_term::read(alloc, "(exponential(10) && recurs(3))")?;

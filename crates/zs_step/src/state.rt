@@ -1,4 +1,4 @@
-// The state of a schedule: what its steps have to remember in place of the history.
+//! The state of a schedule: what its next step needs to know in place of the history.
 
 ghost use Rattle.std.specs.Prelude.{◌≡◌, [], true, IfOk, IsOk};
 ghost use Rattle.zs_term.specs.Schedule.{schedule_of};
@@ -22,7 +22,7 @@ pub(crate) enum State {
         first: Box<State>,
         second: Box<State>,
     },
-    // `done` says whether the first part is done.
+    // `done` is whether the first part is done.
     AndThen {
         done: bool,
         first: Box<State>,
@@ -37,7 +37,7 @@ pub(crate) enum State {
         pick: Pick,
         test: Test,
     },
-    // `kept` are the outputs of the part at the steps that continued.
+    // `kept` has the outputs of the part at the steps at which it continued.
     CollectAll {
         part: Box<State>,
         kept: Box<Collected>,
@@ -54,7 +54,7 @@ pub(crate) enum State {
     },
 }
 
-// The state of a term before its first step.
+// Returns the state of a term before its first step.
 #[cycle(making)]
 pub(crate) fn state_of(alloc: Global, term: &Term) -> Result<State, AllocError>
     ensures made_of { IfOk result (λ s. state_schedule s ≡ schedule_of term.now) }
@@ -104,7 +104,7 @@ pub(crate) fn state_of(alloc: Global, term: &Term) -> Result<State, AllocError>
     }
 }
 
-// The state of a part before its first step, in memory of its own.
+// Returns the state of a part before its first step, in a box.
 #[cycle(making)]
 fn part(alloc: Global, term: &Term) -> Result<Box<State>, AllocError>
     ensures made_of { IfOk result (λ s. state_schedule s.value ≡ schedule_of term.now) }
@@ -113,7 +113,7 @@ fn part(alloc: Global, term: &Term) -> Result<Box<State>, AllocError>
     Ok(Box::new(alloc, state_of(alloc, term)?)?)
 }
 
-// Makes a state stand for the empty list again.
+// Resets a state, so that it represents the empty history.
 pub(crate) fn clear(state: &mut State, alloc: Global)
     ensures same { state_schedule state.new ≡ state_schedule state.old }
     ensures represents { Represents state.new [] }

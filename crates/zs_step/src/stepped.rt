@@ -1,15 +1,15 @@
-// What one step of a schedule answers.
+//! What one step of a schedule returns.
 
 use crate::decision::Decision;
 use zs_term::Out;
 
-/// The answer of a step, and what it took.
+/// The result of a step, and its cost.
 #[derive(Drop)]
 pub struct Stepped {
     /// The output.
     pub out: Out,
-    /// Whether to go on, and from which moment.
+    /// Whether the schedule continues, and from which moment.
     pub decision: Decision,
-    /// The number of nodes that were stepped; a node that was stepped twice counts twice.
+    /// The number of nodes that were stepped. A node that was stepped twice counts twice.
     pub visits: u64,
 }

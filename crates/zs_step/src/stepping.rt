@@ -1,5 +1,7 @@
-// One step of a schedule's state, in place. A node puts its output where its caller reads it, and hands its decision on in
-// registers: compiled code clears the room of each value that lies in memory, and no node has to.
+//! One step of a schedule's state, in place.
+//!
+//! A node writes its output to its caller's place, and returns its decision in registers. If it
+//! returned a value in memory, compiled code would clear that memory first, at each node.
 
 ghost use Rattle.std.specs.Prelude.{◌≡◌, ◌<◌, ◌+◌, ◌*◌, ◌^◌, true, IfOk, IsOk, IfSome, IsSome};
 ghost use Rattle.zs_term.specs.Schedule.{weight};
@@ -20,7 +22,7 @@ use std::alloc::{AllocError, Global};
 use std::mem::{drop, replace};
 use zs_term::{Func, Out, Pick, Test};
 
-// What each node of a schedule is told of a step, and where it makes its output.
+// What every node needs to know of a step.
 #[derive(Drop)]
 pub(crate) struct Step {
     pub(crate) alloc: Global,
@@ -28,7 +30,7 @@ pub(crate) struct Step {
     pub(crate) input: u64,
 }
 
-// One step of a schedule, with its visits and its output, which is made in the memory of a spare one as far as it fits.
+// Steps a schedule, and counts its visits. The output reuses the memory of a spare one if it fits.
 pub(crate) fn step_node(state: &mut State, step: &Step, spare: Out) -> Result<Stepped, AllocError>
     requires within { weight (state_schedule state.old) < 2 ^ 64 }
     ensures ok { IfOk result (λ r. StepsTo state.old state.new step.now.moment step.now.input (answer (output_of r.out) r.decision) r.visits) }
@@ -47,9 +49,10 @@ pub(crate) fn step_node(state: &mut State, step: &Step, spare: Out) -> Result<St
     }
 }
 
-// One step of a node, which counts it, and puts its output in the caller's place.
+// Steps and counts a node, and writes its output to the caller's place.
 #[cycle(stepping)]
 fn step_into(state: &mut State, step: &Step, visits: &mut u64, out: &mut Out) -> Turn
+    // The contract of each node: its result, its visits and new state, its unchanged schedule.
     requires within { visits.old + weight (state_schedule state.old) < 2 ^ 64 }
     ensures answers { IfSome (decided result) (λ d. Answers state.old step.now.moment step.now.input (answer (output_of out.new) d)) }
     ensures counts { IfSome (decided result) (λ d. CountsOn state.old state.new step.now.moment step.now.input (visits.old + 1) visits.new) }
@@ -78,7 +81,7 @@ fn step_into(state: &mut State, step: &Step, visits: &mut u64, out: &mut Out) ->
     }
 }
 
-// Puts an output in place of another one, which is dropped here, and not where each node would make room for what it drops.
+// Replaces an output. The old one is dropped here, so that the nodes' stack frames don't grow.
 #[inline(never)]
 fn put(out: &mut Out, value: Out)
     ensures value { out.new ≡ value }
@@ -86,12 +89,12 @@ fn put(out: &mut Out, value: Out)
     *out = value;
 }
 
-// A box with no output yet. Want of memory is all that can refuse it.
+// Makes a box without an output yet, unless the allocation fails.
 fn new_box(alloc: Global) -> Option<Box<Out>> {
     Box::new(alloc, Out::Num(0)).ok()
 }
 
-// The boxes of the pair in this place, or new ones where it has none.
+// Takes the boxes of the pair in this place, or makes new ones.
 #[inline(never)]
 fn pair_boxes(alloc: Global, out: &mut Out) -> Option<(Box<Out>, Box<Out>)> {
     match replace(out, Out::Num(0)) {
@@ -103,7 +106,7 @@ fn pair_boxes(alloc: Global, out: &mut Out) -> Option<(Box<Out>, Box<Out>)> {
     }
 }
 
-// The box of the side in this place, or a new one where it has none.
+// Takes the box of the side in this place, or makes a new one.
 #[inline(never)]
 fn side_box(alloc: Global, out: &mut Out) -> Option<Box<Out>> {
     match replace(out, Out::Num(0)) {
@@ -115,7 +118,7 @@ fn side_box(alloc: Global, out: &mut Out) -> Option<Box<Out>> {
     }
 }
 
-// One step of a schedule without parts.
+// Steps a schedule without parts.
 fn step_leaf(leaf: &mut LeafState, step: &Step, out: &mut Out) -> Turn
     ensures answers { IfSome (decided result) (λ d. Answers (Leaf leaf.old) step.now.moment step.now.input (answer (output_of out.new) d)) }
     ensures counts { (n : _) → IfSome (decided result) (λ d. CountsOn (Leaf leaf.old) (Leaf leaf.new) step.now.moment step.now.input n n) }
@@ -127,7 +130,7 @@ fn step_leaf(leaf: &mut LeafState, step: &Step, out: &mut Out) -> Turn
     Turn::of(decision)
 }
 
-// One step of both parts, which goes on where both do.
+// Steps both parts, and continues if both do.
 #[cycle(stepping)]
 #[inline(never)]
 fn step_both(
@@ -155,7 +158,7 @@ fn step_both(
     Turn::of(x.later(y))
 }
 
-// One step of both parts, which goes on where one does.
+// Steps both parts, and continues if at least one does.
 #[cycle(stepping)]
 #[inline(never)]
 fn step_either(
@@ -183,7 +186,7 @@ fn step_either(
     Turn::of(x.earlier(y))
 }
 
-// One step of the part that is on: the second begins at the step at which the first is done.
+// Steps the current part. At the step at which the first is done, the second takes its first step.
 #[cycle(stepping)]
 #[inline(never)]
 fn step_and_then(
@@ -217,7 +220,7 @@ fn step_and_then(
     turn
 }
 
-// One step of a part that goes on while the input passes.
+// Steps a part that continues while the input passes.
 #[cycle(stepping)]
 fn step_while_input(
     part: &mut State,
@@ -238,7 +241,7 @@ fn step_while_input(
     Turn::of(x.only_if(test.passes(step.input)))
 }
 
-// One step of a part that goes on while its output passes.
+// Steps a part that continues while its output passes.
 #[cycle(stepping)]
 fn step_while_output(
     part: &mut State,
@@ -260,7 +263,7 @@ fn step_while_output(
     Turn::of(x.only_if(test.passes(pick.read(out))))
 }
 
-// One step of a part whose outputs are collected: the list is that of the earlier steps.
+// Steps a part whose outputs are collected, and returns the list of the earlier steps.
 #[cycle(stepping)]
 #[inline(never)]
 fn step_collect_all(
@@ -279,7 +282,7 @@ fn step_collect_all(
     let Some(x) = step_into(part, step, visits, &mut last).decision() else {
         return Turn::Refused;
     };
-    // `out` holds the list of the step before. Only after it is dropped can the list grow in place.
+    // `out` has the list of the step before. The list can grow in place only after that is dropped.
     put(out, Out::Num(0));
     let Ok(list) = kept.step(step.alloc, last, x) else {
         return Turn::Refused;
@@ -288,7 +291,7 @@ fn step_collect_all(
     Turn::of(x)
 }
 
-// One step of a part with a function of its output.
+// Steps a part, and applies a function to its output.
 #[cycle(stepping)]
 fn step_map(part: &mut State, func: Func, step: &Step, visits: &mut u64, out: &mut Out) -> Turn
     requires within { visits.old + weight (state_schedule part.old) < 2 ^ 64 }
@@ -310,7 +313,7 @@ fn step_map(part: &mut State, func: Func, step: &Step, visits: &mut u64, out: &m
     turn
 }
 
-// One step of a part, and the first of its output's pair. If the part is `&&`, no pair is made.
+// Steps a part, and returns the first part of its output. For `&&` no pair is made.
 #[cycle(stepping)]
 fn step_first(part: &mut State, step: &Step, visits: &mut u64, out: &mut Out) -> Turn
     requires within { visits.old + weight (state_schedule part.old) < 2 ^ 64 }
@@ -336,7 +339,7 @@ fn step_first(part: &mut State, step: &Step, visits: &mut u64, out: &mut Out) ->
     }
 }
 
-// One step of both parts, and the first part's output. The second part's isn't made.
+// Steps both parts, and returns the first one's output. The second one's isn't made.
 #[cycle(stepping)]
 #[inline(never)]
 fn first_of_both(
@@ -362,7 +365,7 @@ fn first_of_both(
     Turn::of(both)
 }
 
-// One step of a part, which begins anew and is stepped again where its output passes.
+// Steps a part, and if its output passes, resets it and steps it again.
 #[cycle(stepping)]
 fn step_reset_when(
     part: &mut State,
@@ -389,7 +392,7 @@ fn step_reset_when(
     step_into(part, step, visits, out)
 }
 
-// One step of a node whose output nobody reads: pairs aren't made then.
+// Steps a node whose output isn't read, so that no pairs are made.
 #[cycle(stepping)]
 fn step_unread(state: &mut State, step: &Step, visits: &mut u64) -> Turn
     requires within { visits.old + weight (state_schedule state.old) < 2 ^ 64 }
@@ -411,7 +414,7 @@ fn step_unread(state: &mut State, step: &Step, visits: &mut u64) -> Turn
     }
 }
 
-// One step of a node whose output is dropped.
+// Steps a node, and drops its output.
 #[cycle(stepping)]
 #[inline(never)]
 fn step_and_drop(state: &mut State, step: &Step, visits: &mut u64) -> Turn
@@ -425,7 +428,7 @@ fn step_and_drop(state: &mut State, step: &Step, visits: &mut u64) -> Turn
     step_into(state, step, visits, &mut out)
 }
 
-// The decision of both parts.
+// Returns the decision of two parts that both have to continue.
 #[cycle(stepping)]
 fn unread_both(first: &mut State, second: &mut State, step: &Step, visits: &mut u64) -> Turn
     requires within { visits.old + 1 + weight (state_schedule first.old) + weight (state_schedule second.old) < 2 ^ 64 }
@@ -444,7 +447,7 @@ fn unread_both(first: &mut State, second: &mut State, step: &Step, visits: &mut 
     Turn::of(decision)
 }
 
-// The decision of one of both parts.
+// Returns the decision of two parts of which one has to continue.
 #[cycle(stepping)]
 fn unread_either(first: &mut State, second: &mut State, step: &Step, visits: &mut u64) -> Turn
     requires within { visits.old + 1 + weight (state_schedule first.old) + weight (state_schedule second.old) < 2 ^ 64 }
@@ -463,7 +466,7 @@ fn unread_either(first: &mut State, second: &mut State, step: &Step, visits: &mu
     Turn::of(decision)
 }
 
-// The decision of a part that goes on while the input passes.
+// Returns the decision of a part that continues while the input passes.
 #[cycle(stepping)]
 fn unread_while_input(part: &mut State, test: Test, step: &Step, visits: &mut u64) -> Turn
     requires within { visits.old + 1 + weight (state_schedule part.old) < 2 ^ 64 }
@@ -480,7 +483,7 @@ fn unread_while_input(part: &mut State, test: Test, step: &Step, visits: &mut u6
     Turn::of(x.only_if(passed))
 }
 
-// The decision of a part whose output a function takes.
+// Returns the decision of a part under a function.
 #[cycle(stepping)]
 fn unread_map(part: &mut State, _func: Func, step: &Step, visits: &mut u64) -> Turn
     requires within { visits.old + 1 + weight (state_schedule part.old) < 2 ^ 64 }

@@ -1,11 +1,11 @@
-// How a node's step ends.
+//! How the step of one node ends.
 
 ghost use Rattle.std.specs.Prelude.{◌≡◌, Some};
 ghost use Rattle.zs_step.specs.Turn.{decided};
 
 use crate::decision::Decision;
 
-// A decision, or that a growth was refused: one enum of two words, which go through registers.
+// A decision, or an allocation failure. The enum has two words, so that it fits in registers.
 #[derive(Clone, Copy)]
 pub(crate) enum Turn {
     Stop,
@@ -14,7 +14,7 @@ pub(crate) enum Turn {
 }
 
 impl Turn {
-    // The end of a step that decided.
+    // Wraps a decision.
     #[inline(always)]
     pub(crate) fn of(decision: Decision) -> Turn
         ensures value { decided result ≡ Some decision }
@@ -25,7 +25,7 @@ impl Turn {
         }
     }
 
-    // The decision, if there is one.
+    // Returns the decision, if there is one.
     #[inline(always)]
     pub(crate) fn decision(self) -> Option<Decision>
         ensures value { result ≡ decided self }

@@ -1,4 +1,4 @@
-// The state of a schedule as words, between two steps.
+//! The state of a schedule as words, between two steps.
 
 ghost use Rattle.std.specs.Prelude.{◌≡◌, ℕ, ◌+◌, ◌≤◌, List, [], ◌∷◌, ◌++◌, length, IfOk, OnOk, IsTrue, IsFalse, slice_index_or};
 ghost use Rattle.zs_term.specs.Schedule.{schedule_of, weight};
@@ -15,7 +15,7 @@ use crate::stepping::{Step, step_node};
 use std::alloc::{AllocError, Global};
 use zs_term::{Checked, Out, Term};
 
-/// Whether a schedule keeps no list, so that words tell its whole state.
+/// Whether a schedule has no `collectAll`, so that words represent its whole state.
 pub fn keeps_no_list(checked: &Checked) -> bool
     ensures yes { IsTrue result → KeepsNoList (schedule_of checked.now) }
     ensures no { IsFalse result → KeepsNoList (schedule_of checked.now) → ⊥ }
@@ -23,8 +23,10 @@ pub fn keeps_no_list(checked: &Checked) -> bool
     collects_nothing(checked.term())
 }
 
-/// The words of a schedule's state before its first step; as many as behind any steps. Fails with `Memory` alone.
+/// Returns the words of a schedule's state before its first step. The number of words is the same
+/// after any steps. Fails only with `Memory`.
 pub fn new_words(alloc: Global, checked: &Checked) -> Result<Vec<u64>, StepFault>
+    // The schedule has no `collectAll`.
     requires flat { KeepsNoList (schedule_of checked.now) }
     ensures ok { IfOk result (λ v. v.items ≡ state_words (schedule_of checked.now) []) }
 {
@@ -32,8 +34,9 @@ pub fn new_words(alloc: Global, checked: &Checked) -> Result<Vec<u64>, StepFault
     Ok(saved(alloc, 0, &mut state)?)
 }
 
-/// The answer of a schedule, whose state words tell, to one more moment, in milliseconds, and input, and the words of its
-/// state from then on. The first word is the last moment; words behind the state are not read. Fails with `Memory` alone.
+/// Steps a schedule from the words of its state, with a moment in milliseconds and an input.
+/// Returns the result and the words after the step. The first word is the last moment; words after
+/// the state aren't read. Fails only with `Memory`.
 pub fn step_words(
     alloc: Global,
     checked: &Checked,
@@ -41,9 +44,12 @@ pub fn step_words(
     now: u64,
     input: u64,
 ) -> Result<(Stepped, Vec<u64>), StepFault>
+    // The schedule has no `collectAll`.
     requires flat { KeepsNoList (schedule_of checked.now) }
     requires order { slice_index_or words.now 0 0 ≤ now }
+    // The result is that of every history whose state these words are, with this step.
     ensures answered { IfOk result (λ r. (h : History) → KeepsState (schedule_of checked.now) h words.now → IsAnswer (schedule_of checked.now) ((now, input) ∷ h) r.0) }
+    // The new words are the state of that history with this step.
     ensures stands { IfOk result (λ r. (h : History) → KeepsState (schedule_of checked.now) h words.now → r.1.items ≡ state_words (schedule_of checked.now) ((now, input) ∷ h)) }
     ensures len { IfOk result (λ r. length r.1.items ≡ length (state_words (schedule_of checked.now) [])) }
 {
@@ -58,7 +64,7 @@ pub fn step_words(
     Ok((stepped, after))
 }
 
-// Whether no list is kept in a term.
+// Whether a term has no `collectAll`.
 fn collects_nothing(term: &Term) -> bool
     ensures yes { IsTrue result → KeepsNoList (schedule_of term.now) }
     ensures no { IsFalse result → KeepsNoList (schedule_of term.now) → ⊥ }
@@ -76,7 +82,7 @@ fn collects_nothing(term: &Term) -> bool
     }
 }
 
-// The state that words tell behind the last moment.
+// Builds the state that words represent, after their first word, the last moment.
 fn loaded(alloc: Global, checked: &Checked, words: &[u64]) -> Result<State, AllocError>
     ensures made_of { IfOk result (λ s. state_schedule s ≡ schedule_of checked.now) }
     ensures small { IfOk result (λ s. weight (state_schedule s) ≤ 1000) }
@@ -88,7 +94,7 @@ fn loaded(alloc: Global, checked: &Checked, words: &[u64]) -> Result<State, Allo
     Ok(state)
 }
 
-// Gives a state what words tell, and answers the words behind them.
+// Reads a state from words, and returns the words after it.
 fn load<'a>(state: &mut State, words: &'a [u64]) -> &'a [u64]
     ensures same { state_schedule state.new ≡ state_schedule state.old }
     ensures stands { (h : History) (rest : List ℕ) → KeepsNoList (state_schedule state.old) → words.now ≡ words_of (state_schedule state.old) h ++ rest → Represents state.new h × (result.now ≡ rest) }
@@ -122,7 +128,7 @@ fn load<'a>(state: &mut State, words: &'a [u64]) -> &'a [u64]
     }
 }
 
-// The words of a state that saw this moment last. A first part that is done begins anew.
+// Returns the words of a state and the last moment. A first part that is done is reset.
 fn saved(alloc: Global, last: u64, state: &mut State) -> Result<Vec<u64>, AllocError>
     ensures ok { IfOk result (λ v. (h : History) → KeepsNoList (state_schedule state.old) → Represents state.old h → v.items ≡ last ∷ words_of (state_schedule state.old) h) }
     ensures len { IfOk result (λ v. length v.items ≡ length (state_words (state_schedule state.old) [])) }
@@ -133,7 +139,7 @@ fn saved(alloc: Global, last: u64, state: &mut State) -> Result<Vec<u64>, AllocE
     Ok(words)
 }
 
-// Writes what a state remembers behind some words. A first part that is done begins anew.
+// Appends the words of a state. A first part that is done is reset.
 fn save(alloc: Global, state: &mut State, words: &mut Vec<u64>) -> Result<(), AllocError>
     ensures ok { OnOk result ((h : History) → KeepsNoList (state_schedule state.old) → Represents state.old h → words.new.items ≡ words.old.items ++ words_of (state_schedule state.old) h) }
     ensures len { OnOk result (length words.new.items ≡ length words.old.items + length (words_of (state_schedule state.old) [])) }

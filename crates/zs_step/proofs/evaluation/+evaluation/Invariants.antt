@@ -17,7 +17,7 @@ invariant-reset_start-loop-i l =
     (l.start < length l.history) × (l.start ≤ l.i)
     × (since_reset (answer_of (schedule_of l.term)) l.pick l.test (history_of (take l.i l.history)) ≡ history_of (drop l.start (take l.i l.history)))
 
--- a part weighs less; a search through a history asks its schedule itself
+-- a part weighs less than its schedule; a search through a history evaluates the same schedule
 abbrev pub decreases-evaluate : goal.decreases-evaluate
 decreases-evaluate l = 3 * weight (schedule_of l.term.now)
 

@@ -2,7 +2,7 @@ use Rattle.std.proofs.Common.{◌+◌, ◌*◌}
 use Rattle.zs_term.specs.Schedule.{schedule_of, weight}
 use Rattle.zs_step.proofs.state.+making.Given as goal
 
--- a part is a term of its own
+-- a part is a smaller term
 abbrev pub decreases-part : goal.decreases-part
 decreases-part l = 2 * weight (schedule_of l.term.now) + 1
 

@@ -3,7 +3,7 @@ use Rattle.zs_term.specs.Schedule.{weight}
 use Rattle.zs_step.specs.State.{state_schedule}
 use Rattle.zs_step.proofs.stepping.+stepping.Given as goal
 
--- a step and a reset keep the schedule, and so its weight
+-- a step and a reset don't change the schedule, and so not its weight
 abbrev pub decreases-step_into : goal.decreases-step_into
 decreases-step_into l = 4 * weight (state_schedule l.state.now)
 

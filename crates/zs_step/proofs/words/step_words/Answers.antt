@@ -1,7 +1,7 @@
 use Rattle.zs_step.proofs.Answering.{is-answer}
 use Rattle.zs_step.proofs.words.step_words.Goals as goal
 
--- the state that the words tell is stepped, and its answer is that of the schedule
+-- the state that the words represent is stepped, and returns the result of the schedule
 pub returns-clause-answered : goal.returns-clause-answered
 returns-clause-answered c h kept =
     is-answer _ _ c.args.now c.args.input c.in_ok-stepped.stepped _ h c.in_ok-stepped.ensures.ok
