@@ -1,3 +1,3 @@
--- What the clauses of callers name, and so what has to be believed.
+-- Named by public clauses: a reader who relies on a clause has to believe what it names.
 pub mod Scripts
 pub mod Attempts

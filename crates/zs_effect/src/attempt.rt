@@ -9,7 +9,7 @@ use futures::Future;
 use futures::task::{Context, Poll};
 use std::marker::Model;
 
-/// An attempt that runs, or has run, and the last moment that it saw.
+/// An attempt that is running or over, with the last moment that it saw.
 #[derive(Drop)]
 pub struct Attempt {
     outcome: Outcome,
@@ -26,7 +26,7 @@ impl Model for Attempt {
 }
 
 impl Attempt {
-    /// Begins an attempt at a moment, in milliseconds. Its end saturates at 2^64 - 1.
+    /// Starts an attempt at a moment in milliseconds. Its end saturates at 2^64 - 1.
     pub fn start(beat: Beat, now: u64) -> Attempt
         ensures value { result ≡ record { outcome = beat.outcome; end = saturated (now + beat.ms); seen = now } }
     {
@@ -37,14 +37,14 @@ impl Attempt {
         }
     }
 
-    /// The moment at which it ends, in milliseconds.
+    /// Returns the moment at which it ends, in milliseconds.
     pub fn end(&self) -> u64
         ensures value { result ≡ self.now.end }
     {
         self.end
     }
 
-    /// Tells it the moment at which the next poll comes, in milliseconds, not before the last one that it saw.
+    /// Sets the moment of the next poll, in milliseconds. It must not be before the last one seen.
     pub fn see(&mut self, now: u64)
         requires later { self.old.seen ≤ now }
         ensures value { self.new ≡ record self.old { seen = now } }
@@ -58,12 +58,14 @@ impl Future for Attempt {
 
     ghost gives = { λ a outcome. outcome ≡ a.outcome };
 
-    /// Ready with the outcome where the moment seen is at or past the end.
+    /// Ready with the outcome if the moment seen is at or after the end, else pending.
     fn poll(&mut self, cx: &mut Context<'_>) -> Poll<Outcome>
         ensures ready { self.old.end ≤ self.old.seen → result ≡ Poll.Ready self.old.outcome }
         ensures pending { self.old.seen < self.old.end → result ≡ Poll.Pending }
         ensures unchanged { self.new ≡ self.old }
         ensures value { IfReady result (λ outcome. outcome ≡ self.old.outcome) }
+        // For executors: a pending poll arranges the next one, and nothing that was arranged is
+        // lost.
         ensures armed { OnPending result (IsArmed cx.new) }
         ensures kept { Keeps cx.old cx.new }
     {

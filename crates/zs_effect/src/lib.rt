@@ -1,6 +1,6 @@
 //! Effects that follow a script, and their attempts as futures that are polled by hand.
 //!
-//! An attempt is ready exactly where it has seen its end, and answers the same when it is polled again.
+//! An attempt is ready exactly if it has seen its end, and then returns the same at every poll.
 //!
 //! ```text
 //! let script = Script::new(beats)?;

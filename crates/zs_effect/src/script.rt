@@ -20,13 +20,13 @@ pub enum Outcome {
 /// One entry of a script: how long an attempt takes, and how it ends.
 #[derive(Clone, Copy, Debug, Drop, PartialEq, Eq)]
 pub struct Beat {
-    /// How long it takes, in milliseconds: in a script at least 1.
+    /// The duration in milliseconds, at least 1 in a script.
     pub ms: u64,
     /// How it ends.
     pub outcome: Outcome,
 }
 
-/// Why a list of entries is no script. The first that stands is answered.
+/// Why a list of entries is no script. The causes are checked in this order.
 #[derive(Clone, Copy, Debug, Drop, Error, PartialEq, Eq)]
 pub enum ScriptFault {
     /// There is no entry.
@@ -40,7 +40,7 @@ pub enum ScriptFault {
     ZeroMs,
 }
 
-/// One entry for each attempt. After the last entry that entry repeats.
+/// What the attempts of an effect do, one entry each. After the last entry that entry repeats.
 #[derive(Drop)]
 pub struct Script {
     beats: Vec<Beat>,
@@ -60,9 +60,12 @@ impl Model for Script {
 }
 
 impl Script {
-    /// A script of 1 to 1,000 entries, each of at least 1 ms. A list that is none is given up, for its first `ScriptFault`.
+    /// Makes a script of 1 to 1,000 entries of at least 1 ms each. For any other list it returns
+    /// the first `ScriptFault`, and drops the list.
     pub fn new(beats: Vec<Beat>) -> Result<Script, ScriptFault>
+        // The script has these entries.
         ensures kept { MatchResult result (λ script. script ≡ beats.items) (λ _. Unit {0}) }
+        // Succeeds exactly for a valid list, else returns its first fault.
         ensures script { MatchResult result (λ _. IsScript beats.items) (IsFirstFault beats.items) }
     {
         if beats.is_empty() {
@@ -77,10 +80,11 @@ impl Script {
         Ok(Script { beats })
     }
 
-    /// The `k`-th entry, counted from 1, or the last one where there are fewer.
+    /// Returns the `k`-th entry, counted from 1, or the last one if there are fewer.
     pub fn beat(&self, k: u64) -> Beat
         requires counted { 1 ≤ k }
         ensures beat { result ≡ entry_at self.now k }
+        // What is true of every script.
         ensures lawful { IsScript self.now }
     {
         let last = self.beats.len() as u64;
