@@ -1,4 +1,4 @@
--- Lemmas on how an agenda is stored: by moment and by job.
+-- Lemmas about how an agenda is stored: by moment and by job.
 use Rattle.std.proofs.Common.{◌≡◌, ◌≢◌, ◌<◌, ◌≤◌, ◌+◌, ◌-◌, ◌==◌, ◌↔◌, ◌||◌, ℕ, suc, Bool, true, false, cond, List, [], ◌∷◌, ◌++◌, length, Option, Some, None, IsNone, IfSome, Contains, refl, sym, ap, subst, ◌∙◌, arith, nat_eq, nat_lt, nat_le, nat_cmp, insert, get_or, take, length-take, unwrap_or}
 use Rattle.std.proofs.lemmas.Bool.Decides.{nat_tests, Decides-eqb}
 use Rattle.std.proofs.lemmas.Grind.{get_or_head, get_or_tail}
@@ -19,7 +19,7 @@ use Rattle.zs_agenda.specs.Timers.{Moments, IsAfter, IsLeastMoment, Takes}
 use Rattle.zs_agenda.specs.Indexes.{Loses, IsFirst, IsInOrder, Clears, Puts, Forgets, HasSameMoments, IsAgenda, jobs_at, moment_in, is_among, IsRising, placed, moments_of, table_size, with_places, Agrees}
 
 -- ---- lists of jobs
--- what holds of each element still holds in a weaker form
+-- what is true of each element is true of each in a weaker form
 pub weaker : {X : Type 0} (P Q : X → Type 0) → ((x : X) → P x → Q x) → (xs : List X) → AllByRecursion P xs → AllByRecursion Q xs
 weaker P Q f [] h = tt
 weaker P Q f (x ∷ xs) h = (f x h.0, weaker P Q f xs h.1)
@@ -37,7 +37,7 @@ prefix_len-le p (x ∷ xs) =
       | false ↦ omega arith
     ]
 
--- an insert behind the lesser jobs puts a job at its place
+-- a job that is inserted after the lesser jobs is at its place
 pub insert-is-placed : (job : ℕ) (js : List ℕ) → insert js (prefix_len (λ j. nat_lt j job) js) job ≡ placed job js
 insert-is-placed job [] = refl
 insert-is-placed job (j ∷ js) =
@@ -47,7 +47,7 @@ insert-is-placed job (j ∷ js) =
       | false ↦ refl
     ]
 
--- a job after the last of a rising list is after the first
+-- a job greater than the last of a rising list is greater than the first
 first-below : (job j : ℕ) (js : List ℕ) → IsRising (j ∷ js) → get_or (j ∷ js) (length js) 0 < job → j < job
 first-below job j [] h last = last
 first-below job j (k ∷ js) h last =
@@ -55,7 +55,7 @@ first-below job j (k ∷ js) h last =
     let rises : j < k = h.0.0 in
     omega arith
 
--- and it goes behind all of them
+-- such a job goes after all of them
 placed-behind : (job j : ℕ) (js : List ℕ) → IsRising (j ∷ js) → get_or (j ∷ js) (length js) 0 < job → placed job (j ∷ js) ≡ (j ∷ js) ++ job ∷ []
 placed-behind job j [] h last =
     let is : nat_lt j job ≡ true = grind (arith, nat_tests) in
@@ -65,14 +65,14 @@ placed-behind job j (k ∷ js) h last =
     let is : nat_lt j job ≡ true = grind (arith, nat_tests) in
     rw is (ap (λ (r : List ℕ). j ∷ r) (placed-behind job k js h.1 last))
 
--- a job goes behind a list that is empty, or whose last is less
+-- a job goes last if the list is empty, or its last job is less
 pub placed-last : (job : ℕ) (js : List ℕ) → IsRising js → (0 < length js → get_or js (length js - 1) 0 < job) → placed job js ≡ js ++ job ∷ []
 placed-last job [] h last = refl
 placed-last job (j ∷ js) h last =
     let few : length (j ∷ js) - 1 ≡ length js = omega arith in
     placed-behind job j js h (subst (λ (n : ℕ). get_or (j ∷ js) n 0 < job) few (last (omega arith)))
 
--- the jobs of a list with one more
+-- the jobs of a list after an insertion
 pub has-placed : (q job : ℕ) (js : List ℕ) → has q (placed job js) ≡ (job == q || has q js)
 has-placed q job [] = refl
 has-placed q job (j ∷ js) =
@@ -87,7 +87,7 @@ has-placed q job (j ∷ js) =
     or-swap true false c = refl
     or-swap false b c = refl
 
--- what holds of the job and of the list holds of the list with the job
+-- what is true of the job and of the list is true of the list with the job
 AllByRecursion-placed : (P : ℕ → Type 0) (job : ℕ) (js : List ℕ) → P job → AllByRecursion P js → AllByRecursion P (placed job js)
 AllByRecursion-placed P job [] p h = (p, tt)
 AllByRecursion-placed P job (j ∷ js) p h =
@@ -104,7 +104,7 @@ has-no-head q j js h = grind (arith, nat_tests)
 has-no-tail : (q j : ℕ) (js : List ℕ) → has q (j ∷ js) ≡ false → has q js ≡ false
 has-no-tail q j js h = grind (arith, nat_tests)
 
--- a rising list with a new job at its place rises
+-- a rising list still rises after a new job is inserted at its place
 pub IsRising-placed : (job : ℕ) (js : List ℕ) → IsRising js → has job js ≡ false → IsRising (placed job js)
 IsRising-placed job [] h n = (tt, tt)
 IsRising-placed job (j ∷ js) h n =
@@ -118,7 +118,7 @@ IsRising-placed job (j ∷ js) h n =
           ((below, weaker (λ k. j < k) (λ k. job < k) (λ k l. omega arith) js h.0), h)
     ] refl
 
--- a list with one more job is not empty
+-- a list after an insertion isn't empty
 pub placed-not_empty : (job : ℕ) (js : List ℕ) → placed job js ≢ []
 placed-not_empty job [] = λ e. cc
 placed-not_empty job (j ∷ js) =
@@ -141,7 +141,7 @@ has-each (j ∷ js) = (
   weaker (λ q. has q js ≡ true) (λ q. has q (j ∷ js) ≡ true) (λ q h. grind (arith, nat_tests)) js (has-each js),
 )
 
--- the test finds just the elements
+-- the test finds exactly the elements
 pub Contains-has-iff : (q : ℕ) (js : List ℕ) → Contains js q ↔ (has q js ≡ true)
 Contains-has-iff q js = ((λ c. All-contains (λ j. has j js ≡ true) js q (All-from_recursion _ _ (has-each js)) c), Contains-has q js)
 
@@ -165,23 +165,23 @@ has-first [] h = absurd (h refl)
 has-first (j ∷ js) h = (j, ap (λ (b : Bool). b || has j js) ((Decides-eqb j j).1 refl))
 
 -- ---- look-ups
--- the place of a key is where it is equal
+-- a key's place is the one with an equal key
 pub tied : (a b : ℕ) → tree.is_at (nat_cmp a) b ≡ (a == b)
 tied a b = unsigned_tied a b
 
--- two ways to look a job up in the entries
+-- two ways to look up a job in the entries
 find-lookup : (q : ℕ) (es : List (ℕ × ℕ)) → map_of.find nat_cmp q es ≡ lookup (nat_eq q) es
 find-lookup q [] = refl
 find-lookup q (e ∷ es) =
     ap (λ (o : Option ℕ). cond (tree.is_at (nat_cmp q) e.0) (Some e.1) o) (find-lookup q es)
     ∙ ap (λ (b : Bool). cond b (Some e.1) (lookup (nat_eq q) es)) (tied q e.0)
 
--- the first moment, if there is one, and else the other
+-- the first moment if there is one, else the second
 abbrev either : Option ℕ → Option ℕ → Option ℕ
 either None o = o
 either (Some moment) o = Some moment
 
--- a job at the first place of a table, or at one behind it
+-- a job at the first place of a table, or after it
 first_place : (o : Option ℕ) (places : List (Option ℕ)) (b q : ℕ) (x : Option ℕ)
     → cond (q == b) (either o x) (cond (nat_lt q (b + 1)) x (either (get_or places (q - (b + 1)) None) x))
     ≡ cond (nat_lt q b) x (either (get_or (o ∷ places) (q - b) None) x)
@@ -210,7 +210,7 @@ first_place o places b q x =
           ] refl
     ] refl
 
--- one more place with no moment
+-- one more place without a moment
 no_moment_there : (b q : ℕ) (x y : Option ℕ) → cond (nat_lt q (b + 1)) x y ≡ cond (q == b) x (cond (nat_lt q (b + 1)) x y)
 no_moment_there b q x y =
     elim (q == b) as (λ t. (q == b) ≡ t → cond (nat_lt q (b + 1)) x y ≡ cond t x (cond (nat_lt q (b + 1)) x y)) [
@@ -222,7 +222,7 @@ same_either_way : (t : Bool) (x : Option ℕ) → x ≡ cond t x x
 same_either_way true x = refl
 same_either_way false x = refl
 
--- a job's moment is the one at its place, if there is one, and else the other
+-- a job's moment is the one at its place if there is one, else the other
 get-with_places : (b : ℕ) (places : List (Option ℕ)) (moments : Moments) (q : ℕ)
     → map_of.get (with_places b places moments) q
     ≡ cond (nat_lt q b) (map_of.get moments q) (either (get_or places (q - b) None) (map_of.get moments q))
@@ -240,7 +240,7 @@ either-none : (o : Option ℕ) → either o None ≡ o
 either-none None = refl
 either-none (Some moment) = refl
 
--- a table of n places, beside which the other moments stand
+-- a table of n places, with the other moments beside it
 get-table : (n : ℕ) (places : List (Option ℕ)) (moments : Moments) (q : ℕ)
     → map_of.get (with_places 0 (take n places) (map_of.retain_keys moments (λ job. nat_le n job))) q
     ≡ cond (nat_lt q n) (get_or places q None) (map_of.get moments q)
@@ -282,9 +282,9 @@ pub no_moments : (m : ByJob) → ((q : ℕ) → moment_in m q ≡ None) → mome
 no_moments m h =
     map_of.same_map nat_cmp_total map_of.nat_cmp-IsAntisymmetric _ _ (λ q. get-moments_of m q ∙ h q ∙ sym (map_of.get-empty nat_cmp q))
 
--- ---- a job that comes in
+-- ---- a job that is added
 module _ (jobs_of jobs_of' : ℕ → Option (List ℕ)) (moment_of moment_of' : ℕ → Option ℕ) (taken : Option ℕ) where
-  -- the invariant stands on the look-ups alone
+  -- the invariant depends only on the look-ups
   pub same-Agrees : ((t : ℕ) → jobs_of' t ≡ jobs_of t) → ((q : ℕ) → moment_of' q ≡ moment_of q) → Agrees jobs_of moment_of taken → Agrees jobs_of' moment_of' taken
   same-Agrees l f h = record {
     agree = λ q t. rw (f q, l t) (h.agree q t);
@@ -294,12 +294,12 @@ module _ (jobs_of jobs_of' : ℕ → Option (List ℕ)) (moment_of moment_of' : 
   }
 
   module _ (job moment : ℕ) (l : (t : ℕ) → jobs_of' t ≡ cond (t == moment) (Some (placed job (unwrap_or (jobs_of moment) []))) (jobs_of t)) (f : (q : ℕ) → moment_of' q ≡ cond (job == q) (Some moment) (moment_of q)) where
-    -- no list is the empty list
+    -- a missing list counts as the empty list
     is_among-unwrap : (q : ℕ) (o : Option (List ℕ)) → has q (unwrap_or o []) ≡ is_among q o
     is_among-unwrap q None = refl
     is_among-unwrap q (Some js) = refl
 
-    -- the jobs at each moment, after one came in
+    -- the jobs at each moment, after one was added
     among_new : (q t : ℕ) → is_among q (jobs_of' t) ≡ cond (t == moment) (job == q || is_among q (jobs_of moment)) (is_among q (jobs_of t))
     among_new q t =
         rw (l t) (
@@ -308,7 +308,7 @@ module _ (jobs_of jobs_of' : ℕ → Option (List ℕ)) (moment_of moment_of' : 
           | false ↦ refl
         ])
 
-    -- the two maps agree after one job came in
+    -- the two maps agree after a job was added
     pub added-agree : Agrees jobs_of moment_of taken → moment_of job ≡ None → (q t : ℕ) → (moment_of' q ≡ Some t) ↔ (is_among q (jobs_of' t) ≡ true)
     added-agree h none q t =
         rw (f q, among_new q t) (
@@ -329,7 +329,7 @@ module _ (jobs_of jobs_of' : ℕ → Option (List ℕ)) (moment_of moment_of' : 
               ] refl
         ] refl)
 
-    -- a job that is not set stands in no list
+    -- a job without a moment is in no list
     not_among : Agrees jobs_of moment_of taken → moment_of job ≡ None → has job (unwrap_or (jobs_of moment) []) ≡ false
     not_among h none =
         rw (is_among-unwrap job (jobs_of moment)) (
@@ -338,12 +338,13 @@ module _ (jobs_of jobs_of' : ℕ → Option (List ℕ)) (moment_of moment_of' : 
           | false ↦ λ _. refl
         ] refl)
 
-    -- the list that a job comes into rises
+    -- the list to which a job is added rises
     rising_before : Agrees jobs_of moment_of taken → (o : Option (List ℕ)) → jobs_of moment ≡ o → IsRising (unwrap_or o [])
     rising_before h None e = tt
     rising_before h (Some js) e = h.rising moment js e
 
-    -- what holds of the list with the job and of the others holds of each list after it
+    -- what is true of the list with the job and of the others is true of each list after the
+    -- addition
     new_list : (P : List ℕ → Type 0) → P (placed job (unwrap_or (jobs_of moment) [])) → ((t : ℕ) (js : List ℕ) → jobs_of t ≡ Some js → P js) → (t : ℕ) (js : List ℕ) → jobs_of' t ≡ Some js → P js
     new_list P here others t js e =
         elim (t == moment) as (λ b. cond b (Some (placed job (unwrap_or (jobs_of moment) []))) (jobs_of t) ≡ Some js → P js) [
@@ -351,7 +352,7 @@ module _ (jobs_of jobs_of' : ℕ → Option (List ℕ)) (moment_of moment_of' : 
           | false ↦ λ is. others t js is
         ] (sym (l t) ∙ e)
 
-    -- the invariant stands after one job came in
+    -- the invariant is true after a job was added
     pub added-Agrees : Agrees jobs_of moment_of taken → moment_of job ≡ None → IsAfter taken moment → Agrees jobs_of' moment_of' taken
     added-Agrees h none after = record {
       agree = added-agree h none;
@@ -387,12 +388,12 @@ module _ (jobs_of : ℕ → Option (List ℕ)) (moment_of : ℕ → Option ℕ) 
   pub first-after : Agrees jobs_of moment_of taken → IsFirst jobs_of t js → IsAfter taken t
   first-after h i = let some : (q : ℕ) × (moment_of q ≡ Some t) = first-set h i in h.later some.0 t some.1
 
-  -- the first list has just the jobs that are set for its moment
+  -- the first list has exactly the jobs that are set for its moment
   pub first-jobs : Agrees jobs_of moment_of taken → IsFirst jobs_of t js → (q : ℕ) → (moment_of q ≡ Some t) ↔ (has q js ≡ true)
   first-jobs h i q = subst (λ (o : Option (List ℕ)). (moment_of q ≡ Some t) ↔ (is_among q o ≡ true)) i.here (h.agree q t)
 
   module _ (jobs_of' : ℕ → Option (List ℕ)) (moment_of' : ℕ → Option ℕ) (l : (s : ℕ) → jobs_of' s ≡ cond (t == s) None (jobs_of s)) (f : (q : ℕ) → moment_of' q ≡ cond (has q js) None (moment_of q)) where
-    -- the others keep their moments, once the first list is gone
+    -- the other jobs have the same moments once the first list is removed
     pub taken-others : Agrees jobs_of moment_of taken → IsFirst jobs_of t js → (q s : ℕ) → (moment_of' q ≡ Some s) ↔ ((moment_of q ≡ Some s) × (s ≢ t))
     taken-others h i q s =
         rw (f q) (
@@ -407,7 +408,7 @@ module _ (jobs_of : ℕ → Option (List ℕ)) (moment_of : ℕ → Option ℕ) 
           )
         ] refl)
 
-    -- a list that is left is an old one of another moment
+    -- a remaining list is an old one of another moment
     left-list : (s : ℕ) (ks : List ℕ) → jobs_of' s ≡ Some ks → (jobs_of s ≡ Some ks) × (s ≢ t)
     left-list s ks e =
         elim (t == s) as (λ b. (t == s) ≡ b → cond b None (jobs_of s) ≡ Some ks → (jobs_of s ≡ Some ks) × (s ≢ t)) [
@@ -415,7 +416,7 @@ module _ (jobs_of : ℕ → Option (List ℕ)) (moment_of : ℕ → Option ℕ) 
           | false ↦ λ is k. (k, λ same. let at : (t == s) ≡ true = (Decides-eqb t s).1 (sym same) in let clash : true ≡ false = sym at ∙ is in cc)
         ] refl (sym (l s) ∙ e)
 
-    -- the jobs at the moments that are left
+    -- the jobs at the remaining moments
     left-among : (q s : ℕ) → (is_among q (jobs_of' s) ≡ true) ↔ ((is_among q (jobs_of s) ≡ true) × (s ≢ t))
     left-among q s =
         rw (l s) (
@@ -424,7 +425,7 @@ module _ (jobs_of : ℕ → Option (List ℕ)) (moment_of : ℕ → Option ℕ) 
           | false ↦ λ is. ((λ e. (e, λ same. let at : (t == s) ≡ true = (Decides-eqb t s).1 (sym same) in let clash : true ≡ false = sym at ∙ is in cc)), (λ e. e.0))
         ] refl)
 
-    -- the invariant stands once the first list is gone
+    -- the invariant is true once the first list is removed
     pub taken-Agrees : Agrees jobs_of moment_of taken → IsFirst jobs_of t js → Agrees jobs_of' moment_of' (Some t)
     taken-Agrees h i = record {
       agree = λ q s. (
@@ -440,15 +441,15 @@ module _ (jobs_of : ℕ → Option (List ℕ)) (moment_of : ℕ → Option ℕ) 
           omega arith;
     }
 
--- ---- jobs that go out one by one
--- to go out now or before
+-- ---- jobs that are removed one by one
+-- removed now or before
 pub cond-or : (a b : Bool) (o : Option ℕ) → cond b None (cond a None o) ≡ cond (a || b) None o
 cond-or true true o = refl
 cond-or true false o = refl
 cond-or false true o = refl
 cond-or false false o = refl
 
--- one more job goes out
+-- one more job is removed
 pub forget_more : (x q : ℕ) (b : Bool) (new old first : Option ℕ) → new ≡ cond (x == q) None old → old ≡ cond b None first → new ≡ cond (b || (x == q)) None first
 forget_more x q b new old first n o =
     n ∙ ap (λ (p : Option ℕ). cond (x == q) None p) o ∙ cond-or b (x == q) first
@@ -462,7 +463,7 @@ module _ (m : ByMoment) (n : ByJob) (taken : Option ℕ) (h : IsAgenda m n taken
     least = λ q s e. first-least (jobs_at m) (moment_in n) taken t js h.agrees i q s (sym (get-moments_of n q) ∙ e);
   }
 
-  -- with a first list, callers see no empty queue
+  -- with a first list, callers see a queue that isn't empty
   pub some-moment : (t : ℕ) (js : List ℕ) → IsFirst (jobs_at m) t js → moments_of n ≡ map_of.empty → ⊥
   some-moment t js i e =
       let set : (q : ℕ) × (moment_in n q ≡ Some t) = first-set _ _ taken t js h.agrees i in
@@ -481,7 +482,7 @@ module _ (m : ByMoment) (n : ByJob) (taken : Option ℕ) (h : IsAgenda m n taken
   pub no-moment : ((t : ℕ) → jobs_at m t ≡ None) → moments_of n ≡ map_of.empty
   no-moment none = no_moments n (λ q. no_job none q (moment_in n q) refl)
 
-  -- what is told of the first moment, if there is one, is true of callers' view
+  -- what `next` returns is true of the callers' view
   pub next-none : (o : Option ℕ) → (IsNone o → (t : ℕ) → jobs_at m t ≡ None) → IfSome o (λ t. (js : List ℕ) × IsFirst (jobs_at m) t js) → IsNone o ↔ (moments_of n ≡ map_of.empty)
   next-none None none first = ((λ _. no-moment (none refl)), (λ _. refl))
   next-none (Some t) none first = ((λ no. let clash : true ≡ false = no in cc), (λ e. absurd (some-moment t first.0 first.1 e)))
@@ -494,12 +495,12 @@ module _ (m : ByMoment) (n : ByJob) (taken : Option ℕ) (h : IsAgenda m n taken
   next-later None first = tt
   next-later (Some t) first = first-after (jobs_at m) (moment_in n) taken t first.0 h.agrees first.1
 
--- equality either way round
+-- equality is symmetric
 eqb-swap : (a b : ℕ) → (a == b) ≡ (b == a)
 eqb-swap a b = grind (arith, nat_tests)
 
--- ---- what a job that came in leaves of the moments
--- callers see the moments with the one that was put
+-- ---- the moments after a job was added
+-- callers see the moments with the added one
 pub moments_of-put : (m n : ByJob) (job moment : ℕ) → Puts m n job moment → moments_of n ≡ map_of.insert (moments_of m) job moment
 moments_of-put m n job moment p =
     map_of.same_map nat_cmp_total map_of.nat_cmp-IsAntisymmetric _ _ (λ q.
@@ -508,7 +509,7 @@ moments_of-put m n job moment p =
     ∙ ap (λ (o : Option ℕ). cond (eq_by_cmp nat_cmp q job) (Some moment) o) (sym (get-moments_of m q))
     ∙ sym (map_of.get-insert nat_cmp_total (moments_of m) job moment q))
 
--- a job that was put and taken back
+-- a job that was added and removed again
 pub put_and_forgotten : (m n k : ByJob) (job moment : ℕ) → moment_in m job ≡ None → Puts m n job moment → Clears n k job → HasSameMoments m k
 put_and_forgotten m n k job moment none p f q =
     f q ∙ elim (job == q) as (λ b. (job == q) ≡ b → cond b None (moment_in n q) ≡ moment_in m q) [
@@ -516,13 +517,13 @@ put_and_forgotten m n k job moment none p f q =
       | false ↦ λ is. p q ∙ ap (λ (b : Bool). cond b (Some moment) (moment_in m q)) is
     ] refl
 
--- ---- what the take of the first moment leaves
+-- ---- the queue after a take of the first moment
 module _ (m m' : ByMoment) (n n' : ByJob) (taken : Option ℕ) (t : ℕ) (v js : List ℕ) (h : IsAgenda m n taken) (first : IsFirst (jobs_at m) t v) (l : Loses m m' t) (same : js ≡ v) (f : Forgets n n' js) where
-  -- the moments once its jobs are gone
+  -- the moments once the taken jobs are removed
   out : (q : ℕ) → moment_in n' q ≡ cond (has q v) None (moment_in n q)
   out q = f q ∙ ap (λ (l : List ℕ). cond (has q l) None (moment_in n q)) same
 
-  -- the invariant stands after a take
+  -- the invariant is true after a take
   pub take-IsAgenda : IsInOrder m' → IsAgenda m' n' (Some t)
   take-IsAgenda order = record {
     agrees = taken-Agrees (jobs_at m) (moment_in n) taken t v (jobs_at m') (moment_in n') l out h.agrees first;

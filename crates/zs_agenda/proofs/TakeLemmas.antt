@@ -1,4 +1,4 @@
--- A take of a timer queue has one answer and leaves one queue.
+-- A take determines its result and the queue after it.
 use Rattle.std.proofs.Common.{◌≡◌, ◌≢◌, ◌<◌, ◌≤◌, ◌==◌, ◌↔◌, ◌||◌, ℕ, Bool, true, false, List, [], ◌∷◌, Option, Some, None, refl, sym, ap, subst, ◌∙◌, arith, nat_lt, nat_cmp}
 use Rattle.std.proofs.lemmas.Bool.Decides.{nat_tests, Decides-eqb}
 use Rattle.std.proofs.lemmas.Map.Keys.{sorted_from_strictly_increasing}
@@ -12,7 +12,7 @@ use Rattle.zs_agenda.specs.Indexes.{IsRising}
 use Rattle.zs_agenda.proofs.IndexLemmas.{has, Contains-has-iff, weaker}
 
 -- ---- rising lists
--- what compares as less is a lesser number
+-- a number that compares as less is less
 less-nat_cmp : (a b : ℕ) → nat_cmp a b ≡ Less → a < b
 less-nat_cmp a b h = grind (arith, nat_tests)
 
@@ -35,7 +35,7 @@ has-below q (j ∷ js) h =
 has-head : (j : ℕ) (js : List ℕ) → has j (j ∷ js) ≡ true
 has-head j js = ap (λ (b : Bool). b || has j js) ((Decides-eqb j j).1 refl)
 
--- what is below a head is below all that follows it
+-- what is below a head is below everything after it
 below-all : (q j : ℕ) (js : List ℕ) → q < j → AllByRecursion (λ k. j < k) js → AllByRecursion (λ k. q < k) (j ∷ js)
 below-all q j js l h = (l, weaker (λ k. j < k) (λ k. q < k) (λ k m. omega arith) js h)
 
@@ -49,7 +49,7 @@ not-below j k js ks above same =
       | false ↦ λ is. grind (arith, nat_tests)
     ] refl
 
--- without a common head, rising lists still have the same jobs
+-- rising lists with the same jobs still have the same jobs without their common head
 same-tails : (j : ℕ) (js ks : List ℕ) → AllByRecursion (λ i. j < i) js → AllByRecursion (λ i. j < i) ks → ((q : ℕ) → has q (j ∷ js) ≡ has q (j ∷ ks)) → (q : ℕ) → has q js ≡ has q ks
 same-tails j js ks a b same q =
     elim (j == q) as (λ t. (j == q) ≡ t → (t || has q js) ≡ (t || has q ks) → has q js ≡ has q ks) [
@@ -59,7 +59,7 @@ same-tails j js ks a b same q =
       | false ↦ λ _ rest. rest
     ] refl (same q)
 
--- rising lists with the same jobs are the same
+-- rising lists with the same jobs are equal
 same-jobs : (js ks : List ℕ) → IsRising js → IsRising ks → ((q : ℕ) → has q js ≡ has q ks) → js ≡ ks
 same-jobs [] [] a b same = refl
 same-jobs [] (k ∷ ks) a b same = let clash : false ≡ true = same k ∙ has-head k ks in cc
@@ -72,14 +72,14 @@ same-jobs (j ∷ js) (k ∷ ks) a b same =
     let equal : (q : ℕ) → has q (j ∷ js) ≡ has q (j ∷ ks) = λ q. same q ∙ ap (λ (n : ℕ). has q (n ∷ ks)) heads in
     ap (λ (l : List ℕ). j ∷ l) (same-jobs js ks a.1 b.1 (same-tails j js ks a.0 other equal)) ∙ ap (λ (n : ℕ). n ∷ ks) (sym heads)
 
--- the same truth value, from an equivalence of being true
+-- truth values are equal if both are true together
 same-bool : (a b : Bool) → ((a ≡ true) ↔ (b ≡ true)) → a ≡ b
 same-bool true true h = refl
 same-bool true false h = sym (h.0 refl)
 same-bool false true h = h.1 refl
 same-bool false false h = refl
 
--- the same moment or none, from an equivalence for each moment
+-- two optional moments are equal if each moment is in both or in neither
 same-option : (o p : Option ℕ) → ((r : ℕ) → (o ≡ Some r) ↔ (p ≡ Some r)) → o ≡ p
 same-option None None h = refl
 same-option None (Some y) h = (h y).1 refl
@@ -100,7 +100,7 @@ module _ (old new other : Timers) (t s : ℕ) (jobs others : List ℕ) (a : Take
       let two : s ≤ t = b.is_least.least a.is_least.some_job.0 t a.is_least.some_job.1 in
       omega arith
 
-  -- each job is in both lists or in none
+  -- each job is in both lists or in neither
   same-has : (q : ℕ) → has q others ≡ has q jobs
   same-has q =
       same-bool (has q others) (has q jobs) (
@@ -108,12 +108,12 @@ module _ (old new other : Timers) (t s : ℕ) (jobs others : List ℕ) (a : Take
         (λ e. (Contains-has-iff q others).0 ((b.all_jobs q).1 ((a.all_jobs q).0 ((Contains-has-iff q jobs).1 e) ∙ ap (λ (m : ℕ). Some m) (sym same-moment)))),
       )
 
-  -- the lists are the same
+  -- the lists are equal
   same-list : others ≡ jobs
   same-list =
       same-jobs others jobs (rising-sorted others (sorted_from_strictly_increasing others b.in_order)) (rising-sorted jobs (sorted_from_strictly_increasing jobs a.in_order)) same-has
 
-  -- each job that is left has the same moment
+  -- each remaining job has the same moment
   same-left : (q : ℕ) → map_of.get other.moments q ≡ map_of.get new.moments q
   same-left q =
       same-option (map_of.get other.moments q) (map_of.get new.moments q) (λ r. (
@@ -121,13 +121,13 @@ module _ (old new other : Timers) (t s : ℕ) (jobs others : List ℕ) (a : Take
         (λ e. let left : (map_of.get old.moments q ≡ Some r) × (r ≢ t) = (a.others_stay q r).0 e in (b.others_stay q r).1 (left.0, λ is. left.1 (is ∙ same-moment))),
       ))
 
-  -- the queues that are left are the same
+  -- the queues after the takes are equal
   same-queue : other ≡ new
   same-queue =
       same-timers other new (map_of.same_map nat_cmp_total map_of.nat_cmp-IsAntisymmetric other.moments new.moments same-left)
       (b.is_last ∙ ap (λ (m : ℕ). Some m) same-moment ∙ sym a.is_last)
 
--- a take has one answer and leaves one queue
+-- a take determines its result and the queue after it
 pub takes-one-way : TakesOneWay
 takes-one-way old new other t s jobs others a b =
     (same-moment old new other t s jobs others a b, same-list old new other t s jobs others a b, same-queue old new other t s jobs others a b)

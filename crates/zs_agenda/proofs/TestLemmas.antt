@@ -1,4 +1,4 @@
--- The tests of clocks beside what they test.
+-- The tests of clocks pass exactly for clocks.
 use Rattle.std.proofs.Common.{◌≡◌, ◌≤◌, ◌-◌, ◌&&◌, ℕ, List, [], ◌∷◌, length, slice_index, Bool, true, false, nat_lt, nat_le, refl, arith, nat_cmp}
 use Rattle.std.specs.List.{list_all, AllByRecursion}
 use Rattle.std.specs.List.Sorted.{IsStrictlySortedBy}
@@ -40,7 +40,7 @@ unfolding rises IsStrictlySortedBy
 rises_sorted [] h = tt
 rises_sorted (x ∷ xs) h = (passes_below x xs (and_left _ _ h), rises_sorted xs (and_right (list_all (nat_lt x) xs) _ h))
 
--- a tick list passes each test
+-- a tick list passes every test
 pub tick_list_passes : (ticks : List ℕ) → IsTickList ticks → is_tick_list ticks ≡ true
 unfolding is_tick_list
 tick_list_passes ticks h =
@@ -50,7 +50,7 @@ tick_list_passes ticks h =
     let last : nat_le (slice_index ticks (length ticks - 1)) max_horizon ≡ true = grind (arith, nat_tests, h.limit) in
     rw (some, few, rise, last) refl
 
--- what passes each test is a tick list
+-- a list that passes every test is a tick list
 pub tick_list_passed : (ticks : List ℕ) → is_tick_list ticks ≡ true → IsTickList ticks
 unfolding is_tick_list
 tick_list_passed ticks h =
@@ -71,7 +71,7 @@ unfolding is_clock
 clock_passes (every_ms last) h = let within : last ≤ max_horizon = h in grind (arith, nat_tests)
 clock_passes (listed ticks) h = tick_list_passes ticks h
 
--- what passes is a clock
+-- ticks that pass are a clock
 pub clock_passed : (clock : Ticks) → is_clock clock ≡ true → IsClock clock
 unfolding is_clock
 clock_passed (every_ms last) h = let test : nat_le last max_horizon ≡ true = h in grind (arith, nat_tests)

@@ -1,11 +1,11 @@
--- Lemmas on rising lists of ticks.
+-- Lemmas about rising lists of ticks.
 use Rattle.std.proofs.Common.{◌≡◌, ◌<◌, ◌≤◌, ◌-◌, ◌⊎◌, inl, inr, ℕ, zero, suc, Bool, true, false, List, [], ◌∷◌, Option, Some, None, Contains, cond, length, refl, sym, ap, ◌∙◌, arith, nat_le, nat_lt, find, slice_get, slice_index, get_or, MatchOption, IfSome}
 use Rattle.std.proofs.lemmas.Bool.Decides.{nat_tests}
 use Rattle.std.proofs.lemmas.Map.Keys.{sorted_from_strictly_increasing, below_from_sorted}
 use Rattle.std.specs.List.Sorted.{IsStrictlyIncreasing, IsPartitionedBy}
 use Rattle.zs_agenda.specs.Ticks.{listed, first_tick, horizon, HasNoTickFrom, IsFirstTick}
 
--- earlier places have lower ticks
+-- earlier places have lesser ticks
 rising : (ts : List ℕ) (i j d : ℕ) → IsStrictlyIncreasing ts → i ≤ j → j < length ts → get_or ts i d ≤ get_or ts j d
 rising ts i j d h le l =
     elim (cases i j) [
@@ -22,7 +22,7 @@ parts ts due h i j d le l below =
     let order : get_or ts i d ≤ get_or ts j d = rising ts i j d h le l in
     grind (arith, nat_tests)
 
--- the first tick that passes stands where those that fail end
+-- the first tick that passes is at the end of those that fail
 pub find-at_point : (due : ℕ) (ts : List ℕ) (n : ℕ) → ((k d : ℕ) → k < n → k < length ts → nat_lt (get_or ts k d) due ≡ true) → ((k d : ℕ) → n ≤ k → k < length ts → nat_lt (get_or ts k d) due ≡ false) → slice_get ts n ≡ find (λ t. nat_le due t) ts
 find-at_point due [] n before from = refl
 find-at_point due (t ∷ ts) zero before from =
@@ -34,13 +34,13 @@ find-at_point due (t ∷ ts) (suc n) before from =
     let gt : nat_le due t ≡ false = grind (arith, nat_tests) in
     rw gt (find-at_point due ts n (λ k d l m. before (suc k) d (omega arith) (omega arith)) (λ k d l m. from (suc k) d (omega arith) (omega arith)))
 
--- within a list the default plays no part
+-- within a list the default isn't used
 default' : (ts : List ℕ) (k d e : ℕ) → k < length ts → get_or ts k d ≡ get_or ts k e
 default' [] k d e l = absurd (omega arith)
 default' (t ∷ ts) zero d e l = refl
 default' (t ∷ ts) (suc k) d e l = default' ts k d e (omega arith)
 
--- no tick of a list is past the last one
+-- no tick of a list is after the last one
 pub last-tick : (ts : List ℕ) → IsStrictlyIncreasing ts → (t : ℕ) → Contains ts t → t ≤ slice_index ts (length ts - 1)
 last-tick ts h t c =
     let k : ℕ = c.0 in
@@ -65,7 +65,7 @@ found p (x ∷ ts) t e =
     earlier p x ts k is h zero d l = is
     earlier p x ts k is h (suc i) d l = h i d (omega arith)
 
--- where no tick is found, none passes
+-- if no tick is found, none passes
 none_found : (p : ℕ → Bool) (ts : List ℕ) → find p ts ≡ None → (k d : ℕ) → k < length ts → p (get_or ts k d) ≡ false
 none_found p [] e = λ k d l. absurd (omega arith)
 none_found p (x ∷ ts) e =
@@ -78,7 +78,7 @@ none_found p (x ∷ ts) e =
     at_each p x ts is h zero d l = is
     at_each p x ts is h (suc k) d l = h k d (omega arith)
 
--- by whether a tick is found: it is the first from the moment on, or there is none
+-- the found tick is the first from the moment on; without one there is no such tick
 first-cases : (ts : List ℕ) (due : ℕ) → IsStrictlyIncreasing ts → (o : Option ℕ) → find (λ t. nat_le due t) ts ≡ o → MatchOption o (HasNoTickFrom (listed ts) due) (λ t. IsFirstTick (listed ts) due t)
 first-cases ts due h None e = λ t c l.
     let fails : nat_le due (get_or ts c.0 t) ≡ false = none_found (λ t. nat_le due t) ts e c.0 t c.1 in
@@ -106,11 +106,11 @@ first-cases ts due h (Some t) e =
 pub first-of_list : (ts : List ℕ) (due : ℕ) → IsStrictlyIncreasing ts → MatchOption (first_tick (listed ts) due) (HasNoTickFrom (listed ts) due) (λ t. IsFirstTick (listed ts) due t)
 first-of_list ts due h = first-cases ts due h (first_tick (listed ts) due) refl
 
--- by whether a tick is found
+-- the found tick, if any, is within the list
 within-cases : (ts : List ℕ) (due : ℕ) → IsStrictlyIncreasing ts → (o : Option ℕ) → MatchOption o (HasNoTickFrom (listed ts) due) (λ t. IsFirstTick (listed ts) due t) → IfSome o (λ t. t ≤ horizon (listed ts))
 within-cases ts due h None f = tt
 within-cases ts due h (Some t) f = last-tick ts h t f.is_tick
 
--- no tick that is found is past the last one
+-- no tick that is found is after the last one
 pub first-within : (ts : List ℕ) (due : ℕ) → IsStrictlyIncreasing ts → IfSome (first_tick (listed ts) due) (λ t. t ≤ horizon (listed ts))
 first-within ts due h = within-cases ts due h (first_tick (listed ts) due) (first-of_list ts due h)

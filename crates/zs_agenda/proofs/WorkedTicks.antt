@@ -1,8 +1,8 @@
--- Worked examples of the definitions of a clock, by computing them.
+-- Worked examples of the definitions of a clock, proved by computing them.
 use Rattle.std.proofs.Common.{◌≡◌, ℕ, List, [], ◌∷◌, Some, None, refl}
 use Rattle.zs_agenda.specs.Ticks.{every_ms, listed, first_tick, horizon}
 
--- each millisecond up to 100: a moment is its own tick, and there is none past the last
+-- each millisecond up to 100: a moment is its tick, and no tick is after the last
 last_millisecond : first_tick (every_ms 100) 100 ≡ Some 100
 last_millisecond = refl
 

@@ -1,8 +1,10 @@
--- How an agenda is stored: the first moment with its jobs, an ordered map from each later moment to its jobs, and from each job to
--- its moment a table with places for the jobs of small number and a hash map for the others.
--- `IsAgenda` is its invariant: the two ways agree, each list rises, none is empty, each moment is later than the last one taken, and
--- the first one is earlier than those of the map.
--- Callers never meet these words; `proofs/IndexLemmas.antt` shows that each step keeps the invariant.
+-- How an agenda is stored. By moment: the first moment with its jobs, and an ordered map from each
+-- later moment to its jobs. By job: a table of the moments of jobs with small numbers, and a hash
+-- map for the others.
+-- `IsAgenda` is the invariant: both indexes agree, each list rises, none is empty, each moment is
+-- later than the last one taken, and the first one is earlier than those of the map.
+-- Public clauses don't name these words. `proofs/IndexLemmas.antt` proves that each step preserves
+-- the invariant.
 use Rattle.std.specs.Prelude.{◌≡◌, ◌≢◌, ◌<◌, ◌≤◌, ◌↔◌, ◌==◌, ◌+◌, ℕ, Bool, true, false, nat_eq, nat_lt, nat_le, slice_index_or, take, List, [], ◌∷◌, Option, Some, None, if◌then◌else◌, unwrap_or, vec_len, ⊤}
 use Rattle.std.specs.Global.{Vec}
 use Rattle.std.specs.Vec.{vec_capacity}
@@ -15,71 +17,71 @@ use Rattle.zs_agenda.specs.declared.by_job.ByJob.{ByJob}
 use Rattle.zs_agenda.specs.declared.by_moment.ByMoment.{ByMoment}
 use Rattle.zs_agenda.specs.Timers.{Moments, IsAfter}
 
--- the moments after the first, as the code has them
+-- the moments after the first, as the code stores them
 abbrev pub Later : Type 0
 Later = BTreeMap ℕ (Vec ℕ)
 
--- the jobs below this number have places in the table
+-- jobs below this number have places in the table
 abbrev pub table_size : ℕ
 table_size = 16384
 
--- the items of a vector, where there is one
+-- the items of a vector, if there is one
 abbrev pub items_of : Option (Vec ℕ) → Option (List ℕ)
 items_of None = None
 items_of (Some v) = Some v.items
 
--- the jobs at a moment of the map, where there are some
+-- the jobs at a moment of the map, if there are any
 abbrev pub later_at : Later → ℕ → Option (List ℕ)
 later_at later t = items_of (get nat_cmp later t)
 
--- the jobs that stand first, where they are the moment's, and else others
+-- the first jobs if they are of this moment, else others
 abbrev pub first_or : Option (ℕ × Vec ℕ) → ℕ → Option (List ℕ) → Option (List ℕ)
 first_or None t others = others
 first_or (Some first) t others = if first.0 == t then Some first.1.items else others
 
--- the jobs at a moment, where there are some
+-- the jobs at a moment, if there are any
 abbrev pub jobs_at : ByMoment → ℕ → Option (List ℕ)
 jobs_at m t = first_or m.first t (later_at m.later t)
 
--- the list that stands first, where it is the moment's, and else another
+-- the first list if it is of this moment, else another
 abbrev pub list_or : Option (ℕ × Vec ℕ) → ℕ → Option (Vec ℕ) → Option (Vec ℕ)
 list_or None t other = other
 list_or (Some first) t other = if first.0 == t then Some first.1 else other
 
--- the list of a moment, where there is one
+-- the list of a moment, if there is one
 abbrev pub list_at : ByMoment → ℕ → Option (Vec ℕ)
 list_at m t = list_or m.first t (get nat_cmp m.later t)
 
--- the moments of the map are after the first, and where there is none the map has none
+-- the moments of the map are after the first; without a first one the map is empty
 abbrev pub IsBehind : Option (ℕ × Vec ℕ) → Later → Type 0
 IsBehind None later = (t : ℕ) → later_at later t ≡ None
 IsBehind (Some first) later = (t : ℕ) (jobs : List ℕ) → later_at later t ≡ Some jobs → first.0 < t
 
--- the first moment stands first
+-- the first moment is before those of the map
 abbrev pub IsInOrder : ByMoment → Type 0
 IsInOrder m = IsBehind m.first m.later
 
--- whether the job is in the list, where there is one
+-- whether the job is in the list, if there is one
 abbrev pub is_among : ℕ → Option (List ℕ) → Bool
 is_among job None = false
 is_among job (Some jobs) = list_any (λ j. j == job) jobs
 
--- each job is less than all those after it
+-- each job is less than all jobs after it
 abbrev pub IsRising : List ℕ → Type 0
 IsRising [] = Unit {0}
 IsRising (j ∷ js) = AllByRecursion (λ k. j < k) js × IsRising js
 
--- a rising list with one more job, at its place
+-- a rising list with a job inserted at its place
 abbrev pub placed : ℕ → List ℕ → List ℕ
 placed job [] = job ∷ []
 placed job (j ∷ js) = if nat_lt j job then j ∷ placed job js else job ∷ j ∷ js
 
--- no list stands here, or it is full: one more job takes memory
+-- there is no list, or it is full: one more job takes memory
 abbrev pub HasNoRoom : Option (Vec ℕ) → Type 0
 HasNoRoom None = ⊤
 HasNoRoom (Some jobs) = vec_capacity jobs ≤ vec_len jobs
 
--- new is old with one more job at the moment
+-- new is old with a job added at the moment
 abbrev pub Adds : ByMoment → ByMoment → ℕ → ℕ → Type 0
 Adds old new moment job = (t : ℕ) → jobs_at new t ≡ (if t == moment then Some (placed job (unwrap_or (jobs_at old moment) [])) else jobs_at old t)
 
@@ -91,19 +93,19 @@ AddsLater old new moment job = (t : ℕ) → later_at new t ≡ (if t == moment 
 abbrev pub Loses : ByMoment → ByMoment → ℕ → Type 0
 Loses old new moment = (t : ℕ) → jobs_at new t ≡ (if moment == t then None else jobs_at old t)
 
--- the same jobs at each moment
+-- both have the same jobs at each moment
 abbrev pub HasSameJobs : ByMoment → ByMoment → Type 0
 HasSameJobs old new = (t : ℕ) → jobs_at new t ≡ jobs_at old t
 
--- what stands at a job's place in the table, if it has one
+-- the moment at a job's place in the table, if there is one
 abbrev pub place_in : List (Option ℕ) → ℕ → Option ℕ
 place_in places job = slice_index_or places job None
 
--- the moment of a job, where it has one
+-- the moment of a job, if it has one
 abbrev pub moment_in : ByJob → ℕ → Option ℕ
 moment_in m job = if nat_lt job table_size then place_in m.near.items job else hash.get nat_eq m.far job
 
--- what the job stands in is full, so that its moment takes memory
+-- the table or map that stores the job's moment is full, so that the moment takes memory
 abbrev pub HasNoPlace : ByJob → ℕ → Type 0
 HasNoPlace m job = (job < table_size → vec_capacity m.near ≤ job) × (table_size ≤ job → hash.spare m.far ≡ 0)
 
@@ -111,7 +113,7 @@ HasNoPlace m job = (job < table_size → vec_capacity m.near ≤ job) × (table_
 abbrev pub Puts : ByJob → ByJob → ℕ → ℕ → Type 0
 Puts old new job moment = (q : ℕ) → moment_in new q ≡ (if job == q then Some moment else moment_in old q)
 
--- the same moment of each job
+-- both have the same moment for each job
 abbrev pub HasSameMoments : ByJob → ByJob → Type 0
 HasSameMoments old new = (q : ℕ) → moment_in new q ≡ moment_in old q
 
@@ -123,7 +125,7 @@ Clears old new job = (q : ℕ) → moment_in new q ≡ (if job == q then None el
 abbrev pub Forgets : ByJob → ByJob → List ℕ → Type 0
 Forgets old new jobs = (job : ℕ) → moment_in new job ≡ (if list_any (λ j. j == job) jobs then None else moment_in old job)
 
--- the moments with those of a table, whose first place is that of this job
+-- moments with those of a table added, whose first place is that of `job`
 unfoldable pub with_places : ℕ → List (Option ℕ) → Moments → Moments
 with_places job [] moments = moments
 with_places job (None ∷ places) moments = with_places (job + 1) places moments
@@ -133,15 +135,14 @@ with_places job (Some moment ∷ places) moments = insert (with_places (job + 1)
 abbrev pub moments_of : ByJob → Moments
 moments_of m = with_places 0 (take table_size m.near.items) (retain_keys (from_entries m.far.entries) (λ job. nat_le table_size job))
 
--- the jobs at each moment and the moment of each job agree, each list rises, none is empty,
--- and each moment is later than the last one taken
+-- both indexes agree, each list rises, none is empty, and each moment is later than the last taken
 pub record Agrees (jobs_of : ℕ → Option (List ℕ)) (moment_of : ℕ → Option ℕ) (taken : Option ℕ) : Type 0 where
   pub agree : (job t : ℕ) → (moment_of job ≡ Some t) ↔ (is_among job (jobs_of t) ≡ true)
   pub rising : (t : ℕ) (jobs : List ℕ) → jobs_of t ≡ Some jobs → IsRising jobs
   pub not_empty : (t : ℕ) (jobs : List ℕ) → jobs_of t ≡ Some jobs → jobs ≢ []
   pub later : (job t : ℕ) → moment_of job ≡ Some t → IsAfter taken t
 
--- what the jobs at a first moment say of the moments of all jobs
+-- t is the least moment that has jobs, and these are its jobs
 pub record IsFirst (jobs_of : ℕ → Option (List ℕ)) (t : ℕ) (jobs : List ℕ) : Type 0 where
   pub here : jobs_of t ≡ Some jobs
   pub least : (s : ℕ) (others : List ℕ) → jobs_of s ≡ Some others → t ≤ s

@@ -1,7 +1,7 @@
--- What the clauses of callers name, and so what has to be believed.
+-- Named by public clauses: a reader who relies on a clause has to believe what it names.
 pub mod Ticks
 pub mod Tests
 pub mod Timers
--- What the bodies keep: private contracts, and the views and invariants of models, alone name these.
+-- What the code stores. Only private contracts, and the views and invariants of models, name these.
 pub mod Sources
 pub mod Indexes

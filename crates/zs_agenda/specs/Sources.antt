@@ -1,4 +1,4 @@
--- The ticks that a clock's fields stand for.
+-- The ticks that a clock's fields represent.
 use Rattle.zs_agenda.specs.Ticks.{Ticks, every_ms, listed}
 use Rattle.zs_agenda.specs.declared.clock.Source.{Source}
 use Rattle.zs_agenda.specs.declared.clock.Source.TheVariants.{EveryMs, Listed}

@@ -1,5 +1,5 @@
--- A clock as the finite set of its ticks, and the first tick from a moment on. Moments count milliseconds.
--- `IsTick` says what a tick is; `first_tick` and `horizon` compute, and the contracts of `Clock::tick` and
+-- A clock as the finite set of its ticks, and the first tick from a moment on, in milliseconds.
+-- `IsTick` defines a tick; `first_tick` and `horizon` compute. The contracts of `Clock::tick` and
 -- `Clock::horizon` tie them to `IsFirstTick`, `HasNoTickFrom` and `IsTick` for every clock.
 use Rattle.std.specs.Prelude.{◌≤◌, ◌<◌, ◌-◌, length, slice_index, ℕ, List, Option, Some, None, Contains, find, nat_le, if◌then◌else◌}
 use Rattle.std.specs.List.Sorted.{IsStrictlyIncreasing}
@@ -42,8 +42,7 @@ abbrev pub horizon : Ticks → ℕ
 horizon (every_ms last) = last
 horizon (listed ticks) = slice_index ticks (length ticks - 1)
 
--- the lists that a clock may have: some ticks but not too many, each later than the one before it,
--- and the last within the limit
+-- the lists that a clock may have: 1 to `max_ticks` ticks, strictly rising, within the horizon
 pub record IsTickList (ticks : List ℕ) : Type 0 where
   pub some : 0 < length ticks
   pub few : length ticks ≤ max_ticks

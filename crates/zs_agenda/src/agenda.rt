@@ -1,3 +1,5 @@
+//! A timer queue: which jobs wait for which moment.
+
 ghost use Rattle.std.specs.Prelude.{◌≡◌, ◌↔◌, None, IsOk, IsNone, IfOk, IfErr, IfSome, IfNone, OnOk, OnErr};
 ghost use Rattle.std.specs.FinMap as map;
 ghost use Rattle.zs_agenda.specs.declared.fault.AgendaFault.TheVariants.{Memory};
@@ -8,7 +10,7 @@ use crate::fault::AgendaFault;
 use std::alloc::Global;
 use std::marker::Model;
 
-/// A timer queue: one moment, in milliseconds, for each job that waits. Jobs are told apart by their numbers.
+/// A timer queue: one moment in milliseconds for each job that waits. A job is its number.
 #[derive(Drop)]
 pub struct Agenda {
     alloc: Global,
@@ -33,7 +35,7 @@ impl Model for Agenda {
 impl Agenda {
     ghost use Rattle.zs_agenda.specs.Timers.{IsAfter, IsLeastMoment, Takes};
 
-    /// A queue with no timer, of which no moment was taken. It takes no memory.
+    /// Makes a queue without timers, from which no moment was taken. It takes no memory.
     pub fn new(alloc: Global) -> Result<Agenda, AgendaFault>
         ensures succeeds { IsOk result }
         ensures empty { IfOk result
@@ -48,8 +50,8 @@ impl Agenda {
         })
     }
 
-    /// Arms the timer of a job that has none, at a moment, in milliseconds, later than the last one taken. For want of memory it
-    /// answers `Memory`, and the queue stays as it was.
+    /// Arms the timer of a job that has none. The moment, in milliseconds, must be later than the
+    /// last one taken. If an allocation fails, it returns `Memory` and the queue is unchanged.
     pub fn set(&mut self, job: u64, moment: u64) -> Result<(), AgendaFault>
         requires absent { map.get self.old.moments job ≡ None }
         requires ahead { IsAfter self.old.last_taken moment }
@@ -75,7 +77,7 @@ impl Agenda {
         self.by_job.has(job)
     }
 
-    /// The last moment that was taken, in milliseconds, if one was.
+    /// Returns the last moment that was taken, in milliseconds, if there is one.
     pub fn taken(&self) -> Option<u64>
         ensures value { result ≡ self.now.last_taken }
     {
@@ -83,7 +85,7 @@ impl Agenda {
         self.last_taken
     }
 
-    /// The least moment for which a timer is armed, in milliseconds, or `None` where none is.
+    /// Returns the least moment for which a timer is armed, in milliseconds, or `None`.
     pub fn next(&self) -> Option<u64>
         ensures none { IsNone result ↔ (self.now.moments ≡ map.empty) }
         ensures least { IfSome result (IsLeastMoment self.now.moments) }
@@ -92,15 +94,16 @@ impl Agenda {
         self.by_moment.first()
     }
 
-    /// Fires the timers of the least moment, and answers it, in milliseconds, with all its jobs in rising number, or `None` where no
-    /// timer is armed. It takes no memory.
+    /// Fires the timers of the least moment. Returns that moment, in milliseconds, with all its
+    /// jobs in rising number, or `None` if no timer is armed. It takes no memory.
     pub fn take(&mut self) -> Result<Option<(u64, Vec<u64>)>, AgendaFault>
         ensures succeeds { IsOk result }
         ensures none { IfOk result (λ taken. IsNone taken ↔ (self.old.moments ≡ map.empty)) }
         ensures same { IfOk result (λ taken. IfNone taken (self.new ≡ self.old)) }
         ensures some { IfOk result (λ taken. IfSome taken
             (λ pair. Takes self.old self.new pair.0 pair.1.items)) }
-        // What a caller may rely on without `succeeds`, so that a body that has to grow can take this one's place.
+        // What a caller may rely on without `succeeds`, so that a body that allocates may replace
+        // this one.
         ensures err { OnErr result (self.new ≡ self.old) }
         ensures memory { IfErr result (λ fault. fault ≡ Memory) }
     {
@@ -112,7 +115,7 @@ impl Agenda {
         Ok(Some((moment, jobs)))
     }
 
-    /// Takes back a list that `take` answered. Its memory serves the jobs of another moment.
+    /// Takes back a list that `take` returned. Its memory is reused for the jobs of another moment.
     pub fn reuse(&mut self, jobs: Vec<u64>)
         ensures same { self.new ≡ self.old }
     {

@@ -1,5 +1,6 @@
-// The moment of each job. A job with a small number has a place of its own in a table, so that no map is searched for it;
-// the others stand in a hash map. A step gives up only where the one that it needs is full (`full`).
+//! The moment of each job. Jobs with small numbers have places in a table, so that no map is
+//! searched. The others are in a hash map. A step fails only if the one that it needs is full
+//! (`full`).
 ghost use Rattle.std.specs.Prelude.{◌≡◌, ◌≤◌, ◌<◌, ℕ, Some, None, OnOk, OnErr, if◌then◌else◌, ◌==◌, is_some};
 ghost use Rattle.std.specs.Vec.{vec_capacity};
 ghost use Rattle.zs_agenda.specs.Indexes.{Clears, Forgets, HasNoPlace, HasSameMoments, Puts, moment_in, place_in, table_size};
@@ -7,19 +8,19 @@ ghost use Rattle.zs_agenda.specs.Indexes.{Clears, Forgets, HasNoPlace, HasSameMo
 use std::alloc::{AllocError, Global};
 use std::collections::HashMap;
 
-// The jobs below this number have places in the table. A run has fewer.
+// Jobs below this number have places in the table. A run has fewer jobs.
 const TABLE_SIZE: u64 = 16_384;
 
 // From each job to its moment.
 #[derive(Drop)]
 pub(crate) struct ByJob {
-    // The places of the jobs with small numbers, as far as one was needed.
+    // The places of jobs with small numbers, up to the greatest job so far.
     pub(crate) near: Vec<Option<u64>>,
     // The other jobs.
     pub(crate) far: HashMap<u64, u64>,
 }
 
-// Puts the moment of a job into its place.
+// Writes the moment of a job to its place.
 fn put_near(near: &mut Vec<Option<u64>>, job: u64, moment: u64) -> Result<(), AllocError>
     requires small { job < table_size }
     ensures ok { OnOk result ((q : ℕ) → place_in near.new.items q ≡ (if job == q then Some moment else place_in near.old.items q)) }
@@ -55,7 +56,7 @@ fn is_near(near: &[Option<u64>], job: u64) -> bool
 }
 
 impl ByJob {
-    // No job has a moment.
+    // Makes a map in which no job has a moment.
     pub(crate) fn new(alloc: Global) -> ByJob
         ensures empty { (q : ℕ) → moment_in result q ≡ None }
     {
@@ -65,7 +66,7 @@ impl ByJob {
         }
     }
 
-    // Puts the moment of a job that has none.
+    // Stores the moment of a job that has none.
     pub(crate) fn put(&mut self, job: u64, moment: u64) -> Result<(), AllocError>
         ensures ok { OnOk result (Puts self.old self.new job moment) }
         ensures err { OnErr result (HasSameMoments self.old self.new) }
@@ -79,7 +80,7 @@ impl ByJob {
         }
     }
 
-    // Takes out the moment of a job, if it has one. It takes no memory.
+    // Removes the moment of a job, if it has one. It takes no memory.
     pub(crate) fn remove(&mut self, job: u64)
         ensures clears { Clears self.old self.new job }
     {
@@ -90,7 +91,7 @@ impl ByJob {
         }
     }
 
-    // Takes out the moments of these jobs.
+    // Removes the moments of these jobs.
     pub(crate) fn forget(&mut self, jobs: &[u64])
         ensures forgets { Forgets self.old self.new jobs.now }
     {

@@ -1,6 +1,7 @@
-// The jobs of each moment, in rising number. The earliest moment stands before a map of the others, so that a queue whose
-// jobs wait for one moment needs no map. A step gives up only where a list is full or new (`full`), or where the map has to
-// take in the moment that was the earliest.
+//! The jobs of each moment, in rising number. The earliest moment is stored apart from a map of the
+//! others, so that a queue whose jobs wait for one moment needs no map. A step fails only if it
+//! needs a new list, if its list is full (`full`), or if the map has to grow for the moment that
+//! was the earliest.
 ghost use Rattle.std.specs.Prelude.{◌≡◌, ◌≤◌, ◌<◌, ◌==◌, ◌++◌, ℕ, List, [], ◌∷◌, Some, None, if◌then◌else◌, nat_lt, vec_len, IsTrue, IsNone, IfSome, IfNone, OnOk, OnErr, IfOk};
 ghost use Rattle.std.specs.List.{prefix_len};
 ghost use Rattle.std.specs.Ordering.{nat_cmp};
@@ -20,20 +21,21 @@ pub(crate) struct ByMoment {
     pub(crate) first: Option<(u64, Vec<u64>)>,
     // The moments after it.
     pub(crate) later: BTreeMap<u64, Vec<u64>>,
-    // A list whose jobs are done with, so that the next moment's needs no new memory.
+    // An unused list, so that the next moment's list needs no new memory.
     pub(crate) spare: Vec<u64>,
 }
 
-// How many jobs stand before a job that is to come in.
+// Returns the number of jobs before a job that is to be added.
 fn place_of(jobs: &[u64], job: u64) -> usize
     requires rising { IsRising jobs.now }
     ensures value { result ≡ prefix_len (λ other. nat_lt other job) jobs.now }
 {
-    // It halves the list at each look.
+    // A binary search.
     jobs.partition_point(|other| *other < job)
 }
 
-// Whether a job goes behind all others, which one look tells: jobs mostly come in rising number.
+// Whether a job goes after all others. Jobs mostly come in rising number, so one comparison usually
+// suffices.
 fn goes_last(jobs: &[u64], job: u64) -> bool
     requires rising { IsRising jobs.now }
     ensures behind { IsTrue result → placed job jobs.now ≡ jobs.now ++ job ∷ [] }
@@ -41,7 +43,7 @@ fn goes_last(jobs: &[u64], job: u64) -> bool
     jobs.is_empty() || jobs[jobs.len() - 1] < job
 }
 
-// Puts a job at its place in a rising list.
+// Inserts a job at its place in a rising list.
 fn put_in_order(jobs: &mut Vec<u64>, job: u64) -> Result<(), AllocError>
     requires rising { IsRising jobs.old.items }
     ensures ok { OnOk result (jobs.new.items ≡ placed job jobs.old.items) }
@@ -57,7 +59,7 @@ fn put_in_order(jobs: &mut Vec<u64>, job: u64) -> Result<(), AllocError>
     Ok(())
 }
 
-// A list of one job, in the memory of a spare list.
+// Makes a list of one job, in the memory of a spare list.
 fn list_of(alloc: Global, spare: &mut Vec<u64>, job: u64) -> Result<Vec<u64>, AllocError>
     ensures jobs { IfOk result (λ jobs. jobs.items ≡ job ∷ []) }
 {
@@ -67,7 +69,7 @@ fn list_of(alloc: Global, spare: &mut Vec<u64>, job: u64) -> Result<Vec<u64>, Al
     Ok(jobs)
 }
 
-// Adds a job at a moment of the map, whose jobs so far rise.
+// Adds a job at a moment of the map, whose jobs are rising.
 fn add_later(
     alloc: Global,
     later: &mut BTreeMap<u64, Vec<u64>>,
@@ -90,7 +92,7 @@ fn add_later(
 }
 
 impl ByMoment {
-    // No job waits.
+    // Makes an index in which no job waits.
     pub(crate) fn new(alloc: Global) -> ByMoment
         ensures order { IsInOrder result }
         ensures empty { (t : ℕ) → jobs_at result t ≡ None }
@@ -102,7 +104,7 @@ impl ByMoment {
         }
     }
 
-    // The earliest moment, if a job waits.
+    // Returns the earliest moment, if a job waits.
     pub(crate) fn first(&self) -> Option<u64>
         requires order { IsInOrder self.now }
         ensures none { IsNone result → (t : ℕ) → jobs_at self.now t ≡ None }
@@ -114,7 +116,7 @@ impl ByMoment {
         }
     }
 
-    // Moves the moment that stands first into the map, if there is one. Of a refusal it stays.
+    // Moves the earliest moment into the map, if there is one. If that fails, it is unchanged.
     fn make_second(&mut self) -> Result<(), AllocError>
         requires order { IsInOrder self.old }
         ensures ok { OnOk result ((t : ℕ) → later_at self.new.later t ≡ jobs_at self.old t) }
@@ -133,7 +135,7 @@ impl ByMoment {
         }
     }
 
-    // Puts a moment with its jobs before all others.
+    // Inserts a moment with its jobs before all others.
     fn put_first(&mut self, moment: u64, jobs: Vec<u64>) -> Result<(), AllocError>
         requires order { IsInOrder self.old }
         requires before { (t : ℕ) (others : List ℕ) → jobs_at self.old t ≡ Some others → moment < t }
@@ -146,7 +148,7 @@ impl ByMoment {
         Ok(())
     }
 
-    // Adds a job at a moment, whose jobs so far rise.
+    // Adds a job at a moment, whose jobs are rising.
     pub(crate) fn add(&mut self, alloc: Global, moment: u64, job: u64) -> Result<(), AllocError>
         requires rising { IfSome (jobs_at self.old moment) IsRising }
         requires order { IsInOrder self.old }
@@ -171,7 +173,7 @@ impl ByMoment {
         }
     }
 
-    // Takes out the earliest moment with its jobs, if a job waits. It takes no memory.
+    // Removes and returns the earliest moment with its jobs, if a job waits. It takes no memory.
     pub(crate) fn take_first(&mut self) -> Option<(u64, Vec<u64>)>
         requires order { IsInOrder self.old }
         ensures order { IsInOrder self.new }
@@ -185,7 +187,7 @@ impl ByMoment {
         Some(first)
     }
 
-    // Keeps a list for the next moment.
+    // Stores an unused list for the next moment.
     pub(crate) fn reuse(&mut self, jobs: Vec<u64>)
         ensures same { (self.new.first ≡ self.old.first) × (self.new.later ≡ self.old.later) }
     {

@@ -1,3 +1,5 @@
+//! A tick clock: the moments at which something can happen.
+
 ghost use Rattle.std.specs.Prelude.{◌≡◌, ◌≤◌, ◌<◌, ◌-◌, ◌↔◌, ℕ, IsSome, IsTrue, IfSome, MatchOption, length, slice_get, slice_index, find, nat_le};
 ghost use Rattle.std.specs.List.Sorted.{IsStrictlyIncreasing};
 ghost use Rattle.zs_agenda.specs.Ticks.{HasNoTickFrom, IsFirstTick, IsTick, IsTickList, every_ms, first_tick, horizon, listed, max_horizon};
@@ -7,17 +9,17 @@ use std::marker::Model;
 // The latest last tick that a clock may have.
 const MAX_HORIZON: u64 = 999_999_999_999_999;
 
-// The most ticks that a list may have.
+// The greatest number of ticks in a list.
 const MAX_TICKS: usize = 1_000_000;
 
-// Where the ticks come from: each millisecond up to a last one, or a rising list.
+// Where the ticks come from: each millisecond up to a last one, or a rising list of moments.
 #[derive(Drop)]
 enum Source {
     EveryMs(u64),
     Listed(Vec<u64>),
 }
 
-/// A tick clock: the moments, in milliseconds, at which something can happen. No call of it takes memory.
+/// A tick clock: the moments, in milliseconds, at which something can happen. No call takes memory.
 #[derive(Drop)]
 pub struct Clock {
     source: Source,
@@ -37,7 +39,8 @@ impl Model for Clock {
 impl Clock {
     ghost use Rattle.zs_agenda.specs.Ticks.{IsClock};
 
-    /// A clock that ticks at each millisecond from 0 to `horizon`, which may be 999,999,999,999,999 at most.
+    /// Makes a clock that ticks at each millisecond from 0 to `horizon`, at most
+    /// 999,999,999,999,999.
     pub fn every_ms(horizon: u64) -> Option<Clock>
         ensures within { IsSome result ↔ (horizon ≤ max_horizon) }
         ensures value { IfSome result (λ clock. clock ≡ every_ms horizon) }
@@ -51,7 +54,8 @@ impl Clock {
         }
     }
 
-    /// A clock that ticks at 1 to 1,000,000 listed moments, which rise strictly and end by 999,999,999,999,999.
+    /// Makes a clock that ticks at 1 to 1,000,000 listed moments. They must rise strictly, and the
+    /// last is at most 999,999,999,999,999.
     pub fn of_ticks(ticks: Vec<u64>) -> Option<Clock>
         ensures within { IsSome result ↔ IsTickList ticks.items }
         ensures value { IfSome result (λ clock. clock ≡ listed ticks.items) }
@@ -65,10 +69,10 @@ impl Clock {
         }
     }
 
-    /// The last tick, in milliseconds: at most 999,999,999,999,999.
+    /// Returns the last tick, in milliseconds: at most 999,999,999,999,999.
     pub fn horizon(&self) -> u64
         ensures value { result ≡ horizon self.now }
-        // In other words: it is a tick, and there is none after it.
+        // In other words: it is a tick, and no tick is after it.
         ensures tick { IsTick self.now result }
         ensures last { (t : ℕ) → IsTick self.now t → t ≤ result }
         // What is true of every clock.
@@ -81,10 +85,11 @@ impl Clock {
         }
     }
 
-    /// The least tick at or after `due`, in milliseconds, or `None` where no tick is left. Of a list of n ticks it looks at about log2(n).
+    /// Returns the least tick at or after `due`, in milliseconds, or `None` if there is none. In a
+    /// list of n ticks it looks at about log2(n).
     pub fn tick(&self, due: u64) -> Option<u64>
         ensures value { result ≡ first_tick self.now due }
-        // In other words: None where no tick is left, else the least one that is not too early.
+        // In other words: `None` if no tick is late enough, else the least one that is.
         ensures first { MatchOption result
             (HasNoTickFrom self.now due)
             (IsFirstTick self.now due) }
@@ -114,7 +119,7 @@ fn rises(ticks: &[u64]) -> bool
     ticks.windows(2).all(|pair| pair[0] < pair[1])
 }
 
-// The last of some ticks.
+// Returns the last of some ticks.
 fn last_of(ticks: &[u64]) -> u64
     requires within { 0 < length ticks.now }
     ensures value { result ≡ slice_index ticks.now (length ticks.now - 1) }
@@ -122,17 +127,17 @@ fn last_of(ticks: &[u64]) -> u64
     ticks[ticks.len() - 1]
 }
 
-// The first of some rising ticks that is not before `due`.
+// Returns the first of some rising ticks that isn't before `due`.
 fn first_from(ticks: &[u64], due: u64) -> Option<u64>
     requires rising { IsStrictlyIncreasing ticks.now }
     ensures value { result ≡ find (λ t. nat_le due t) ticks.now }
 {
-    // It halves the list at each look.
+    // A binary search.
     let place = ticks.partition_point(|tick| *tick < due);
     tick_at(ticks, place)
 }
 
-// The tick at a place of the list, where it has one.
+// Returns the tick at a place of the list, if there is one.
 fn tick_at(ticks: &[u64], place: usize) -> Option<u64>
     ensures value { result ≡ slice_get ticks.now place }
 {

@@ -1,3 +1,5 @@
+//! How a call of the timer queue can fail.
+
 ghost use Rattle.std.specs.Prelude.{◌≡◌};
 ghost use Rattle.zs_agenda.specs.declared.fault.AgendaFault.TheVariants.{Memory};
 
@@ -5,10 +7,10 @@ use std::alloc::AllocError;
 use std::error::Error;
 use std::fmt;
 
-/// Why a timer queue refused a call.
+/// Why a call of the timer queue failed.
 #[derive(Clone, Copy, Debug, PartialEq, Eq)]
 pub enum AgendaFault {
-    /// A growth was refused.
+    /// A memory allocation failed.
     Memory,
 }
 

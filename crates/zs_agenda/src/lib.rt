@@ -1,7 +1,8 @@
 //! A clock of milliseconds, and a timer queue of the jobs that wait for a moment.
 //!
-//! The clock finds the first tick at or after a moment (`specs/Ticks.antt`). The timer queue gives the earliest
-//! moment with all its jobs, each once, and no job of another moment is lost (`specs/Timers.antt`).
+//! The clock finds the first tick at or after a moment (`specs/Ticks.antt`). The timer queue
+//! returns the earliest moment with all its jobs, each once, and loses no job of another moment
+//! (`specs/Timers.antt`).
 //!
 //! ```rust
 //! let mut agenda = Agenda::new(alloc)?;
