@@ -1,5 +1,5 @@
-//! Tests of the crates that start no thread: the texts of terms, decisions, attempts, tasks that are polled by hand, the
-//! clock and the timer queue.
+//! Tests of the crates that start no thread: the text of terms, decisions, attempts, tasks that are
+//! polled by hand, the clock and the timer queue.
 #![tactic(auto)]
 
 #[cfg(test)]

@@ -1,7 +1,7 @@
-//! What the crates below the pool answer, by their public calls, with values from the documents.
+//! What the crates below the pool return from their public calls, with values from the documents.
 //!
-//! A proof of a test grows with what is alive while it asserts. So a test hands its cases to a helper, which asserts on
-//! texts and holds no task, schedule or agenda while it does.
+//! The proof of a test grows with what is alive while it asserts. So a test passes its cases to a
+//! helper, which asserts on text and has no task, schedule or agenda alive while it does.
 
 mod agreement;
 mod attempts;

@@ -1,4 +1,5 @@
-//! `plain`, and `follow` with the steps of a `Compiled`, held against each other, on schedules and pairs that seeds make: the same at each run.
+//! `plain` compared with `follow`, which steps a `Compiled`, on schedules and pairs made from
+//! seeds. Each run makes the same ones.
 ghost use Rattle.std.specs.Prelude.{◌<◌};
 
 use super::steps::{push_followed, push_plain_answers};
@@ -16,7 +17,7 @@ const PICKS: [&str; 5] = ["", "", "_1 ", "_2 ", "size "];
 
 const FUNCTIONS: [&str; 6] = ["_1", "_2", "size", "merge", "+ 3", "* 2"];
 
-// What stands in the texts of schedules, each of which is to be met.
+// Words in the texts of schedules. Every one must occur.
 const FORMS: [&str; 18] = [
     "forever",
     "recurs",
@@ -38,14 +39,14 @@ const FORMS: [&str; 18] = [
     "resetWhen",
 ];
 
-// Numbers that look random.
+// A generator of numbers that look random.
 #[derive(Drop)]
 struct Dice {
     state: u64,
 }
 
 impl Dice {
-    // A number below another one.
+    // Returns a number below another one.
     fn below(&mut self, sides: u64) -> u64
         requires some { 0 < sides }
         ensures below { result < sides }
@@ -55,7 +56,7 @@ impl Dice {
         (self.state >> 33) % sides
     }
 
-    // A number of a schedule, from 1 on: mostly a small one, and sometimes one near the greatest.
+    // Returns a number for a schedule, at least 1: mostly a small one, sometimes one near 2^64 - 1.
     fn number(&mut self) -> u64
         ensures some { 0 < result }
     {
@@ -66,7 +67,7 @@ impl Dice {
         }
     }
 
-    // A word of a list.
+    // Returns a word of a list.
     fn word<'a>(&mut self, words: &[&'a str]) -> &'a str {
         let count = words.len() as u64;
         if count == 0 {
@@ -76,7 +77,7 @@ impl Dice {
     }
 }
 
-// A schedule without parts.
+// Returns a schedule without parts.
 fn leaf(alloc: Global, dice: &mut Dice) -> Result<String, AllocError> {
     let n = dice.number();
     match dice.below(10) {
@@ -93,7 +94,8 @@ fn leaf(alloc: Global, dice: &mut Dice) -> Result<String, AllocError> {
     }
 }
 
-// A schedule under one more operator, with another one beside it where the operator has two parts. It may have no kind.
+// Puts one more operator over a schedule, with another schedule as the second part if there are
+// two. The result may have no kind.
 fn under_an_operator(
     alloc: Global,
     dice: &mut Dice,
@@ -116,7 +118,8 @@ fn under_an_operator(
     }
 }
 
-// The text of a schedule of up to nine operators: one that gives it no kind, or makes it too large, is left out.
+// Makes a schedule by up to eleven operators in turn. One that leaves it without a kind or too
+// large is skipped.
 fn schedule(alloc: Global, dice: &mut Dice) -> Result<String, AllocError> {
     let mut text = leaf(alloc, dice)?;
     for _ in 0..dice.below(12) {
@@ -136,7 +139,8 @@ fn schedule(alloc: Global, dice: &mut Dice) -> Result<String, AllocError> {
     Ok(text)
 }
 
-// From five to twelve pairs in the order of time, of small inputs. Some have equal moments, and some are near the last moment.
+// Makes five to twelve pairs in the order of time, with inputs below 7. Some have equal moments,
+// and some are near the last moment.
 fn pairs(alloc: Global, dice: &mut Dice) -> Result<Vec<(u64, u64)>, AllocError> {
     let mut made = Vec::new(alloc);
     let mut now = dice.below(20);
@@ -152,14 +156,14 @@ fn pairs(alloc: Global, dice: &mut Dice) -> Result<Vec<(u64, u64)>, AllocError> 
     Ok(made)
 }
 
-// What `plain` answers, and what `follow` does, with its visits.
+// What `plain` returns, and what `follow` returns, with its visits.
 #[derive(Drop)]
 struct Told {
     plain: String,
     followed: String,
 }
 
-// Both on a schedule.
+// Evaluates a schedule both ways.
 fn both_answers<R: Abort + Alloc<A = Global>>(
     rt: &R,
     schedule: &str,
@@ -176,7 +180,8 @@ fn both_answers<R: Abort + Alloc<A = Global>>(
     Ok(told)
 }
 
-// Both answer the same on the schedule of a seed. Adds the schedule's text to those that were met.
+// Both ways return the same for the schedule of a seed. Appends the schedule's text to those so
+// far.
 fn expect_agreement<R: Abort + Alloc<A = Global>>(
     rt: &R,
     met: &mut String,

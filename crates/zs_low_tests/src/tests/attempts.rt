@@ -10,7 +10,7 @@ use std::random::RandomSource;
 use std::test::Fail;
 use zs_effect::{Attempt, Beat, Outcome, Script};
 
-// A caller of `poll` knows of a mock no more than this.
+// Polls an attempt. Callers know nothing about a mock but this contract.
 fn poll(solo: &Solo, attempt: &mut Attempt) -> Poll<Outcome>
     ensures same { attempt.new ≡ attempt.old }
 {
@@ -21,7 +21,7 @@ fn poll(solo: &Solo, attempt: &mut Attempt) -> Poll<Outcome>
     polled
 }
 
-// What an attempt of 5 ms that began at 10 answers at a moment, and what it answers there again.
+// Polls an attempt of 5 ms that began at 10 twice at a moment.
 fn poll_twice(solo: &Solo, now: u64) -> (Poll<Outcome>, Poll<Outcome>)
     requires later { 10 ≤ now }
 {
@@ -31,7 +31,7 @@ fn poll_twice(solo: &Solo, now: u64) -> (Poll<Outcome>, Poll<Outcome>)
     (first, poll(solo, &mut attempt))
 }
 
-// The same as text.
+// The results as text.
 fn polled_at<R: Alloc<A = Global> + RandomSource>(rt: &R, now: u64) -> Result<String, Fail>
     requires later { 10 ≤ now }
 {
@@ -62,7 +62,7 @@ fn an_attempt_takes_its_time(rt: HostRuntime) {
     assert!(rt; Attempt::start(late, u64::MAX - 3).end() == u64::MAX);
 }
 
-// The first and the thousandth entry of a script, or the text of its fault.
+// Returns the first and the thousandth entry of a script, or the text of its fault.
 fn entries_of(alloc: Global, beats: &[Beat]) -> Result<String, Fail> {
     match Script::new(Vec::from_slice(alloc, beats)?) {
         Ok(script) => {

@@ -1,11 +1,13 @@
-//! Both sides of the limits of depth and weight, and texts that would exhaust the call stack of a recursive parser.
+//! Both sides of the limits of depth and weight, and texts that would overflow the stack of a
+//! recursive parser.
 use super::support::{expect_text, reading};
 use std::alloc::{Alloc, AllocError, Global};
 use std::process::Abort;
 use zs_term::{Kind, Term, check};
 
-// A name, a part, how often it is repeated, a frame, and what the text is read as, where `ok` is the text itself. In the
-// frame `#` is the repeated part, and `~` that number of opening parentheses. The part `leaves` is a conjunction of 500.
+// A name, a part, how often it is repeated, a frame, and the reading, or `ok` if that is the text
+// itself. In the frame `#` is the repeated part, and `~` that number of opening parentheses. The
+// part `leaves` is a conjunction of 500.
 type Row<'a> = (&'a str, &'a str, usize, &'a str, &'a str);
 
 static LIMITS: [Row<'static>; 11] = [
@@ -118,7 +120,7 @@ static DEEP: [Row<'static>; 2] = [
     ),
 ];
 
-// The conjunction of 500 leaves, which is not deep.
+// Makes the conjunction of 500 leaves, as a balanced tree.
 fn five_hundred_leaves(alloc: Global) -> Result<String, AllocError> {
     let five = "((# && #) && ((# && #) && #))";
     let mut text = String::from_str(alloc, "recurs(1)")?;
@@ -128,7 +130,7 @@ fn five_hundred_leaves(alloc: Global) -> Result<String, AllocError> {
     Ok(text)
 }
 
-// The text of a row.
+// Makes the text of a row.
 fn text_of(alloc: Global, part: &str, times: usize, frame: &str) -> Result<String, AllocError> {
     let part = if part == "leaves" {
         five_hundred_leaves(alloc)?
@@ -163,7 +165,7 @@ fn texts_are_read_up_to_their_limits(rt: HostRuntime) {
     expect_limits(&rt, &LIMITS);
 }
 
-// A test has a minute, so each of the long texts has a test.
+// A test may take a minute, so each long text has a separate test.
 #[test]
 fn open_parentheses_and_pending_left_parts_are_no_term(rt: HostRuntime) {
     expect_limits(&rt, &PARENTHESES);
@@ -179,7 +181,8 @@ fn deep_pairs_and_a_long_chain_are_too_big(rt: HostRuntime) {
     expect_limits(&rt, &DEEP);
 }
 
-// A name, the form of a term that a caller makes, how often it is nested, and the kind of its outputs or its fault.
+// A name, the form of a term that a caller makes, its nesting depth, and the kind of its outputs or
+// its fault.
 type Verdict<'a> = (&'a str, Form, u64, &'a str);
 
 // A term that a caller makes.
@@ -223,7 +226,7 @@ static VERDICTS: [Verdict<'static>; 7] = [
     ),
 ];
 
-// The term of a row.
+// Makes the term of a row.
 fn term_of(alloc: Global, form: &Form, times: u64) -> Result<Term, AllocError> {
     let mut term = match form {
         Form::Recurs => Term::Recurs(3),
@@ -241,7 +244,7 @@ fn term_of(alloc: Global, form: &Form, times: u64) -> Result<Term, AllocError> {
     Ok(term)
 }
 
-// What a term is checked as: the kind of its outputs, or the text of its fault.
+// Checks a term: returns the kind of its outputs, or the text of its fault.
 fn verdict(alloc: Global, term: Term) -> Result<String, AllocError> {
     match check(alloc, term) {
         Ok(schedule) => match schedule.kind() {
@@ -252,7 +255,7 @@ fn verdict(alloc: Global, term: Term) -> Result<String, AllocError> {
     }
 }
 
-// The term of each row is checked as listed. A table without rows fails.
+// The verdict on each row's term is as listed. A table without rows fails.
 fn expect_verdicts<R: Abort + Alloc<A = Global>>(rt: &R, rows: &[Verdict<'_>]) {
     assert!(rt; !rows.is_empty(), "no rows");
     for (name, form, times, wanted) in rows {

@@ -1,4 +1,5 @@
-//! Worked examples, by `plain` on each prefix and by `follow`: values from the rules in docs/SEMANTICS.md, worked by hand.
+//! Worked examples, by `plain` on each prefix and by `follow`. The values are worked out by hand
+//! from docs/SEMANTICS.md.
 ghost use Rattle.std.specs.Prelude.{◌<◌, length, IfOk};
 ghost use Rattle.zs_step.specs.History.{history_of, IsInOrder};
 
@@ -10,13 +11,13 @@ use std::test::Fail;
 use zs_step::{Compiled, Decision, Interval, StepFault, follow, plain};
 use zs_term::{Checked, Out, append_out, read};
 
-// A schedule, its pairs of a moment and an input, the answers, and the visits that the steps take.
+// A schedule, its pairs of a moment and an input, the results, and the visits of the steps.
 type Row<'a> = (&'a str, &'a [(u64, u64)], &'a str, &'a str);
 
 // A name, and rows that belong to it.
 type Group<'a> = (&'a str, &'a [Row<'a>]);
 
-// Adds an output and a decision.
+// Appends an output and a decision.
 fn push_step(text: &mut String, out: &Out, decision: Decision) -> Result<(), AllocError> {
     append_out(text, out)?;
     match decision {
@@ -25,7 +26,7 @@ fn push_step(text: &mut String, out: &Out, decision: Decision) -> Result<(), All
     }
 }
 
-// Adds what `plain` answers at the last pair.
+// Appends what `plain` returns at the last pair.
 fn push_answer(
     alloc: Global,
     text: &mut String,
@@ -39,7 +40,7 @@ fn push_answer(
     Ok(push_step(text, &out, decision)?)
 }
 
-// Adds what `plain` answers to the pairs up to each of them. Gives back the pairs, which are in order.
+// Appends what `plain` returns for each prefix of the pairs. Returns the pairs, which are in order.
 pub fn push_plain_answers<R: Abort + Alloc<A = Global>>(
     rt: &R,
     text: &mut String,
@@ -60,7 +61,7 @@ pub fn push_plain_answers<R: Abort + Alloc<A = Global>>(
     Ok(seen)
 }
 
-// Adds what `follow` answers, and then the visits of its steps.
+// Appends what `follow` returns, and then the visits of its steps.
 pub fn push_followed(
     alloc: Global,
     text: &mut String,
@@ -79,7 +80,7 @@ pub fn push_followed(
     Ok(())
 }
 
-// Adds both.
+// Appends both.
 fn push_both<R: Abort + Alloc<A = Global>>(
     rt: &R,
     text: &mut String,
@@ -388,7 +389,8 @@ fn each_schedule_returns_what_is_listed(rt: HostRuntime) -> Result<(), Fail> {
     expect_groups(&rt, &ANSWERS)
 }
 
-// Whether a new state of a schedule is whole, what its first step at 3 decides, and whether it is whole then.
+// Steps a new state of a schedule at 3: whether it is broken before, the decision, whether it is
+// broken after.
 fn first_step(alloc: Global, schedule: &str) -> Result<String, Fail> {
     let mut compiled = Compiled::new(alloc, read(alloc, schedule)?)?;
     let before = compiled.broken();
@@ -408,7 +410,7 @@ fn a_new_state_is_whole(rt: HostRuntime) -> Result<(), Fail> {
     Ok(())
 }
 
-// The answers of `elapsed`, stepped by hand at 5 and at 9, and whether it is broken then.
+// Steps `elapsed` by hand at 5 and at 9: the results, and whether it is broken then.
 fn elapsed_by_hand(alloc: Global) -> Result<String, Fail> {
     let mut text = String::new(alloc);
     let mut compiled = Compiled::new(alloc, read(alloc, "elapsed")?)?;
@@ -434,7 +436,7 @@ fn intervals_meet_at_their_starts(rt: HostRuntime) {
     assert!(rt; early.union(&late).start() == 3);
 }
 
-// A hundred pairs (k, k), of which each answer is `k k`, in one visit.
+// A hundred pairs (k, k) with the result `k k` each, in one visit.
 #[test]
 fn a_hundred_pairs_are_answered(rt: HostRuntime) -> Result<(), Fail> {
     let mut pairs = Vec::new(rt.alloc());

@@ -1,15 +1,15 @@
-//! What the tests share.
+//! Helpers that the tests share.
 use std::alloc::{AllocError, Global};
 use std::process::Abort;
 use zs_effect::{Beat, Outcome};
 use zs_term::{read, write};
 
-/// The text that was found is the one that is wanted.
+/// Asserts that two texts are equal.
 pub fn expect_text(rt: &impl Abort, found: &str, wanted: &str, of: &str) {
     assert!(rt; found == wanted, "{of}: wanted {wanted}, found {found}");
 }
 
-/// What a text is read as: its canonical spelling, or the text of its fault.
+/// Reads a text: returns its canonical spelling, or the text of its fault.
 pub fn reading(alloc: Global, text: &str) -> Result<String, AllocError> {
     match read(alloc, text) {
         Ok(schedule) => write(alloc, &schedule),
@@ -17,7 +17,7 @@ pub fn reading(alloc: Global, text: &str) -> Result<String, AllocError> {
     }
 }
 
-/// An attempt that succeeds.
+/// Makes an attempt that succeeds.
 pub fn good(ms: u64, value: u64) -> Beat {
     Beat {
         ms,
@@ -25,7 +25,7 @@ pub fn good(ms: u64, value: u64) -> Beat {
     }
 }
 
-/// An attempt that fails.
+/// Makes an attempt that fails.
 pub fn bad(ms: u64, code: u64) -> Beat {
     Beat {
         ms,

@@ -14,7 +14,7 @@ use zs_drive::{DriveFault, Ending, Job, Keeping, Mode, Task, append_attempt};
 use zs_effect::{Beat, Script};
 use zs_term::read;
 
-// A job with the name `a`.
+// Makes a job with the name `a`.
 fn job(alloc: Global, mode: Mode, schedule: &str, start: u64, beats: &[Beat]) -> Result<Job, Fail> {
     let name = String::from_str(alloc, "a")?;
     let script = Script::new(Vec::from_slice(alloc, beats)?)?;
@@ -28,7 +28,7 @@ fn job(alloc: Global, mode: Mode, schedule: &str, start: u64, beats: &[Beat]) ->
     })
 }
 
-// The task with the number 7, of a job with the name `a`.
+// Makes the task with the number 7 of a job with the name `a`.
 fn task_of(
     alloc: Global,
     mode: Mode,
@@ -41,7 +41,7 @@ fn task_of(
     Ok(Task::new(alloc, 7, job(alloc, mode, schedule, start, beats)?)?)
 }
 
-// A caller of `poll` knows of a mock no more than this.
+// Polls a task. Callers know nothing about a mock but this contract.
 fn poll(solo: &Solo, task: &mut Task) -> Poll<Result<Ending, DriveFault>>
     ensures seen { task.new.seen ≡ task.old.seen }
 {
@@ -52,7 +52,7 @@ fn poll(solo: &Solo, task: &mut Task) -> Poll<Result<Ending, DriveFault>>
     polled
 }
 
-// Polls at each millisecond up to the horizon at which the task is due.
+// Polls a task at each millisecond up to the horizon at which it is due.
 fn run(solo: &Solo, task: &mut Task, horizon: u64)
     requires seen { task.old.seen ≡ 0 }
     requires bounded { horizon < 10000 }
@@ -65,7 +65,7 @@ fn run(solo: &Solo, task: &mut Task, horizon: u64)
     }
 }
 
-// When the last attempt began and ended.
+// Returns when the last attempt began and ended.
 fn last_of(task: &Task) -> Option<(u64, Option<u64>)> {
     let attempted = task.records().last()?;
     match &attempted.ended {
@@ -74,7 +74,7 @@ fn last_of(task: &Task) -> Option<(u64, Option<u64>)> {
     }
 }
 
-// Where a task stands: its due polls, what it waits for, its ending, and its last attempt.
+// Describes a task: its due polls, the moment that it waits for, its ending, and its last attempt.
 fn standing(alloc: Global, task: &Task) -> Result<String, AllocError> {
     let (polls, due, ending, last) = (task.polls(), task.due(), task.ending(), last_of(task));
     format!(in alloc; "{polls} polls, due {due:?}, ending {ending:?}, last {last:?}")
@@ -83,7 +83,7 @@ fn standing(alloc: Global, task: &Task) -> Result<String, AllocError> {
 // A job's mode, schedule and start, and the horizon.
 type Given<'a> = (Mode, &'a str, u64, u64);
 
-// Where a job is once it was polled at each millisecond up to the horizon at which it was due.
+// Polls a job at each due millisecond up to the horizon, and describes it.
 fn end_of_run<R: Abort + Alloc<A = Global> + RandomSource>(
     rt: &R,
     given: Given<'_>,
@@ -100,7 +100,7 @@ fn end_of_run<R: Abort + Alloc<A = Global> + RandomSource>(
     Ok(found?)
 }
 
-// A name, what is given, the entries, and where the job is in the end.
+// A name, the job, its entries, and its description in the end.
 type Run<'a> = (&'a str, Given<'a>, &'a [Beat], &'a str);
 
 #[test]
@@ -225,14 +225,14 @@ fn each_job_ends_as_its_run_says(rt: HostRuntime) -> Result<(), Fail> {
     Ok(())
 }
 
-// What a task is known by, and what it waits for.
+// Describes a task that wasn't polled: its number, name, mode and due moment.
 fn known(alloc: Global, task: &Task) -> Result<String, AllocError> {
     let (number, name, mode, due) = (task.number(), task.name(), task.mode(), task.due());
     let broken = task.broken();
     format!(in alloc; "{number} {name} {mode:?}, broken {broken}, due {due:?}\n")
 }
 
-// Adds what a poll answered, the due polls, and what the task waits for.
+// Appends the result of a poll, the due polls, and the moment that the task waits for.
 fn push_poll(
     text: &mut String,
     task: &Task,
@@ -242,7 +242,7 @@ fn push_poll(
     write!(text, "{polled:?}, {polls} polls, due {due:?}\n")
 }
 
-// Polls at this moment, due or not.
+// Polls a task at this moment, due or not.
 fn poll_next<R: Abort>(
     rt: &R,
     solo: &Solo,
@@ -261,7 +261,7 @@ fn poll_next<R: Abort>(
     poll(solo, task)
 }
 
-// Polls at these moments, due or not.
+// Polls a task at these moments, due or not.
 fn poll_at_each<R: Abort + Alloc<A = Global>>(
     rt: &R,
     solo: &Solo,
@@ -281,7 +281,7 @@ fn poll_at_each<R: Abort + Alloc<A = Global>>(
     Ok(text)
 }
 
-// What results from polling a retry with `recurs(3)` at these moments.
+// Polls a retry with `recurs(3)` at these moments, and returns the results.
 fn polls_of<R: Abort + Alloc<A = Global> + RandomSource>(
     rt: &R,
     start: u64,
@@ -296,7 +296,7 @@ fn polls_of<R: Abort + Alloc<A = Global> + RandomSource>(
     Ok(found?)
 }
 
-// A name, the start, the entries, the moments of the polls, and what results.
+// A name, the start, the entries, the moments of the polls, and the results.
 type Polls<'a> = (&'a str, u64, &'a [Beat], &'a [u64], &'a str);
 
 #[test]
@@ -350,7 +350,7 @@ Pending, 1 polls, due Some(1000000000000004)
     Ok(())
 }
 
-// Adds the lines of the attempts that a task keeps as records.
+// Appends the lines of the attempts that a task stores as records.
 fn push_records(text: &mut String, task: &Task) -> Result<(), AllocError> {
     let mut number = task.told().saturating_add(1);
     for record in task.records() {
@@ -360,8 +360,8 @@ fn push_records(text: &mut String, task: &Task) -> Result<(), AllocError> {
     Ok(())
 }
 
-// Adds the lines that a task keeps, between how many attempts they tell and how many records it has, and then those of
-// the records.
+// Appends the lines that a task stores, between the number of attempts in them and the number of
+// records, and then the lines of the records.
 fn push_told(text: &mut String, task: &Task) -> Result<(), AllocError> {
     let (polls, ending) = (task.polls(), task.ending());
     let (told, recorded) = (task.told(), task.records().len());
@@ -371,7 +371,7 @@ fn push_told(text: &mut String, task: &Task) -> Result<(), AllocError> {
     push_records(text, task)
 }
 
-// What a task tells before it is polled, and after each poll at these moments.
+// Describes the log of a task before it is polled, and after each poll at these moments.
 fn told_at_each<R: Abort + Alloc<A = Global>>(
     rt: &R,
     solo: &Solo,
@@ -392,7 +392,8 @@ fn told_at_each<R: Abort + Alloc<A = Global>>(
     Ok(text)
 }
 
-// What a task that stores its attempts like this reports, before it is polled at these moments and after each poll.
+// Makes a task that stores its attempts in this way, polls it at these moments, and describes its
+// log before and after each poll.
 fn told_of<R: Abort + Alloc<A = Global> + RandomSource>(
     rt: &R,
     given: (Mode, &str, u64),
@@ -412,7 +413,8 @@ fn told_of<R: Abort + Alloc<A = Global> + RandomSource>(
     Ok(found?)
 }
 
-// A name, the job's mode, schedule and start, its entries, what the task stores, the moments of the polls, and the report.
+// A name, the job's mode, schedule and start, its entries, what the task stores, the moments of the
+// polls, and the description.
 type Told<'a> = (
     &'a str,
     (Mode, &'a str, u64),

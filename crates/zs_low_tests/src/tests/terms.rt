@@ -1,4 +1,5 @@
-//! The texts of terms and outputs: which are read, how they are spelled, and what the others are refused for.
+//! The texts of terms and outputs: which are read, how they are spelled, and why the others are
+//! rejected.
 use super::support::{expect_text, reading};
 use std::alloc::{Alloc, AllocError, Global};
 use std::process::Abort;
@@ -207,7 +208,7 @@ static SPELLINGS: [&str; 13] = [
     "identity.map(as 1).map(+ 2).map(* 3)",
 ];
 
-// Each text is read, and is its own spelling.
+// Each text is read, and is its canonical spelling.
 fn expect_spellings<R: Abort + Alloc<A = Global>>(rt: &R, texts: &[&str]) {
     assert!(rt; !texts.is_empty(), "no rows");
     for text in texts {
@@ -238,13 +239,13 @@ fn each_fault_has_its_text(rt: HostRuntime) {
     }
 }
 
-// The text of an output.
+// The output has this text.
 fn expect_out<R: Abort + Alloc<A = Global>>(rt: &R, out: &Out, wanted: &str) {
     let text = write_out(rt.alloc(), out).expect(rt, "memory");
     expect_text(rt, &text, wanted, "the output");
 }
 
-// The pair of a left side and a list of two numbers.
+// Makes the pair of a left side and a list of two numbers.
 fn side_and_list(alloc: Global) -> Result<Out, AllocError> {
     let mut items = Vec::new(alloc);
     items.push(Out::Num(2))?;

@@ -4,7 +4,7 @@ use std::alloc::{Alloc, AllocError, Global};
 use std::process::Abort;
 use zs_agenda::{Agenda, Clock};
 
-// Sets the timer of a job that has none to a moment that is ahead, and tells whether it could.
+// Sets the timer of a job if it has none and the moment is ahead, and returns whether it did.
 fn is_set_now(agenda: &mut Agenda, job: u64, moment: u64) -> bool {
     if agenda.is_set(job) {
         return false;
@@ -30,7 +30,7 @@ fn expect_state<R: Abort + Alloc<A = Global>>(rt: &R, agenda: &Agenda, wanted: &
     expect_text(rt, &found.expect(rt, "memory"), wanted, "the agenda");
 }
 
-// What the next takes answer, one by one.
+// The next takes return these, one by one.
 fn expect_takes<R: Abort + Alloc<A = Global>>(rt: &R, agenda: &mut Agenda, takes: &[&str]) {
     for wanted in takes {
         let taken = agenda.take();
@@ -104,7 +104,8 @@ fn any_job_number_can_be_set(rt: HostRuntime) {
     expect_takes(&rt, &mut agenda, &takes);
 }
 
-// How many of so many jobs could be set, each to a moment of its own or all to one.
+// Sets the timers of jobs, each at a separate moment or all at one, and returns the number that
+// were set.
 fn count_set(agenda: &mut Agenda, jobs: u64, is_shared: bool) -> u64 {
     let mut set = 0u64;
     for job in 0..jobs {
@@ -116,7 +117,7 @@ fn count_set(agenda: &mut Agenda, jobs: u64, is_shared: bool) -> u64 {
     set
 }
 
-// How many jobs the next take fires.
+// Returns the number of jobs that the next take fires.
 fn taken_jobs(agenda: &mut Agenda) -> Option<usize> {
     match agenda.take() {
         Ok(Some((_, jobs))) => Some(jobs.len()),
@@ -138,7 +139,7 @@ fn twenty_thousand_jobs_can_be_set(rt: HostRuntime) {
     assert!(rt; set == 20_000 && first == Some(20_000));
 }
 
-// The tick at or after each of these moments.
+// The clock's tick at or after each of these moments is as listed.
 fn expect_ticks(rt: &impl Abort, clock: &Clock, rows: &[(u64, Option<u64>)]) {
     for (due, wanted) in rows {
         assert!(rt; clock.tick(*due) == *wanted, "from {due}");
@@ -163,7 +164,7 @@ fn a_moment_between_ticks_waits_for_the_next(rt: HostRuntime) {
     expect_ticks(&rt, &clock, &rows);
 }
 
-// Whether each of these lists is one of ticks.
+// Each of these lists may be a clock's, or not, as listed.
 fn expect_lists<R: Abort + Alloc<A = Global>>(rt: &R, rows: &[(&[u64], bool)]) {
     for (ticks, wanted) in rows {
         let list = Vec::from_slice(rt.alloc(), ticks).expect(rt, "memory");
@@ -185,7 +186,7 @@ fn a_list_of_ticks_rises_and_has_its_limits(rt: HostRuntime) {
     expect_lists(&rt, &rows);
 }
 
-// The first ticks of a clock of milliseconds, as a list.
+// Makes a list of the milliseconds below a number.
 fn milliseconds(alloc: Global, count: u64) -> Result<Vec<u64>, AllocError> {
     let mut ticks = Vec::new(alloc);
     for tick in 0..count {
@@ -194,7 +195,7 @@ fn milliseconds(alloc: Global, count: u64) -> Result<Vec<u64>, AllocError> {
     Ok(ticks)
 }
 
-// Whether so many are a list of ticks.
+// Whether that list of `count` moments may be a clock's.
 fn is_list(alloc: Global, count: u64) -> Result<bool, AllocError> {
     let ticks = milliseconds(alloc, count)?;
     Ok(Clock::of_ticks(ticks).is_some())
@@ -207,7 +208,7 @@ fn a_list_has_at_most_a_million_ticks(rt: HostRuntime) {
     assert!(rt; most && !more);
 }
 
-// How many of the moments below so many are ticks.
+// Returns the number of ticks below a number.
 fn ticks_below(clock: &Clock, count: u64) -> u64 {
     let mut found = 0u64;
     for due in 0..count {
@@ -218,7 +219,8 @@ fn ticks_below(clock: &Clock, count: u64) -> u64 {
     found
 }
 
-// A body that looked at each tick in turn would look 500,000 times on average, and would not end in a test's time.
+// A body that looked at each tick in turn would look at 500,000 on average, and wouldn't end in a
+// test's time.
 #[test]
 fn each_tick_of_a_full_list_is_found(rt: HostRuntime) {
     let ticks = milliseconds(rt.alloc(), 1_000_000).expect(&rt, "memory");
