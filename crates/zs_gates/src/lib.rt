@@ -1,5 +1,8 @@
-//! Gates that hold threads, for the tests of rounds and of whole runs. A gate can't fail a test, so it counts what went
-//! wrong, and gives up waiting at last.
+//! Gates that hold threads, for the tests of rounds and of whole runs. A gate can't fail a test, so
+//! it counts what went wrong, and stops waiting after `TURNS` looks.
+//!
+//! Its atomic steps are those of counters and flags that only gates touch: `load`, `store`,
+//! `fetch_add`, `fetch_sub`, `fetch_max` and `fetch_or`, all `SeqCst`.
 #![tactic(auto)]
 
 use std::alloc::{AllocError, Global};
@@ -7,10 +10,10 @@ use std::sync::atomic::{AtomicU64, Ordering};
 use std::thread;
 use zs_pool::Gate;
 
-/// How often one thread looks for what another does, before it gives up.
+/// The number of times that a thread looks for what another does before it stops waiting.
 pub const TURNS: u64 = 100_000_000;
 
-/// Yields until the number is at least so much, and tells whether it came to that.
+/// Yields until the number is at least `wanted`, and returns whether that happened within `TURNS`.
 pub fn comes_to(number: &AtomicU64, wanted: u64) -> bool {
     for _ in 0..TURNS {
         if number.load(Ordering::SeqCst) >= wanted {
@@ -41,7 +44,8 @@ impl Moments {
         }
     }
 
-    // Whether the counter of this moment comes to so much.
+    // Waits until the counter of this moment is at least `wanted`, and returns whether that
+    // happened.
     fn come_to(&self, now: u64, wanted: u64) -> bool {
         match self.counters.get((now / 5) as usize) {
             Some(counter) => comes_to(counter, wanted),
@@ -50,7 +54,8 @@ impl Moments {
     }
 }
 
-/// Holds each pass until as many passes of its moment were entered, and counts those that gave up.
+/// Holds each pass until `wanted` passes of its moment were entered, and counts those that stopped
+/// waiting.
 #[derive(Drop)]
 pub struct Meeting {
     wanted: u64,
@@ -59,6 +64,7 @@ pub struct Meeting {
 }
 
 impl Meeting {
+    /// Makes a gate at which this number of passes meet.
     pub fn of(wanted: u64) -> Meeting {
         Meeting {
             wanted,
@@ -67,7 +73,7 @@ impl Meeting {
         }
     }
 
-    /// How many passes gave up.
+    /// Returns the number of passes that stopped waiting.
     pub fn alone(&self) -> u64 {
         self.alone.load(Ordering::SeqCst)
     }
@@ -82,7 +88,8 @@ impl Gate for Meeting {
     }
 }
 
-/// Holds the pass of one job until the passes of two others of its moment were entered, and keeps the greatest `done`.
+/// Holds the pass of one job until the passes of two others of its moment were entered, and records
+/// the greatest `done`.
 #[derive(Drop)]
 pub struct Held {
     job: u64,
@@ -92,6 +99,7 @@ pub struct Held {
 }
 
 impl Held {
+    /// Makes a gate that holds this job.
     pub fn job(job: u64) -> Held {
         Held {
             job,
@@ -101,12 +109,12 @@ impl Held {
         }
     }
 
-    /// How many passes gave up.
+    /// Returns the number of passes that stopped waiting.
     pub fn alone(&self) -> u64 {
         self.alone.load(Ordering::SeqCst)
     }
 
-    /// The most polls that a pass was told of.
+    /// Returns the greatest number of polls that a pass got.
     pub fn done(&self) -> u64 {
         self.done.load(Ordering::SeqCst)
     }
@@ -123,7 +131,7 @@ impl Gate for Held {
     }
 }
 
-/// Lets the passes of so many jobs go by falling number, and counts those that gave up.
+/// Lets the passes of jobs go by falling number, and counts those that stopped waiting.
 #[derive(Drop)]
 pub struct LastFirst {
     jobs: u64,
@@ -132,6 +140,7 @@ pub struct LastFirst {
 }
 
 impl LastFirst {
+    /// Makes a gate for the jobs below this number.
     pub fn of(jobs: u64) -> LastFirst {
         LastFirst {
             jobs,
@@ -140,7 +149,7 @@ impl LastFirst {
         }
     }
 
-    /// How many passes gave up.
+    /// Returns the number of passes that stopped waiting.
     pub fn alone(&self) -> u64 {
         self.alone.load(Ordering::SeqCst)
     }
@@ -156,9 +165,10 @@ impl Gate for LastFirst {
     }
 }
 
-/// Holds the passes of one job for a while.
+/// Holds the passes of one job for 10,000 yields.
 #[derive(Clone, Copy)]
 pub struct Slow {
+    /// The job.
     pub job: u64,
 }
 
@@ -172,7 +182,8 @@ impl Gate for Slow {
     }
 }
 
-/// Counts its passes. Each has to be of the next of so many jobs in turn, and be told of as many polls as passes before.
+/// Counts its passes. Each must be of the next job in turn, and get the number of passes before it
+/// as the polls so far.
 #[derive(Drop)]
 pub struct InTurn {
     jobs: u64,
@@ -181,6 +192,7 @@ pub struct InTurn {
 }
 
 impl InTurn {
+    /// Makes a gate for the jobs below this number.
     pub fn of(jobs: u64) -> InTurn {
         InTurn {
             jobs,
@@ -189,10 +201,12 @@ impl InTurn {
         }
     }
 
+    /// Returns the number of passes.
     pub fn passes(&self) -> u64 {
         self.passes.load(Ordering::SeqCst)
     }
 
+    /// Returns the number of passes out of turn, or with another number of polls.
     pub fn wrong(&self) -> u64 {
         self.wrong.load(Ordering::SeqCst)
     }
@@ -207,8 +221,8 @@ impl Gate for InTurn {
     }
 }
 
-/// Holds the first pass of one job, at moment 0, until those of some others were entered, and keeps which were by then. A
-/// set of jobs has the bit 2^k for the job k.
+/// Holds the first pass of one job, at moment 0, until those of some others were entered, and
+/// records the jobs entered by then. A set of jobs has the bit 2^k for the job k.
 #[derive(Drop)]
 pub struct Apart {
     job: u64,
@@ -218,6 +232,7 @@ pub struct Apart {
 }
 
 impl Apart {
+    /// Makes a gate that holds a job until a set of others was entered.
     pub fn of(job: u64, others: u64) -> Apart {
         Apart {
             job,
@@ -227,12 +242,12 @@ impl Apart {
         }
     }
 
-    /// The jobs that were entered when the held one went on, with that one.
+    /// Returns the jobs that were entered when the held one went on, with that one.
     pub fn by_then(&self) -> u64 {
         self.by_then.load(Ordering::SeqCst)
     }
 
-    // The jobs that were entered when all of the others were, or when that had lasted too long.
+    // Returns the jobs that were entered when all of the others were, or after `TURNS` looks.
     fn wait(&self) -> u64 {
         for _ in 0..TURNS {
             let entered = self.entered.load(Ordering::SeqCst);
@@ -257,8 +272,8 @@ impl Gate for Apart {
     }
 }
 
-/// Holds each pass of moment 0 until so many are inside at once and none has come for a while. Counts those that gave up,
-/// and keeps the most that were inside.
+/// Holds each pass of moment 0 until `wanted` passes are inside at once, and then for 1,000 yields.
+/// Counts those that stopped waiting, and records the greatest number inside.
 #[derive(Drop)]
 pub struct Crowd {
     wanted: u64,
@@ -268,6 +283,7 @@ pub struct Crowd {
 }
 
 impl Crowd {
+    /// Makes a gate for this number of passes at once.
     pub fn of(wanted: u64) -> Crowd {
         Crowd {
             wanted,
@@ -277,12 +293,12 @@ impl Crowd {
         }
     }
 
-    /// The most passes that were inside at once.
+    /// Returns the greatest number of passes that were inside at once.
     pub fn most(&self) -> u64 {
         self.most.load(Ordering::SeqCst)
     }
 
-    /// How many passes gave up.
+    /// Returns the number of passes that stopped waiting.
     pub fn alone(&self) -> u64 {
         self.alone.load(Ordering::SeqCst)
     }
@@ -305,8 +321,8 @@ impl Gate for Crowd {
     }
 }
 
-/// Counts the passes that are told another moment than that of their round, or of a number of polls that can't have been
-/// counted. There is a round for every so many passes, each 5 ms after the last.
+/// Counts the passes that get another moment than that of their round, or a number of polls that
+/// can't have been counted. Every `jobs` passes are a round, each 5 ms after the last.
 #[derive(Drop)]
 pub struct Rounds {
     jobs: u64,
@@ -315,6 +331,7 @@ pub struct Rounds {
 }
 
 impl Rounds {
+    /// Makes a gate for rounds of this number of jobs.
     pub fn of(jobs: u64) -> Rounds {
         Rounds {
             jobs,
@@ -323,10 +340,12 @@ impl Rounds {
         }
     }
 
+    /// Returns the number of passes.
     pub fn passes(&self) -> u64 {
         self.passes.load(Ordering::SeqCst)
     }
 
+    /// Returns the number of passes with a wrong moment or number of polls.
     pub fn wrong(&self) -> u64 {
         self.wrong.load(Ordering::SeqCst)
     }
@@ -344,8 +363,9 @@ impl Gate for Rounds {
     }
 }
 
-/// Of three jobs and two threads, holds job 1 until job 0 was entered, and job 0 until job 2 was. So job 2 comes when its
-/// thread has polled job 1 and the other thread is at its gate. Counts those that gave up, and keeps what job 2 was told.
+/// Of three jobs and two threads, holds job 1 until job 0 was entered, and job 0 until job 2 was.
+/// So job 2 comes when its thread has polled job 1 and the other thread is at its gate. Counts
+/// those that stopped waiting, and records the number of polls that job 2 got.
 #[derive(Drop)]
 pub struct Chained {
     zero: AtomicU64,
@@ -355,6 +375,7 @@ pub struct Chained {
 }
 
 impl Chained {
+    /// Makes the gate.
     pub fn new() -> Chained {
         Chained {
             zero: AtomicU64::new(0),
@@ -364,17 +385,17 @@ impl Chained {
         }
     }
 
-    /// The polls that were counted before job 2 came.
+    /// Returns the number of polls that were counted before job 2 came.
     pub fn done(&self) -> u64 {
         self.done.load(Ordering::SeqCst)
     }
 
-    /// How many passes gave up.
+    /// Returns the number of passes that stopped waiting.
     pub fn alone(&self) -> u64 {
         self.alone.load(Ordering::SeqCst)
     }
 
-    // Waits until the job that has this counter was entered.
+    // Waits until the job of this counter was entered.
     fn wait(&self, entered: &AtomicU64) {
         if !comes_to(entered, 1) {
             self.alone.fetch_add(1, Ordering::SeqCst);
@@ -398,7 +419,7 @@ impl Gate for Chained {
     }
 }
 
-// What one pass was told. The job is the greatest number until the pass is entered.
+// What one pass got. The job is 2^64 - 1 until the pass is entered.
 #[derive(Drop)]
 struct Entry {
     job: AtomicU64,
@@ -406,7 +427,7 @@ struct Entry {
     done: AtomicU64,
 }
 
-/// Records what each pass is told, in the order in which the passes are entered.
+/// Records what each pass gets, in the order in which the passes are entered.
 #[derive(Drop)]
 pub struct Record {
     entered: AtomicU64,
@@ -414,7 +435,7 @@ pub struct Record {
 }
 
 impl Record {
-    /// A record with room for this number of passes.
+    /// Makes a record with room for this number of passes.
     pub fn of(alloc: Global, passes: u64) -> Result<Record, AllocError> {
         let mut entries = Vec::new(alloc);
         for _ in 0..passes {
@@ -430,12 +451,12 @@ impl Record {
         })
     }
 
-    /// The number of passes, with those for which there was no room.
+    /// Returns the number of passes, including those without room.
     pub fn passes(&self) -> u64 {
         self.entered.load(Ordering::SeqCst)
     }
 
-    /// The job, the moment and the number of polls that each pass was told, in order.
+    /// Returns the job, the moment and the number of polls that each pass got, in order.
     pub fn told(&self, alloc: Global) -> Result<Vec<(u64, u64, u64)>, AllocError> {
         let mut told = Vec::new(alloc);
         for entry in self.entries.iter() {
@@ -447,8 +468,8 @@ impl Record {
         Ok(told)
     }
 
-    /// The number of passes that came at an earlier moment than a pass before them, or were told of fewer polls than there
-    /// were passes at earlier moments, or of more than there were passes.
+    /// Returns the number of passes that came at an earlier moment than a pass before them, or got
+    /// fewer polls than the passes at earlier moments, or more than the passes so far.
     pub fn wrong(&self) -> u64 {
         let (mut wrong, mut latest, mut earlier) = (0u64, 0u64, 0u64);
         for (place, entry) in self.entries.iter().enumerate() {
