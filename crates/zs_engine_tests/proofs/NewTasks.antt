@@ -10,7 +10,7 @@ use Rattle.zs_drive.specs.Timeline.{timeline_of, from}
 use Rattle.zs_drive.specs.Tasks.{TaskValue}
 use Rattle.zs_pool.specs.Rounds.{IsPollable}
 
--- a task as it is new, which waits for moment 0
+-- a new task, which waits for moment 0
 abbrev pub IsNewTask : ℕ → TaskValue → Type 0
 IsNewTask number task = (task.number ≡ number) × (task.moments ≡ []) × (task.seen ≡ 0) × (task.broken ≡ false) × (task.job.start ≡ 0)
 

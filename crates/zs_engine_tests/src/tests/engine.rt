@@ -1,4 +1,4 @@
-//! Whole runs: the attempts of each job, how it ended, and the polls that were due.
+//! Whole runs: the attempts of each job, its ending, and the polls in all.
 use super::support::expect_text;
 use super::support::jobs::{Given, Listed, TWICE, good, job_of, jobs_of, listed_jobs, retried};
 use std::alloc::{AllocError, Global};
@@ -16,7 +16,7 @@ use zs_gates::{Crowd, InTurn, Meeting, Record};
 use zs_pool::{Cut, Gate, OpenGate};
 use zs_step::Decision;
 
-// Workers and grains, from one task at a time to more of both than there are jobs.
+// Workers and grains, from one worker and batches of one task to more of both than there are jobs.
 const CUTS: [(u64, u64); 12] = [
     (1, 1),
     (1, 3),
@@ -39,7 +39,7 @@ enum Ticks<'a> {
     List(&'a [u64]),
 }
 
-// Adds when an attempt began and ended, and the moment that the schedule then gave.
+// Appends when an attempt began and ended, and the moment at which the schedule continues.
 fn push_attempt(text: &mut String, attempted: &Attempted) -> Result<(), AllocError> {
     let begun = attempted.begun;
     let Some(ended) = &attempted.ended else {
@@ -52,7 +52,7 @@ fn push_attempt(text: &mut String, attempted: &Attempted) -> Result<(), AllocErr
     }
 }
 
-// Adds what a job came to: its attempts, how it ended, and its due polls.
+// Appends what became of a job: its attempts, its ending, and its due polls.
 fn push_fate(text: &mut String, task: &Task) -> Result<(), AllocError> {
     let (number, name) = (task.number(), task.name());
     write!(text, "{number} {name}: ")?;
@@ -63,7 +63,7 @@ fn push_fate(text: &mut String, task: &Task) -> Result<(), AllocError> {
     write!(text, "{ending:?}, {polls} polls\n")
 }
 
-// What all jobs came to, and the polls in all.
+// Appends what became of all jobs, and the polls in all.
 fn push_answer(text: &mut String, answer: &Answer) -> Result<(), AllocError> {
     for task in &answer.tasks {
         push_fate(text, task)?;
@@ -82,7 +82,7 @@ fn clock_of(rt: &impl Abort, alloc: Global, ticks: Ticks<'_>) -> Result<Clock, A
     }
 }
 
-// Adds what the jobs come to under the gate on this many workers, so many tasks to a batch.
+// Appends the result of a run of the jobs with this cut, under the gate.
 fn push_run<G: Gate, R: Abort + Threads + Wait + Sync>(
     rt: &R,
     text: &mut String,
@@ -97,7 +97,7 @@ fn push_run<G: Gate, R: Abort + Threads + Wait + Sync>(
     Ok(push_answer(text, &answer)?)
 }
 
-// The jobs need so many polls under the gate.
+// The jobs take this number of polls under the gate.
 fn expect_polls<G: Gate, R: Abort + Threads + Wait + Sync>(
     rt: &R,
     alloc: Global,
@@ -115,7 +115,7 @@ fn expect_polls<G: Gate, R: Abort + Threads + Wait + Sync>(
     Ok(())
 }
 
-// The jobs come to this under each of these cuts.
+// The jobs have this result under each of these cuts.
 fn expect<R: Abort + Threads + Wait + Sync>(
     rt: &R,
     alloc: Global,
@@ -136,7 +136,8 @@ fn expect<R: Abort + Threads + Wait + Sync>(
     Ok(())
 }
 
-// A retry that succeeds, one that fails, a repeat that finishes, one that runs at the horizon, and one that never begins.
+// A retry that succeeds, one that fails, a repeat that finishes, one that is running at the
+// horizon, and one that never begins.
 const FIVE: [Listed<'static>; 5] = [
     ("succeeds", Mode::Retry, "recurs(3)", 0, &TWICE),
     (
@@ -183,7 +184,7 @@ const SEVEN: [Listed<'static>; 7] = [
     ("g", Mode::Retry, "recurs(3)", 0, &TWICE),
 ];
 
-// A name, the cuts, the ticks, the jobs, and what results under each cut.
+// A name, the cuts, the ticks, the jobs, and the result under each cut.
 type Run<'a> = (
     &'a str,
     &'a [(u64, u64)],
@@ -320,7 +321,7 @@ fn each_run_has_the_listed_result(rt: HostRuntime) -> Result<(), Fail> {
     expect_runs(&rt, rt.alloc(), &RUNS)
 }
 
-// As many jobs as a run may have, each of one attempt of a millisecond.
+// The greatest number of jobs of a run, each with one attempt of 1 ms.
 #[test]
 fn ten_thousand_jobs_in_batches_of_one_of_seven_and_of_all(rt: HostRuntime) -> Result<(), Fail> {
     let beats = [good(1, 0)];
@@ -351,7 +352,7 @@ fn a_fault_says_what_was_missing(rt: HostRuntime) -> Result<(), Fail> {
     Ok(())
 }
 
-// Jobs of one attempt of 5 ms. Two threads meet at both of its moments, however many jobs are due there.
+// Jobs with one attempt of 5 ms. Two threads meet at both of its moments.
 #[test]
 fn two_threads_meet_in_a_run_of_ten_thousand_jobs(rt: HostRuntime) -> Result<(), Fail> {
     let job = Given {
@@ -371,7 +372,7 @@ fn two_threads_meet_in_a_run_of_ten_thousand_jobs(rt: HostRuntime) -> Result<(),
     Ok(())
 }
 
-// This number of jobs of one attempt of 5 ms, each with a schedule of 2^(doublings + 1) - 1 nodes.
+// Makes jobs with one attempt of 5 ms, each with a schedule of 2^(doublings + 1) - 1 nodes.
 fn heavy(alloc: Global, count: u64, doublings: u64) -> Result<Vec<Job>, Fail> {
     let mut schedule = String::from_str(alloc, "recurs(0)")?;
     for _ in 0..doublings {
@@ -388,7 +389,8 @@ fn heavy(alloc: Global, count: u64, doublings: u64) -> Result<Vec<Job>, Fail> {
     jobs_of(alloc, &given)
 }
 
-// This number of such jobs, whose schedules have one node, need two polls each under the gate and the cut.
+// This number of such jobs, whose schedules have one node, take two polls each with the cut, under
+// the gate.
 fn expect_light<G: Gate, R: Abort + Threads + Wait + Sync>(
     rt: &R,
     alloc: Global,
@@ -414,7 +416,8 @@ fn two_threads_meet_where_two_batches_are_due(rt: HostRuntime) -> Result<(), Fai
     Ok(())
 }
 
-// As many threads poll at once as there are workers, or batches where these are fewer: the calling thread is one of them.
+// The number of threads that poll at once is the number of workers, or of batches if that is less.
+// The calling thread is one of them.
 #[test]
 fn a_moment_has_as_many_threads_as_workers_or_batches(rt: HostRuntime) -> Result<(), Fail> {
     for (cut, jobs, threads) in [
@@ -433,7 +436,8 @@ fn a_moment_has_as_many_threads_as_workers_or_batches(rt: HostRuntime) -> Result
     Ok(())
 }
 
-// One worker, or one batch: the calling thread polls the due jobs of a moment in order, and then those of the next.
+// With one worker, or one batch, the calling thread polls the due jobs of a moment in order, and
+// then those of the next.
 #[test]
 fn one_thread_polls_the_jobs_of_a_moment_in_order(rt: HostRuntime) -> Result<(), Fail> {
     for cut in [(1, 1), (1, 3), (64, 80), (64, 10_000)] {
@@ -489,7 +493,7 @@ fn the_moments_of_a_run_of_jobs_never_fall(rt: HostRuntime) -> Result<(), Fail> 
     Ok(())
 }
 
-// A job of one node between two of 127 comes to the same under each cut.
+// A job of one node between two of 127 has the same result under each cut.
 #[test]
 fn jobs_of_one_node_and_of_127_come_to_the_same(rt: HostRuntime) -> Result<(), Fail> {
     let wanted =
@@ -510,7 +514,8 @@ fn jobs_of_one_node_and_of_127_come_to_the_same(rt: HostRuntime) -> Result<(), F
     Ok(())
 }
 
-// Two hundred jobs whose schedules have 511 nodes come to the same on one thread and on several.
+// Two hundred jobs whose schedules have 511 nodes have the same result on one thread and on
+// several.
 #[test]
 fn jobs_of_511_nodes_come_to_the_same_under_each_cut(rt: HostRuntime) -> Result<(), Fail> {
     let mut wanted = String::new(rt.alloc());

@@ -20,7 +20,7 @@ mod rounds;
 mod shelf;
 mod tally;
 
-// A retry that fails after 5 ms, and succeeds 5 ms later.
+// Makes a retry that fails after 5 ms, and succeeds 5 ms later.
 fn new_task(alloc: Global, number: u64) -> Result<Task, Fail>
     ensures new { IfOk result (λ task. (task.number ≡ number) × (task.moments ≡ []) × (task.seen ≡ 0) × (task.broken ≡ false) × (task.job.start ≡ 0)) }
 {
@@ -28,7 +28,7 @@ fn new_task(alloc: Global, number: u64) -> Result<Task, Fail>
     Ok(Task::new(alloc, number, job)?)
 }
 
-// Such tasks, with the numbers from 0 on, to be polled at this moment.
+// Makes such tasks, with the numbers from 0 on, to be polled at this moment.
 fn new_tasks(alloc: Global, count: u64, now: u64) -> Result<Vec<Task>, Fail>
     requires now { now ≤ max_tick }
     ensures count { IfOk result (λ tasks. length tasks.items ≡ count) }

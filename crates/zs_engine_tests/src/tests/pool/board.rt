@@ -9,7 +9,7 @@ use std::sync::Wait;
 use std::thread;
 use std::thread::Threads;
 
-// Batches of so many tasks each.
+// Makes numbered batches of new tasks, `each` tasks in every batch.
 fn batches_of(alloc: Global, count: u64, each: u64) -> Result<Vec<Batch>, Fail>
     ensures numbered { IfOk result (λ batches. AreNumbered batches.items) }
 {
@@ -21,7 +21,7 @@ fn batches_of(alloc: Global, count: u64, each: u64) -> Result<Vec<Batch>, Fail>
     Ok(batches)
 }
 
-// A claim, of which the callers need to know no more than this.
+// Claims a batch. Callers know only the pass and its share afterwards.
 fn claim<R: Wait>(rt: &R, board: &Board, pass: &mut BoardPass) -> Option<Batch>
     requires board { pass.old.board ≡ board.now }
     ensures board { pass.new.board ≡ board.now }
@@ -33,7 +33,7 @@ fn claim<R: Wait>(rt: &R, board: &Board, pass: &mut BoardPass) -> Option<Batch>
     }
 }
 
-// A claim gives the batch of this number, or none.
+// A claim returns the batch of this number, or none.
 fn expect_claim<R: Wait + Abort>(rt: &R, board: &Board, pass: &mut BoardPass, wanted: Option<u64>)
     requires board { pass.old.board ≡ board.now }
     ensures board { pass.new.board ≡ board.now }
@@ -46,7 +46,7 @@ fn expect_claim<R: Wait + Abort>(rt: &R, board: &Board, pass: &mut BoardPass, wa
     assert_eq!(rt; found, wanted);
 }
 
-// So many batches are left on the board.
+// This number of batches remains on the board.
 fn expect_left<R: Wait + Abort>(
     rt: &R,
     alloc: Global,
@@ -62,7 +62,7 @@ fn expect_left<R: Wait + Abort>(
     Ok(())
 }
 
-// Claims until nothing is left, at most ten times, and tells the numbers.
+// Claims batches until none remains, at most ten times, and returns their numbers.
 fn claim_all<R: Wait>(
     rt: &R,
     alloc: Global,
@@ -106,7 +106,7 @@ fn batches_are_claimed_one_after_another_and_then_none_for_good(
     expect_left(&rt, alloc, board, pass, 0)
 }
 
-// Neither pass of a split gets a batch, nor does the one that both are joined to.
+// After a split, neither pass gets a batch, nor does the pass that both are joined to.
 fn expect_none_after_a_split<R: Wait + Abort>(
     rt: &R,
     alloc: Global,
@@ -164,7 +164,7 @@ fn what_is_left_on_a_board_comes_back_in_order(rt: HostRuntime) -> Result<(), Fa
     Ok(())
 }
 
-// What two threads claim, each until nothing is left for it.
+// Claims batches by two threads until none remains, and returns what each got.
 fn claim_by_two<R: Threads + Wait + Sync>(
     rt: &R,
     alloc: Global,
@@ -193,7 +193,7 @@ fn claim_by_two<R: Threads + Wait + Sync>(
     (board.join(rt, first, second), a, b)
 }
 
-// Both lists rise, and have each of these numbers once between them.
+// Both lists rise, and together they have each of these numbers once.
 fn expect_shared(rt: &impl Abort, mut a: Vec<u64>, b: Vec<u64>, all: &[u64]) -> Result<(), Fail> {
     assert!(rt; a.is_sorted() && b.is_sorted());
     for number in b {

@@ -6,7 +6,8 @@ use super::*;
 use std::process::Abort;
 use zs_gates::InTurn;
 
-// What came of a batch of new tasks: the message, the polls that were counted, and how many more may be.
+// The result of polling a batch of new tasks: the message, the polls that were counted, and the
+// number that may still be.
 #[derive(Drop)]
 struct Came {
     message: Polled,
@@ -14,7 +15,7 @@ struct Came {
     left: u64,
 }
 
-// A batch with this number of so many new tasks is polled, with a new tally.
+// Polls a batch of new tasks with this number, on a new tally.
 fn poll_new<G: Gate, R>(
     rt: &R,
     alloc: Global,
@@ -59,7 +60,7 @@ fn a_batch_is_polled_in_order_and_each_poll_counted(rt: HostRuntime) -> Result<(
     Ok(())
 }
 
-// Where a poll finds no memory its task alone is broken, and the message says so.
+// If a poll runs out of memory, only its task is broken, and the message says so.
 #[test]
 fn a_message_is_broken_where_one_of_its_tasks_is(rt: HostRuntime) -> Result<(), Fail> {
     let came = poll_new(&rt, rt.alloc(), &OpenGate, 0, 0, 2)?;

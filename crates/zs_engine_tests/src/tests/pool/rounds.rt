@@ -9,7 +9,7 @@ use std::sync::Wait;
 use std::thread::Threads;
 use zs_gates::{Chained, Held, InTurn, LastFirst, Meeting, Slow};
 
-// A round over as many new tasks, with a new tally: the tasks, and what was counted.
+// Polls new tasks in a round, on a new tally: returns the tasks and what was counted.
 fn one_round<G: Gate, R: Threads + Wait + Sync>(
     rt: &R,
     alloc: Global,
@@ -28,7 +28,7 @@ fn one_round<G: Gate, R: Threads + Wait + Sync>(
     Ok((polled, tally.close(seat)))
 }
 
-// The tasks of a round at moment 0 have come back in order, each polled once.
+// The tasks of a round at moment 0 are back in order, each polled once.
 fn expect_polled<R: Abort>(rt: &R, tasks: &[Task], count: usize) {
     assert_eq!(rt; tasks.len(), count);
     for (place, task) in tasks.iter().enumerate() {
@@ -41,7 +41,7 @@ fn within<R: Abort>(rt: &R, workers: u64, grain: u64) -> Cut {
     Cut::new(workers, grain).expect(rt, "within the limits")
 }
 
-// In a round at moment 0 under the gate as many new tasks are polled once each, and so many polls are counted.
+// A round of new tasks at moment 0, under the gate, polls and counts each task once.
 fn expect_round<G: Gate, R: Abort + Threads + Wait + Sync>(
     rt: &R,
     alloc: Global,
@@ -95,7 +95,8 @@ fn two_threads_meet_at_the_gate(rt: HostRuntime) -> Result<(), Fail> {
     Ok(())
 }
 
-// A hundred rounds in a row over two new tasks each, in which two threads meet. Gives back the seat that counted.
+// Polls two new tasks in each of a hundred rounds, in which two threads meet. Returns the seat that
+// counted.
 fn hundred_rounds<R: Threads + Wait + Sync + Abort>(
     rt: &R,
     alloc: Global,
@@ -126,7 +127,8 @@ fn two_threads_meet_in_each_of_a_hundred_rounds(rt: HostRuntime) -> Result<(), F
     Ok(())
 }
 
-// While one thread is held, the other claims the two batches that are left, and is told of its first poll at the second.
+// While one thread is held, the other claims the two remaining batches, and at the second its first
+// poll is counted.
 #[test]
 fn batches_are_claimed_and_not_dealt_out(rt: HostRuntime) -> Result<(), Fail> {
     let cut = within(&rt, 2, 1);
@@ -147,7 +149,7 @@ fn the_last_job_may_be_polled_first(rt: HostRuntime) -> Result<(), Fail> {
     Ok(())
 }
 
-// The held thread is still at the gate when the other has long been done.
+// The held thread is still at the gate long after the other is done.
 #[test]
 fn a_slow_job_changes_nothing(rt: HostRuntime) -> Result<(), Fail> {
     expect_round(&rt, rt.alloc(), within(&rt, 2, 1), &Slow { job: 1 }, 3)

@@ -6,7 +6,7 @@ use std::sync::Wait;
 use std::thread;
 use zs_gates::TURNS;
 
-// Puts a polled batch with this number, or tells what was handed back.
+// Puts a polled batch with this number, or returns the number of the one that came back.
 fn put<R: Wait>(
     rt: &R,
     alloc: Global,
@@ -29,7 +29,7 @@ fn put<R: Wait>(
     }
 }
 
-// The number of the polled batch that is taken.
+// Takes a polled batch, and returns its number.
 fn take<R: Wait>(rt: &R, shelf: &Shelf, pass: &mut ShelfPass) -> Option<u64>
     requires shelf { pass.old.shelf ≡ shelf.now }
     ensures shelf { pass.new.shelf ≡ shelf.now }
@@ -76,7 +76,7 @@ fn what_two_passes_put_is_taken_in_order_after_their_join(rt: HostRuntime) -> Re
     Ok(())
 }
 
-// Puts a polled batch as soon as there is room for it, and tells whether it came to that.
+// Puts a polled batch as soon as there is room for it, and returns whether that happened.
 fn put_at_last<R: Wait>(
     rt: &R,
     alloc: Global,
@@ -132,7 +132,7 @@ fn put_all<R: Wait>(
     pass
 }
 
-// Takes polled batches as long as they come by their numbers from 0 on, and tells how many did.
+// Takes polled batches while they come in the order of their numbers, and returns how many did.
 fn take_all<R: Wait>(rt: &R, shelf: &Shelf, mut pass: ShelfPass, count: u64) -> (ShelfPass, u64)
     requires shelf { pass.shelf ≡ shelf.now }
     ensures shelf { result.0.shelf ≡ shelf.now }
@@ -174,7 +174,7 @@ fn one_thread_takes_in_order_what_another_puts(rt: HostRuntime) -> Result<(), Fa
     Ok(())
 }
 
-// Puts polled batches with the numbers below `count`, and tells the first for which there was no room.
+// Puts polled batches with the numbers below `count`, and returns the first number without room.
 fn put_until_full<R: Wait>(
     rt: &R,
     alloc: Global,
@@ -192,7 +192,7 @@ fn put_until_full<R: Wait>(
     None
 }
 
-// How many polled batches a shelf of this capacity takes.
+// Returns the number of polled batches that a shelf of this capacity takes.
 fn room_of<R: Wait>(rt: &R, alloc: Global, capacity: u64) -> Result<Option<u64>, Fail>
     requires capacity { (1 ≤ capacity) × (capacity ≤ 10000) }
 {

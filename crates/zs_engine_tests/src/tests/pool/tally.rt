@@ -5,7 +5,7 @@ use super::*;
 use std::process::Abort;
 use std::thread;
 
-// Counts n times, and tells what was seen last.
+// Counts n times, and returns what was seen last.
 fn count_to(tally: &Tally, mut seat: TallySeat, n: u64) -> (TallySeat, u64)
     requires tally { seat.tally ≡ tally.now }
     requires left { n ≤ seat.allowance }
@@ -41,7 +41,7 @@ fn a_seat_sees_what_another_counted(rt: HostRuntime) -> Result<(), Fail> {
     Ok(())
 }
 
-// Counts where the allowance lets it. So many counts were left before.
+// Counts if the allowance isn't used up. It was `left` before.
 fn expect_count(rt: &impl Abort, tally: &Tally, seat: &mut TallySeat, left: u64)
     requires tally { seat.old.tally ≡ tally.now }
     ensures tally { seat.new.tally ≡ tally.now }
@@ -65,7 +65,7 @@ fn a_seat_whose_allowance_is_used_up_may_not_count(rt: HostRuntime) -> Result<()
     Ok(())
 }
 
-// The other seat, with what it may still count, is given up.
+// The other seat is dropped with its remaining allowance.
 #[test]
 fn a_tally_closed_by_one_of_two_seats_has_the_counts_of_both(rt: HostRuntime) -> Result<(), Fail> {
     let (tally, seat) = Tally::new(rt.alloc())?;

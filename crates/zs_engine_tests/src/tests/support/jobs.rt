@@ -1,4 +1,4 @@
-//! Jobs, from text.
+//! Jobs, made from text.
 ghost use Rattle.std.specs.Prelude.{◌≡◌, IfOk};
 
 use std::alloc::Global;
@@ -7,7 +7,7 @@ use zs_drive::{Job, Mode};
 use zs_effect::{Beat, Outcome, Script};
 use zs_term::read;
 
-/// An attempt that succeeds.
+/// Makes an attempt that succeeds.
 pub fn good(ms: u64, value: u64) -> Beat {
     Beat {
         ms,
@@ -25,7 +25,7 @@ pub struct Given<'a> {
     pub beats: &'a [Beat],
 }
 
-/// That job.
+/// Makes that job.
 pub fn job_of(alloc: Global, given: Given<'_>) -> Result<Job, Fail>
     ensures start { IfOk result (λ job. job.start ≡ given.entry.start) }
 {
@@ -41,7 +41,7 @@ pub fn job_of(alloc: Global, given: Given<'_>) -> Result<Job, Fail>
     })
 }
 
-/// Such jobs.
+/// Makes such jobs.
 pub fn jobs_of(alloc: Global, given: &[Given<'_>]) -> Result<Vec<Job>, Fail> {
     let mut jobs = Vec::new(alloc);
     for given in given {
@@ -62,7 +62,7 @@ pub const TWICE: [Beat; 2] = [
     },
 ];
 
-/// A retry that fails after 5 ms, and succeeds 5 ms later.
+/// Describes a retry that fails after 5 ms, and succeeds 5 ms later.
 pub fn retried(name: &str, start: u64) -> Given<'_>
     ensures start { result.start ≡ start }
 {
@@ -78,7 +78,7 @@ pub fn retried(name: &str, start: u64) -> Given<'_>
 /// A job of a table: its name, mode, schedule, start and entries.
 pub type Listed<'a> = (&'a str, Mode, &'a str, u64, &'a [Beat]);
 
-/// Such jobs.
+/// Makes such jobs.
 pub fn listed_jobs(alloc: Global, rows: &[Listed<'_>]) -> Result<Vec<Job>, Fail> {
     let mut jobs = Vec::new(alloc);
     for (name, mode, schedule, start, beats) in rows {
