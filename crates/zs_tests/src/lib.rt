@@ -1,5 +1,5 @@
-//! Tests that cross the crates: plans that are read or refused, reports, and whole runs under gates that hold threads and
-//! over readers and writers that fail.
+//! Tests that cross the crates: plans that are read or rejected, reports, and whole runs under
+//! gates that hold threads and over readers and writers that fail.
 #![tactic(auto)]
 
 #[cfg(test)]

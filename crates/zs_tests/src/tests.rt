@@ -1,4 +1,4 @@
-//! Plans that are read or refused, reports, whole runs, and what faults say.
+//! Plans that are read or rejected, reports, whole runs, and the texts of faults.
 
 mod faults;
 mod marks;

@@ -1,4 +1,4 @@
-//! What each fault says, and the exit status for it.
+//! The text of each fault, and its exit status.
 use super::support::expect_text;
 use std::alloc::{Alloc, Global};
 use std::process::Abort;

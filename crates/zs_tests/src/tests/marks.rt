@@ -1,11 +1,11 @@
-//! What a `Marked` answers of the reader or writer inside, and when its mark is set.
+//! What a `Marked` returns from the reader or writer inside, and when its mark is set.
 ghost use Rattle.std.specs.Prelude.{◌<◌};
 
 use super::support::streams::{Answers, KINDS};
 use std::process::Abort;
 use zs_run::{Drain, Failed, Marked, Source};
 
-// A pull answers so many bytes of `plan`, in pieces of three, and no mark is set.
+// A pull returns the next bytes of `plan`, up to three, and sets no mark.
 fn expect_pull(rt: &impl Abort, reader: &mut Marked<&[u8]>, wanted: &str) {
     let mut buf = [0u8; 3];
     let pulled = reader.pull(&mut buf);
@@ -23,7 +23,7 @@ fn bytes_are_pulled_to_the_end_with_no_mark(rt: HostRuntime) {
     expect_pull(&rt, &mut reader, "");
 }
 
-// A give answers this, and the mark is then set or not.
+// `give` returns this, and the mark is then set or not.
 fn expect_give(
     rt: &impl Abort,
     writer: &mut Marked<Answers>,

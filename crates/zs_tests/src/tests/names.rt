@@ -6,7 +6,7 @@ use zs_run::PlanFault;
 
 const REST: &str = r#""mode":"retry","schedule":"recurs(0)","script":[{"ms":1,"ok":0}]}"#;
 
-// Adds a job with this name, as JSON spells it, and what comes behind it.
+// Appends a job with this name, as JSON spells it, and what follows it.
 fn push_job(text: &mut String, name: &str, end: &str) -> Result<(), AllocError> {
     for piece in ["{\"name\":\"", name, "\",", REST, end] {
         text.push_str(piece)?;
@@ -14,7 +14,7 @@ fn push_job(text: &mut String, name: &str, end: &str) -> Result<(), AllocError> 
     Ok(())
 }
 
-// A plan of jobs with these names, and of one more.
+// Makes a plan of jobs with these names, and of one more.
 fn plan_of_names(alloc: Global, names: &[&str], last: &str) -> Result<String, AllocError> {
     let mut text = String::from_str(alloc, r#"{"horizon":1,"jobs":["#)?;
     for name in names {
@@ -24,7 +24,8 @@ fn plan_of_names(alloc: Global, names: &[&str], last: &str) -> Result<String, Al
     Ok(text)
 }
 
-// A name of the row, other names, names of a job after those, and the fault of each such plan.
+// The row's name, the names of earlier jobs, names for a job after those, and the fault of each
+// such plan.
 type Row<'a> = (&'a str, &'a [&'a str], &'a [&'a str], Option<PlanFault>);
 
 const LONGEST: &str = "abcdefghijklmnopqrstuvwxyz-0123456789-ABCDEFGHIJKLMNOPQRSTUVWXYZ";
@@ -67,7 +68,7 @@ static NAMES: [Row<'static>; 6] = [
     ),
 ];
 
-// A plan in which each of a row's names comes after its other names has the fault of the row.
+// A plan in which one of the row's names follows the earlier ones has the row's fault.
 fn expect_last<R: Abort + Alloc<A = Global>>(rt: &R, row: &Row<'_>) {
     let (of, others, names, fault) = row;
     assert!(rt; !names.is_empty(), "{of}: no names");
@@ -92,7 +93,7 @@ fn each_name_is_read_or_fails_as_listed(rt: HostRuntime) {
     expect_rows(&rt, &NAMES);
 }
 
-// A plan of jobs with the numbers below one as their names, and one more job.
+// Makes a plan of jobs named by the numbers below `count`, and one more job.
 fn numbered_plan(alloc: Global, count: u64, name: &str) -> Result<String, AllocError> {
     let mut text = String::from_str(alloc, r#"{"horizon":1,"jobs":["#)?;
     for number in 0..count {
@@ -107,7 +108,7 @@ fn push_numbered_job(text: &mut String, alloc: Global, number: u64) -> Result<()
     push_job(text, &name, ",")
 }
 
-// A name after those of 9,999 jobs has this fault.
+// A plan with this name after those of 9,999 jobs has this fault.
 fn expect_among_thousands<R: Abort + Alloc<A = Global>>(
     rt: &R,
     name: &str,

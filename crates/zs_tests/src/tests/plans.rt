@@ -1,4 +1,4 @@
-//! What a plan that is read stands for.
+//! What a plan represents once it is read.
 use super::support::expect_text;
 use super::support::plans::PLAN;
 use std::alloc::{Alloc, Global};
@@ -8,7 +8,7 @@ use std::test::Fail;
 use zs_drive::Job;
 use zs_run::{Plan, read_plan};
 
-// Adds a job: its name, mode, schedule and start, and the first three entries of its script.
+// Appends a job: its name, mode, schedule and start, and the first three entries of its script.
 fn push_job(text: &mut String, alloc: Global, job: &Job) -> Result<(), Fail> {
     let (name, mode, start) = (job.name.as_str(), job.mode, job.start);
     let schedule = zs_term::write(alloc, &job.schedule)?;
@@ -20,7 +20,7 @@ fn push_job(text: &mut String, alloc: Global, job: &Job) -> Result<(), Fail> {
     Ok(text.push('\n')?)
 }
 
-// Adds a plan: its horizon, the ticks at or after 1, 9 and 999, its cut and its jobs.
+// Appends a plan: its horizon, the ticks at or after 1, 9 and 999, its cut and its jobs.
 fn push_plan(text: &mut String, alloc: Global, plan: &Plan) -> Result<(), Fail> {
     let (one, nine, last) = (plan.clock.tick(1), plan.clock.tick(9), plan.clock.tick(999));
     let horizon = plan.clock.horizon();
@@ -70,7 +70,7 @@ B Retry elapsed from 0: 1 Good(0) 1 Good(0) 1 Good(0)
     ),
 ];
 
-// The plan that is read from a text.
+// Reads a plan from a text.
 fn plan_read(alloc: Global, bytes: &str) -> Result<String, Fail> {
     let mut text = String::new(alloc);
     let plan = read_plan(alloc, bytes.as_bytes())?;

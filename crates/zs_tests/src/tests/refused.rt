@@ -1,4 +1,5 @@
-//! Bytes that are no plan. Each fault stands with the one that comes after it in the order, and is told first.
+//! Bytes that are no plan. Each text has a fault and the next one in the order, and the first is
+//! reported.
 use super::support::plans::fault_of;
 use std::alloc::{AllocError, Global};
 use std::process::Abort;
@@ -14,7 +15,7 @@ fn expect_fault(rt: &impl Abort, alloc: Global, text: &str, fault: PlanFault) {
     assert!(rt; found == Some(fault), "{text}: {found:?}");
 }
 
-// A name, what is before and after each text, and texts with the fault of the whole.
+// A name, the text before and after each row, and texts with the fault of the whole.
 type Group<'a> = (&'a str, &'a str, &'a str, &'a [(&'a str, PlanFault)]);
 
 static FAULTS: [Group<'static>; 7] = [
@@ -23,7 +24,7 @@ static FAULTS: [Group<'static>; 7] = [
         "",
         "",
         &[
-            // Neither JSON nor an object with all that has to be there.
+            // Neither JSON nor an object with every required key.
             (r#""#, PlanFault::Json),
             (r#"{"jobs":[]"#, PlanFault::Json),
             (r#"{"jobs":[]}}"#, PlanFault::Json),
@@ -149,7 +150,7 @@ static FAULTS: [Group<'static>; 7] = [
                 r#"{"mode":"retry","schedule":"forever","script":[],"x":1}"#,
                 PlanFault::Shape { job: Some(0) },
             ),
-            // A key is unknown, and the mode is none.
+            // A key is unknown, and the mode is invalid.
             (
                 r#"{"name":"a","mode":"loop","schedule":"forever","script":[],"x":1}"#,
                 PlanFault::UnknownKey { job: Some(0) },
@@ -158,17 +159,17 @@ static FAULTS: [Group<'static>; 7] = [
                 r#"{"name":"a","mode":"loop","schedule":"forever","script":[{"ms":1,"ok":1,"x":1}]}"#,
                 PlanFault::UnknownKey { job: Some(0) },
             ),
-            // The mode is none, and the name is none.
+            // The mode is invalid, and so is the name.
             (
                 r#"{"name":"","mode":"loop","schedule":"forever","script":[]}"#,
                 PlanFault::Range { job: Some(0) },
             ),
-            // The name is none, and the schedule is none.
+            // The name is invalid, and so is the schedule.
             (
                 r#"{"name":"","mode":"retry","schedule":"recurs(1).map(_1)","script":[]}"#,
                 PlanFault::Name { job: 0 },
             ),
-            // The schedule is none, and the script is none.
+            // The schedule is invalid, and so is the script.
             (
                 r#"{"name":"a","mode":"retry","schedule":"recurs(1).map(_1)","script":[]}"#,
                 PlanFault::Schedule {
@@ -176,7 +177,7 @@ static FAULTS: [Group<'static>; 7] = [
                     fault: TermFault::NoKind,
                 },
             ),
-            // The script is none, and the next job has another shape.
+            // The script is invalid, and the next job has another shape.
             (
                 r#"{"name":"a","mode":"retry","schedule":"forever","script":[]},1"#,
                 PlanFault::Script {
@@ -192,12 +193,12 @@ static FAULTS: [Group<'static>; 7] = [
         "]}",
         &[
             (r#"{"name":"b"}"#, PlanFault::Shape { job: Some(1) }),
-            // A mode is none, and an earlier job has the name.
+            // A mode is invalid, and an earlier job has the name.
             (
                 r#"{"name":"a","mode":"Retry","schedule":"forever","script":[]}"#,
                 PlanFault::Range { job: Some(1) },
             ),
-            // An earlier job has the name, and the schedule is none.
+            // An earlier job has the name, and the schedule is invalid.
             (
                 r#"{"name":"a","mode":"retry","schedule":"","script":[]}"#,
                 PlanFault::SameName { job: 1 },
@@ -358,7 +359,7 @@ fn each_text_has_the_fault_that_is_listed(rt: HostRuntime) {
     expect_groups(&rt, rt.alloc(), &FAULTS);
 }
 
-// So many spaces are no plan, for this fault.
+// This number of spaces is no plan, and has this fault.
 fn expect_spaces(
     rt: &impl Abort,
     alloc: Global,
@@ -387,7 +388,7 @@ fn bytes_that_are_no_text_are_not_json(rt: HostRuntime) {
     assert!(rt; matches!(&plan, Err(PlanFault::Json)));
 }
 
-// A list of so many jobs, each of which is 0.
+// Makes a list of jobs, each of which is 0.
 fn plan_of_zeros(alloc: Global, count: usize) -> Result<String, AllocError> {
     let zeros = ",0".repeat(alloc, count.saturating_sub(1))?;
     format!(in alloc; "{{\"horizon\":1,\"jobs\":[0{zeros}]}}")
@@ -403,7 +404,7 @@ fn a_plan_has_ten_thousand_jobs_at_most(rt: HostRuntime) {
     expect_fault(&rt, rt.alloc(), &more, range);
 }
 
-// A plan of one job with so many entries of no duration.
+// Makes a plan of one job with this number of entries, each of 0 ms.
 fn plan_of_entries(alloc: Global, count: usize) -> Result<String, AllocError> {
     let more = r#",{"ms":0,"ok":1}"#.repeat(alloc, count.saturating_sub(1))?;
     let first = r#"{"ms":0,"ok":1}"#;

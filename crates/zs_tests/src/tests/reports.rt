@@ -10,7 +10,7 @@ use zs_engine::run_jobs;
 use zs_pool::OpenGate;
 use zs_run::{Plan, read_plan, report};
 
-// The report of the jobs of a plan, once they have run up to its horizon.
+// Runs the jobs of a plan up to its horizon, and reports them.
 fn reported<R: Threads + Wait + Sync>(rt: &R, alloc: Global, plan: &str) -> Result<String, Fail> {
     let Plan { clock, cut, jobs } = read_plan(alloc, plan.as_bytes())?;
     let answer = run_jobs(rt, alloc, cut, &OpenGate, clock, jobs)?;

@@ -1,4 +1,4 @@
-//! Whole runs over readers and writers that are none of `std`'s.
+//! Whole runs over readers and writers that aren't of `std`.
 use super::support::streams::{Halting, Limited};
 use std::alloc::Global;
 use std::process::Abort;
@@ -8,7 +8,8 @@ use std::thread::Threads;
 use zs_pool::OpenGate;
 use zs_run::{PlanFault, RunFault, run};
 
-// Jobs that fail, run at the horizon, finish with a list, never begin, are ended by a failure, succeed, and finish with a side.
+// Jobs that fail, are running at the horizon, finish with a list, never begin, are ended by a
+// failure, succeed, and finish with a side.
 const JOBS: &str = r#""jobs":[
 {"name":"gives-up","mode":"retry","schedule":"(exponential(10) && recurs(2))","script":[{"ms":1,"err":1}]},
 {"name":"runs","mode":"retry","schedule":"recurs(3)","start":95,"script":[{"ms":5,"err":7},{"ms":5,"ok":1}]},
@@ -65,13 +66,14 @@ end finished Right(1) at 4 polls 5
 polls 23
 ";
 
-// A plan of those jobs.
+// Makes a plan of those jobs.
 fn plan_of(alloc: Global, workers: u64, grain: u64) -> Result<String, Fail> {
     Ok(format!(in alloc; "{{\"horizon\":100,\"workers\":{workers},\"grain\":{grain},{JOBS}")?)
 }
 
-// A run ends with this fault or none, and says so by the marks alone: a reader's mark for a failed read, a writer's for a
-// failed write, and a flush where it succeeded. What was taken is the front of the report, of this length.
+// A run ends with this fault or none. The marks agree: a reader's mark for a failed read, a
+// writer's for a failed write, and a flush on success. The writer has the front of the report, of
+// this length.
 fn expect_run<R: Abort + Threads + Wait + Sync>(
     rt: &R,
     alloc: Global,

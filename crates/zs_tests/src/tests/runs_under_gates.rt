@@ -1,5 +1,6 @@
-//! Runs on several workers, under gates that hold a thread until others have come: a run on fewer threads, or one that
-//! holds a lock over both the gate and the poll, gives up waiting and is told by a flag.
+//! Runs on several workers, under gates that hold a thread until others have come. A run on fewer
+//! threads, or one that holds a lock over both the gate and the poll, stops waiting, and a flag
+//! shows it.
 use super::support::plans::{PLAN, plan_of, report_of, written};
 use std::alloc::Global;
 use std::process::Abort;
@@ -9,7 +10,8 @@ use std::thread::Threads;
 use zs_gates::{Apart, Crowd, Held, InTurn, Meeting, Record, Rounds, Slow};
 use zs_pool::Gate;
 
-// A run of jobs with these names under the gate writes their report, with three polls a job.
+// A run of jobs with these names, under the gate, writes their report, with three polls for each
+// job.
 fn expect_report<G: Gate, R: Abort + Threads + Wait + Sync>(
     rt: &R,
     alloc: Global,
@@ -20,7 +22,7 @@ fn expect_report<G: Gate, R: Abort + Threads + Wait + Sync>(
     expect_report_of(rt, alloc, gate, names, workers, 1)
 }
 
-// The same, with so many jobs in a batch.
+// The same, with this number of jobs in a batch.
 fn expect_report_of<G: Gate, R: Abort + Threads + Wait + Sync>(
     rt: &R,
     alloc: Global,
@@ -70,11 +72,11 @@ fn a_slow_job_changes_nothing(rt: HostRuntime) -> Result<(), Fail> {
     Ok(())
 }
 
-// As many names as the most workers.
+// One name for each of the most workers that a plan may have.
 const NAMES: &str = "abcdefghijklmnopqrstuvwxyzABCDEFGHIJKLMNOPQRSTUVWXYZ0123456789-_";
 
-// While the first job of a batch is held, the other thread takes all batches but this one: those of three of ten jobs, and of
-// twenty of 64.
+// While the first job of a batch is held, the other thread takes all batches but this one: those of
+// three of ten jobs, and of twenty of 64.
 #[test]
 fn a_thread_takes_the_plans_grain_of_jobs(rt: HostRuntime) -> Result<(), Fail> {
     for (job, others) in [(0u64, 0x3f9u64), (3, 0x3cf), (6, 0x27f), (9, 0x3ff)] {
@@ -122,7 +124,8 @@ fn the_moments_of_a_plans_run_never_fall(rt: HostRuntime) -> Result<(), Fail> {
     Ok(())
 }
 
-// As many threads poll at once as there are batches, where these are fewer than the workers.
+// The number of threads that poll at once is the number of batches, if that is less than the
+// workers.
 #[test]
 fn no_more_threads_poll_than_there_are_batches(rt: HostRuntime) -> Result<(), Fail> {
     for (grain, batches) in [(64u64, 1u64), (63, 2), (20, 4), (9, 8)] {

@@ -1,4 +1,4 @@
-//! Readers and writers of `std`'s that fail, give little, or never end.
+//! Readers and writers of `std` that fail, transfer few bytes at a time, or never end.
 use super::support::plans::{PLAN, REPORT};
 use super::support::streams::{Counted, Halting, KINDS, Limited, Spaces, Stumbling};
 use std::alloc::{Alloc, Global};
@@ -10,7 +10,7 @@ use std::thread::Threads;
 use zs_pool::OpenGate;
 use zs_run::{Drain, Marked, PlanFault, RunFault, Source, run};
 
-// A run on what the reader gives ends with this fault, having written nothing. The reader is given back.
+// A run on what the reader gives ends with this fault, and writes nothing. Returns the reader.
 fn expect_refusal<S: Read + Drop, R: Abort + Threads + Wait + Sync>(
     rt: &R,
     alloc: Global,
@@ -45,7 +45,7 @@ fn an_interrupted_read_is_a_failed_read(rt: HostRuntime) {
     expect_refusal(&rt, rt.alloc(), reader, RunFault::Read, 60);
 }
 
-// After so many good reads one fails by an error of this kind, and no other follows.
+// After this number of good reads one fails with an error of this kind, and no other follows.
 fn expect_last_read<R: Abort + Threads + Wait + Sync>(
     rt: &R,
     alloc: Global,
@@ -85,7 +85,8 @@ fn reading_stops_just_past_the_greatest_length(rt: HostRuntime) {
     assert!(rt; spaces.given == 16_777_217);
 }
 
-// A run that reads and writes in pieces of these sizes ends so, having written the front of the report, of this length.
+// A run that reads and writes in pieces of these sizes ends like this, and has written the front of
+// the report, of this length.
 fn expect_written<R: Abort + Threads + Wait + Sync>(
     rt: &R,
     alloc: Global,
@@ -120,7 +121,8 @@ fn a_flush_fails(rt: HostRuntime) {
     expect_written(&rt, rt.alloc(), 1000, &mut writer, wanted, 112);
 }
 
-// After so many good calls one fails by an error of this kind, so many bytes have gone out, and no other call follows.
+// After this number of good calls one fails with an error of this kind. Then this number of bytes
+// was written, and no other call follows.
 fn expect_last_write<R: Abort + Threads + Wait + Sync>(
     rt: &R,
     alloc: Global,
@@ -161,7 +163,8 @@ fn bytes_come_and_go_in_small_pieces(rt: HostRuntime) {
     expect_written(&rt, rt.alloc(), 1, &mut writer, Ok(()), 112);
 }
 
-// A run over a writer that takes 50 bytes a call, and nothing at one call, ends so after so many reads and other calls.
+// A run over a writer that takes 50 bytes a call, and nothing at one call, ends like this, after
+// these numbers of reads and of other calls.
 fn expect_calls<R: Abort + Threads + Wait + Sync>(
     rt: &R,
     alloc: Global,

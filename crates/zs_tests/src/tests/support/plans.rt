@@ -20,7 +20,7 @@ const JOB: &str =
 const BLOCK: &str =
     " retry\nattempt 1 0..5 err 7\nstep 1 out 0 next 5\nattempt 2 5..10 ok 1\nend succeeded 1 at 10 polls 3\n";
 
-/// A plan of such jobs with these names, one letter each.
+/// Makes a plan of such jobs with these names, one letter each.
 pub fn plan_of(alloc: Global, names: &str, workers: u64, grain: u64) -> Result<String, AllocError> {
     let mut text = format!(in alloc;
         "{{\"horizon\":1000,\"workers\":{workers},\"grain\":{grain},\"jobs\":["
@@ -38,7 +38,7 @@ pub fn plan_of(alloc: Global, names: &str, workers: u64, grain: u64) -> Result<S
     Ok(text)
 }
 
-/// The report of that plan.
+/// Makes the report of that plan.
 pub fn report_of(alloc: Global, names: &str, polls: u64) -> Result<String, AllocError> {
     let mut text = String::new(alloc);
     for name in names.chars() {
@@ -51,7 +51,7 @@ pub fn report_of(alloc: Global, names: &str, polls: u64) -> Result<String, Alloc
     Ok(text)
 }
 
-/// What a run of the plan writes.
+/// Runs the plan, and returns what is written.
 pub fn written<G: Gate, R: Threads + Wait + Sync>(
     rt: &R,
     alloc: Global,
@@ -65,7 +65,7 @@ pub fn written<G: Gate, R: Threads + Wait + Sync>(
     Ok(written)
 }
 
-/// The fault of a text, where it is no plan.
+/// Reads a text, and returns its fault if it is no plan.
 pub fn fault_of(alloc: Global, text: &str) -> Option<PlanFault> {
     match read_plan(alloc, text.as_bytes()) {
         Ok(_plan) => None,

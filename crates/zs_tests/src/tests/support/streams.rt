@@ -1,4 +1,5 @@
-//! Readers and writers that fail, or give and take a few bytes a call. Each is one of `std`'s and one of `zs_run`'s.
+//! Readers and writers that fail, or transfer a few bytes a call. Each is one of `std` and one of
+//! `zs_run`.
 ghost use Rattle.std.specs.Prelude.{◌≡◌, ◌≤◌, ◌<◌, false, length, IfOk, IfSome, None};
 
 use std::alloc::Global;
@@ -6,7 +7,7 @@ use std::io;
 use std::io::{Read, Write};
 use zs_run::{Drain, Failed, Source};
 
-/// Gives a few bytes a call, and fails once so many were given.
+/// Gives `step` bytes a call, and fails once `left` bytes were given.
 #[derive(Drop)]
 pub struct Halting<'a> {
     pub bytes: &'a [u8],
@@ -18,7 +19,7 @@ pub struct Halting<'a> {
 }
 
 impl Halting<'_> {
-    /// A reader of the text, in pieces of so many bytes, that fails after so many.
+    /// Makes a reader of the text, in pieces of `step` bytes, that fails after `left` bytes.
     pub fn of(text: &str, step: usize, left: usize) -> Halting<'_>
         ensures clear { result.failed ≡ false }
     {
@@ -32,7 +33,7 @@ impl Halting<'_> {
         }
     }
 
-    // Fills the front of the buffer, or nothing where the reader has to fail.
+    // Fills the front of the buffer, or nothing if the reader has to fail.
     fn fill(&mut self, buf: &mut [u8]) -> Option<usize>
         ensures within { IfSome result (λ count. count ≤ length buf.new) }
         ensures mark { self.new.failed ≡ self.old.failed }
@@ -86,7 +87,7 @@ impl Source for Halting<'_> {
     }
 }
 
-/// Takes a few bytes a call and so many in all, and may fail to flush.
+/// Takes `step` bytes a call and `room` bytes in all, and may fail to flush.
 #[derive(Drop)]
 pub struct Limited {
     pub taken: Vec<u8>,
@@ -98,7 +99,7 @@ pub struct Limited {
 }
 
 impl Limited {
-    /// A writer that takes pieces of so many bytes, and so many in all.
+    /// Makes a writer that takes pieces of `step` bytes, and `room` bytes in all.
     pub fn of(alloc: Global, step: usize, room: usize, flushes: bool) -> Limited
         ensures clear { result.failed ≡ false }
     {
@@ -112,7 +113,7 @@ impl Limited {
         }
     }
 
-    // Takes the front of the bytes, or none where there is no room.
+    // Takes the front of the bytes, or nothing if there is no room.
     fn store(&mut self, buf: &[u8]) -> usize
         ensures within { result ≤ length buf.now }
         ensures mark { self.new.failed ≡ self.old.failed }
@@ -174,7 +175,7 @@ impl Drain for Limited {
     }
 }
 
-/// Errors of a reader or a writer, those among them after which others would try again.
+/// Errors of a reader or a writer. After some of them other programs would try again.
 pub const KINDS: [io::ErrorKind; 4] = [
     io::ErrorKind::Interrupted,
     io::ErrorKind::WouldBlock,
@@ -182,21 +183,21 @@ pub const KINDS: [io::ErrorKind; 4] = [
     io::ErrorKind::Other,
 ];
 
-/// A reader or a writer that fails at one call, and at the next goes on as if nothing had been.
+/// A reader or a writer that fails at one call, and at the next continues as before.
 #[derive(Drop)]
 pub struct Stumbling<T> {
     pub inner: T,
-    /// Of which kind its one error is.
+    /// The kind of its one error.
     pub kind: io::ErrorKind,
-    /// How many calls are good before the one that fails.
+    /// The number of good calls before the one that fails.
     pub before: u64,
-    /// How many calls came after it.
+    /// The number of calls after it.
     pub after: u64,
     has_failed: bool,
 }
 
 impl<T> Stumbling<T> {
-    /// The reader or writer fails after so many good calls, by an error of this kind.
+    /// Makes a reader or writer that fails after `before` good calls, with an error of this kind.
     pub fn of(inner: T, kind: io::ErrorKind, before: u64) -> Stumbling<T> {
         Stumbling {
             inner,
@@ -244,7 +245,7 @@ impl<W: Write> Write for Stumbling<W> {
     }
 }
 
-/// Spaces without end, which are counted.
+/// Endless spaces, with the number of bytes that were read.
 #[derive(Drop)]
 pub struct Spaces {
     pub given: u64,
@@ -258,7 +259,7 @@ impl Read for Spaces {
     }
 }
 
-/// Answers what it was told, call after call: a number of bytes, or an error of a kind.
+/// Returns the same at every call: a number of bytes, or an error of a kind.
 #[derive(Clone, Copy, Drop)]
 pub enum Answers {
     Count(usize),
@@ -266,7 +267,7 @@ pub enum Answers {
 }
 
 impl Answers {
-    // The number of bytes, no more than there are.
+    // Returns the number of bytes, at most `most`.
     fn within(self, most: usize) -> io::Result<usize>
         ensures within { IfOk result (λ count. count ≤ most) }
     {
@@ -296,7 +297,8 @@ impl Write for Answers {
     }
 }
 
-/// A reader or a writer that counts its calls. One call of a writer, counted from 0, may take nothing.
+/// A reader or a writer that counts its calls. One call of a writer, counted from 0, may take
+/// nothing.
 #[derive(Drop)]
 pub struct Counted<T> {
     pub inner: T,
@@ -305,7 +307,7 @@ pub struct Counted<T> {
 }
 
 impl<T> Counted<T> {
-    // Counts a call, and tells whether it is the one that takes nothing.
+    // Counts a call, and returns whether it is the one that takes nothing.
     fn is_idle(&mut self) -> bool {
         let call = self.calls;
         self.calls = call.wrapping_add(1);
