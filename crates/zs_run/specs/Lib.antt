@@ -5,6 +5,9 @@ pub mod Shapes
 pub mod Jobs
 pub mod Plan
 pub mod PlanView
+pub mod Head
+pub mod HeadView
+pub mod Names
 pub mod Lawful
 pub mod Report
 pub mod ReportView
@@ -15,6 +18,5 @@ pub mod Marked
 pub mod Headline
 -- What the bodies keep: private contracts alone name these.
 pub mod ShapeViews
-pub mod Names
 pub mod Streams
 pub mod PlanReads

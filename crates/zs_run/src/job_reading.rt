@@ -68,9 +68,9 @@ fn script_of(number: u64, beats: Vec<Beat>) -> Result<Script, PlanFault>
     }
 }
 
-// The job with this number, after those whose names are given.
+/// The job with this number, after those whose names are given.
 #[tactic(auto, unfolding(crate::specs::Jobs::job_of))]
-fn job_of(
+pub(crate) fn job_of(
     alloc: Global,
     number: u64,
     names: &BTreeSet<String>,
@@ -114,8 +114,8 @@ fn take_job(
     job_of(alloc, number, names, &value)
 }
 
-// Adds a job and its name to those before it.
-fn add_job(
+/// Adds a job and its name to those before it. Its one fault is `Memory`.
+pub fn add_job(
     alloc: Global,
     names: &mut BTreeSet<String>,
     jobs: &mut Vec<Job>,

@@ -12,6 +12,8 @@
 #![tactic(auto)]
 
 mod entry;
+mod head;
+mod job_lines;
 mod job_reading;
 mod laws;
 mod marked;
@@ -27,6 +29,9 @@ mod streams;
 mod transfer;
 mod tree;
 
+pub use head::{Head, read_head, read_job};
+pub use job_lines::{JobLines, run_to_text};
+pub use job_reading::add_job;
 pub use laws::{
     accepted_plans_are_lawful, no_default_is_told, reports_join, reports_tell_apart,
     scripts_are_tested, the_cut_changes_nothing,
@@ -39,4 +44,5 @@ pub use reporting::report;
 pub use run_fault::{RunFault, exit_code, status};
 pub use running::run;
 pub use streams::{Drain, Failed, Source};
+pub use transfer::write_all;
 pub use zs_engine::EngineFault;

@@ -16,15 +16,15 @@ use serde_json::Value;
 use std::alloc::Global;
 use zs_pool::{Cut, MAX_TASKS};
 
-// The most bytes of a plan.
-const MAX_BYTES: usize = 16_777_216;
+/// The most bytes of a plan.
+pub(crate) const MAX_BYTES: usize = 16_777_216;
 
 // The most jobs of a plan: as many as a round may poll.
 const MAX_JOBS: usize = MAX_TASKS as usize;
 
-// The document that the bytes are.
+/// The document that the bytes are.
 #[tactic(auto, using(crate::proofs::Trees::tree_of_text, crate::proofs::Trees::tree_of_none))]
-fn read_tree(alloc: Global, bytes: &[u8]) -> Result<Value, PlanFault>
+pub(crate) fn read_tree(alloc: Global, bytes: &[u8]) -> Result<Value, PlanFault>
     ensures value { Gives view result (demand_some (tree_of bytes.now) faults.Json) }
 {
     match Value::from_slice(alloc, bytes) {

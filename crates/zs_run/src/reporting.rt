@@ -133,8 +133,8 @@ fn push_head(text: &mut String, task: &Task) -> Result<(), AllocError>
     writeln!(text, "job {name} {mode}")
 }
 
-// Adds the lines of a job.
-fn push_job(text: &mut String, horizon: u64, task: &Task) -> Result<(), AllocError>
+/// Adds the lines of a job.
+pub(crate) fn push_job(text: &mut String, horizon: u64, task: &Task) -> Result<(), AllocError>
     ensures text { OnOk result (string_bytes text.new ≡ string_bytes text.old ++ job_lines horizon (task_report task.now)) }
 {
     push_head(text, task)?;
@@ -142,8 +142,8 @@ fn push_job(text: &mut String, horizon: u64, task: &Task) -> Result<(), AllocErr
     push_end(text, horizon, task)
 }
 
-// The lines of a job, in the memory of those that its task keeps.
-fn into_job(alloc: Global, horizon: u64, task: Task) -> Result<String, AllocError>
+/// The lines of a job, in the memory of those that its task keeps.
+pub(crate) fn into_job(alloc: Global, horizon: u64, task: Task) -> Result<String, AllocError>
     ensures text { IfOk result (λ text. string_bytes text ≡ job_lines horizon (task_report task)) }
 {
     let mut head = String::new(alloc);
@@ -167,8 +167,8 @@ fn push_jobs(text: &mut String, horizon: u64, tasks: &[Task]) -> Result<(), Allo
     Ok(())
 }
 
-// Adds the last line of a report.
-fn push_total(text: &mut String, polls: u64) -> Result<(), AllocError>
+/// Adds the last line of a report.
+pub(crate) fn push_total(text: &mut String, polls: u64) -> Result<(), AllocError>
     ensures text { OnOk result (string_bytes text.new ≡ with_total (string_bytes text.old) polls) }
 {
     writeln!(text, "polls {polls}")
@@ -181,26 +181,5 @@ pub fn report(alloc: Global, answer: &Answer) -> Result<String, AllocError>
     let mut text = String::new(alloc);
     push_jobs(&mut text, answer.horizon, answer.tasks.as_slice())?;
     push_total(&mut text, answer.polls)?;
-    Ok(text)
-}
-
-/// The same of an answer that is given up, in the memory of the lines that the first task keeps.
-pub fn into_report(alloc: Global, answer: Answer) -> Result<String, AllocError>
-    ensures text { IfOk result (λ text. string_bytes text ≡ report_text answer.horizon (map task_report answer.tasks.items) answer.polls) }
-{
-    let Answer {
-        tasks,
-        polls,
-        horizon,
-    } = answer;
-    let mut text = String::new(alloc);
-    for task in tasks {
-        if text.is_empty() {
-            text = into_job(alloc, horizon, task)?;
-        } else {
-            push_job(&mut text, horizon, &task)?;
-        }
-    }
-    push_total(&mut text, polls)?;
     Ok(text)
 }

@@ -6,17 +6,18 @@ ghost use Rattle.zs_run.specs.PlanReport.{report_of};
 ghost use Rattle.zs_run.specs.Headline.{Ends, max_read};
 ghost use Rattle.zs_run.specs.PlanReads.{Reads};
 
+use crate::job_lines::{JobLines, run_to_text};
 use crate::plan::Plan;
 use crate::plan_fault::PlanFault;
 use crate::reading::read_plan;
-use crate::reporting::into_report;
+use crate::reporting::push_total;
 use crate::run_fault::RunFault;
 use crate::streams::{Drain, Source};
 use crate::transfer::{InputFault, read_up_to, write_all};
 use std::alloc::Global;
 use std::sync::Wait;
 use std::thread::Threads;
-use zs_engine::{EngineFault, run_to_lines};
+use zs_engine::EngineFault;
 use zs_pool::Gate;
 
 // One byte more than a plan may have, which is enough to tell that there are too many.
@@ -51,9 +52,9 @@ fn report_plan<T: Threads + Wait + Sync, G: Gate>(
     requires few { length plan.jobs.items ≤ max_jobs }
     ensures text { IfOk result (λ text. string_bytes text ≡ report_of (plan_record plan)) }
 {
-    let Plan { clock, cut, jobs } = plan;
-    let answer = run_to_lines(rt, alloc, cut, gate, clock, jobs)?;
-    Ok(into_report(alloc, answer)?)
+    let JobLines { mut text, polls } = run_to_text(rt, alloc, gate, plan)?;
+    push_total(&mut text, polls)?;
+    Ok(text)
 }
 
 /// Reads a plan to the end of input, runs its jobs, writes their report, and flushes.

@@ -1,5 +1,5 @@
 //! What a document, a job and an entry are made of: each part is looked up once, and has its type from then on.
-ghost use Rattle.std.specs.Prelude.{◌≡◌, map, option_map, None, Some};
+ghost use Rattle.std.specs.Prelude.{◌≡◌, map, option_map, IfOk, None, Some};
 ghost use Rattle.serde_json.specs.View.{view};
 ghost use Rattle.zs_run.specs.declared.plan_fault.PlanFault.TheVariants as faults;
 ghost use Rattle.zs_run.specs.Refusals.{Gives, demand_some};
@@ -8,7 +8,7 @@ ghost use Rattle.zs_run.specs.Tree.{all_of, as_whole, as_wholes};
 use crate::plan_fault::PlanFault;
 use crate::tree::{as_list, list, take_list, text, whole_or};
 use serde_json::Value;
-use std::alloc::Global;
+use std::alloc::{AllocError, Global};
 use zs_agenda::Clock;
 
 /// The ticks that a document asks for, which may be no clock's.
@@ -83,6 +83,20 @@ impl AskedTicks {
             }
             (None, Some(ticks)) => Ok(AskedTicks::Listed(wholes_in(alloc, ticks)?)),
             _ => Err(PlanFault::Shape { job: None }),
+        }
+    }
+
+    /// The same ticks once more.
+    pub(crate) fn copy(&self, alloc: Global) -> Result<AskedTicks, AllocError>
+        ensures same { IfOk result (λ copy. asked_view copy ≡ asked_view self.now) }
+    {
+        match self {
+            AskedTicks::EveryMs(last) => Ok(AskedTicks::EveryMs(*last)),
+            AskedTicks::Listed(ticks) => {
+                let mut copy = Vec::new(alloc);
+                copy.extend_from_slice(ticks)?;
+                Ok(AskedTicks::Listed(copy))
+            }
         }
     }
 

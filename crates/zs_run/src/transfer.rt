@@ -46,7 +46,7 @@ pub(crate) fn read_up_to<R: Source>(
 }
 
 /// Writes all of the bytes and flushes, or answers how many of them went out before a failure.
-pub(crate) fn write_all<W: Drain>(writer: &mut W, bytes: &[u8]) -> Result<(), usize>
+pub fn write_all<W: Drain>(writer: &mut W, bytes: &[u8]) -> Result<(), usize>
     requires clear { W.mark writer.old ≡ false }
     ensures ok { OnOk result (Appends (W.contents writer.old) (W.contents writer.new) bytes.now) }
     ensures flushed { OnOk result (W.flushed writer.new ≡ true) }
