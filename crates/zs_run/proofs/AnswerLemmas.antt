@@ -1,5 +1,6 @@
 -- The engine's answer is what the report of the plan tells.
 use Rattle.std.proofs.Common.{◌≡◌, ◌+◌, ℕ, List, [], ◌∷◌, length, map, refl, sym, ap, ◌∙◌, sum_by}
+use Rattle.std.specs.List.{flat_map}
 use Rattle.std.proofs.lemmas.List.Sums.{sum_by-cons}
 use Rattle.zs_agenda.specs.Ticks.{Ticks, horizon}
 use Rattle.zs_drive.specs.Values.{JobRecord, job_value, record_of, job_record}
@@ -9,9 +10,9 @@ use Rattle.zs_drive.specs.declared.job.Job.{Job}
 use Rattle.zs_engine.specs.Times.{ticks_of}
 use Rattle.zs_engine.specs.Answers.{IsAnswer, poll_count_of, poll_moments_of}
 use Rattle.zs_engine.specs.declared.answer.Answer.{Answer}
-use Rattle.zs_run.specs.Report.{JobReport, report_text}
+use Rattle.zs_run.specs.Report.{JobReport, job_lines}
 use Rattle.zs_run.specs.ReportView.{task_report}
-use Rattle.zs_run.specs.PlanReport.{job_report, report_of}
+use Rattle.zs_run.specs.PlanReport.{job_report, jobs_text, polls_of}
 
 abbrev first : {A : Type 0} → A → List A → A
 first d [] = d
@@ -53,11 +54,10 @@ records_of : (jobs : List Job) → map record_of (map job_value jobs) ≡ map jo
 records_of [] = refl
 records_of (job ∷ jobs) = ap (λ rest. job_record job ∷ rest) (records_of jobs)
 
--- the report of an answer is that of the plan
-pub report_of_answer : (clock : Ticks) (workers grain : ℕ) (jobs : List Job) (answer : Answer) → IsAnswer clock (map job_value jobs) answer
-    → report_text answer.horizon (map task_report answer.tasks.items) answer.polls
-    ≡ report_of (record { clock = clock; workers = workers; grain = grain; jobs = map job_record jobs })
-report_of_answer clock workers grain jobs answer is =
+-- the lines of an answer's tasks are those of the jobs
+pub lines_of_answer : (clock : Ticks) (jobs : List Job) (answer : Answer) → IsAnswer clock (map job_value jobs) answer
+    → flat_map (job_lines answer.horizon) (map task_report answer.tasks.items) ≡ jobs_text clock (map job_record jobs)
+lines_of_answer clock jobs answer is =
     let ticks : List ℕ = ticks_of clock in
     let tasks : List TaskValue = answer.tasks.items in
     let values : map (λ task. task.job) tasks ≡ map job_value jobs = is.same_jobs in
@@ -65,8 +65,12 @@ report_of_answer clock workers grain jobs answer is =
     let moments : map (λ task. task.moments) tasks ≡ map (λ job. poll_moments_of ticks (record_of job)) (map (λ task. task.job) tasks) = is.moments ∙ ap (map (λ job. poll_moments_of ticks (record_of job))) (sym values) in
     let reports : map task_report tasks ≡ map (job_report ticks) (map job_record jobs) =
     each_report ticks tasks timelines moments ∙ ap (λ vs. map (job_report ticks) (map record_of vs)) values ∙ ap (map (job_report ticks)) (records_of jobs) in
-    let polls : answer.polls ≡ sum_by (λ job. job.polls) (map (job_report ticks) (map job_record jobs)) =
-    is.polls ∙ count_told ticks (map record_of (map job_value jobs)) ∙ ap (λ rs. sum_by (λ job. job.polls) (map (job_report ticks) rs)) (records_of jobs) in
-    ap (λ h. report_text h (map task_report tasks) answer.polls) is.last
-    ∙ ap (λ rs. report_text (horizon clock) rs answer.polls) reports
-    ∙ ap (report_text (horizon clock) (map (job_report ticks) (map job_record jobs))) polls
+    ap (λ h. flat_map (job_lines h) (map task_report tasks)) is.last
+    ∙ ap (λ rs. flat_map (job_lines (horizon clock)) rs) reports
+
+-- the polls of an answer are those of the jobs
+pub polls_of_answer : (clock : Ticks) (jobs : List Job) (answer : Answer) → IsAnswer clock (map job_value jobs) answer
+    → answer.polls ≡ polls_of clock (map job_record jobs)
+polls_of_answer clock jobs answer is =
+    let ticks : List ℕ = ticks_of clock in
+    is.polls ∙ count_told ticks (map record_of (map job_value jobs)) ∙ ap (λ rs. sum_by (λ job. job.polls) (map (job_report ticks) rs)) (records_of jobs)

@@ -1,0 +1,39 @@
+-- Bytes that were read and are not yet used, and the lines that come next.
+use Rattle.std.specs.Prelude.{◌≡◌, ◌<◌, ◌≤◌, ℕ, List, [], ◌∷◌, ◌++◌, ◌==◌, drop, length, Bool, true, false, ⊤, Option, None, Some, IfSome, Result, Ok, Err}
+use Rattle.zs_run.specs.Plan.{max_bytes}
+use Rattle.zs_population.specs.Lines.{lines_of}
+use Rattle.zs_population.specs.declared.buffer.LineFault.{LineFault}
+use Rattle.zs_population.specs.declared.buffer.LineFault.TheVariants.{Read, TooLong, Memory}
+
+-- how many bytes are read at a time, at most
+abbrev pub chunk : ℕ
+chunk = 65536
+
+-- none of the bytes is a newline
+abbrev pub IsOneLine : List ℕ → Type 0
+IsOneLine [] = ⊤
+IsOneLine (b ∷ bs) = ((b == 10) ≡ false) × IsOneLine bs
+
+-- Known bytes began with these lines, and lost them.
+abbrev pub Took : Option (List ℕ) → Option (List ℕ) → List (List ℕ) → Type 0
+Took None new lines = ⊤
+Took (Some xs) None lines = ⊥
+Took (Some xs) (Some ys) lines = lines_of xs ≡ lines ++ lines_of ys
+
+-- Known bytes begin with these lines.
+abbrev pub BeginsWith : Option (List ℕ) → List (List ℕ) → Type 0
+BeginsWith known lines = IfSome known (λ xs. (rest : List (List ℕ)) × (lines_of xs ≡ lines ++ rest))
+
+-- No line is left.
+abbrev pub IsAtLastLine : Option (List ℕ) → Option (List ℕ) → Type 0
+IsAtLastLine None new = ⊤
+IsAtLastLine (Some xs) None = ⊥
+IsAtLastLine (Some xs) (Some ys) = (xs ≡ []) × (ys ≡ [])
+
+-- What the look for a line gives: whether there is one, and which.
+abbrev pub LineRead : Result Bool LineFault → Option (List ℕ) → Option (List ℕ) → List ℕ → Type 0
+LineRead (Ok true) old new line = Took old new (line ∷ [])
+LineRead (Ok false) old new line = IsAtLastLine old new
+LineRead (Err Read) old new line = ⊤
+LineRead (Err TooLong) old new line = (long : List ℕ) × (max_bytes < length long) × BeginsWith old (long ∷ [])
+LineRead (Err Memory) old new line = ⊤

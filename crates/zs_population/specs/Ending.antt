@@ -1,0 +1,49 @@
+-- How the run of a population ends: for success and for each fault what was read, what was written, and which of the two failed.
+use Rattle.std.specs.Prelude.{◌≡◌, ◌≢◌, ◌≤◌, ℕ, zero, suc, ◌*◌, ◌-◌, ◌/◌, List, [], ◌++◌, length, take, Bool, true, false, Option, Some, Result, Ok, Err, IfSome}
+use Rattle.std.specs.Io.KnownBytes.{Appends}
+use Rattle.zs_run.specs.Headline.{Reading, Writing}
+use Rattle.zs_run.specs.Plan.{PlanRecord}
+use Rattle.zs_run.specs.PlanReport.{jobs_text, report_of}
+use Rattle.zs_run.specs.declared.plan_fault.PlanFault.TheVariants as faults
+use Rattle.zs_population.specs.Lines.{lines_of}
+use Rattle.zs_population.specs.Population.{Refusal, block_jobs, population_of}
+use Rattle.zs_population.specs.declared.fault.PopulationFault.{PopulationFault}
+use Rattle.zs_population.specs.declared.fault.PopulationFault.TheVariants.{Read, Line, Engine, Write}
+
+-- Some lines are this population. They are those of the reader's bytes, where these are known, and none of them is left.
+abbrev pub IsPopulation : Reading → PlanRecord → Type 0
+IsPopulation r plan = (lines : List (List ℕ)) × (population_of lines ≡ Ok plan)
+    × IfSome r.before (λ known. (lines_of known ≡ lines) × (r.left ≡ Some []))
+
+-- Of some lines this one is the first that is refused. They are those of the reader's bytes, where these are known.
+abbrev pub WasRefused : Reading → Refusal → Type 0
+WasRefused r refusal = (lines : List (List ℕ)) × (population_of lines ≡ Err refusal)
+    × IfSome r.before (λ known. lines_of known ≡ lines)
+
+-- Some lines are this population. They are the first ones of the reader's bytes, where these are known.
+abbrev pub Begins : Reading → PlanRecord → Type 0
+Begins r plan = (lines : List (List ℕ)) × (population_of lines ≡ Ok plan)
+    × IfSome r.before (λ known. (rest : List (List ℕ)) × (lines_of known ≡ lines ++ rest))
+
+-- The lines of the jobs of this many blocks were written and flushed, whole, and nothing else. `Untouched` says that the
+-- writer is what it was.
+abbrev pub WroteBlocks : Reading → Writing → Type 0 → ℕ → Type 0
+WroteBlocks r w Untouched zero = Untouched
+WroteBlocks r w Untouched (suc n) = (plan : PlanRecord) × Begins r plan × (length plan.jobs ≡ suc n * block_jobs)
+    × Appends w.before w.taken (jobs_text plan.clock plan.jobs) × (w.flushed ≡ true)
+
+-- The table: how a run ends by what it answers.
+abbrev pub Ends : Result (Unit {0}) PopulationFault → Reading → Writing → Type 0 → Type 0
+Ends (Ok done) r w Untouched = (r.failed ≡ false) × (w.failed ≡ false)
+    × ((plan : PlanRecord) × IsPopulation r plan × Appends w.before w.taken (report_of plan)) × (w.flushed ≡ true)
+Ends (Err Read) r w Untouched = (r.failed ≡ true) × (w.failed ≡ false)
+    × ((n : ℕ) × WroteBlocks r w Untouched n)
+-- the blocks before that of the refused line were written
+Ends (Err (Line line fault)) r w Untouched = (r.failed ≡ false) × (w.failed ≡ false)
+    × (fault ≢ faults.Memory → WasRefused r (record { line = line; fault = fault }))
+    × WroteBlocks r w Untouched ((line - 2) / block_jobs)
+Ends (Err (Engine fault)) r w Untouched = (r.failed ≡ false) × (w.failed ≡ false)
+    × ((n : ℕ) × WroteBlocks r w Untouched n)
+-- a part of the report of the jobs that were read so far
+Ends (Err (Write sent)) r w Untouched = (r.failed ≡ false) × (w.failed ≡ true)
+    × ((plan : PlanRecord) × Begins r plan × (sent ≤ length (report_of plan)) × Appends w.before w.taken (take sent (report_of plan)))

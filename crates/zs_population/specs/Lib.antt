@@ -1,0 +1,9 @@
+-- What the clauses of callers name, and so what has to be believed.
+pub mod Lines
+pub mod Population
+pub mod Ending
+pub mod Status
+-- What the bodies keep: private contracts alone name these.
+pub mod Buffers
+pub mod Reads
+pub mod Blocks

@@ -1,0 +1,56 @@
+//! Why the run of a population stopped, and the exit status for it.
+ghost use Rattle.std.specs.Prelude.{◌≡◌};
+ghost use Rattle.std.specs.Process.{exit_status};
+ghost use Rattle.zs_population.specs.Status.{exit_status_of, status_of};
+
+use std::process::ExitCode;
+use thiserror::Error;
+use zs_run::{EngineFault, PlanFault, RunFault};
+
+/// Why the run of a population stopped. Nothing but whole blocks was written, unless the writer failed.
+#[derive(Clone, Copy, Debug, PartialEq, Eq, Error)]
+pub enum PopulationFault {
+    /// The reader failed.
+    #[error("read failed")]
+    Read,
+    /// A line is no job, or the first one no document without jobs, or memory ran out while it was read.
+    #[error("line {line}: {fault}")]
+    Line {
+        /// The line, from 1.
+        line: u64,
+        /// What is wrong with it. A job is told by its number in the population, from 0.
+        fault: PlanFault,
+    },
+    /// A block of jobs could not be run, or memory ran out for its lines.
+    #[error(transparent)]
+    Engine(EngineFault),
+    /// The writer failed. The first `sent` bytes of the report went out, and no others.
+    #[error("write failed after {sent} bytes")]
+    Write {
+        /// How many bytes went out, over all blocks.
+        sent: u128,
+    },
+}
+
+/// The exit status of a program that ended by the fault: 2 for a refused line, 3 where reading or writing failed, 4 for
+/// want of memory or of a thread.
+pub fn status(fault: &PopulationFault) -> u8
+    ensures value { result ≡ status_of fault.now }
+{
+    match fault {
+        PopulationFault::Read => 3,
+        PopulationFault::Line { fault, .. } => zs_run::status(&RunFault::Plan(*fault)),
+        PopulationFault::Engine(_) => 4,
+        PopulationFault::Write { .. } => 3,
+    }
+}
+
+/// The exit code of a program whose run ended so: 0 where the whole report was written, else the status of the fault.
+pub fn exit_code(ended: &Result<(), PopulationFault>) -> ExitCode
+    ensures value { exit_status result ≡ exit_status_of ended.now }
+{
+    match ended {
+        Ok(()) => ExitCode::SUCCESS,
+        Err(fault) => ExitCode::from(status(fault)),
+    }
+}

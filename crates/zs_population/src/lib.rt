@@ -1,0 +1,20 @@
+//! A population of jobs from its lines to the bytes of its report, a block of jobs at a time.
+//!
+//! At success the bytes that `run_population` writes are `report_of` the population that was read, as if it were one plan
+//! (`specs/Population.antt`, `specs/Ending.antt`). A refused line is told by its number, after all blocks before it were
+//! written whole. Memory is needed for one block and for the names of all jobs.
+//!
+//! ```rust
+//! let mut reader = Marked::new(lines);
+//! let mut writer = Marked::new(&mut text);
+//! run_population(&rt, rt.alloc(), &OpenGate, &mut reader, &mut writer)?;
+//! ```
+#![tactic(auto)]
+
+mod block;
+mod buffer;
+mod fault;
+mod running;
+
+pub use fault::{PopulationFault, exit_code, status};
+pub use running::run_population;
