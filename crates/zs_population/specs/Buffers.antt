@@ -1,5 +1,6 @@
 -- Bytes that were read and are not yet used, and the lines that come next.
 use Rattle.std.specs.Prelude.{◌≡◌, ◌<◌, ◌≤◌, ℕ, List, [], ◌∷◌, ◌++◌, ◌==◌, drop, length, Bool, true, false, ⊤, Option, None, Some, IfSome, Result, Ok, Err}
+use Rattle.std.specs.Io.KnownBytes.{IsAtEnd}
 use Rattle.zs_run.specs.Plan.{max_bytes}
 use Rattle.zs_population.specs.Lines.{lines_of}
 use Rattle.zs_population.specs.declared.buffer.LineFault.{LineFault}
@@ -24,16 +25,10 @@ Took (Some xs) (Some ys) lines = lines_of xs ≡ lines ++ lines_of ys
 abbrev pub BeginsWith : Option (List ℕ) → List (List ℕ) → Type 0
 BeginsWith known lines = IfSome known (λ xs. (rest : List (List ℕ)) × (lines_of xs ≡ lines ++ rest))
 
--- No line is left.
-abbrev pub IsAtLastLine : Option (List ℕ) → Option (List ℕ) → Type 0
-IsAtLastLine None new = ⊤
-IsAtLastLine (Some xs) None = ⊥
-IsAtLastLine (Some xs) (Some ys) = (xs ≡ []) × (ys ≡ [])
-
 -- What the look for a line gives: whether there is one, and which.
 abbrev pub LineRead : Result Bool LineFault → Option (List ℕ) → Option (List ℕ) → List ℕ → Type 0
 LineRead (Ok true) old new line = Took old new (line ∷ [])
-LineRead (Ok false) old new line = IsAtLastLine old new
+LineRead (Ok false) old new line = Took old new [] × IsAtEnd new
 LineRead (Err Read) old new line = ⊤
 LineRead (Err TooLong) old new line = (long : List ℕ) × (max_bytes < length long) × BeginsWith old (long ∷ [])
 LineRead (Err Memory) old new line = ⊤

@@ -16,9 +16,9 @@ IsPopulation r plan = (lines : List (List ℕ)) × (population_of lines ≡ Ok p
     × IfSome r.before (λ known. (lines_of known ≡ lines) × (r.left ≡ Some []))
 
 -- Of some lines this one is the first that is refused. They are those of the reader's bytes, where these are known.
-abbrev pub WasRefused : Reading → Refusal → Type 0
-WasRefused r refusal = (lines : List (List ℕ)) × (population_of lines ≡ Err refusal)
-    × IfSome r.before (λ known. lines_of known ≡ lines)
+abbrev pub WasRefused : Option (List ℕ) → Refusal → Type 0
+WasRefused before refusal = (lines : List (List ℕ)) × (population_of lines ≡ Err refusal)
+    × IfSome before (λ known. lines_of known ≡ lines)
 
 -- Some lines are this population. They are the first ones of the reader's bytes, where these are known.
 abbrev pub Begins : Reading → PlanRecord → Type 0
@@ -40,7 +40,7 @@ Ends (Err Read) r w Untouched = (r.failed ≡ true) × (w.failed ≡ false)
     × ((n : ℕ) × WroteBlocks r w Untouched n)
 -- the blocks before that of the refused line were written
 Ends (Err (Line line fault)) r w Untouched = (r.failed ≡ false) × (w.failed ≡ false)
-    × (fault ≢ faults.Memory → WasRefused r (record { line = line; fault = fault }))
+    × (fault ≢ faults.Memory → WasRefused r.before (record { line = line; fault = fault }))
     × WroteBlocks r w Untouched ((line - 2) / block_jobs)
 Ends (Err (Engine fault)) r w Untouched = (r.failed ≡ false) × (w.failed ≡ false)
     × ((n : ℕ) × WroteBlocks r w Untouched n)

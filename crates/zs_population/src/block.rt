@@ -1,4 +1,15 @@
 //! Blocks of jobs: read, run and written.
+ghost use Rattle.std.specs.Prelude.{◌≡◌, ◌≤◌, ◌<◌, ◌+◌, ◌^◌, ◌∷◌, ◌++◌, ◌↔◌, [], ℕ, List, map, length, take, Ok, Err, true, false, is_err, IfOk, IfErr, OnOk, IsErrOf, IsTrue, string_bytes};
+ghost use Rattle.std.specs.Io.KnownBytes.{Appends, IsAtEnd, prepend_known};
+ghost use Rattle.zs_drive.specs.Values.{job_record};
+ghost use Rattle.zs_run.specs.Head.{head_of};
+ghost use Rattle.zs_run.specs.HeadView.{head_record};
+ghost use Rattle.zs_run.specs.Names.{KnowsNames};
+ghost use Rattle.zs_run.specs.PlanReport.{jobs_text, polls_of, with_total};
+ghost use Rattle.zs_population.specs.Buffers.{Took};
+ghost use Rattle.zs_population.specs.Population.{block_jobs, job_at, max_population};
+ghost use Rattle.zs_population.specs.Reads.{AddsJob, BlockFault, BlockReads, HeadFault, IsNoJob, line_fault_of};
+
 use crate::buffer::{Buffer, LineFault};
 use crate::fault::PopulationFault;
 use std::alloc::{AllocError, Global};
@@ -8,7 +19,9 @@ use std::thread::Threads;
 use zs_drive::Job;
 use zs_engine::EngineFault;
 use zs_pool::{Gate, MAX_TASKS};
-use zs_run::{Drain, Head, JobLines, PlanFault, Source, add_job, read_head, read_job, run_to_text, write_all};
+use zs_run::{
+    Drain, Head, JobLines, PlanFault, Source, add_job, read_head, read_job, run_to_text, write_all,
+};
 
 /// The most jobs of a block: as many as a round may poll.
 pub(crate) const BLOCK: usize = MAX_TASKS as usize;
@@ -17,11 +30,19 @@ pub(crate) const BLOCK: usize = MAX_TASKS as usize;
 const MAX_POPULATION: u64 = 1_000_000_000_000_000;
 
 // The fault of a line that isn't at hand.
-fn line_fault(line: u64, fault: LineFault) -> PopulationFault {
+fn line_fault(line: u64, fault: LineFault) -> PopulationFault
+    ensures value { result ≡ line_fault_of line fault }
+{
     match fault {
         LineFault::Read => PopulationFault::Read,
-        LineFault::TooLong => PopulationFault::Line { line, fault: PlanFault::TooLong },
-        LineFault::Memory => PopulationFault::Line { line, fault: PlanFault::Memory },
+        LineFault::TooLong => PopulationFault::Line {
+            line,
+            fault: PlanFault::TooLong,
+        },
+        LineFault::Memory => PopulationFault::Line {
+            line,
+            fault: PlanFault::Memory,
+        },
     }
 }
 
@@ -30,11 +51,22 @@ pub(crate) fn read_first<R: Source>(
     alloc: Global,
     reader: &mut R,
     buffer: &mut Buffer,
-) -> Result<Head, PopulationFault> {
+) -> Result<Head, PopulationFault>
+    requires clear { R.mark reader.old ≡ false }
+    ensures head { IfOk result (λ head. (first : List ℕ) × (head_of first ≡ Ok (head_record head))
+        × Took (prepend_known buffer.old (R.remaining reader.old)) (prepend_known buffer.new (R.remaining reader.new)) (first ∷ [])) }
+    ensures fault { IfErr result (HeadFault (prepend_known buffer.old (R.remaining reader.old))) }
+    ensures marks { IsTrue (R.mark reader.new) ↔ IsErrOf result PopulationFault.Read }
+{
     let mut line = Vec::new(alloc);
     match buffer.next_line(reader, &mut line) {
         Ok(true) => {}
-        Ok(false) => return Err(PopulationFault::Line { line: 1, fault: PlanFault::Json }),
+        Ok(false) => {
+            return Err(PopulationFault::Line {
+                line: 1,
+                fault: PlanFault::Json,
+            });
+        }
         Err(fault) => return Err(line_fault(1, fault)),
     }
     match read_head(alloc, line.as_slice()) {
@@ -44,12 +76,18 @@ pub(crate) fn read_first<R: Source>(
 }
 
 // The job that a line is, with this number, after those whose names are given.
+#[tactic(auto, unfolding(crate::specs::Population::job_at))]
 fn job_at(
     alloc: Global,
     number: u64,
     names: &BTreeSet<String>,
     line: &[u8],
-) -> Result<Job, PlanFault> {
+) -> Result<Job, PlanFault>
+    ensures few { IfOk result (λ job. number < max_population) }
+    ensures job { IfOk result (λ job. (earlier : List (List ℕ)) → KnowsNames names.now earlier
+        → job_at number earlier line.now ≡ Ok (job_record job)) }
+    ensures fault { IfErr result (IsNoJob number names.now line.now) }
+{
     let job = read_job(alloc, number, names, line)?;
     if number >= MAX_POPULATION {
         return Err(PlanFault::Range { job: None });
@@ -64,7 +102,13 @@ fn add_line(
     names: &mut BTreeSet<String>,
     jobs: &mut Vec<Job>,
     line: &[u8],
-) -> Result<(), PlanFault> {
+) -> Result<(), PlanFault>
+    ensures few { OnOk result (number < max_population) }
+    ensures count { OnOk result (length jobs.new.items ≡ length jobs.old.items + 1) }
+    ensures job { OnOk result (AddsJob number names.old names.new line.now
+        (map job_record jobs.old.items) (map job_record jobs.new.items)) }
+    ensures fault { IfErr result (IsNoJob number names.old line.now) }
+{
     let job = job_at(alloc, number, names, line)?;
     add_job(alloc, names, jobs, job)
 }
@@ -76,7 +120,19 @@ pub(crate) fn read_block<R: Source>(
     buffer: &mut Buffer,
     names: &mut BTreeSet<String>,
     first: u64,
-) -> Result<Vec<Job>, PopulationFault> {
+) -> Result<Vec<Job>, PopulationFault>
+    requires clear { R.mark reader.old ≡ false }
+    requires few { first ≤ max_population }
+    ensures block { IfOk result (λ jobs. length jobs.items ≤ block_jobs) }
+    ensures few { IfOk result (λ jobs. first + length jobs.items ≤ max_population) }
+    ensures jobs { IfOk result (λ jobs. BlockReads first
+        (prepend_known buffer.old (R.remaining reader.old)) (prepend_known buffer.new (R.remaining reader.new))
+        names.old names.new (map job_record jobs.items)) }
+    ensures last { IfOk result (λ jobs. length jobs.items < block_jobs
+        → IsAtEnd (prepend_known buffer.new (R.remaining reader.new))) }
+    ensures fault { IfErr result (BlockFault first (prepend_known buffer.old (R.remaining reader.old)) names.old) }
+    ensures marks { IsTrue (R.mark reader.new) ↔ IsErrOf result PopulationFault.Read }
+{
     let mut jobs = Vec::new(alloc);
     let mut line = Vec::new(alloc);
     while jobs.len() < BLOCK {
@@ -87,18 +143,23 @@ pub(crate) fn read_block<R: Source>(
             Err(fault) => return Err(line_fault(number + 2, fault)),
         }
         if let Err(fault) = add_line(alloc, number, names, &mut jobs, line.as_slice()) {
-            return Err(PopulationFault::Line { line: number + 2, fault });
+            return Err(PopulationFault::Line {
+                line: number + 2,
+                fault,
+            });
         }
     }
     Ok(jobs)
 }
 
 // Adds the last line of the report.
-fn push_total(text: &mut String, polls: u128) -> Result<(), AllocError> {
+fn push_total(text: &mut String, polls: u128) -> Result<(), AllocError>
+    ensures text { OnOk result (string_bytes text.new ≡ with_total (string_bytes text.old) polls) }
+{
     writeln!(text, "polls {polls}")
 }
 
-/// Runs a block, of which the jobs before had these polls. The last block has the total behind it.
+/// Runs a block, and adds its polls to those before. Behind the lines of the last block is the total.
 pub(crate) fn run_block<T: Threads + Wait + Sync, G: Gate>(
     rt: &T,
     alloc: Global,
@@ -106,11 +167,19 @@ pub(crate) fn run_block<T: Threads + Wait + Sync, G: Gate>(
     head: &Head,
     jobs: Vec<Job>,
     polls: &mut u128,
-) -> Result<String, EngineFault> {
+) -> Result<String, EngineFault>
+    requires few { length jobs.items ≤ block_jobs }
+    requires room { polls.old + 2 ^ 64 ≤ 2 ^ 128 }
+    ensures room { OnOk result (polls.new < polls.old + 2 ^ 64) }
+    ensures polls { OnOk result (polls.new ≡ polls.old + polls_of (head_record head.now).clock (map job_record jobs.items)) }
+    ensures lines { IfOk result (λ text. length jobs.items ≡ block_jobs
+        → string_bytes text ≡ jobs_text (head_record head.now).clock (map job_record jobs.items)) }
+    ensures last { IfOk result (λ text. length jobs.items < block_jobs
+        → string_bytes text ≡ with_total (jobs_text (head_record head.now).clock (map job_record jobs.items)) polls.new) }
+{
     let is_last = jobs.len() < BLOCK;
     let plan = head.plan(alloc, jobs)?;
-    let lines = run_to_text(rt, alloc, gate, plan)?;
-    let JobLines { mut text, polls: more } = lines;
+    let JobLines { mut text, polls: more } = run_to_text(rt, alloc, gate, plan)?;
     *polls += u128::from(more);
     if is_last {
         push_total(&mut text, *polls)?;
@@ -118,14 +187,26 @@ pub(crate) fn run_block<T: Threads + Wait + Sync, G: Gate>(
     Ok(text)
 }
 
-/// Writes the text of a block, behind as many bytes as were sent before.
+/// Writes the text of a block, and flushes. How many bytes were sent, with those before.
 pub(crate) fn write_block<W: Drain>(
     writer: &mut W,
     text: &str,
     before: u128,
-) -> Result<u128, PopulationFault> {
+) -> Result<u128, PopulationFault>
+    requires clear { W.mark writer.old ≡ false }
+    requires room { before + 2 ^ 64 ≤ 2 ^ 128 }
+    ensures ok { IfOk result (λ sent. sent ≡ before + length text.now) }
+    ensures room { IfOk result (λ sent. sent < before + 2 ^ 64) }
+    ensures written { OnOk result (Appends (W.contents writer.old) (W.contents writer.new) text.now) }
+    ensures flushed { OnOk result (W.flushed writer.new ≡ true) }
+    ensures err { IfErr result (λ fault. (sent : ℕ) × (fault ≡ PopulationFault.Write (before + sent))
+        × (sent ≤ length text.now) × Appends (W.contents writer.old) (W.contents writer.new) (take sent text.now)) }
+    ensures marks { W.mark writer.new ≡ is_err result }
+{
     match write_all(writer, text.as_bytes()) {
         Ok(()) => Ok(before + text.len() as u128),
-        Err(sent) => Err(PopulationFault::Write { sent: before + sent as u128 }),
+        Err(sent) => Err(PopulationFault::Write {
+            sent: before + sent as u128,
+        }),
     }
 }

@@ -13,14 +13,14 @@ use Rattle.zs_run.specs.Report.{JobReport, job_lines}
 use Rattle.zs_run.specs.PlanReport.{job_report, jobs_text, polls_of, report_of, with_total}
 
 -- the lines of two parts
-text_of_two : (clock : Ticks) (xs ys : List JobRecord) → jobs_text clock (xs ++ ys) ≡ jobs_text clock xs ++ jobs_text clock ys
+pub text_of_two : (clock : Ticks) (xs ys : List JobRecord) → jobs_text clock (xs ++ ys) ≡ jobs_text clock xs ++ jobs_text clock ys
 text_of_two clock xs ys =
     let f : JobReport → List ℕ = job_lines (horizon clock) in
     let g : JobRecord → JobReport = job_report (ticks_of clock) in
     ap (flat_map f) (map-append g xs ys) ∙ flat_map-append f (map g xs) (map g ys)
 
 -- the polls of two parts
-polls_of_two : (clock : Ticks) (xs ys : List JobRecord) → polls_of clock (xs ++ ys) ≡ polls_of clock xs + polls_of clock ys
+pub polls_of_two : (clock : Ticks) (xs ys : List JobRecord) → polls_of clock (xs ++ ys) ≡ polls_of clock xs + polls_of clock ys
 polls_of_two clock xs ys =
     let p : JobReport → ℕ = λ job. job.polls in
     let g : JobRecord → JobReport = job_report (ticks_of clock) in

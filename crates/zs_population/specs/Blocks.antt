@@ -1,0 +1,30 @@
+-- Where the run of a population stands between two blocks.
+use Rattle.std.specs.Prelude.{◌≡◌, ℕ, zero, suc, ◌*◌, List, [], length, Bool, true, Option, Ok}
+use Rattle.std.specs.BTreeSet.{BTreeSet}
+use Rattle.std.specs.Io.KnownBytes.{Appends}
+use Rattle.std.proofs.Common.{String, Global}
+use Rattle.zs_agenda.specs.Ticks.{Ticks}
+use Rattle.zs_drive.specs.Values.{JobRecord}
+use Rattle.zs_run.specs.Names.{KnowsNames}
+use Rattle.zs_run.specs.PlanReport.{jobs_text, polls_of}
+use Rattle.zs_population.specs.Buffers.{Took}
+use Rattle.zs_population.specs.Population.{block_jobs, jobs_at}
+use Rattle.zs_population.specs.Reads.{names_of}
+
+-- what is seen of the writer: nothing was tried where there was no block, and all was flushed behind a block
+abbrev pub IsWhole : ℕ → Bool → Type 0 → Type 0
+IsWhole zero flushed Untouched = Untouched
+IsWhole (suc n) flushed Untouched = flushed ≡ true
+
+-- Some blocks were read, run, written and counted: the bytes ahead of the reader and those of the writer, before and now.
+pub record IsDone (clock : Ticks) (ahead ahead_now : Option (List ℕ)) (names : BTreeSet (String Global)) (blocks polls sent : ℕ)
+    (before taken : Option (List ℕ)) : Type 0 where
+  pub lines : List (List ℕ)
+  pub jobs : List JobRecord
+  pub read : Took ahead ahead_now lines
+  pub are : jobs_at 0 [] lines ≡ Ok jobs
+  pub known : KnowsNames names (names_of jobs)
+  pub many : length jobs ≡ blocks * block_jobs
+  pub counted : polls ≡ polls_of clock jobs
+  pub written : Appends before taken (jobs_text clock jobs)
+  pub told : sent ≡ length (jobs_text clock jobs)

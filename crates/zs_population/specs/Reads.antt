@@ -1,0 +1,60 @@
+-- What the reading of jobs gives: which lines were taken, and which jobs they are.
+use Rattle.std.specs.Prelude.{◌≡◌, ◌≢◌, ◌<◌, ℕ, ◌+◌, List, [], ◌∷◌, ◌++◌, map, ⊤, Option, Result, Ok, Err}
+use Rattle.std.specs.BTreeSet.{BTreeSet}
+use Rattle.std.proofs.Common.{String, Global}
+use Rattle.zs_drive.specs.Values.{JobRecord}
+use Rattle.zs_run.specs.Names.{KnowsNames}
+use Rattle.zs_run.specs.declared.plan_fault.PlanFault.{PlanFault}
+use Rattle.zs_run.specs.declared.plan_fault.PlanFault.TheVariants as faults
+use Rattle.zs_population.specs.Buffers.{BeginsWith, Took}
+use Rattle.zs_population.specs.Ending.{WasRefused}
+use Rattle.zs_population.specs.Population.{Refusal, block_jobs, job_at, jobs_at}
+use Rattle.zs_population.specs.declared.buffer.LineFault.{LineFault}
+use Rattle.zs_population.specs.declared.buffer.LineFault.TheVariants as unread
+use Rattle.zs_population.specs.declared.fault.PopulationFault.{PopulationFault}
+use Rattle.zs_population.specs.declared.fault.PopulationFault.TheVariants.{Read, Line, Engine, Write}
+
+-- the names of jobs
+abbrev pub names_of : List JobRecord → List (List ℕ)
+names_of jobs = map (λ job. job.name) jobs
+
+-- the fault of a line that isn't at hand
+abbrev pub line_fault_of : ℕ → LineFault → PopulationFault
+line_fault_of line unread.Read = Read
+line_fault_of line unread.TooLong = Line line faults.TooLong
+line_fault_of line unread.Memory = Line line faults.Memory
+
+-- The line is a job with this number, which stands behind those before, and the set knows its name.
+abbrev pub AddsJob : ℕ → BTreeSet (String Global) → BTreeSet (String Global) → List ℕ → List JobRecord → List JobRecord → Type 0
+AddsJob number known now line before after = (earlier : List (List ℕ)) → KnowsNames known earlier
+    → (job : JobRecord) × (job_at number earlier line ≡ Ok job) × (after ≡ before ++ job ∷ []) × KnowsNames now (earlier ++ job.name ∷ [])
+
+-- The line is no job with this number, unless memory ran out.
+abbrev pub IsNoJob : ℕ → BTreeSet (String Global) → List ℕ → PlanFault → Type 0
+IsNoJob number known line fault = fault ≢ faults.Memory → (earlier : List (List ℕ)) → KnowsNames known earlier
+    → job_at number earlier line ≡ Err (record { line = number + 2; fault = fault })
+
+-- Lines were taken that are these jobs, from this number on, and the set knows their names.
+abbrev pub BlockReads : ℕ → Option (List ℕ) → Option (List ℕ) → BTreeSet (String Global) → BTreeSet (String Global) → List JobRecord → Type 0
+BlockReads first old new known now jobs = (earlier : List (List ℕ)) → KnowsNames known earlier
+    → (lines : List (List ℕ)) × Took old new lines × (jobs_at first earlier lines ≡ Ok jobs) × KnowsNames now (earlier ++ names_of jobs)
+
+-- One of the next lines, of which those before are jobs, is refused.
+abbrev pub BlockRefused : ℕ → Option (List ℕ) → BTreeSet (String Global) → Refusal → Type 0
+BlockRefused first old known refusal = (earlier : List (List ℕ)) → KnowsNames known earlier
+    → (lines : List (List ℕ)) × BeginsWith old lines × (jobs_at first earlier lines ≡ Err refusal)
+
+-- why a block isn't at hand
+abbrev pub BlockFault : ℕ → Option (List ℕ) → BTreeSet (String Global) → PopulationFault → Type 0
+BlockFault first old known Read = ⊤
+BlockFault first old known (Line line fault) = (k : ℕ) × (line ≡ first + k + 2) × (k < block_jobs)
+    × (fault ≢ faults.Memory → BlockRefused first old known (record { line = line; fault = fault }))
+BlockFault first old known (Engine fault) = ⊥
+BlockFault first old known (Write sent) = ⊥
+
+-- why the head isn't at hand
+abbrev pub HeadFault : Option (List ℕ) → PopulationFault → Type 0
+HeadFault old Read = ⊤
+HeadFault old (Line line fault) = (line ≡ 1) × (fault ≢ faults.Memory → WasRefused old (record { line = line; fault = fault }))
+HeadFault old (Engine fault) = ⊥
+HeadFault old (Write sent) = ⊥
