@@ -5,7 +5,7 @@ use thiserror::Error;
 /// Why a text or a term is no schedule. The causes are checked in this order.
 #[derive(Clone, Copy, Debug, PartialEq, Eq, Error)]
 pub enum TermFault {
-    /// The text spells no term. `at` is the byte, from 0, at which no term can go on.
+    /// The text spells no term. `at` is the byte, from 0, at which no spelling can go on.
     #[error("no term at byte {at}")]
     NoTerm { at: u64 },
     /// The term is deeper than 64 or weighs more than 1,000.
