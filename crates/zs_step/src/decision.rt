@@ -1,4 +1,4 @@
-// What a schedule decides at a step.
+//! What a schedule decides at a step.
 
 ghost use Rattle.std.specs.Prelude.{◌≡◌, ◌+◌};
 ghost use Rattle.zs_term.specs.Saturating.{saturated};
