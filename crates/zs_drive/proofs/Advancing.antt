@@ -1,4 +1,4 @@
--- The steps of a task keep what its fields keep.
+-- The steps of a task preserve the invariant of its fields.
 use Rattle.std.proofs.Common.{◌≡◌, ℕ, ◌+◌, ◌^◌, ◌≤◌, ◌<◌, List, [], ◌∷◌, ◌++◌, length, Option, inl, inr, refl, sym, ◌∙◌, ap, subst, arith, append_assoc, Fits, w64}
 use Rattle.std.specs.Prelude.{Some, None}
 use Rattle.std.proofs.lemmas.List.{length-append}
@@ -34,14 +34,14 @@ polls-fit p progress =
     let few = length-clock (poll_moments (attempts_of p)) progress.on_timeline.clock in
     let counted = progress.on_timeline.counted in omega arith
 
--- and one more attempt
+-- one more attempt can be counted
 pub attempts-fit : (p : Progress) → IsProgress p → log_count p.log + 1 < 2 ^ 64
 attempts-fit p progress =
     let fits : Fits w64 (p.polls + 1) = polls-fit p progress in
     let few = progress.on_timeline.few in
     omega (arith, log-count p.log (attempts_of p) progress.log)
 
--- while an attempt runs there is one
+-- while an attempt runs, it is the last of the list
 pub has-last : (p : Progress) (outcome : Outcome) (phase : Phase) → p.phase ≡ phase → IsProgress p → HasRunTo p.seen outcome p.phase → 0 < log_count p.log
 has-last p outcome (Running attempt) is progress run =
     let phase = rw is at progress.phase in
@@ -49,7 +49,7 @@ has-last p outcome (Running attempt) is progress run =
 has-last p outcome (Waiting x) is progress run = absurd (rw is at run)
 has-last p outcome (Over ending) is progress run = absurd (rw is at run)
 
--- a log has the attempts of a timeline, where it has those of the clock of their moments
+-- a log stores the attempts of a timeline if it stores those on the clock of their moments
 from-log : (job : JobRecord) (log : Log) (timeline : Timeline) (polls : ℕ) → IsLog log timeline.attempts → IsOnTimeline job timeline polls
     → timeline_of job (log_moments log) ≡ timeline
 from-log job log timeline polls is stands = ap (timeline_of job) (log-moments log timeline.attempts is) ∙ sym stands.same
@@ -60,7 +60,7 @@ moments-more : (old new : Log) (attempts more : List AttemptedValue) (seen : ℕ
 moments-more old new attempts more seen was is grown =
     log-moments new more is ∙ grown ∙ ap (λ (ms : List ℕ). ms ++ seen ∷ []) (sym (log-moments old attempts was))
 
--- where a task stands, by its fields
+-- the timeline of a task, by its fields
 pub stands-at : (p : Progress) → IsProgress p → timeline_of (job_in p) (moments_in p) ≡ timeline_in p
 stands-at p progress = from-log (job_in p) p.log (timeline_in p) p.polls progress.log progress.on_timeline
 
@@ -112,7 +112,7 @@ begin-advances p log spare beat attempt (Waiting x) is progress state waits next
 begin-advances p log spare beat attempt (Running other) is progress state waits next script keeps begun started = absurd (rw is at waits)
 begin-advances p log spare beat attempt (Over ending) is progress state waits next script keeps begun started = absurd (rw is at waits)
 
--- the history that the schedule was asked about
+-- the history on which the schedule was evaluated
 pub asked-history : (p : Progress) (outcome : Outcome) (others : List AttemptedValue) (s : ℕ) → attempts_of p ≡ others ++ runs s ∷ []
     → ((p.seen, number_of outcome) ∷ history_after (attempts_of p)) ≡ ((p.seen, number_of outcome) ∷ history_after others)
 asked-history p outcome others s last = ap (λ (h : History). (p.seen, number_of outcome) ∷ h) (ap history_after last ∙ history_after-running others s)
@@ -234,7 +234,7 @@ restart-advances p q outcome step beat attempt (Running old) is progress run scr
 restart-advances p q outcome step beat attempt (Waiting x) is progress run script asked next rest keeps started closed made = absurd (rw is at run)
 restart-advances p q outcome step beat attempt (Over ending) is progress run script asked next rest keeps started closed made = absurd (rw is at run)
 
--- the schedule's state stands for the records, once the attempt has ended
+-- the schedule's state represents the records, once the attempt has ended
 pub IsStepped-asked : (p : Progress) (outcome : Outcome) (others : List AttemptedValue) (s : ℕ) (step : Option Answer) → WasAsked p outcome → attempts_of p ≡ others ++ runs s ∷ []
     → IsStepped (others ++ ended_attempt s p.seen outcome step ∷ []) p.compiled p.seen
 IsStepped-asked p outcome others s step asked last = record {
@@ -242,7 +242,7 @@ IsStepped-asked p outcome others s step asked last = record {
   past = let seen = asked.last in omega arith;
 }
 
--- after a refusal
+-- after a failed allocation
 pub StandsStill-stays : (p q : Progress) → IsProgress p → Stays p q → StandsStill p q
 StandsStill-stays p q progress stays =
     let logged : IsLog q.log (attempts_of p) = stays.log progress.log in

@@ -1,4 +1,4 @@
--- A task as it is made, and as it sees a later moment.
+-- A new task, and a task that sees a later moment.
 use Rattle.std.proofs.Common.{◌≡◌, ℕ, ◌≤◌, List, [], refl, ap, arith}
 use Rattle.std.specs.Prelude.{Some, None}
 use Rattle.zs_step.specs.declared.compiled.Compiled.{Compiled}
@@ -32,7 +32,7 @@ pub moments-none : (log : Log) → IsLog log [] → log_moments log ≡ []
 unfolding poll_moments
 moments-none log is = log-moments log [] is
 
--- and so a new task has no attempts
+-- so a new task has no attempts
 timeline-none : (p : Progress) → IsLog p.log [] → timeline_of (job_in p) (moments_in p) ≡ waiting p.start
 unfolding timeline_of from
 timeline-none p is = ap (timeline_of (job_in p)) (moments-none p.log is)

@@ -1,4 +1,4 @@
--- The timeline of a job on a clock with one tick more.
+-- The timeline of a job on a clock with one more tick.
 use Rattle.std.proofs.Common.{◌≡◌, ℕ, zero, suc, ◌+◌, ◌-◌, ◌^◌, ◌≤◌, ◌<◌, max, min, List, [], ◌∷◌, ◌++◌, length, length-append, add-one, Option, nat_lt, if◌then◌else◌, refl, arith}
 use Rattle.std.specs.Prelude.{Some, None}
 use Rattle.zs_term.specs.Saturating.{saturated}
@@ -16,7 +16,7 @@ use Rattle.zs_drive.specs.Values.{JobRecord, AttemptedValue}
 use Rattle.zs_drive.specs.Timeline.{Timeline, number_of, ending_by_outcome, waiting, running, before, beat_after, by_answer, by_outcome, from_wait, from_begin, from, timeline_of}
 use Rattle.zs_drive.proofs.Ticks.{lt_cases, left, first_tick_from-some, first_tick_from-none, tick_one-late, tick_one-at, first_tick_from-from, first_tick_from-before, first_tick_from-past, left-none, left-length, left-after}
 
--- an attempt takes at least a millisecond
+-- an attempt takes at least 1 ms
 pub beat-takes : (beats : List Beat) (k : ℕ) → IsScript beats → 1 ≤ (entry_at beats k).ms
 beat-takes beats k script =
     let index : min k (length beats) - 1 < length beats = omega (arith, script.some) in
@@ -27,11 +27,11 @@ pub saturated-after : (s c ms : ℕ) → s ≤ c → c < 2 ^ 64 - 1 → 1 ≤ ms
 saturated-after s c ms h k l = omega arith
 
 module _ (job : JobRecord) (c : ℕ) where
-  -- what a tick at c makes of a job that waits for x after history h
+  -- what a tick at c does to a job that is due at x after history h
   unfoldable pub resume : History → ℕ → Timeline
   resume h x = if nat_lt c x then waiting x else running c (saturated (c + (beat_after job h).ms))
 
-  -- what it makes of one whose attempt waits for w
+  -- what it does to a job whose attempt is due to end at w
   unfoldable pub close : History → ℕ → ℕ → Timeline
   close h s w =
       if nat_lt c w then running s w
@@ -45,7 +45,7 @@ module _ (job : JobRecord) (c : ℕ) where
   extend_none h None ending = record { attempts = []; due = None; ending = ending }
   extend_none h (Some x) ending = resume h x
 
-  -- what it makes of a timeline whose attempts come after history h
+  -- what it does to a timeline whose attempts follow history h
   unfoldable pub extend : History → List AttemptedValue → Option ℕ → Option Ending → Timeline
   extend h [] due ending = extend_none h due ending
   extend h (attempt ∷ attempts) due ending =
@@ -55,7 +55,7 @@ module _ (job : JobRecord) (c : ℕ) where
   extended h timeline = extend h timeline.attempts timeline.due timeline.ending
 
 module _ (job : JobRecord) (script : IsScript job.script) (ticks : List ℕ) (c : ℕ) (all : AllBefore ticks c) (small : c < 2 ^ 64 - 1) where
-  -- no attempt waits for the tick more, where it comes too soon
+  -- a job that is due later doesn't change at the new tick
   resume-at : (h : History) (x : ℕ) (rest : History → ℕ → Timeline) → first_tick_from ticks x ≡ None
       → from_begin job rest (ticks ++ c ∷ []) h x (first_tick_from (ticks ++ c ∷ []) x) ≡ resume job c h x
   unfolding from_begin from_wait resume
@@ -69,7 +69,7 @@ module _ (job : JobRecord) (script : IsScript job.script) (ticks : List ℕ) (c 
       let w : ℕ = saturated (c + (beat_after job h).ms) in
       rw (tick_one-at c x l, first_tick_from-none ticks c w (first_tick_from-past ticks c w all (omega arith)), tick_one-late c w later) refl))
 
-  -- the timeline from a decision on, where the attempt that ended was the last one so far
+  -- the timeline from a decision on, if the attempt that ended was the last one so far
   by_answer-last : (n : ℕ) (h : History) (s : ℕ) (outcome : Outcome) (output : Output) (decision : Decision)
       → by_answer job (from job (ticks ++ c ∷ []) (suc n)) h s c outcome output decision ≡ by_answer job (resume job c) h s c outcome output decision
   unfolding by_answer from
@@ -142,7 +142,7 @@ module _ (job : JobRecord) (script : IsScript job.script) (ticks : List ℕ) (c 
   extends zero h x fits = resume-at h x (from job (ticks ++ c ∷ []) zero) (left-none ticks x fits)
   extends (suc n) h x fits = from_begin-more n (extends n) h x (first_tick_from ticks x) refl fits
 
-  -- one tick more than all others makes of a job's timeline what `extended` says
+  -- with a tick after all others, a job's timeline is what `extended` gives
   pub timeline_of-append : timeline_of job (ticks ++ c ∷ []) ≡ extended job c [] (timeline_of job ticks)
   unfolding timeline_of
   timeline_of-append = rw (length-append ticks (c ∷ []), add-one) (extends (length ticks) [] job.start (left-length ticks job.start))

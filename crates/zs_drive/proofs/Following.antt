@@ -1,4 +1,4 @@
--- The timeline of a job is the one list of attempts that keeps the rules.
+-- The timeline of a job is the only list of attempts that satisfies the rules.
 use Rattle.std.proofs.Common.{◌≡◌, ℕ, zero, suc, ◌+◌, ◌-◌, ◌^◌, ◌≤◌, ◌<◌, max, List, [], ◌∷◌, length, Option, refl, ap, arith}
 use Rattle.std.specs.Prelude.{Some, None}
 use Rattle.zs_term.specs.Saturating.{saturated}
@@ -59,7 +59,7 @@ module _ (job : JobRecord) (ticks : List ℕ) where
       (λ g y l. keeps g y (omega arith)) ends refl refl x begun
 
   module _ (script : IsScript job.script) (c : ℕ) (small : c ≤ 2 ^ 64 - 1) (all : AllBefore ticks c) where
-    -- fewer ticks are left after the end of an attempt
+    -- fewer ticks remain after the end of an attempt
     fewer : (n : ℕ) (h : History) (x s y : ℕ) → first_tick_from ticks x ≡ Some s → left ticks x ≤ suc n → saturated (s + (beat_after job h).ms) ≤ y → left ticks y ≤ n
     fewer n h x s y some fits l =
         let takes : 1 ≤ (beat_after job h).ms = beat-takes job.script (length h + 1) script in
@@ -79,7 +79,7 @@ module _ (job : JobRecord) (ticks : List ℕ) where
     from-keeps zero h x fits = (left-none ticks x fits, refl, refl)
     from-keeps (suc n) h x fits = from_begin-keeps n h x (first_tick_from ticks x) refl fits (from-keeps n)
 
-    -- the timeline keeps the rules, so its number of attempts is never cut short
+    -- the timeline satisfies the rules, so the bound never cuts its attempts short
     pub timeline_of-keeps : Keeps [] job.start (timeline_of job ticks)
     unfolding timeline_of
     timeline_of-keeps = from-keeps (length ticks) [] job.start (left-length ticks job.start)
@@ -87,7 +87,7 @@ module _ (job : JobRecord) (ticks : List ℕ) where
   abbrev pub timeline : List AttemptedValue → Option ℕ → Option Ending → Timeline
   timeline attempts due ending = record { attempts = attempts; due = due; ending = ending }
 
-  -- a list of attempts that keeps the rules is the timeline
+  -- a list of attempts that satisfies the rules is the timeline
   module _ (n : ℕ) (later : List AttemptedValue) (due : Option ℕ) (ending : Option Ending)
       (same : (g : History) (y : ℕ) → left ticks y ≤ n → Follows job ticks later due ending g y → timeline later due ending ≡ from job ticks n g y) where
     is-answer : (h : History) (s e : ℕ) (outcome : Outcome) (step : Option Answer) (output : Output) (decision : Decision)

@@ -1,4 +1,4 @@
--- What a log has of its attempts, as they begin and end.
+-- How a log stores its attempts, as they begin and end.
 use Rattle.std.proofs.Common.{◌≡◌, ℕ, suc, ◌+◌, ◌-◌, List, [], ◌∷◌, ◌++◌, length, length-append, append_assoc, append-nil, refl, sym, ◌∙◌, ap, arith}
 use Rattle.std.specs.Prelude.{map, flat_map, fold, take, drop, Option, Some, None, option_to_list, string_bytes, slice_set, slice_index_or}
 use Rattle.std.specs.Global.{Vec}
@@ -35,7 +35,7 @@ pub told-recorded : (keeps : Keeping) (attempts : List AttemptedValue) → told_
 told-recorded Records attempts = refl
 told-recorded Lines attempts = take-append-drop (length attempts - 1) attempts
 
--- the lines of attempts, one part after the other
+-- the lines of two parts of a list, one after the other
 pub attempts_lines-append : (number : ℕ) (first rest : List AttemptedValue)
     → attempts_lines number (first ++ rest) ≡ attempts_lines number first ++ attempts_lines (number + length first) rest
 attempts_lines-append number [] rest = ap (λ n. attempts_lines n rest) (omega arith)
@@ -51,7 +51,7 @@ module _ (log : Log) (attempts : List AttemptedValue) (is : IsLog log attempts) 
   log-moments = rw (is.moments, is.records) (ap (fold with_moment [])
       (sym (flat_map-append moments_of (told_of (keeping_of log) attempts) (recorded_of (keeping_of log) attempts)) ∙ ap (flat_map moments_of) (told-recorded (keeping_of log) attempts)))
 
-  -- it counts them
+  -- its count is their number
   pub log-count : log_count log ≡ length attempts
   log-count =
       let records = ap (λ (xs : List AttemptedValue). length xs) is.records in
@@ -60,7 +60,7 @@ module _ (log : Log) (attempts : List AttemptedValue) (is : IsLog log attempts) 
       let all = ap (λ (xs : List AttemptedValue). length xs) (told-recorded (keeping_of log) attempts) in
       omega (arith, is.told, records, kept, both, all)
 
--- what a refusal leaves
+-- a log after a failed allocation
 pub same-log : (old new : Log) (attempts : List AttemptedValue) → IsSameLog old new → IsLog old attempts → IsLog new attempts
 same-log old new attempts same is = record {
   lines = rw (same.lines, same.keeps) is.lines;
@@ -69,7 +69,7 @@ same-log old new attempts same is = record {
   records = rw (same.records, same.keeps) is.records;
 }
 
--- what is told and what is stored as records of no attempt
+-- no attempt has no lines and no records
 none-told : (keeps : Keeping) → told_of keeps [] ≡ []
 none-told Records = refl
 none-told Lines = refl
@@ -87,7 +87,7 @@ new-log log lines told moments records = record {
   records = rw (none-recorded (keeping_of log)) (ap (map attempted_of) records);
 }
 
--- an attempt begins: its record is put after the others
+-- an attempt begins: its record is appended to the others
 pub begun-recorded : (old new : Vec Attempted) (s : ℕ) (attempts : List AttemptedValue) → new.items ≡ old.items ++ record { begun = s; ended = None } ∷ []
     → IsLog (Recorded old) attempts → IsLog (Recorded new) (attempts ++ runs s ∷ [])
 begun-recorded old new s attempts added is = record {

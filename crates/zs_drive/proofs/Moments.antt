@@ -1,4 +1,4 @@
--- Clocks that get a tick more, and sets of moments as lists.
+-- Clocks that get one more tick, and sets of moments as lists.
 use Rattle.std.proofs.Common.{◌≡◌, ℕ, ◌+◌, ◌-◌, ◌≤◌, ◌<◌, List, [], ◌∷◌, ◌++◌, length, nat_eq, true, false, ◌||◌, refl, sym, arith, append_assoc}
 use Rattle.std.specs.Prelude.{fold, flat_map}
 use Rattle.std.specs.List.{list_any}
@@ -25,7 +25,7 @@ pub AreTicks-append : (ticks : List ℕ) (t : ℕ) → AreTicks ticks → AllBef
 AreTicks-append ticks t clock all h =
     record { rises = RisesFrom-append 0 ticks t clock.rises all (omega arith); bounded = AllBefore-append ticks t (max_tick + 1) clock.bounded (omega arith) }
 
--- a clock has no more ticks than there are moments
+-- a clock has at most one tick for each moment
 pub length-rises : (b : ℕ) (ticks : List ℕ) (c : ℕ) → RisesFrom b ticks → AllBefore ticks c → length ticks ≤ c - b
 unfolding RisesFrom AllBefore
 length-rises b [] c rises all = omega arith
@@ -35,7 +35,7 @@ length-rises b (x ∷ ticks) c rises all =
 pub length-clock : (ticks : List ℕ) → AreTicks ticks → length ticks ≤ max_tick + 1
 length-clock ticks clock = length-rises 0 ticks (max_tick + 1) clock.rises clock.bounded
 
--- a tick past all others is none of them
+-- a tick after all others is none of them
 pub absent : (ticks : List ℕ) (c : ℕ) → AllBefore ticks c → list_any (nat_eq c) ticks ≡ false
 unfolding AllBefore
 absent [] c all = refl
@@ -56,7 +56,7 @@ pub flat_map-append : {A B : Type 0} (f : A → List B) (xs ys : List A) → fla
 flat_map-append f [] ys = refl
 flat_map-append f (x ∷ xs) ys = rw (flat_map-append f xs ys) (sym (append_assoc (f x) (flat_map f xs) (flat_map f ys)))
 
--- a moment past all others is added to the set, once
+-- a moment after all others is added to the set, once
 pub with_moment-new : (moments : List ℕ) (c : ℕ) → AllBefore moments c → with_moment moments c ≡ moments ++ c ∷ []
 with_moment-new moments c all = rw (absent moments c all) refl
 

@@ -1,4 +1,4 @@
--- A job that is polled at its due ticks stands where it stands on the whole clock.
+-- A job that is polled at its due ticks has the timeline that it has on the whole clock.
 use Rattle.std.proofs.Common.{◌≡◌, ℕ, zero, suc, ◌+◌, ◌≤◌, ◌<◌, max, List, [], ◌∷◌, ◌++◌, append_assoc, append-nil, Option, if◌then◌else◌, refl, sym, ◌∙◌, ap, arith}
 use Rattle.std.specs.Prelude.{Some, None, ⊤}
 use Rattle.zs_term.specs.Saturating.{saturated}
@@ -17,13 +17,13 @@ use Rattle.zs_drive.proofs.Ticks.{lt_cases}
 use Rattle.zs_drive.proofs.Moments.{AllBefore-append, AllBefore-later}
 use Rattle.zs_drive.proofs.Extending.{resume, close, extend, extend_none, extend_last, extended, timeline_of-append}
 
--- what is waited for, if anything, comes after c
+-- the due moment, if there is one, is after c
 abbrev pub IsAfter : ℕ → Option ℕ → Type 0
 IsAfter c None = ⊤
 IsAfter c (Some x) = c < x
 
 module _ (job : JobRecord) (c : ℕ) where
-  -- a tick that comes too soon changes nothing
+  -- a tick that is too early changes nothing
   abbrev pub IsStill : History → Timeline → Type 0
   IsStill h timeline = IsAfter c timeline.due → extended job c h timeline ≡ timeline
 
@@ -74,7 +74,7 @@ module _ (job : JobRecord) (c : ℕ) where
     unfolding timeline_of
     timeline_of-still = from-still _ [] job.start
 
--- the ticks after b rise, and none is past the last moment
+-- the ticks after b rise, and none is after the last moment
 pub record Follows (b : ℕ) (ticks : List ℕ) : Type 0 where
   pub rises : RisesFrom b ticks
   pub bounded : AllBefore ticks (max_tick + 1)
@@ -84,7 +84,7 @@ module _ (job : JobRecord) (script : IsScript job.script) where
   pub timeline_of-skip : (ticks : List ℕ) (c : ℕ) → AllBefore ticks c → c ≤ max_tick → IsAfter c (timeline_of job ticks).due → timeline_of job (ticks ++ c ∷ []) ≡ timeline_of job ticks
   timeline_of-skip ticks c all small soon = timeline_of-append job script ticks c all (omega arith) ∙ timeline_of-still job c ticks soon
 
-  -- a due poll at a later tick of two clocks on which the job stands at one place
+  -- a due poll at a later tick of two clocks on which the job has the same timeline
   pub timeline_of-both : (ticks moments : List ℕ) (c : ℕ) → AllBefore ticks c → AllBefore moments c → c ≤ max_tick → timeline_of job moments ≡ timeline_of job ticks
       → timeline_of job (moments ++ c ∷ []) ≡ timeline_of job (ticks ++ c ∷ [])
   timeline_of-both ticks moments c all also small same =
@@ -104,7 +104,7 @@ module _ (job : JobRecord) (script : IsScript job.script) where
       let rest = timeline_of-skips (ticks ++ c ∷ []) more (c + 1) x grown rises.1 bounded.1 (rw one due) soon.1 in
       ap (timeline_of job) (sym (append_assoc ticks (c ∷ []) more)) ∙ rest ∙ one
 
-  -- a job that has ended stays as it is
+  -- a job that has ended doesn't change
   pub timeline_of-over : (ticks more : List ℕ) (b : ℕ) → AllBefore ticks b → RisesFrom b more → AllBefore more (max_tick + 1)
       → (timeline_of job ticks).due ≡ None → timeline_of job (ticks ++ more) ≡ timeline_of job ticks
   unfolding RisesFrom AllBefore

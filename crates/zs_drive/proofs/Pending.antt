@@ -1,4 +1,4 @@
--- A timeline waits for a moment exactly while it has no ending.
+-- A timeline has a due moment exactly while it has no ending.
 use Rattle.std.proofs.Common.{◌≡◌, ℕ, zero, suc, ◌+◌, max, List, [], ◌∷◌, length, Option, refl, arith}
 use Rattle.std.specs.Prelude.{Some, None, is_some, not, IfSome}
 use Rattle.zs_term.specs.Saturating.{saturated}
@@ -20,7 +20,7 @@ abbrev IsOpenOrOver : Timeline → Type 0
 IsOpenOrOver timeline = is_some timeline.due ≡ not (is_some timeline.ending)
 
 module _ (job : JobRecord) (ticks : List ℕ) where
-  -- Each function of the timeline keeps it, where `rest` does.
+  -- Each function of the timeline preserves this, if `rest` does.
   by_answer-pends : (rest : History → ℕ → Timeline) (h : History) (s e : ℕ) (outcome : Outcome) (output : Output) (decision : Decision)
       → ((h : History) (x : ℕ) → IsOpenOrOver (rest h x)) → IsOpenOrOver (by_answer job rest h s e outcome output decision)
   unfolding by_answer
@@ -58,12 +58,12 @@ module _ (job : JobRecord) (ticks : List ℕ) where
   unfolding timeline_of
   timeline_of-pends = from-pends (length ticks) [] job.start
 
--- a fact of what an option holds, from one of each value that it may hold
+-- a fact about the value of an option, from the fact about each value that it may have
 from-each : {A : Type 0} (o : Option A) (P : A → Type 0) → ((x : A) → o ≡ Some x → P x) → IfSome o P
 from-each None P each = tt
 from-each (Some x) P each = each x refl
 
--- the clock has no tick for what is waited for
+-- the clock has no tick for the due moment
 pub timeline_of-waits_for_none : (job : JobRecord) (ticks : List ℕ) → IsScript job.script → AreTicks ticks → WaitsForNoTick job ticks
 timeline_of-waits_for_none job ticks script clock =
     from-each (timeline_of job ticks).due (λ due. first_tick_from ticks due ≡ None) (timeline_of-waits job ticks script (max_tick + 1) (omega arith) clock.bounded)

@@ -1,4 +1,4 @@
--- The polls of a job on a clock that grows tick by tick, and where it stands after them.
+-- The polls of a job on a clock that grows tick by tick, and its timeline after them.
 use Rattle.std.proofs.Common.{◌≡◌, ℕ, ◌+◌, ◌≤◌, List, [], ◌∷◌, ◌++◌, length, length-append, append_assoc, append-nil, Option, ◌⊎◌, inl, inr, refl, sym, ◌∙◌, ap, subst, arith}
 use Rattle.std.specs.Prelude.{Some, None, flat_map}
 use Rattle.std.specs.List.{All}
@@ -26,13 +26,13 @@ use Rattle.zs_drive.proofs.Steps.{runs, begins, ends-by_outcome, stops, waits, r
 use Rattle.zs_drive.proofs.Beginning.{IsOnTimeline-new, AllEnded-new}
 use Rattle.zs_drive.proofs.OnClocks.{IsAfter, timeline_of-skip}
 
--- all attempts ended, and the next one is waited for
+-- all attempts ended, and the next one is due at some moment
 pub record IsWaiting (timeline : Timeline) : Type 0 where
   pub due : ℕ
   pub is : timeline ≡ record { attempts = timeline.attempts; due = Some due; ending = None }
   pub all : AllEnded timeline.attempts
 
--- the last attempt runs
+-- the last attempt is running
 pub record IsRunning (timeline : Timeline) : Type 0 where
   pub others : List AttemptedValue
   pub begun : ℕ
@@ -40,7 +40,7 @@ pub record IsRunning (timeline : Timeline) : Type 0 where
   pub is : timeline ≡ record { attempts = others ++ runs begun ∷ []; due = Some due; ending = None }
   pub all : AllEnded others
 
--- a job is over, or it waits, or it runs
+-- a job is over, waits, or runs
 abbrev pub IsPlaced : Timeline → Type 0
 IsPlaced timeline = (timeline.due ≡ None) ⊎ (IsWaiting timeline ⊎ IsRunning timeline)
 
@@ -53,7 +53,7 @@ not-empty : {A : Type 0} (first : List A) (r : A) (rest : List A) → [] ≡ fir
 not-empty [] r rest = λ e. cc
 not-empty (f ∷ first) r rest = λ e. cc
 
--- the last element of a longer list is the last one of its rest
+-- the last element of a list is the last one of any rest that isn't empty
 pub without-last : {A : Type 0} (first : List A) (r : A) (rest xs : List A) (x : A) → xs ++ x ∷ [] ≡ first ++ r ∷ rest → (others : List A) × (xs ≡ first ++ others)
 without-last [] r rest xs x = λ e. (xs, refl)
 without-last (f ∷ first) r rest [] x = λ e. let empty : [] ≡ first ++ r ∷ rest = cc in absurd (not-empty first r rest empty)
@@ -64,7 +64,7 @@ without-last (f ∷ first) r rest (y ∷ xs) x = λ e.
     (others.0, rw head (ap (◌∷◌ f) others.1))
 
 module _ (job : JobRecord) (script : IsScript job.script) where
-  -- where a job stands on these ticks, and that its polls brought it there
+  -- the timeline of a job on these ticks, to which its polls led
   pub record IsPolled (ticks : List ℕ) (timeline : Timeline) : Type 0 where
     pub is : timeline ≡ timeline_of job ticks
     pub polls : ℕ
@@ -73,7 +73,7 @@ module _ (job : JobRecord) (script : IsScript job.script) where
     pub among : AreAmong ticks (poll_moments timeline.attempts)
     pub reached : (first rest : List ℕ) → poll_moments timeline.attempts ≡ first ++ rest → IsReached job ticks first
 
-  -- one tick more
+  -- one more tick
   pub record Grows (ticks : List ℕ) (c : ℕ) (timeline : Timeline) : Type 0 where
     pub new : Timeline
     pub polled : IsPolled (ticks ++ c ∷ []) new
@@ -147,7 +147,7 @@ module _ (job : JobRecord) (script : IsScript job.script) where
           };
         }
 
-    -- the attempt that was waited for begins
+    -- the due attempt begins
     begins-grows : (attempts : List AttemptedValue) (x : ℕ) → AllEnded attempts → IsPolled ticks (record { attempts = attempts; due = Some x; ending = None })
         → Grows ticks c (record { attempts = attempts; due = Some x; ending = None })
     begins-grows attempts x all polled = lt_cases c x (λ _. Grows ticks c (record { attempts = attempts; due = Some x; ending = None }))
@@ -214,7 +214,7 @@ module _ (job : JobRecord) (script : IsScript job.script) where
         (λ l. skips (record { attempts = others ++ runs s ∷ []; due = Some w; ending = None }) polled l)
         (λ due. ends-grows others s w all polled due)
 
-    -- a tick more, whatever is waited for
+    -- one more tick, whatever is due
     grows : (timeline : Timeline) → IsPolled ticks timeline → Grows ticks c timeline
     grows timeline polled = elim polled.place [
       | inl none ↦ skips timeline polled (rw none tt)
@@ -251,7 +251,7 @@ module _ (job : JobRecord) (script : IsScript job.script) where
       (whole.0, subst (λ (xs : List ℕ). IsPolled xs whole.0) (append_assoc past (c ∷ []) later) whole.1)
 
   module _ (ticks : List ℕ) (clock : AreTicks ticks) where
-    -- where the job stands on a whole clock
+    -- the timeline of the job on a whole clock
     on-clock : IsPolled ticks (timeline_of job ticks)
     unfolding AllBefore
     on-clock =

@@ -20,7 +20,7 @@ use Rattle.zs_drive.proofs.Moments.{AllBefore-later, AreTicks-append, fold-appen
 use Rattle.zs_drive.proofs.Extending.{beat-takes, extend, extend_last, extended, timeline_of-append}
 
 module _ (job : JobRecord) (ticks : List ℕ) where
-  -- the moment that a timeline waits for has no tick
+  -- there is no tick for the due moment of a timeline
   abbrev pub Waits : Timeline → Type 0
   Waits timeline = (x : ℕ) → timeline.due ≡ Some x → first_tick_from ticks x ≡ None
 
@@ -72,7 +72,7 @@ module _ (job : JobRecord) (ticks : List ℕ) where
 abbrev pub after : List AttemptedValue → Timeline → Timeline
 after attempts timeline = record { attempts = attempts ++ timeline.attempts; due = timeline.due; ending = timeline.ending }
 
--- one tick more leaves attempts that ended as they are
+-- one more tick doesn't change attempts that ended
 pub extend-ended : (job : JobRecord) (c : ℕ) (h : History) (first rest : List AttemptedValue) (due : Option ℕ) (ending : Option Ending) → AllEnded first
     → extend job c h (first ++ rest) due ending ≡ after first (extend job c (history_from h first) rest due ending)
 unfolding extend AllEnded
@@ -89,7 +89,7 @@ pub history_after-running : (attempts : List AttemptedValue) (s : ℕ) → histo
 history_after-running attempts s = fold-append _ [] attempts (record { begun = s; ended = None } ∷ [])
 
 module _ (job : JobRecord) (script : IsScript job.script) where
-  -- the moments so far are before a moment at which the job is due
+  -- the moments so far are before any moment at which the job is due
   due-later : (attempts : List AttemptedValue) (x seen polls : ℕ) → IsOnTimeline job (record { attempts = attempts; due = Some x; ending = None }) polls → x ≤ seen
       → AllBefore (poll_moments attempts) seen
   due-later attempts x seen polls stands due =
@@ -98,7 +98,7 @@ module _ (job : JobRecord) (script : IsScript job.script) where
       timeline_of-waits job moments script (max_tick + 1) (omega arith) stands.clock.bounded x (sym (ap (λ (timeline : Timeline). timeline.due) stands.same)) in
       AllBefore-later moments x seen (AllBefore-none moments x waits) due
 
-  -- where a due poll at a moment brings the job
+  -- the timeline to which a due poll at a moment leads
   pub polled-extended : (attempts : List AttemptedValue) (x seen polls : ℕ) → IsOnTimeline job (record { attempts = attempts; due = Some x; ending = None }) polls
       → x ≤ seen → seen ≤ max_tick
       → timeline_of job (poll_moments attempts ++ seen ∷ []) ≡ extended job seen [] (record { attempts = attempts; due = Some x; ending = None })
@@ -106,7 +106,7 @@ module _ (job : JobRecord) (script : IsScript job.script) where
       timeline_of-append job script (poll_moments attempts) seen (due-later attempts x seen polls stands due) (omega arith)
       ∙ ap (extended job seen []) (sym stands.same)
 
-  -- what a due poll at a moment makes of a job's timeline
+  -- what a due poll at a moment does to a job's timeline
   pub advance : (attempts : List AttemptedValue) (x seen polls : ℕ) (new : Timeline)
       → IsOnTimeline job (record { attempts = attempts; due = Some x; ending = None }) polls → x ≤ seen → seen ≤ max_tick
       → new ≡ extended job seen [] (record { attempts = attempts; due = Some x; ending = None })

@@ -1,4 +1,4 @@
--- Where a due poll takes memory, it comes to no ending that an outcome itself gives.
+-- A due poll that may allocate memory never gives an ending by outcome alone.
 use Rattle.std.proofs.Common.{◌≡◌, ℕ, ◌+◌, ◌≤◌, max, List, [], ◌∷◌, ◌++◌, if◌then◌else◌, refl, sym, ◌∙◌, ap, arith}
 use Rattle.std.specs.Prelude.{Some, None, Result, Ok, Err, OnOk, OnErr}
 use Rattle.futures.specs.Poll.{IfReady}
@@ -34,7 +34,7 @@ use Rattle.zs_drive.proofs.Records.{polled-extended}
 use Rattle.zs_drive.proofs.Steps.{runs, begins, closes}
 use Rattle.zs_drive.proofs.Advancing.{stands-at, moments-in}
 
--- an outcome itself gives no ending that the schedule gives after an outcome which does not itself end the job
+-- an ending by schedule, of an outcome that doesn't itself end the job, is no ending by outcome
 unlike-endings : (mode : Mode) (asked outcome : Outcome) (ending : Ending) → ending_by_outcome mode asked ≡ None → ending_by_outcome mode outcome ≡ Some ending
     → ending ≡ ending_by_schedule mode asked → ⊥
 unlike-endings Retry (Good value) outcome ending none gives same = cc
@@ -50,7 +50,7 @@ module _ (job : JobRecord) (seen : ℕ) where
   unfolding resume
   resume-open h x = lt_cases seen x (λ b. (if b then waiting x else running seen (saturated (seen + (beat_after job h).ms))).ending ≡ None) (λ _. refl) (λ _. refl)
 
-  -- what the schedule answers ends the job in its own way, if at all
+  -- if the schedule's result ends the job, it is an ending by schedule
   answer-unlike : (h : History) (s : ℕ) (asked outcome : Outcome) (output : Output) (decision : Decision) (ending : Ending)
       → ending_by_outcome job.mode asked ≡ None → ending_by_outcome job.mode outcome ≡ Some ending
       → (by_answer job (resume job seen) h s seen asked output decision).ending ≡ Some ending → ⊥
@@ -60,7 +60,7 @@ module _ (job : JobRecord) (seen : ℕ) where
   answer-unlike h s asked outcome output (Next x) ending none gives ends =
       let clash : None ≡ Some ending = sym (resume-open h (max x seen)) ∙ ends in cc
 
-  -- so does an attempt whose outcome does not itself end the job
+  -- the same for an attempt whose outcome does not itself end the job
   outcome-unlike : (h : History) (s : ℕ) (asked outcome : Outcome) (ending : Ending)
       → ending_by_outcome job.mode asked ≡ None → ending_by_outcome job.mode outcome ≡ Some ending
       → (by_outcome job (resume job seen) h s seen asked None).ending ≡ Some ending → ⊥
@@ -70,7 +70,7 @@ module _ (job : JobRecord) (seen : ℕ) where
       let answered = answer_of job.schedule longer in
       answer-unlike longer s asked outcome answered.output answered.decision ending none gives ends
 
--- a due poll that takes memory comes to no ending that an outcome itself gives
+-- a due poll that may allocate memory gives no ending by outcome
 pub asked-unlike : (p : Progress) (phase : Phase) → p.phase ≡ phase → IsProgress p → IsScript p.script → IsDuePhase p.seen p.phase → TakesMemory p.mode p.phase
     → (outcome : Outcome) (ending : Ending) → ending_by_outcome p.mode outcome ≡ Some ending
     → (timeline_of (job_in p) (moments_in p ++ p.seen ∷ [])).ending ≡ Some ending → ⊥
@@ -102,7 +102,7 @@ asked-unlike p (Running attempt) is progress script due takes outcome ending giv
     outcome-unlike job p.seen (history_after others) s asked outcome ending none_asked gives (rw none_asked at ends_so)
 asked-unlike p (Over over) is progress script due takes outcome ending gives ends = absurd (rw is at due)
 
--- a phase is over, waits for what comes later, or is due
+-- a phase is over, is due later, or is due
 phase_cases : (seen : ℕ) (phase : Phase) (P : Type 0) → (IsOver phase → P) → (IsEarly seen phase → P) → (IsDuePhase seen phase → P) → P
 phase_cases seen (Waiting due) P over early now = lt_cases seen due (λ _. P) (λ l. early l) (λ l. now l)
 phase_cases seen (Running attempt) P over early now = lt_cases seen attempt.end (λ _. P) (λ l. early l) (λ l. now l)
@@ -119,13 +119,13 @@ done-whole old new turn done is over early due =
     (λ e. let other = (early e).0 in cc)
     (λ d. let all = rw is at (due d) in (all.0.progress, all.0.state, all.0.job))
 
--- what is waited for has come, where it is neither early nor over
+-- a phase that is neither early nor over is due
 due-phase : (seen : ℕ) (phase : Phase) → (IsEarly seen phase → ⊥) → (IsOver phase → ⊥) → IsDuePhase seen phase
 due-phase seen (Waiting due) early over = lt_cases seen due (λ _. due ≤ seen) (λ l. absurd (early l)) (λ l. l)
 due-phase seen (Running attempt) early over = lt_cases seen attempt.end (λ _. attempt.end ≤ seen) (λ l. absurd (early l)) (λ l. l)
 due-phase seen (Over ending) early over = absurd (over tt)
 
--- where a poll of a task brings it that waits for a moment which has come
+-- a poll of a task whose due moment has passed
 polled-at : (t : Inside) (x : ℕ) → x ≤ t.progress.value.seen → (current_timeline (task_of t)).due ≡ Some x
     → (current_timeline (polled (task_of t))).ending ≡ (timeline_of (job_in t.progress.value) (moments_in t.progress.value ++ t.progress.value.seen ∷ [])).ending
 polled-at t x soon waits =
@@ -134,14 +134,14 @@ polled-at t x soon waits =
     rw waits (lt_cases p.seen x (λ b. (current_timeline (if b then task_of t else later)).ending ≡ (timeline_of (job_in p) (moments_in p ++ p.seen ∷ [])).ending)
     (λ l. absurd (omega arith)) (λ _. refl))
 
--- where a poll of a task that is due brings it
+-- a poll of a task that is due
 polled-ending : (t : Inside) (phase : Phase) → t.progress.value.phase ≡ phase → IsProgress t.progress.value → IsDuePhase t.progress.value.seen t.progress.value.phase
     → (current_timeline (polled (task_of t))).ending ≡ (timeline_of (job_in t.progress.value) (moments_in t.progress.value ++ t.progress.value.seen ∷ [])).ending
 polled-ending t (Waiting x) is progress due = polled-at t x (rw is at due) (ap (λ (timeline : Timeline). timeline.due) (stands-at t.progress.value progress) ∙ ap due_of is)
 polled-ending t (Running attempt) is progress due = polled-at t attempt.end (rw is at due) (ap (λ (timeline : Timeline). timeline.due) (stands-at t.progress.value progress) ∙ ap due_of is)
 polled-ending t (Over ending) is progress due = absurd (rw is at due)
 
--- a refused turn of a task is due, takes memory, and comes to no ending that an outcome itself gives
+-- a turn that fails was due, may allocate memory, and gives no ending by outcome
 pub refused-EndsByOutcome : {T E : Type 0} (t : Inside) (turn : Poll (Result T E)) (fault : E) (done : T) → IsTask t → turn ≡ Ready (Err fault)
     → (IsEarly t.progress.value.seen t.progress.value.phase → turn ≡ Pending) → (IsOver t.progress.value.phase → turn ≡ Ready (Ok done))
     → IfReady turn (λ answer. OnErr answer (TakesMemory t.progress.value.mode t.progress.value.phase))

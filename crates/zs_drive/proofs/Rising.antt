@@ -41,7 +41,7 @@ module _ (job : JobRecord) (script : IsScript job.script) (ticks : List ℕ) (cl
   begins_after earlier begun s None ends begins = absurd begins
   begins_after earlier begun s (Some end) ends begins = begins_by end.at s end.step (tick-small (end_due job ticks earlier begun) end.at ends.at) begins
 
-  -- two attempts in a row
+  -- two consecutive attempts
   pair : (earlier later : List AttemptedValue) (a b : AttemptedValue) → (timeline_of job ticks).attempts ≡ earlier ++ a ∷ b ∷ later
       → IfSome a.ended (λ end. end.at ≤ b.begun) × (b.begun < max_tick + 1)
   pair earlier later a b split = begins_after earlier a.begun b.begun a.ended (rules.ends earlier (b ∷ later) a split) (rules.next earlier later a b split)

@@ -1,4 +1,4 @@
--- Worked examples of the timeline of a job, by computing: what it comes to on a clock, and at which moments it is polled.
+-- Worked examples, by computing: the timeline of a job on a clock, and the moments of its polls.
 use Rattle.std.proofs.Common.{◌≡◌, ℕ, zero, suc, List, [], ◌∷◌, refl}
 use Rattle.std.specs.Prelude.{Some, None}
 use Rattle.zs_effect.specs.declared.script.Beat.{Beat}
@@ -18,7 +18,7 @@ use Rattle.zs_drive.specs.Clocks.{first_tick_from}
 use Rattle.zs_drive.specs.Values.{JobRecord, AttemptedValue}
 use Rattle.zs_drive.specs.Timeline.{Timeline, timeline_of, from, from_begin, from_wait, by_outcome, by_answer, poll_moments}
 
--- the ticks from b on, n of them
+-- n ticks, from b on
 abbrev ticks_from : ℕ → ℕ → List ℕ
 ticks_from b zero = []
 ticks_from b (suc n) = b ∷ ticks_from (suc b) n
@@ -44,15 +44,15 @@ bad ms code = record { ms = ms; outcome = Bad code }
 abbrev last : ℕ → ℕ → Outcome → AttemptedValue
 last s e outcome = record { begun = s; ended = Some (record { at = e; outcome = outcome; step = None }) }
 
--- an attempt with what the schedule answered
+-- an attempt with the schedule's result
 abbrev asked : ℕ → ℕ → Outcome → Output → Decision → AttemptedValue
 asked s e outcome output decision = record { begun = s; ended = Some (record { at = e; outcome = outcome; step = Some (answer output decision) }) }
 
--- an attempt that runs
+-- an attempt that is running
 abbrev runs : ℕ → AttemptedValue
 runs s = record { begun = s; ended = None }
 
--- a job that goes on, and one that has ended
+-- a job that continues, and one that has ended
 abbrev going : List AttemptedValue → ℕ → Timeline
 going attempts due = record { attempts = attempts; due = Some due; ending = None }
 
@@ -85,7 +85,7 @@ growing_delays : timeline_of (job Retry (two both (leaf (exponential 10 2)) (lea
 unfolding timeline_of from from_begin from_wait by_outcome by_answer first_tick_from
 growing_delays = refl
 
--- a fixed period goes on at once where it is behind, and then meets its boundaries again
+-- a fixed period that is late continues at once, and then follows its boundaries again
 behind : timeline_of (job Repeat (leaf (fixed 100)) (good 50 1 ∷ good 250 1 ∷ good 10 1 ∷ good 10 1 ∷ [])) (every_ms 500)
     ≡ going (asked 0 50 (Good 1) (number 0) (Next 150) ∷ asked 150 400 (Good 1) (number 1) (Next 400) ∷ asked 400 410 (Good 1) (number 2) (Next 450) ∷ asked 450 460 (Good 1) (number 3) (Next 550) ∷ []) 550
 unfolding timeline_of from from_begin from_wait by_outcome by_answer first_tick_from
@@ -105,7 +105,7 @@ on_a_boundary-polls : poll_moments (timeline_of (job Repeat (leaf (fixed 100)) (
 unfolding timeline_of from from_begin from_wait by_outcome by_answer first_tick_from poll_moments
 on_a_boundary-polls = refl
 
--- a part that stopped goes on again, and the last attempt begins at the horizon
+-- a part that stopped continues again, and the last attempt begins at the horizon
 goes_on_again : timeline_of (job Repeat (two either (over (leaf identity) (while_input (record { cmp = Eq; than = 0 }))) (leaf (recurs 3))) (good 1 0 ∷ good 1 1 ∷ good 1 0 ∷ [])) (every_ms 4)
     ≡ going (asked 0 1 (Good 0) (pair (number 0) (number 0)) (Next 1) ∷ asked 1 2 (Good 1) (pair (number 1) (number 1)) (Next 2) ∷ asked 2 3 (Good 0) (pair (number 0) (number 2)) (Next 3) ∷ asked 3 4 (Good 0) (pair (number 0) (number 3)) (Next 4) ∷ runs 4 ∷ []) 5
 unfolding timeline_of from from_begin from_wait by_outcome by_answer first_tick_from
@@ -141,7 +141,7 @@ ending_at_the_horizon-polls : poll_moments (timeline_of (job Repeat (leaf (space
 unfolding timeline_of from from_begin from_wait by_outcome by_answer first_tick_from poll_moments
 ending_at_the_horizon-polls = refl
 
--- a delay saturates, and the nearer of two counts
+-- a delay saturates, and the earlier of two moments counts
 saturating_delay : timeline_of (job Repeat (two either (leaf (exponential 1 4294967296)) (leaf (spaced 1))) (good 1 0 ∷ [])) (every_ms 5)
     ≡ going (asked 0 1 (Good 0) (pair (number 1) (number 0)) (Next 2) ∷ asked 2 3 (Good 0) (pair (number 4294967296) (number 1)) (Next 4) ∷ asked 4 5 (Good 0) (pair (number 18446744073709551615) (number 2)) (Next 6) ∷ []) 6
 unfolding timeline_of from from_begin from_wait by_outcome by_answer first_tick_from
@@ -153,7 +153,7 @@ one_after_another : timeline_of (job Repeat (two and_then (leaf (recurs 2)) (lea
 unfolding timeline_of from from_begin from_wait by_outcome by_answer first_tick_from
 one_after_another = refl
 
--- a failure ends a repeat, and the schedule is not asked
+-- a failure ends a repeat, and the schedule is not stepped
 first_failure : timeline_of (job Repeat (leaf (recurs 5)) (good 2 1 ∷ bad 2 4 ∷ [])) (every_ms 1000)
     ≡ closed (asked 0 2 (Good 1) (number 0) (Next 2) ∷ last 2 4 (Bad 4) ∷ []) (Failed 4)
 unfolding timeline_of from from_begin from_wait by_outcome by_answer first_tick_from
@@ -163,7 +163,7 @@ first_failure-polls : poll_moments (timeline_of (job Repeat (leaf (recurs 5)) (g
 unfolding timeline_of from from_begin from_wait by_outcome by_answer first_tick_from poll_moments
 first_failure-polls = refl
 
--- a script of three entries goes on with its last one
+-- a script of three entries continues with its last one
 past_the_last_entry : timeline_of (job Retry (leaf (recurs 3)) (bad 1 11 ∷ bad 2 12 ∷ bad 3 13 ∷ [])) (every_ms 1000)
     ≡ closed (asked 0 1 (Bad 11) (number 0) (Next 1) ∷ asked 1 3 (Bad 12) (number 1) (Next 3) ∷ asked 3 6 (Bad 13) (number 2) (Next 6) ∷ asked 6 9 (Bad 13) (number 3) Stop ∷ []) (Failed 13)
 unfolding timeline_of from from_begin from_wait by_outcome by_answer first_tick_from
@@ -183,7 +183,7 @@ endless-polls : poll_moments (timeline_of (job_from 3 Repeat (leaf (spaced 0)) (
 unfolding timeline_of from from_begin from_wait by_outcome by_answer first_tick_from poll_moments
 endless-polls = refl
 
--- a start past the horizon
+-- a start after the horizon
 start_past_the_horizon : timeline_of (job_from 2000 Retry (leaf (recurs 3)) (bad 5 7 ∷ good 5 1 ∷ [])) (every_ms 1000)
     ≡ going ([]) 2000
 unfolding timeline_of from from_begin from_wait by_outcome by_answer first_tick_from
@@ -203,7 +203,7 @@ start_at_the_horizon-polls : poll_moments (timeline_of (job_from 20 Repeat (leaf
 unfolding timeline_of from from_begin from_wait by_outcome by_answer first_tick_from poll_moments
 start_at_the_horizon-polls = refl
 
--- a clock with no tick
+-- a clock without ticks
 no_tick : timeline_of (job_from 21 Repeat (leaf (spaced 1)) (good 1 4 ∷ [])) ([])
     ≡ going ([]) 21
 unfolding timeline_of from from_begin from_wait by_outcome by_answer first_tick_from
@@ -243,7 +243,7 @@ late_start-polls : poll_moments (timeline_of (job Retry (leaf (recurs 3)) (bad 5
 unfolding timeline_of from from_begin from_wait by_outcome by_answer first_tick_from poll_moments
 late_start-polls = refl
 
--- the schedule's moment is kept, and the attempt begins at the next tick
+-- the attempt begins at the first tick after the schedule's moment
 coarse_ticks : timeline_of (job Repeat (leaf (spaced 10)) (good 4 1 ∷ [])) (0 ∷ 5 ∷ 16 ∷ 30 ∷ [])
     ≡ going (asked 0 5 (Good 1) (number 0) (Next 15) ∷ asked 16 30 (Good 1) (number 1) (Next 40) ∷ []) 40
 unfolding timeline_of from from_begin from_wait by_outcome by_answer first_tick_from

@@ -1,4 +1,4 @@
--- A timeline that keeps the rules of the drivers at each place follows from the start on.
+-- A timeline that satisfies the rules of the drivers at each place follows from the start on.
 use Rattle.std.proofs.Common.{◌≡◌, ℕ, ◌+◌, ◌≤◌, ◌<◌, max, List, [], ◌∷◌, ◌++◌, length, append_assoc, Option, if◌then◌else◌, refl, sym, ◌∙◌, ap, subst, arith}
 use Rattle.std.specs.Prelude.{Some, None}
 use Rattle.zs_term.specs.Saturating.{saturated}
@@ -47,13 +47,13 @@ module _ (job : JobRecord) (ticks : List ℕ) where
   Starts x due ending (a ∷ later) = first_tick_from ticks x ≡ Some a.begun
 
   module _ (timeline : Timeline) (t : IsTimeline job ticks timeline) where
-    -- no attempt comes after one that does not go on
+    -- no attempt follows one after which the job doesn't continue
     no-later : (p later : List AttemptedValue) (a : AttemptedValue) → timeline.attempts ≡ p ++ a ∷ later
         → ((s : ℕ) → BeginsAfter job ticks s a.ended → ⊥) → later ≡ []
     no-later p [] a is stops = refl
     no-later p (b ∷ later) a is stops = absurd (stops b.begun (t.next p later a b is))
 
-    -- the next attempt, or none
+    -- the next attempt, if there is one
     starts-next : (p later : List AttemptedValue) (s w e y : ℕ) (outcome : Outcome) (output : Output)
         → timeline.attempts ≡ p ++ ended_attempt s e outcome (Some (answer output (Next y))) ∷ later
         → first_tick_from ticks w ≡ Some e → ending_by_outcome job.mode outcome ≡ None
@@ -139,7 +139,7 @@ module _ (job : JobRecord) (ticks : List ℕ) where
     starts-first [] is = t.none is
     starts-first (a ∷ later) is = t.first a later is
 
-    -- a timeline that keeps the rules at each place follows from the start on
+    -- a timeline that satisfies the rules at each place follows from the start on
     pub follows-timeline : Follows job ticks timeline.attempts timeline.due timeline.ending [] job.start
     unfolding AllEnded
     follows-timeline = down timeline.attempts [] job.start tt refl (starts-first timeline.attempts refl)

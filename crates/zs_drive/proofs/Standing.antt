@@ -1,4 +1,4 @@
--- Where a task stands, by its fields.
+-- The timeline of a task, by its fields.
 use Rattle.std.proofs.Common.{◌≡◌, ℕ, ◌+◌, ◌≤◌, List, length, sym, ◌∙◌, ap, arith}
 use Rattle.zs_drive.specs.declared.task.Task.TheInside.{Inside}
 use Rattle.zs_drive.specs.Clocks.{AreTicks, max_tick}

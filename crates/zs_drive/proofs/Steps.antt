@@ -1,4 +1,4 @@
--- What a due poll makes of the records, by what was waited for and by what the schedule answers.
+-- What a due poll does to the records, by what was due and by the schedule's result.
 use Rattle.std.proofs.Common.{◌≡◌, ℕ, suc, ◌+◌, ◌≤◌, ◌<◌, max, List, [], ◌∷◌, ◌++◌, length, length-append, append_assoc, append-nil, Option, if◌then◌else◌, refl, sym, ◌∙◌, ap, arith}
 use Rattle.std.specs.Prelude.{Some, None, IsSome, flat_map, slice_set}
 use Rattle.zs_term.specs.Saturating.{saturated}
@@ -19,7 +19,7 @@ use Rattle.zs_drive.proofs.Moments.{fold-append, flat_map-append}
 use Rattle.zs_drive.proofs.Extending.{resume, close, extend, extend_none, extend_last, extended}
 use Rattle.zs_drive.proofs.Records.{after, extend-ended}
 
--- attempt that began at s and runs
+-- an attempt that began at s and is running
 abbrev pub runs : ℕ → AttemptedValue
 runs s = record { begun = s; ended = None }
 
@@ -43,7 +43,7 @@ pub history_after-ended : (attempts : List AttemptedValue) (s e : ℕ) (outcome 
     → history_after (attempts ++ ended_attempt s e outcome step ∷ []) ≡ (e, number_of outcome) ∷ history_after attempts
 history_after-ended attempts s e outcome step = fold-append _ [] attempts (ended_attempt s e outcome step ∷ [])
 
--- an element in the middle of a list is written
+-- an element in the middle of a list is replaced
 pub set-middle : {A : Type 0} (xs : List A) (y z : A) (ys : List A) → slice_set (xs ++ y ∷ ys) (length xs) z ≡ xs ++ z ∷ ys
 set-middle [] y z ys = refl
 set-middle (x ∷ xs) y z ys = ap (◌∷◌ x) (set-middle xs y z ys)
@@ -59,7 +59,7 @@ module _ (job : JobRecord) (seen : ℕ) where
   resume-late h x lt = lt_cases seen x (λ b. (if b then waiting x else running seen (saturated (seen + (beat_after job h).ms))) ≡ waiting x)
       (λ _. refl) (λ l. absurd (omega arith))
 
-  -- the attempt that was waited for begins
+  -- the due attempt begins
   pub begins : (attempts : List AttemptedValue) (x : ℕ) → AllEnded attempts → x ≤ seen
       → record { attempts = attempts ++ runs seen ∷ []; due = Some (saturated (seen + (entry_at job.script (length attempts + 1)).ms)); ending = None }
       ≡ extended job seen [] (record { attempts = attempts; due = Some x; ending = None })
@@ -90,7 +90,7 @@ module _ (job : JobRecord) (seen : ℕ) where
     ends-by_outcome ending by =
         let whole = rw (← is, by) at (closes others s w all due) in sym whole
 
-    -- the schedule is asked, and answers this
+    -- the schedule is stepped, and returns this
     module _ (none : ending_by_outcome job.mode outcome ≡ None) where
       pub ends-by_answer : (output : Output) (decision : Decision) → answer output decision ≡ answer_of job.schedule ((seen, number_of outcome) ∷ history_after others)
           → extended job seen [] (record { attempts = others ++ runs s ∷ []; due = Some w; ending = None })

@@ -1,4 +1,4 @@
--- The least tick of a clock, and of one with a tick more.
+-- The least tick of a clock, and of one with one more tick.
 use Rattle.std.proofs.Common.{◌≡◌, ℕ, suc, ◌≤◌, ◌<◌, List, [], ◌∷◌, ◌++◌, length, nat_lt, nat_le, true, false, Bool, if◌then◌else◌, refl, arith}
 use Rattle.std.specs.Prelude.{Some, None}
 use Rattle.std.proofs.lemmas.Bool.{ltb-true}
@@ -19,12 +19,12 @@ tick_cases t x P below above =
       | false ↦ λ e. below (let late : t < x = grind (arith, nat_tests) in late)
     ] refl
 
--- how many ticks are at or after x
+-- the number of ticks at or after x
 unfoldable pub left : List ℕ → ℕ → ℕ
 left [] x = 0
 left (t ∷ ticks) x = if nat_le x t then suc (left ticks x) else left ticks x
 
--- a tick more does not hide the least one
+-- one more tick does not hide the least one
 pub first_tick_from-some : (ticks : List ℕ) (c x s : ℕ) → first_tick_from ticks x ≡ Some s → first_tick_from (ticks ++ c ∷ []) x ≡ Some s
 unfolding first_tick_from
 first_tick_from-some [] c x s = λ e. cc
@@ -32,7 +32,7 @@ first_tick_from-some (t ∷ ticks) c x s =
     elim (nat_le x t) as (λ b. (if b then Some t else first_tick_from ticks x) ≡ Some s → (if b then Some t else first_tick_from (ticks ++ c ∷ []) x) ≡ Some s)
     [ true ↦ λ e. e | false ↦ first_tick_from-some ticks c x s ]
 
--- where there was none, the tick more is asked
+-- if there was none, the new tick is the candidate
 pub first_tick_from-none : (ticks : List ℕ) (c x : ℕ) → first_tick_from ticks x ≡ None → first_tick_from (ticks ++ c ∷ []) x ≡ first_tick_from (c ∷ []) x
 unfolding first_tick_from
 first_tick_from-none [] c x = λ e. refl
@@ -48,7 +48,7 @@ pub tick_one-at : (c x : ℕ) → x ≤ c → first_tick_from (c ∷ []) x ≡ S
 unfolding first_tick_from
 tick_one-at c x h = tick_cases c x (λ b. (if b then Some c else None) ≡ Some c) (λ l. absurd (omega arith)) (λ _. refl)
 
--- it is at or after the moment asked for
+-- it is at or after the moment
 pub first_tick_from-from : (ticks : List ℕ) (x s : ℕ) → first_tick_from ticks x ≡ Some s → x ≤ s
 unfolding first_tick_from
 first_tick_from-from [] x s = λ e. cc
@@ -64,7 +64,7 @@ first_tick_from-before (t ∷ ticks) c x s all =
     elim (nat_le x t) as (λ b. (if b then Some t else first_tick_from ticks x) ≡ Some s → s < c)
     [ true ↦ λ e. let same : t ≡ s = cc in let first : t < c = all.0 in omega arith | false ↦ first_tick_from-before ticks c x s all.1 ]
 
--- there is none at or after a moment that all are before
+-- there is none at or after a moment that is after all of them
 pub first_tick_from-past : (ticks : List ℕ) (c x : ℕ) → AllBefore ticks c → c ≤ x → first_tick_from ticks x ≡ None
 unfolding first_tick_from AllBefore
 first_tick_from-past [] c x all h = refl
@@ -72,7 +72,7 @@ first_tick_from-past (t ∷ ticks) c x all h =
     let first : t < c = all.0 in
     tick_cases t x (λ b. (if b then Some t else first_tick_from ticks x) ≡ None) (λ _. first_tick_from-past ticks c x all.1 h) (λ l. absurd (omega arith))
 
--- where there is none, all are before
+-- if there is none, all are before the moment
 pub AllBefore-none : (ticks : List ℕ) (x : ℕ) → first_tick_from ticks x ≡ None → AllBefore ticks x
 unfolding first_tick_from AllBefore
 AllBefore-none [] x = λ e. tt
@@ -103,7 +103,7 @@ left-later (t ∷ ticks) x y h =
     (λ _. elim (nat_le x t) as (λ b. left ticks y ≤ (if b then suc (left ticks x) else left ticks x)) [ true ↦ omega arith | false ↦ omega arith ])
     (λ l. tick_cases t x (λ b. suc (left ticks y) ≤ (if b then suc (left ticks x) else left ticks x)) (λ k. absurd (omega arith)) (λ _. omega arith))
 
--- after the least tick fewer are left
+-- after the least tick fewer remain
 pub left-after : (ticks : List ℕ) (x s y n : ℕ) → first_tick_from ticks x ≡ Some s → s < y → left ticks x ≤ suc n → left ticks y ≤ n
 unfolding first_tick_from left
 left-after [] x s y n = λ e h fits. omega arith

@@ -1,4 +1,4 @@
--- A timeline that follows from the start on keeps the rules of the drivers at each place.
+-- A timeline that follows from the start on satisfies the rules of the drivers at each place.
 use Rattle.std.proofs.Common.{◌≡◌, ℕ, ◌+◌, ◌<◌, max, List, [], ◌∷◌, ◌++◌, length, append_assoc, append-nil, Option, refl, sym, ◌∙◌, ap, subst, arith}
 use Rattle.std.specs.Prelude.{Some, None}
 use Rattle.zs_term.specs.Saturating.{saturated}
@@ -58,7 +58,7 @@ module _ (job : JobRecord) (ticks : List ℕ) (due : Option ℕ) (ending : Optio
   goes later h w None some ends = absurd (some ends.1)
   goes later h w (Some end) some ends = goes-asked later h w end.at end.outcome end.step (ending_by_outcome job.mode end.outcome) some ends.0 ends.2
 
-  -- the rules from an attempt on, which comes after others that ended
+  -- the rules from an attempt on, which follows others that ended
   record Reaches (p later : List AttemptedValue) (a : AttemptedValue) : Type 0 where
     pub x : ℕ
     pub all : AllEnded p
@@ -108,7 +108,7 @@ module _ (job : JobRecord) (ticks : List ℕ) (due : Option ℕ) (ending : Optio
         λ l. (let greater : max g.y g.e ≡ g.y = omega arith in rw greater at first),
       )
 
-  -- where it stops
+  -- how the list ends
   last-on : (h : History) (w : ℕ) (end : EndedValue) (decision : Decision) → first_tick_from ticks w ≡ Some end.at
       → GoesOn job ticks (Follows job ticks [] due ending) h [] due ending end decision → StopsOn job ticks end due ending decision
   unfolding Follows
@@ -137,7 +137,7 @@ module _ (job : JobRecord) (ticks : List ℕ) (due : Option ℕ) (ending : Optio
       last-by (history_after p) (saturated (s + (beat_after job (history_after p)).ms)) end (ending_by_outcome job.mode end.outcome) ends.0 ends.2
 
 module _ (job : JobRecord) (ticks : List ℕ) where
-  -- a timeline that follows from the start on keeps the rules at each place
+  -- a timeline that follows from the start on satisfies the rules at each place
   pub timeline-follows : (timeline : Timeline) → Follows job ticks timeline.attempts timeline.due timeline.ending [] job.start → IsTimeline job ticks timeline
   unfolding Follows AllEnded
   timeline-follows timeline follows =

@@ -1,4 +1,4 @@
--- The fields of a task, and what is seen of them.
+-- The fields of a task, and what contracts know about them.
 use Rattle.std.specs.Prelude.{◌≡◌, false, true, None}
 use Rattle.zs_effect.specs.Scripts.{IsScript}
 use Rattle.zs_drive.specs.declared.task.Task.TheInside.{Inside}
@@ -6,11 +6,11 @@ use Rattle.zs_drive.specs.Tasks.{TaskValue}
 use Rattle.zs_drive.specs.Log.{keeping_of}
 use Rattle.zs_drive.specs.Progress.{moments_in, job_value_in, ending_of, IsProgress, HasState}
 
--- the value that contracts see
+-- the task as contracts know it
 abbrev pub task_of : Inside → TaskValue
 task_of t = record { number = t.number; job = job_value_in t.progress.value; keeps = keeping_of t.progress.value.log; moments = moments_in t.progress.value; seen = t.progress.value.seen; broken = t.broken }
 
--- a broken task may have lost its schedule's state, and has not ended
+-- the invariant of a task; a broken one may lack its schedule's state, and has no ending
 pub record IsTask (t : Inside) : Type 0 where
   pub progress : IsProgress t.progress.value
   pub state : t.broken ≡ false → HasState t.progress.value

@@ -1,4 +1,4 @@
--- What the clauses of callers name, and so what has to be believed.
+-- Named by public clauses: a reader who relies on a clause has to believe what it names.
 pub mod Clocks
 pub mod Values
 pub mod Endings
@@ -8,9 +8,9 @@ pub mod Lines
 pub mod Tasks
 pub mod DriverRules
 pub mod DriverLaws
--- What calls that no headline needs promise.
+-- Named by the clauses of calls on which no headline depends.
 pub mod Told
--- What the bodies keep: private contracts, and the views and invariants of models, alone name these.
+-- What the code stores. Only private contracts, and the views and invariants of models, name these.
 pub mod Recorded
 pub mod Log
 pub mod Progress

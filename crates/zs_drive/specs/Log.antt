@@ -1,4 +1,4 @@
--- What a log has of attempts: those that it has as lines, with their moments, and the records of the others.
+-- What a log stores: some attempts as lines with their moments, and the others as records.
 use Rattle.std.specs.Prelude.{◌≡◌, ℕ, ◌+◌, ◌≤◌, ⊤, List, [], ◌∷◌, ◌++◌, length, map, flat_map, fold, option_to_list, string_bytes, Some, vec_len}
 use Rattle.std.specs.Vec.{vec_capacity}
 use Rattle.zs_drive.specs.declared.record.Attempted.{Attempted}
@@ -22,7 +22,7 @@ abbrev pub lines_in : Log → List ℕ
 lines_in (Recorded records) = []
 lines_in (Written told) = string_bytes told.lines
 
--- the number of attempts that these tell
+-- the number of attempts that are stored as lines
 abbrev pub told_in : Log → ℕ
 told_in (Recorded records) = 0
 told_in (Written told) = told.count
@@ -37,22 +37,22 @@ abbrev pub records_in : Log → List Attempted
 records_in (Recorded records) = records.items
 records_in (Written told) = option_to_list told.last
 
--- how many attempts it has
+-- the number of all attempts
 abbrev pub log_count : Log → ℕ
 log_count log = told_in log + length (records_in log)
 
--- the set of all moments at which one of them begins or ends
+-- the set of all moments at which an attempt begins or ends
 abbrev pub log_moments : Log → List ℕ
 log_moments log = fold with_moment [] (moments_told log ++ flat_map moments_of (map attempted_of (records_in log)))
 
--- its attempts are these
+-- the log stores exactly these attempts
 pub record IsLog (log : Log) (attempts : List AttemptedValue) : Type 0 where
   pub lines : lines_in log ≡ attempts_lines 1 (told_of (keeping_of log) attempts)
   pub told : told_in log ≡ length (told_of (keeping_of log) attempts)
   pub moments : moments_told log ≡ flat_map moments_of (told_of (keeping_of log) attempts)
   pub records : map attempted_of (records_in log) ≡ recorded_of (keeping_of log) attempts
 
--- nothing of its attempts has changed
+-- both logs store the same attempts in the same way
 pub record IsSameLog (old new : Log) : Type 0 where
   pub keeps : keeping_of new ≡ keeping_of old
   pub lines : lines_in new ≡ lines_in old
@@ -60,14 +60,14 @@ pub record IsSameLog (old new : Log) : Type 0 where
   pub moments : moments_told new ≡ moments_told old
   pub records : map attempted_of (records_in new) ≡ map attempted_of (records_in old)
 
--- an attempt begins, and the one before it, if there is one, was added to the lines
+-- an attempt begins, and the one before it, if any, is appended to the lines
 pub record BeginsNext (old new : Told) (next : Attempted) : Type 0 where
   pub lines : string_bytes new.lines ≡ string_bytes old.lines ++ attempts_lines (old.count + 1) (map attempted_of (option_to_list old.last))
   pub count : new.count ≡ old.count + length (option_to_list old.last)
   pub moments : new.moments.items ≡ old.moments.items ++ flat_map moments_of (map attempted_of (option_to_list old.last))
   pub last : new.last ≡ Some next
 
--- if it stores records, its list of them is full
+-- if it stores records, their list has no spare capacity
 abbrev pub IsFull : Log → Type 0
 IsFull (Recorded records) = vec_capacity records ≤ vec_len records
 IsFull (Written told) = ⊤

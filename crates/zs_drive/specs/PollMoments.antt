@@ -1,4 +1,4 @@
--- The moments at which a job with these attempts was polled while it was due.
+-- The moments at which a job was polled while it was due, computed from its attempts.
 use Rattle.std.specs.Prelude.{ℕ, List, [], ◌∷◌, ◌++◌, flat_map, fold, nat_eq, option_to_list, option_map, if◌then◌else◌}
 use Rattle.std.specs.List.{list_any}
 use Rattle.zs_drive.specs.Values.{AttemptedValue}
@@ -7,7 +7,7 @@ use Rattle.zs_drive.specs.Values.{AttemptedValue}
 abbrev pub moments_of : AttemptedValue → List ℕ
 moments_of attempt = attempt.begun ∷ option_to_list (option_map (λ ended. ended.at) attempt.ended)
 
--- a set of moments, listed in the order in which they came, gets one more
+-- adds a moment to a set that is listed in order of arrival
 abbrev pub with_moment : List ℕ → ℕ → List ℕ
 with_moment moments m = if list_any (nat_eq m) moments then moments else moments ++ m ∷ []
 

@@ -1,4 +1,4 @@
--- What the fields of a task stand for, and what they keep.
+-- What the fields of a task represent, and their invariant.
 use Rattle.std.specs.Prelude.{◌≡◌, ℕ, ◌≤◌, List, Option, Some, None, ⊤, string_bytes}
 use Rattle.zs_step.specs.declared.compiled.Compiled.{Compiled}
 use Rattle.zs_step.specs.Compiled.{compiled_term}
@@ -12,7 +12,7 @@ use Rattle.zs_drive.specs.Timeline.{Timeline, timeline_of}
 use Rattle.zs_drive.specs.Log.{IsLog, log_moments}
 use Rattle.zs_drive.specs.Recorded.{AllEnded, IsOnTimeline, IsStepped, IsRunning}
 
--- the moment that is waited for
+-- the due moment
 abbrev pub due_of : Phase → Option ℕ
 due_of (Waiting due) = Some due
 due_of (Running attempt) = Some attempt.end
@@ -24,7 +24,7 @@ ending_of (Waiting due) = None
 ending_of (Running attempt) = None
 ending_of (Over ending) = Some ending
 
--- the job that it is about, by what its fields stand for
+-- the job that the fields represent
 abbrev pub job_value_in : Progress → JobValue
 job_value_in p = record { name = string_bytes p.name; mode = p.mode; schedule = compiled_term p.compiled; start = p.start; script = p.script }
 
@@ -32,7 +32,7 @@ job_value_in p = record { name = string_bytes p.name; mode = p.mode; schedule = 
 abbrev pub job_in : Progress → JobRecord
 job_in p = record_of (job_value_in p)
 
--- when it was polled while it was due
+-- the moments at which it was polled while it was due
 abbrev pub moments_in : Progress → List ℕ
 moments_in p = log_moments p.log
 
@@ -40,23 +40,23 @@ moments_in p = log_moments p.log
 abbrev pub attempts_of : Progress → List AttemptedValue
 attempts_of p = (timeline_of (job_in p) (moments_in p)).attempts
 
--- where it stands
+-- the timeline so far
 abbrev pub timeline_in : Progress → Timeline
 timeline_in p = record { attempts = attempts_of p; due = due_of p.phase; ending = ending_of p.phase }
 
--- While it waits all attempts have ended, and while it runs all but the last.
+-- All attempts have ended while it waits; all but the last while one runs.
 abbrev pub IsPhase : JobRecord → List AttemptedValue → ℕ → Phase → Type 0
 IsPhase job attempts seen (Waiting due) = AllEnded attempts
 IsPhase job attempts seen (Running attempt) = (others : List AttemptedValue) × (s : ℕ) × IsRunning job attempts attempt seen others s
 IsPhase job attempts seen (Over ending) = ⊤
 
--- Until the job is over the schedule's state stands for its attempts.
+-- Until the job is over, the schedule's state represents its attempts.
 abbrev pub IsSteppedIn : List AttemptedValue → Compiled → ℕ → Phase → Type 0
 IsSteppedIn attempts compiled seen (Waiting due) = IsStepped attempts compiled seen
 IsSteppedIn attempts compiled seen (Running attempt) = IsStepped attempts compiled seen
 IsSteppedIn attempts compiled seen (Over ending) = ⊤
 
--- the log has the attempts of the job on the clock of its own moments
+-- the log stores the attempts of the job on the clock of the log's moments
 pub record IsProgress (p : Progress) : Type 0 where
   pub log : IsLog p.log (attempts_of p)
   pub on_timeline : IsOnTimeline (job_in p) (timeline_in p) p.polls
@@ -65,6 +65,6 @@ pub record IsProgress (p : Progress) : Type 0 where
   pub phase : IsPhase (job_in p) (attempts_of p) p.seen p.phase
   pub bounded : p.seen ≤ max_tick
 
--- the schedule's state is as its phase wants it
+-- the schedule's state is the one that the phase needs
 abbrev pub HasState : Progress → Type 0
 HasState p = IsSteppedIn (attempts_of p) p.compiled p.seen p.phase

@@ -1,4 +1,4 @@
--- What the records of a task keep, over plain values.
+-- The invariant of a task's attempts, over plain values.
 use Rattle.std.specs.Prelude.{◌≡◌, ℕ, ◌≤◌, List, [], ◌∷◌, ◌++◌, length, None, IsSome}
 use Rattle.zs_effect.specs.Attempts.{AttemptValue}
 use Rattle.zs_step.specs.declared.compiled.Compiled.{Compiled}
@@ -8,19 +8,19 @@ use Rattle.zs_drive.specs.Values.{JobRecord, AttemptedValue}
 use Rattle.zs_drive.specs.Timeline.{Timeline, timeline_of, poll_moments, beat_after}
 use Rattle.zs_drive.specs.DriverRules.{history_after}
 
--- none of the attempts runs
+-- no attempt runs
 unfoldable pub AllEnded : List AttemptedValue → Type 0
 AllEnded [] = Unit {0}
 AllEnded (attempt ∷ attempts) = IsSome attempt.ended × AllEnded attempts
 
--- the records are those of the job on the clock of their own moments, of which there are so many
+-- the timeline is that of the job on the clock of its poll moments; `polls` is their number
 pub record IsOnTimeline (job : JobRecord) (timeline : Timeline) (polls : ℕ) : Type 0 where
   pub same : timeline ≡ timeline_of job (poll_moments timeline.attempts)
   pub clock : AreTicks (poll_moments timeline.attempts)
   pub counted : polls ≡ length (poll_moments timeline.attempts)
   pub few : length timeline.attempts ≤ polls
 
--- the schedule's state stands for the attempts that ended, up to a moment
+-- the schedule's state represents the ended attempts, and was stepped at `seen` at the latest
 pub record IsStepped (attempts : List AttemptedValue) (compiled : Compiled) (seen : ℕ) : Type 0 where
   pub stands : StandsFor compiled (history_after attempts)
   pub past : last_seen compiled ≤ seen

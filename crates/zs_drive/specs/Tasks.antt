@@ -1,4 +1,4 @@
--- What contracts see of a task, and what a poll makes of it.
+-- What contracts know about a task, and what a poll does to it.
 use Rattle.std.specs.Prelude.{◌≡◌, ℕ, ◌≤◌, Bool, List, [], ◌∷◌, ◌++◌, Option, Some, None, Result, Ok, Err, IsSomeAnd, nat_lt, if◌then◌else◌}
 use Rattle.futures.specs.declared.task.Poll.{Poll}
 use Rattle.futures.specs.declared.task.Poll.TheVariants.{Ready, Pending}
@@ -18,39 +18,39 @@ pub record TaskValue : Type 0 where
   pub seen : ℕ
   pub broken : Bool
 
--- where a job stands after polls at these moments: its timeline on the clock that ticks at them
+-- the timeline of a job after polls at these moments: that on the clock that ticks at them
 abbrev pub timeline_at : JobRecord → List ℕ → Timeline
 timeline_at job moments = timeline_of job moments
 
--- where a task stands
+-- the timeline of a task so far
 abbrev pub current_timeline : TaskValue → Timeline
 current_timeline task = timeline_at (record_of task.job) task.moments
 
--- it waits for a moment that it has seen
+-- its due moment is at or before the moment seen
 abbrev pub IsDue : TaskValue → Type 0
 IsDue task = IsSomeAnd (current_timeline task).due (λ due. due ≤ task.seen)
 
--- a poll of a task that waits for this moment, if for any
+-- a task after a poll, given its due moment
 abbrev pub polled_when : TaskValue → Option ℕ → TaskValue
 polled_when task None = task
 polled_when task (Some due) = if nat_lt task.seen due then task else record task { moments = task.moments ++ task.seen ∷ [] }
 
--- A poll at or past the moment waited for adds the moment seen. Another changes nothing.
+-- A poll at or after the due moment adds the moment seen. Any other poll changes nothing.
 abbrev pub polled : TaskValue → TaskValue
 polled task = polled_when task (current_timeline task).due
 
--- the next poll comes to this ending, which an outcome itself gives: a retry has a success, or a repeat a failure
+-- the next poll gives an ending by outcome alone: a retry has a success, or a repeat a failure
 pub record EndsByOutcome (task : TaskValue) (ending : Ending) : Type 0 where
   pub outcome : Outcome
   pub gives : ending_by_outcome task.job.mode outcome ≡ Some ending
   pub ends : (current_timeline (polled task)).ending ≡ Some ending
 
--- a poll answers the ending, if there is one
+-- a poll returns the ending, if there is one
 abbrev pub reply_of : Option Ending → Poll (Result Ending DriveFault)
 reply_of None = Pending
 reply_of (Some ending) = Ready (Ok ending)
 
--- P holds where the poll found no memory, and Q elsewhere
+-- P if the poll ran out of memory, else Q
 abbrev pub MatchMemory : Poll (Result Ending DriveFault) → Type 0 → Type 0 → Type 0
 MatchMemory Pending P Q = Q
 MatchMemory (Ready (Ok ending)) P Q = Q

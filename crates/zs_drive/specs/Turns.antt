@@ -1,4 +1,4 @@
--- What one poll makes of the fields of a task.
+-- What one poll does to the fields of a task.
 use Rattle.std.specs.Prelude.{◌≡◌, ℕ, ◌≤◌, ◌<◌, [], ◌∷◌, ◌++◌, None, ⊤}
 use Rattle.zs_effect.specs.declared.script.Outcome.{Outcome}
 use Rattle.zs_step.specs.Compiled.{StandsFor}
@@ -20,7 +20,7 @@ pub record Advances (old new : Progress) : Type 0 where
   pub keeps : keeping_of new.log ≡ keeping_of old.log
   pub seen : new.seen ≡ old.seen
 
--- it waits to begin an attempt, at or before the moment seen
+-- it waits to begin an attempt, which is due by the moment seen
 abbrev pub IsWaitingTo : ℕ → Phase → Type 0
 IsWaitingTo seen (Waiting due) = due ≤ seen
 IsWaitingTo seen (Running attempt) = ⊥
@@ -35,13 +35,13 @@ pub record Stays (old new : Progress) : Type 0 where
   pub seen : new.seen ≡ old.seen
   pub polls : new.polls ≡ old.polls
 
--- its attempt ends with this outcome, at or before the moment seen
+-- its attempt ends with this outcome, by the moment seen
 abbrev pub HasRunTo : ℕ → Outcome → Phase → Type 0
 HasRunTo seen outcome (Waiting due) = ⊥
 HasRunTo seen outcome (Running attempt) = (attempt.end ≤ seen) × (outcome ≡ attempt.outcome)
 HasRunTo seen outcome (Over ending) = ⊥
 
--- the schedule's state stands for the records with the outcome of the attempt that has just ended
+-- the schedule's state represents the attempts and the end of the one that has just ended
 abbrev pub WasAsked : Progress → Outcome → Type 0
 WasAsked p outcome = StandsFor p.compiled ((p.seen, number_of outcome) ∷ history_after (attempts_of p))
 
@@ -51,25 +51,26 @@ IsOver (Waiting due) = ⊥
 IsOver (Running attempt) = ⊥
 IsOver (Over ending) = ⊤
 
--- what is waited for comes after the moment seen
+-- the due moment is after the moment seen
 abbrev pub IsEarly : ℕ → Phase → Type 0
 IsEarly seen (Waiting due) = seen < due
 IsEarly seen (Running attempt) = seen < attempt.end
 IsEarly seen (Over ending) = ⊥
 
--- what is waited for has come by the moment seen
+-- the due moment is at or before the moment seen
 abbrev pub IsDuePhase : ℕ → Phase → Type 0
 IsDuePhase seen (Waiting due) = due ≤ seen
 IsDuePhase seen (Running attempt) = attempt.end ≤ seen
 IsDuePhase seen (Over ending) = ⊥
 
--- a due poll takes memory: an attempt begins, or its outcome does not itself end the job
+-- a due poll may allocate memory: an attempt begins, or its outcome does not itself end the job
 abbrev pub TakesMemory : Mode → Phase → Type 0
 TakesMemory mode (Waiting due) = ⊤
 TakesMemory mode (Running attempt) = ending_by_outcome mode attempt.outcome ≡ None
 TakesMemory mode (Over ending) = ⊥
 
--- nothing was done, but a running attempt may have seen a later moment, and the schedule may have been stepped
+-- nothing was done, but a running attempt may have seen a later moment, and the schedule may have
+-- been stepped
 pub record StandsStill (old new : Progress) : Type 0 where
   pub progress : IsProgress new
   pub moments : moments_in new ≡ moments_in old

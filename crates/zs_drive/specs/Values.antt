@@ -1,4 +1,4 @@
--- What contracts see of a job and of the records of its attempts.
+-- What contracts know about a job and the records of its attempts.
 use Rattle.std.specs.Prelude.{ℕ, List, Option, Some, None, string_bytes}
 use Rattle.zs_effect.specs.declared.script.Beat.{Beat}
 use Rattle.zs_effect.specs.declared.script.Outcome.{Outcome}
@@ -13,7 +13,7 @@ use Rattle.zs_drive.specs.declared.job.Job.{Job}
 use Rattle.zs_drive.specs.declared.record.Attempted.{Attempted}
 use Rattle.zs_drive.specs.declared.record.Ended.{Ended}
 
--- a job, by what its fields stand for
+-- a job, by the values of its fields
 pub record JobValue : Type 0 where
   pub name : List ℕ
   pub mode : Mode
@@ -21,11 +21,11 @@ pub record JobValue : Type 0 where
   pub start : ℕ
   pub script : List Beat
 
--- what a job stands for
+-- the value of a job
 abbrev pub job_value : Job → JobValue
 job_value job = record { name = string_bytes job.name; mode = job.mode; schedule = job.schedule; start = job.start; script = job.script }
 
--- a job as plain mathematics: its schedule is a tree with no places in memory
+-- a job as plain mathematics: its schedule is a tree without places in memory
 pub record JobRecord : Type 0 where
   pub name : List ℕ
   pub mode : Mode
@@ -33,26 +33,26 @@ pub record JobRecord : Type 0 where
   pub start : ℕ
   pub script : List Beat
 
--- the schedule that its term writes
+-- a job's value with the schedule that its term represents
 abbrev pub record_of : JobValue → JobRecord
 record_of job = record { name = job.name; mode = job.mode; schedule = schedule_of job.schedule; start = job.start; script = job.script }
 
--- what a job stands for, as plain mathematics
+-- the same of a job
 abbrev pub job_record : Job → JobRecord
 job_record job = record_of (job_value job)
 
--- the end of an attempt: when, how, and what the schedule answered, where it was asked
+-- the end of an attempt: when, how, and the schedule's result if it was stepped
 pub record EndedValue : Type 0 where
   pub at : ℕ
   pub outcome : Outcome
   pub step : Option Answer
 
--- an attempt, which runs where it has no end
+-- an attempt, which is running if it has no end
 pub record AttemptedValue : Type 0 where
   pub begun : ℕ
   pub ended : Option EndedValue
 
--- what records stand for, with outputs as trees
+-- the result of a step that a record stores, with the output as a tree
 abbrev pub step_of : Option (Out × Decision) → Option Answer
 step_of None = None
 step_of (Some step) = Some (answer (output_of step.0) step.1)
@@ -62,6 +62,6 @@ abbrev pub ended_of : Option Ended → Option EndedValue
 ended_of None = None
 ended_of (Some ended) = Some (record { at = ended.at; outcome = ended.outcome; step = step_of ended.step })
 
--- an attempt as records have it
+-- the attempt that a record stores
 abbrev pub attempted_of : Attempted → AttemptedValue
 attempted_of attempted = record { begun = attempted.begun; ended = ended_of attempted.ended }

@@ -1,10 +1,10 @@
-//! Why a task could not go on.
+//! Why a task fails.
 use thiserror::Error;
 
-/// Why a task could not be made, or was broken by a poll.
+/// Why a task could not be made, or why a poll broke it.
 #[derive(Clone, Copy, Debug, Drop, Error, PartialEq, Eq)]
 pub enum DriveFault {
-    /// A growth was refused.
+    /// A memory allocation failed.
     #[error("out of memory")]
     Memory,
 }

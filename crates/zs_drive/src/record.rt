@@ -1,18 +1,18 @@
-//! What has become of a job.
+//! The records of a job's attempts.
 use zs_effect::Outcome;
 use zs_step::Decision;
 use zs_term::Out;
 
-/// What a task keeps of its attempts.
+/// How a task stores its attempts.
 #[derive(Clone, Copy, Debug, PartialEq, Eq)]
 pub enum Keeping {
-    /// The record of each.
+    /// A record of each attempt.
     Records,
-    /// The record of the last one, and lines of text that tell the others.
+    /// A record of the last attempt, and lines of text for the others.
     Lines,
 }
 
-/// An attempt, which runs while it has no end.
+/// An attempt, which is running if it has no end.
 #[derive(Drop)]
 pub struct Attempted {
     /// When it began, in milliseconds.
@@ -21,23 +21,23 @@ pub struct Attempted {
     pub ended: Option<Ended>,
 }
 
-/// How an attempt ended. The schedule was not asked where the outcome itself ended the job.
+/// How an attempt ended. The schedule wasn't stepped if the outcome itself ended the job.
 #[derive(Drop)]
 pub struct Ended {
     /// When it ended, in milliseconds.
     pub at: u64,
-    /// What the effect came to.
+    /// The outcome of the effect.
     pub outcome: Outcome,
-    /// What the schedule answered, where it was asked.
+    /// The schedule's output and decision, if it was stepped.
     pub step: Option<(Out, Decision)>,
 }
 
 /// How a job ended. The result of `Finished` is the output of the last step in the records.
 #[derive(Clone, Copy, Debug, PartialEq, Eq)]
 pub enum Ending {
-    /// A retry got this value.
+    /// A retry succeeded with this value.
     Succeeded(u64),
-    /// A repeat got this error, or it was the last one of a retry whose schedule is done.
+    /// A repeat failed with this error, or a retry's schedule is done after it.
     Failed(u64),
     /// The schedule of a repeat is done.
     Finished,

@@ -39,7 +39,7 @@ returns-in-Next-clause-ok c =
       IsStepped-asked p c.args.outcome others s (Some (answer output (Next c.in-Next.due))) c.requires.state last,
     ))
 
--- what follows from two facts of a success
+-- combines two facts about a success
 from_both : {T E : Type 0} {A B C : Type 0} (r : Result T E) → OnOk r A → OnOk r B → (A → B → C) → OnOk r C
 from_both (Ok x) a b f = f a b
 from_both (Err e) a b f = tt

@@ -11,7 +11,7 @@ use Rattle.zs_drive.specs.Fields.{task_of}
 use Rattle.zs_drive.proofs.Refusing.{refused-EndsByOutcome, done-whole}
 use Rattle.zs_drive.proofs.task.TaskFuture.poll.Goals as goal
 
--- a turn that was done leaves the task whole
+-- a turn that was done doesn't break the task
 pub invariant_of-self-in-Ok : goal.invariant_of-self-in-Ok
 invariant_of-self-in-Ok c =
     let done : c.advance.result ≡ Ready (Ok c.in-Ok.field-0) = cc in
