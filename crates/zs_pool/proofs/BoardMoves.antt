@@ -1,4 +1,4 @@
--- Each move keeps the rule of a board.
+-- Each step preserves the rule of a board.
 use Rattle.std.proofs.Common.{◌≡◌, Bool, true, ℕ, zero, suc, ◌+◌, ◌-◌, ◌<◌, ◌≤◌, List, [], ◌∷◌, ◌++◌, length, drop, set, Some, refl, sym, ap, ◌∙◌, subst, arith, append_assoc, length-append}
 use mathlib.Core.Option.{some}
 use lib.ListN.{get_elem?}
@@ -25,7 +25,7 @@ all_front : {X : Type 0} (P : X → Type 0) (xs ys : List X) → All P (xs ++ ys
 all_front P xs ys h k d lt = subst P (get_or_append_left xs ys d k lt) (h k d (omega (arith, length-append xs ys)))
 
 module _ {T : Type 0} where
-  -- the front of what is left
+  -- the front of the queue
   drop_front : (xs : List T) (n : ℕ) (x : T) (rest : List T) → x ∷ rest ≡ drop n xs → (slice_get xs n ≡ Some x) × (rest ≡ drop (suc n) xs) × (n < length xs)
   drop_front [] zero x rest e = absurd (omega (arith, ap length e))
   drop_front [] (suc n) x rest e = absurd (omega (arith, ap length e))
@@ -61,7 +61,7 @@ module _ {T : Type 0} where
         refl,
       )
 
-  -- a pass with the whole share took all that was taken
+  -- a pass with exclusive access took everything that was taken
   took_all : (views : List (Claims T)) (pass : ℕ) (v : Claims T) (items : List T) → v.share ≡ max_moment → (b : BoardRun items views) → get_elem? views pass ≡ some v → flat_map (λ u. u.taken) views ≡ v.taken
   took_all views pass v items whole b at =
       gathered_alone (λ u. u.taken) (λ u. u.share) views pass v at (b.shares ∙ sym whole) (every_map (Fits b.batches) (λ u. u.share ≡ 0 → u.taken ≡ []) (λ u h. h.1) views b.each)
@@ -139,7 +139,7 @@ module _ {T : Type 0} where
   drop_get (y ∷ ys) zero x e = (cc)
   drop_get (y ∷ ys) (suc k) x e = drop_get ys k x e
 
-  -- one more of what is left was taken
+  -- one more batch of the queue was taken
   pub drained : (v w : Claims T) (x : T) (left new all : List T) → v.share ≡ max_moment → Took v x w → new ≡ left ++ x ∷ [] → left ++ drop (length v.taken) v.batches ≡ all
       → (w.share ≡ max_moment) × (new ++ drop (length w.taken) w.batches ≡ all)
   drained v w x left new all whole took more was =
@@ -150,14 +150,14 @@ module _ {T : Type 0} where
         (λ i. more i ++ drop (count i) ((ap (λ u. u.batches) is) i)) ∙ append_assoc left (x ∷ []) (drop (suc k) v.batches) ∙ ap (λ l. left ++ l) (sym rest) ∙ was,
       )
 
-  -- where the queue was empty, all was taken
+  -- if the queue was empty, all was taken
   pub nothing_left : (v : Claims T) (left all : List T) → v.share ≡ max_moment → Held 0 (IsRest v) → left ++ drop (length v.taken) v.batches ≡ all → left ≡ all
   nothing_left v left all whole held was =
       let items = held.0 in let rest = held.2 whole in
       let none : drop (length v.taken) v.batches ≡ [] = sym rest.1 ∙ nil_from_length items held.1 in
       sym (append-nil left) ∙ ap (λ l. left ++ l) (sym none) ∙ was
 
--- a pass with the whole share that saw the board empty took each batch once
+-- a pass with exclusive access that saw the board empty took each batch once
 pub whole_pass : (v : Claims BatchValue) (seat : Counting) (none : Bool) (items : List BatchValue) → IsFit v seat none → IsRest v items → (seat.share ≡ max_moment → seat.seen ≤ seat.count) → v.share ≡ max_moment → none ≡ true
     → IsPermutation (range_with_len 0 (length v.batches)) v.taken
 whole_pass v seat none items fit rest settled whole was =

@@ -1,4 +1,4 @@
--- Each step keeps the rule of a counter.
+-- Each step preserves the rule of a counter.
 use Rattle.std.proofs.Common.{◌≡◌, ℕ, ◌+◌, ◌-◌, ◌%◌, ◌^◌, ◌<◌, ◌≤◌, max, List, [], ◌∷◌, ◌++◌, set, refl, sym, ap, ◌∙◌, subst, arith}
 use Rattle.std.proofs.Math.Nat.{mod-le, mod-add-mod}
 use mathlib.Core.Option.{some, none}
@@ -23,11 +23,11 @@ total views = sum_by (λ u. u.count) views
 pub begins : Rule (opening (0 ∷ []) [] (counted max_moment 0 0))
 begins = record { word = refl; shares = refl; each = ((omega arith, λ z. refl), tt) }
 
--- the others stay sound where the total doesn't fall
+-- the views still satisfy their part of the rule if the total doesn't fall
 still : (views : List Count) (n : ℕ) → total views ≤ n → Every (Sound (total views)) views → Every (Sound n) views
 still views n more each = every_map (Sound (total views)) (Sound n) (λ u h. let a = h.0 in (omega arith, h.1)) views each
 
--- a step at which one view changes, and the word follows
+-- a step at which one view and the word change together
 moves : (slots id : ℕ) (me : Me (Unit {0}) Count) (k : ℕ) (f : ℕ → ℕ) (w : ℕ → Count) (then : ℕ → Me (Unit {0}) Count → Type 0)
     → ((n : ℕ) → f (n % 2 ^ 64) ≡ (n + k) % 2 ^ 64) → ((n : ℕ) → (w n).count ≡ me.0.count + k) → ((n : ℕ) → (w n).share ≡ me.0.share) → (me.0.share ≡ 0 → k ≡ 0)
     → ((n t : ℕ) → n ≤ t → me.0.seen ≤ t → (w n).seen ≤ t)

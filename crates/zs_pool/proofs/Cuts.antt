@@ -1,4 +1,4 @@
--- Cuttings of a list of tasks.
+-- How a list of tasks is cut.
 use Rattle.std.proofs.Common.{◌≡◌, ◌+◌, ◌-◌, ◌*◌, ◌≤◌, ◌<◌, ◌⊎◌, ℕ, zero, suc, List, [], ◌∷◌, ◌++◌, length, take, drop, Some, sym, ap, ◌∙◌, subst, ap₂, inl, inr, ⊎_elim, length-append, length-take, length-drop, append_assoc, arith, refl}
 use Rattle.std.specs.Prelude.{All, slice_get}
 use Rattle.std.specs.Int.{div_ceil}
@@ -11,7 +11,8 @@ use Rattle.zs_pool.specs.Batches.{BatchValue, IsFull, AreCut, tasks_of}
 abbrev Within : ℕ → BatchValue → Type 0
 Within grain b = (1 ≤ length b.tasks) × (length b.tasks ≤ grain)
 
--- The batches from `number` on are cut off, and these tasks are left. What was cut off last but first is full.
+-- The batches from `number` on are cut off, and `left` are the other tasks. All batches but the
+-- last are full.
 pub record Cutting (grain number : ℕ) (all left : List TaskValue) (bs : List BatchValue) : Type 0 where
   pub whole : left ++ tasks_of bs ≡ all
   pub numbered : (k : ℕ) (b : BatchValue) → slice_get bs k ≡ Some b → b.number ≡ number + k
@@ -78,7 +79,7 @@ cut_all grain all left bs was =
     let none : left ≡ [] = nil_from_length left (omega (arith, was.enough)) in
     ap (λ l. l ++ tasks_of bs) (sym none) ∙ was.whole
 
--- there are no more batches than tasks
+-- the number of batches is at most that of tasks
 pub few_batches : (grain : ℕ) (bs : List BatchValue) → All (Within grain) bs → length bs ≤ length (tasks_of bs)
 few_batches grain [] all = omega arith
 few_batches grain (b ∷ bs) all = omega (arith, (All-head (Within grain) b bs all).0, few_batches grain bs (All-tail (Within grain) b bs all), length-append b.tasks (tasks_of bs))

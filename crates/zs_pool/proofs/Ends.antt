@@ -15,7 +15,7 @@ use Rattle.zs_pool.specs.Shares.{Overflow}
 use Rattle.zs_pool.specs.Joined.{IsPart, IsWhole}
 use Rattle.zs_pool.proofs.Served.{collected, counted_all}
 
--- what an `Ok` has
+-- what is true of the value of an `Ok`
 at_ok : (P : Vec PolledValue Global → Type 0) (kept : Overflow) (v : Vec PolledValue Global) → kept ≡ Ok v → IfOk kept P → P v
 at_ok P kept v is h = let K : Overflow → Type 0 = λ k. IfOk k P in subst K is h
 
@@ -58,7 +58,7 @@ all_front P xs ys h k d lt = subst P (get_or_append_left xs ys d k lt) (h k d (o
 all_back : {X : Type 0} (P : X → Type 0) (xs ys : List X) → All P (xs ++ ys) → All P ys
 all_back {X} P xs ys h = let Q : List X → Type 0 = λ l. All P l in subst Q (drop-append_seam xs ys) (All-drop P (length xs) (xs ++ ys) h)
 
--- what holds of all tasks holds of the tasks of each batch
+-- what is true of all tasks is true of the tasks of each batch
 pub all_parts : (P : TaskValue → Type 0) (bs : List BatchValue) → All P (tasks_of bs) → All (λ b. All P b.tasks) bs
 all_parts P [] h = All-nil (λ (b : BatchValue). All P b.tasks)
 all_parts P (b ∷ bs) h = All-cons (λ (x : BatchValue). All P x.tasks) b bs (all_front P b.tasks (tasks_of bs) h) (all_parts P bs (all_back P b.tasks (tasks_of bs) h))

@@ -1,4 +1,4 @@
--- What is joined so far.
+-- What is joined so far, while workers are joined one after the other.
 use Rattle.std.proofs.Common.{◌≡◌, ◌+◌, ◌||◌, ℕ, Bool, true, false, Ok, Err, IfOk, List, ◌∷◌, ◌++◌, length, refl, sym, ap, ◌∙◌, subst, append-nil, arith}
 use Rattle.std.specs.Prelude.{All}
 use Rattle.std.proofs.lemmas.List.Sums.{sum_by-cons}
@@ -33,7 +33,7 @@ or_true : (b c : Bool) → c ≡ true → (b || c) ≡ true
 or_true true c e = refl
 or_true false c e = e
 
--- one more thread's part
+-- the part of one more thread
 abbrev IsTheirs : ℕ → List BatchValue → ℕ → Rights → List PolledValue → Type 0
 IsTheirs now batches room u ps = Serves now batches u.board_pass.taken (u.shelf_pass.put ++ ps) × (u.board_pass.none ≡ true) × (u.seat.count ≡ 0 + sizes batches u.board_pass.taken) × (u.seat.allowance + sizes batches u.board_pass.taken ≡ room)
 

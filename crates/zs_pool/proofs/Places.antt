@@ -1,4 +1,4 @@
--- Messages that are put into the slots of their numbers.
+-- Messages in the slots of their numbers.
 use Rattle.std.proofs.Common.{◌≡◌, ◌≢◌, ◌<◌, ◌⊎◌, true, append_assoc, length-set, ℕ, zero, suc, List, [], ◌∷◌, ◌++◌, length, get_or, set, map, Option, Some, None, refl, sym, ap, ◌∙◌, subst, inl, inr, ⊎_elim, arith}
 use Rattle.std.specs.Prelude.{slice_get, Contains}
 use Rattle.std.specs.List.{AllZip, range_with_len}
@@ -15,7 +15,7 @@ use Rattle.zs_pool.specs.Messages.{PolledValue, IsPollAmong, IsPollOf, HasPoll, 
 same_or_not : (a b : ℕ) → (a ≡ b) ⊎ (a ≢ b)
 same_or_not a b = ⊎_elim (λ h. inl h.1) (λ h. inr h.1) (eqb_tells a b)
 
--- x stands in the list
+-- x is in the list
 abbrev pub Has : {X : Type 0} → List X → X → Type 0
 Has [] x = ⊥
 Has (y ∷ ys) x = (y ≡ x) ⊎ Has ys x
@@ -25,7 +25,7 @@ has_at [] k x lt e = absurd (omega arith)
 has_at (y ∷ ys) zero x lt e = inl e
 has_at (y ∷ ys) (suc k) x lt e = inr (has_at ys k x (omega arith) e)
 
--- each number below n stands among those that n numbers were rearranged to
+-- each number below n is in a permutation of 0 to n - 1
 pub has_each : (n : ℕ) (ys : List ℕ) → IsPermutation (range_with_len 0 n) ys → (k : ℕ) → k < n → Has ys k
 has_each n ys moved k lt =
     let in_range : Contains (range_with_len 0 n) k = (k, omega (arith, length-range_with_len 0 n), get_or-range_with_len 0 n k k lt ∙ omega arith) in
@@ -49,7 +49,7 @@ get_else (y ∷ ys) zero (suc k) x n = refl
 get_else (y ∷ ys) (suc i) zero x n = refl
 get_else (y ∷ ys) (suc i) (suc k) x n = get_else ys i k x (λ e. n (ap suc e))
 
--- a list of slots, each of which has what belongs there
+-- a list of slots, each of which contains what is related to its x
 module _ {X Y : Type 0} (R : X → Y → Type 0) where
   pub zip_slots : (xs : List X) (ys : List Y) → length ys ≡ length xs → ((k : ℕ) (x : X) → slice_get xs k ≡ Some x → (y : Y) × (slice_get ys k ≡ Some y) × R x y) → AllZip R xs ys
   zip_slots [] [] e h = tt
@@ -113,7 +113,7 @@ sound_polls now (x ∷ xs) (y ∷ ys) h sound =
     let here : y ≡ polled_at now x = ⊎_elim (λ e. e) (λ (e : y ≡ broken_at now x). absurd (sound 0 y refl (ap (λ t. t.broken) e))) h.0 in
     λ i. here i ∷ sound_polls now xs ys h.1 (λ k t at. sound (suc k) t at) i
 
--- what is gathered, with the polls of the rest, is the polls of all
+-- what is gathered, followed by the polls of the rest, is the polls of all
 abbrev pub Goes : ℕ → List BatchValue → List TaskValue → List (Option PolledValue) → Type 0
 Goes now all done slots =
     (bs : List BatchValue) × AllZip (HasPoll now) bs slots × (done ++ map (polled_at now) (tasks_of bs) ≡ map (polled_at now) (tasks_of all))

@@ -1,4 +1,4 @@
--- What a due poll makes of a task.
+-- What a due poll does to a task.
 use Rattle.std.proofs.Common.{◌≡◌, ℕ, ◌≤◌, true, false, ◌⊎◌, inl, inr, ⊎_elim, Option, Some, None, Ok, Err, Result, nat_lt, if◌then◌else◌, refl, ◌∙◌, arith}
 use Rattle.std.proofs.lemmas.Bool.{ltb-true}
 use Rattle.std.specs.Prelude.{IsSomeAnd, ⊤}
@@ -9,13 +9,13 @@ use Rattle.zs_drive.specs.declared.fault.DriveFault.{DriveFault}
 use Rattle.zs_drive.specs.Tasks.{TaskValue, current_timeline, polled, polled_when, MatchMemory}
 use Rattle.zs_pool.specs.Rounds.{polled_at, broken_at, IsPolled, IsPollable}
 
--- a poll either found memory or not
+-- a poll ran out of memory or didn't
 either_way : (r : Poll (Result Ending DriveFault)) (A B : Type 0) → MatchMemory r ⊤ A → MatchMemory r B ⊤ → A ⊎ B
 either_way Pending A B found lost = inl found
 either_way (Ready (Ok ending)) A B found lost = inl found
 either_way (Ready (Err fault)) A B found lost = inr lost
 
--- a poll at or past the moment waited for adds the moment
+-- a poll at or after the due moment adds the moment
 adds_moment : (now : ℕ) (task : TaskValue) (due : Option ℕ) → IsSomeAnd due (λ d. d ≤ now) → polled_when (record task { seen = now }) due ≡ polled_at now task
 adds_moment now task None is_due = absurd is_due
 adds_moment now task (Some d) is_due =

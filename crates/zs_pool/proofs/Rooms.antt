@@ -1,4 +1,4 @@
--- What the seats of all workers take of the allowance.
+-- How the allowance is shared among the seats of all workers.
 use Rattle.std.proofs.Common.{◌≡◌, ◌+◌, ◌*◌, ◌<◌, ◌≤◌, ℕ, suc, zero, false, List, [], ◌∷◌, ◌++◌, length, sym, ap, ◌∙◌, subst, refl, arith}
 use Rattle.std.specs.Prelude.{All}
 use Rattle.std.proofs.lemmas.List.Sums.{sum_by-append, sum_by-cons}
@@ -30,7 +30,7 @@ rooms_times : (n t : ℕ) → rooms n t ≡ n * t
 rooms_times zero t = omega arith
 rooms_times (suc n) t = omega (arith, rooms_times n t, suc-mul n t)
 
--- the calling thread and its helpers are no more than the workers of the cut
+-- the calling thread and its helpers are at most the workers of the cut
 pub rooms_within : (helpers workers most room : ℕ) → helpers + 1 ≤ workers → workers * most ≤ room → most + rooms helpers most ≤ room
 rooms_within helpers workers most room few fits =
     let e : helpers + 1 ≡ suc helpers = omega arith in
@@ -48,7 +48,7 @@ fresh_own shared bs share seen pass own was board_pass shelf_pass seat fits = re
   room = omega (arith, ap (λ s. s.allowance) seat, fits);
 }
 
--- fresh rights are ready to serve
+-- fresh rights are enough to serve
 pub fresh_ready : {G : Type 0} (shared : Shared G) (bs : List BatchValue) (own : Rights) → IsFresh shared bs own → AllPollable shared.moment bs → IsReady shared own
 fresh_ready shared bs own fresh pollable =
     let same = fresh.new.0 in

@@ -11,7 +11,7 @@ use Rattle.zs_pool.specs.Batches.{BatchValue, tasks_of}
 use Rattle.zs_pool.specs.Messages.{PolledValue, IsPollOf, IsPollAmong, numbers_of}
 use Rattle.zs_pool.specs.Shares.{size_at, sizes, Serves, HandsIn}
 
--- how many tasks the first n batches have
+-- the number of tasks of the first n batches
 abbrev pub before : List BatchValue → ℕ → ℕ
 before [] n = 0
 before (b ∷ bs) zero = 0
@@ -33,7 +33,8 @@ before_all [] n = omega arith
 before_all (x ∷ xs) zero = omega arith
 before_all (x ∷ xs) (suc n) = omega (arith, before_all xs n, length-append x.tasks (tasks_of xs))
 
--- what was taken fits before each number above it
+-- the batches taken fit before any number that is greater than theirs: they have no more tasks than
+-- all batches before it
 abbrev pub Fits : List BatchValue → List ℕ → Type 0
 Fits bs taken = (n : ℕ) → All (λ j. j < n) taken → sizes bs taken ≤ before bs n
 
@@ -76,7 +77,7 @@ all_get P [] k x h e = cc
 all_get P (y ∷ ys) zero x h e = let same : y ≡ x = cc in subst P same (All-head P y ys h)
 all_get P (y ∷ ys) (suc k) x h e = all_get P ys k x (All-tail P y ys h) e
 
--- a claimed batch fits the allowance
+-- the allowance is enough for a claimed batch
 pub claim_fits : (bs : List BatchValue) (taken : List ℕ) (b : BatchValue) (allowance first : ℕ) → slice_get bs b.number ≡ Some b → All (λ j. j < b.number) taken → Fits bs taken → allowance + sizes bs taken ≡ first → length (tasks_of bs) ≤ first
     → length b.tasks ≤ allowance
 claim_fits bs taken b allowance first there below fits left room =
@@ -108,7 +109,8 @@ serves_both now bs t u p k q l one two =
 pub sizes_both : (bs : List BatchValue) (t u : List ℕ) → sizes bs (t ++ u) ≡ sizes bs t + sizes bs u
 sizes_both bs t u = sum_by-append (size_at bs) t u
 
--- what was collected is what the workers put; with what they kept it is all batches, polled
+-- what was collected is what the workers put; with what they stored beside it, it is all batches,
+-- polled
 pub collected : (now : ℕ) (bs : List BatchValue) (taken : List ℕ) (put kept got left : List PolledValue) → IsPermutation (range_with_len 0 (length bs)) taken → IsPermutation put (got ++ left) → Serves now bs taken (put ++ kept)
     → All (IsPollAmong now bs) ((got ++ left) ++ kept) × IsPermutation (range_with_len 0 (length bs)) (numbers_of ((got ++ left) ++ kept))
 collected now bs taken put kept got left whole moved served =

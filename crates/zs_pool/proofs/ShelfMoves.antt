@@ -1,4 +1,4 @@
--- Each move keeps the rule of a shelf.
+-- Each step preserves the rule of a shelf.
 use Rattle.std.proofs.Common.{◌≡◌, ℕ, ◌+◌, ◌-◌, ◌<◌, List, [], ◌∷◌, ◌++◌, set, refl, sym, ap, ◌∙◌, subst, arith, append_assoc, length, length-append}
 use mathlib.Core.Option.{some}
 use lib.ListN.{get_elem?}
@@ -14,7 +14,7 @@ use Rattle.zs_pool.specs.Shelf.{hands, IdleIsEmpty, ShelfRun, IsLeft}
 use Rattle.zs_pool.proofs.Views.{total_set, total_new, every_set, every_new, every_map, gathered_alone, merged, newcomer, kept, grown}
 
 module _ {T : Type 0} where
-  -- a shelf that is full, as a pass with the whole share knows it
+  -- a full shelf, as a pass with exclusive access knows it
   pub all_full : (v : Hands T) (cap slots : ℕ) → slots ≡ cap → Held cap (IsLeft v) → v.share ≡ max_moment → length v.put ≡ length v.taken + slots
   all_full v cap slots same held whole = omega (arith, length_permutation v.put (v.taken ++ held.0) (held.2 whole), length-append v.taken held.0, held.1, same)
 
@@ -96,13 +96,13 @@ module _ {T : Type 0} where
         each = every_set IdleIsEmpty vs other spent (λ z. (refl, refl)) (every_set IdleIsEmpty views pass both (λ z. absurd (omega arith)) b.each);
       }
 
-  -- one more of what is left was taken
+  -- one more message of the queue was taken
   pub drained : (first v w : Hands T) (x : T) (left new : List T) → w ≡ hands v.share v.put (v.taken ++ x ∷ []) → new ≡ left ++ x ∷ []
       → (v.share ≡ max_moment) × (v.put ≡ first.put) × (v.taken ≡ first.taken ++ left) → (w.share ≡ max_moment) × (w.put ≡ first.put) × (w.taken ≡ first.taken ++ new)
   drained first v w x left new is more was =
       (ap (λ u. u.share) is ∙ was.0, ap (λ u. u.put) is ∙ was.1, ap (λ u. u.taken) is ∙ ap (λ l. l ++ x ∷ []) was.2 ∙ append_assoc first.taken left (x ∷ []) ∙ ap (λ l. first.taken ++ l) (sym more))
 
-  -- where the shelf was empty, all was taken
+  -- if the shelf was empty, all was taken
   pub nothing_left : (first v : Hands T) (left : List T) → Held 0 (IsLeft v) → (v.share ≡ max_moment) × (v.put ≡ first.put) × (v.taken ≡ first.taken ++ left) → IsPermutation first.put (first.taken ++ left)
   nothing_left first v left held was =
       let all = held.2 was.0 in let none = nil_from_length held.0 held.1 in

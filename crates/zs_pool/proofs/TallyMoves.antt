@@ -1,4 +1,4 @@
--- Each step keeps the rule of a tally.
+-- Each step preserves the rule of a tally.
 use Rattle.std.proofs.Common.{◌≡◌, Bool, true, false, ◌==◌, ℕ, ◌+◌, ◌-◌, ◌%◌, ◌^◌, ◌≤◌, max, List, [], ◌∷◌, ◌++◌, set, refl, sym, ap, ◌∙◌, subst, arith}
 use Rattle.std.proofs.Math.Nat.{mod-eq_of_lt}
 use Rattle.std.proofs.lemmas.Bool.{eqb-true}
@@ -22,13 +22,13 @@ Rule = KeepsTally tt
 pub begins : Rule (opening (0 ∷ []) [] (tallied 0 max_moment 0 0))
 begins = record { word = refl; whole = refl; each = (omega arith, tt) }
 
--- the word stays what it was
+-- the word is unchanged
 unmoved : (words : List ℕ) (n total : ℕ) → words ≡ total ∷ [] → n ≡ slice_index words 0 → set words 0 n ≡ total ∷ []
 unmoved words n total is found =
     let W : List ℕ → Type 0 = λ ws. set ws 0 n ≡ total ∷ [] in
     subst W (sym is) (ap (λ k. k ∷ []) (found ∙ ap (λ ws. slice_index ws 0) is))
 
--- the totals after a change of one view that keeps what is seen below the word
+-- the totals after a change of one view, if no value seen exceeds the word
 changed : (views : List Tallied) (id : ℕ) (v w : Tallied) (n : ℕ) → get_elem? views id ≡ some v → sum_by (λ u. u.count) views ≤ n → w.seen ≤ n → Every (λ u. u.seen ≤ sum_by (λ u. u.count) views) views → Every (λ u. u.seen ≤ n) (set views id w)
 changed views id v w n at below mine each =
     every_set (λ u. u.seen ≤ n) views id w mine (every_map (λ u. u.seen ≤ sum_by (λ u. u.count) views) (λ u. u.seen ≤ n) (λ u h. omega arith) views each)
@@ -80,11 +80,11 @@ same_if : (n k : ℕ) (b : Bool) → (n == k) ≡ b → either b k n ≡ n
 same_if n k true e = sym (eqb-true n k e)
 same_if n k false e = refl
 
--- a word that is k becomes k: nothing changes
+-- if a word that is k becomes k, nothing changes
 same_word : (n k : ℕ) → either (n == k) k n ≡ n
 same_word n k = same_if n k (n == k) refl
 
--- a step that keeps the count, the allowance and the value seen
+-- a step that preserves the count, the allowance and the value seen
 keeping : (slots id : ℕ) (me : Me (Unit {0}) Tallied) (f : ℕ → ℕ) (w : Tallied) (then : ℕ → Me (Unit {0}) Tallied → Type 0)
     → ((n : ℕ) → f n ≡ n) → w.count ≡ me.0.count → w.allowance ≡ me.0.allowance → w.seen ≡ me.0.seen
     → ((n : ℕ) → me.0.allowance ≤ max_moment → then n (w, me.1)) → Allows Rule slots id me 0 f then

@@ -54,7 +54,7 @@ module _ {V : Type 0} where
     every_map Q then [] h = tt
     every_map Q then (x ∷ xs) h = (then x h.0, every_map Q then xs h.1)
 
-    -- where the others have no part of the total, another fact of each of them is enough
+    -- if the others have no part of the total, another fact about each of them is enough
     pub every_idle : (Q : V → Type 0) (f : V → ℕ) (idle : (u : V) → f u ≡ 0 → P u → Q u) (views : List V) → sum_by f views ≡ 0 → Every P views → Every Q views
     every_idle Q f idle [] none h = tt
     every_idle Q f idle (x ∷ xs) none h =
@@ -72,7 +72,7 @@ module _ {V : Type 0} where
   total_none g [] h = refl
   total_none g (x ∷ xs) h = omega (arith, h.0, total_none g xs h.1, sum_by-cons g x xs)
 
-  -- where one view has the whole total of f, it has all of g
+  -- if one view has the whole total of f, it has the whole total of g
   pub total_alone : (f g : V → ℕ) (views : List V) (pass : ℕ) (v : V) → get_elem? views pass ≡ some v → sum_by f views ≡ f v → Every (λ u. f u ≡ 0 → g u ≡ 0) views → sum_by g views ≡ g v
   total_alone f g [] pass v at whole h = absurd (some-ne-none v (sym at))
   total_alone f g (x ∷ xs) zero v at whole h =
@@ -88,7 +88,7 @@ module _ {V : Type 0} where
     gathered_none [] h = refl
     gathered_none (x ∷ xs) h = λ i. h.0 i ++ gathered_none xs h.1 i
 
-    -- what all views have together, with one of them in front
+    -- what all views have together, with one of them first
     pub record Gathered (views : List V) (pass : ℕ) (v : V) : Type 0 where
       pub rest : List A
       pub was : IsPermutation (flat_map g views) (g v ++ rest)
@@ -118,7 +118,7 @@ module _ {V : Type 0} where
           becomes = λ w. IsPermutation-trans (g w ++ (g x ++ r.rest)) (g x ++ (g w ++ r.rest)) (g x ++ flat_map g (set xs n w)) (aside (g w) (g x) r.rest) (IsPermutation-append_right (g x) (g w ++ r.rest) (flat_map g (set xs n w)) (r.becomes w));
         }
 
-    -- where one view has the whole total, it has all that there is
+    -- if one view has the whole total, it has everything
     pub gathered_alone : (f : V → ℕ) (views : List V) (pass : ℕ) (v : V) → get_elem? views pass ≡ some v → sum_by f views ≡ f v → Every (λ u. f u ≡ 0 → g u ≡ []) views → flat_map g views ≡ g v
     gathered_alone f [] pass v at whole h = absurd (some-ne-none v (sym at))
     gathered_alone f (x ∷ xs) zero v at whole h =
@@ -129,7 +129,7 @@ module _ {V : Type 0} where
         let e = sum_by-cons f x xs in let has = total_has f xs n v at in
         λ i. h.0 (omega arith) i ++ gathered_alone f xs n v at (omega arith) h.1 i
 
-    -- one pass takes in what another has, which is then spent
+    -- one pass gets what another has, which is then spent
     pub merged : (base : List A) (views : List V) (pass other : ℕ) (v w both spent : V) → ¬ (other ≡ pass) → get_elem? views pass ≡ some v → get_elem? views other ≡ some w → g both ≡ g v ++ g w → g spent ≡ []
         → IsPermutation base (flat_map g views) → IsPermutation base (flat_map g (set (set views pass both) other spent))
     merged base views pass other v w both spent apart at at' joined none was =
@@ -152,14 +152,14 @@ module _ {V : Type 0} where
     pub newcomer : (views : List V) (w : V) → g w ≡ [] → flat_map g (views ++ w ∷ []) ≡ flat_map g views
     newcomer views w none = flat_map-append g views (w ∷ []) ∙ (λ i. flat_map g views ++ (none i ++ [])) ∙ append-nil (flat_map g views)
 
-    -- a view that keeps what it has
+    -- a view whose part doesn't change
     pub kept : (base : List A) (views : List V) (pass : ℕ) (v w : V) → get_elem? views pass ≡ some v → g w ≡ g v → IsPermutation base (flat_map g views) → IsPermutation base (flat_map g (set views pass w))
     kept base views pass v w at same was =
         let r = gathered views pass v at in
         let P : List A → Type 0 = λ l. IsPermutation (l ++ r.rest) (flat_map g (set views pass w)) in
         IsPermutation-trans base (g v ++ r.rest) (flat_map g (set views pass w)) (IsPermutation-trans base (flat_map g views) (g v ++ r.rest) was r.was) (subst P same (r.becomes w))
 
-    -- a view that takes one more
+    -- a view that gets one more
     pub grown : (base : List A) (views : List V) (pass : ℕ) (v w : V) (x : A) → get_elem? views pass ≡ some v → g w ≡ g v ++ x ∷ [] → IsPermutation base (flat_map g views) → IsPermutation (base ++ x ∷ []) (flat_map g (set views pass w))
     grown base views pass v w x at more was =
         let r = gathered views pass v at in

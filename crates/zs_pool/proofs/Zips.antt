@@ -38,7 +38,8 @@ module _ {X Y : Type 0} (R : X → Y → Type 0) where
   pub zip_whole : (xs : List X) (ys : List Y) (i : ℕ) → length xs ≤ i → length ys ≤ i → AllZip R (take i xs) (take i ys) → AllZip R xs ys
   zip_whole xs ys i in_x in_y h = rw (take_all i xs in_x, take_all i ys in_y) at h
 
--- a loop that makes one item of each: what is made so far, with what fits the rest, fits the whole
+-- a loop that makes one item of each: what is made so far, followed by what fits the rest, fits the
+-- whole
 module _ {X Y : Type 0} (R : X → Y → Type 0) where
   abbrev pub Finishes : List X → List X → List Y → Type 0
   Finishes all rest ys = (zs : List Y) → AllZip R rest zs → AllZip R all (ys ++ zs)

@@ -1,4 +1,4 @@
--- How a moment's tasks are cut into batches.
+-- How the due tasks of one moment are cut into batches.
 use Rattle.std.specs.Prelude.{◌≡◌, ◌≤◌, ◌-◌, length, take, ℕ, List, All, Some, slice_get}
 use Rattle.std.specs.List.{flat_map}
 use Rattle.zs_drive.specs.Tasks.{TaskValue}
@@ -26,10 +26,10 @@ AllPollable now bs = All (λ b. All (IsPollable now) b.tasks) bs
 abbrev pub AreNumbered : List BatchValue → Type 0
 AreNumbered batches = (k : ℕ) (b : BatchValue) → slice_get batches k ≡ Some b → b.number ≡ k
 
--- the batch has as many tasks as the grain says
+-- the batch has `grain` tasks
 abbrev pub IsFull : ℕ → BatchValue → Type 0
 IsFull grain b = length b.tasks ≡ grain
 
--- no batch is empty or has more than `grain` tasks, and all but the last have as many
+-- each batch has 1 to `grain` tasks, and all but the last have `grain`
 abbrev pub AreCut : ℕ → List BatchValue → Type 0
 AreCut grain bs = All (λ b. (1 ≤ length b.tasks) × (length b.tasks ≤ grain)) bs × All (IsFull grain) (take (length bs - 1) bs)

@@ -1,4 +1,4 @@
--- The rule of a board: batches are claimed from the front, each once, and what is left is queued in order.
+-- The rule of a board: batches are claimed from the front, each once; the rest is queued in order.
 use Rattle.std.specs.Prelude.{◌≡◌, ℕ, ◌<◌, ◌≤◌, List, [], ◌∷◌, ◌++◌, length, drop, Some, slice_get, All}
 use Rattle.std.specs.List.{flat_map, sum_by, range_with_len}
 use Rattle.std.specs.List.Sorted.{IsPermutation}
@@ -15,36 +15,39 @@ module _ {T : Type 0} where
   abbrev pub claims : ℕ → List T → List ℕ → Claims T
   claims share batches taken = record { share = share; batches = batches; taken = taken }
 
-  -- a pass with a share knows the batches. One with none is spent, and took nothing
+  -- a pass with a share knows the batches; one without is spent, and took nothing
   abbrev pub Fits : List T → Claims T → Type 0
   Fits batches v = (0 < v.share → v.batches ≡ batches) × (v.share ≡ 0 → v.taken ≡ [])
 
+  -- the rule: the first `count` batches were taken, the rest is queued, and all shares add up to
+  -- `max_moment`
   pub record BoardRun (items : List T) (views : List (Claims T)) : Type 0 where
     pub batches : List T
     pub count : ℕ
     pub within : count ≤ length batches
-    -- batches count .. are left, in order
+    -- the batches from `count` on are queued, in order
     pub left : items ≡ drop count batches
     -- the numbers taken by all passes are 0 .. count - 1, each once
     pub taken : IsPermutation (range_with_len 0 count) (flat_map (λ v. v.taken) views)
     pub shares : sum_by (λ v. v.share) views ≡ max_moment
     pub each : Every (Fits batches) views
 
-  -- batch k was taken: it is the k-th that was put, and comes after all that the pass took
+  -- x was taken, as batch k: it is the k-th that was put, and after everything that the pass took
   abbrev pub Took : Claims T → T → Claims T → Type 0
   Took v x w = (k : ℕ) × (w ≡ claims v.share v.batches (v.taken ++ k ∷ [])) × (slice_get v.batches k ≡ Some x) × All (λ j. j < k) v.taken × (v.share ≡ max_moment → k ≡ length v.taken)
 
-  -- what a pass with the whole share knows of what is left, and of what it took
+  -- what a pass with exclusive access knows: what is queued, and what it took
   abbrev pub IsRest : Claims T → List T → Type 0
   IsRest v items = v.share ≡ max_moment → (length v.taken ≤ length v.batches) × (items ≡ drop (length v.taken) v.batches) × IsPermutation (range_with_len 0 (length v.taken)) v.taken
 
--- which board it is
+-- the identity of a board
 pub record BoardId : Type 0 where
   pub queue : TableId
   pub counter : TableId
   pub size : ℕ
 
--- a pass, as contracts see it: of which board it is, its share, the batches that were put, the numbers of those that it took, and whether a claim of it answered None
+-- a pass, as contracts know it: its board, its share, the batches that were put, the numbers of
+-- those that it took, and whether one of its claims returned `None`
 pub record Claimer : Type 0 where
   pub board : BoardId
   pub share : ℕ
@@ -52,10 +55,11 @@ pub record Claimer : Type 0 where
   pub taken : List ℕ
   pub none : Bool
 
+-- the pass with these parts
 abbrev pub claimer : BoardId → ℕ → List BatchValue → List ℕ → Bool → Claimer
 claimer board share batches taken none = record { board = board; share = share; batches = batches; taken = taken; none = none }
 
--- what the parts of a pass have to do with each other
+-- how the parts of a pass are related
 pub record IsFit (v : Claims BatchValue) (seat : Counting) (none : Bool) : Type 0 where
   pub share : 0 < v.share
   pub same_share : seat.share ≡ v.share

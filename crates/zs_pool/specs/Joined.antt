@@ -1,4 +1,4 @@
--- What the calling thread has, while it joins the workers.
+-- What the calling thread has while it joins the workers.
 use Rattle.std.specs.Prelude.{◌≡◌, ℕ, ◌+◌, true, List, ◌++◌, Ok, IfOk, Vec}
 use Rattle.std.specs.Global.{Global}
 use Rattle.std.specs.List.{sum_by}
@@ -12,29 +12,32 @@ use Rattle.zs_pool.specs.declared.rounds.workers.Served.{Served}
 use Rattle.zs_pool.specs.declared.rounds.workers.WorkerPromise.{WorkerPromise}
 use Rattle.zs_pool.specs.Shares.{Overflow, IsFresh, Serves, sizes}
 
+-- a started worker, with its result and its promise
 abbrev pub Worker : Type 0
 Worker = PromisedHandle Served WorkerPromise
 
--- the worker serves the round from fresh rights
+-- the worker serves this round, and was started with fresh rights
 abbrev pub Promised : {G : Type 0} → Shared G → List BatchValue → Worker → Type 0
 Promised shared batches w = (w.promise.moment ≡ shared.moment) × IsFresh shared batches w.promise.rights.value
 
--- what all these workers may count
+-- the allowances of all these workers together
 abbrev pub allowed : List Worker → ℕ
 allowed ws = sum_by (λ w. w.promise.rights.value.seat.allowance) ws
 
--- what one kept, and then what the other did
+-- both overflows were stored, and the result is the first followed by the second
 abbrev pub AreBoth : Overflow → Overflow → Vec PolledValue Global → Type 0
 AreBoth overflow more v = (a : Vec PolledValue Global) × (b : Vec PolledValue Global) × (overflow ≡ Ok a) × (more ≡ Ok b) × (v.items ≡ a.items ++ b.items)
 
--- the board was seen empty, and all that was claimed by the joined threads is put or kept, polled and counted. The others may count `spare`
+-- The board was seen empty. The batches that the joined threads claimed are polled and counted, and
+-- put on the shelf or stored beside it. The other threads may count `spare`.
 pub record IsPart (now : ℕ) (batches : List BatchValue) (first : ℕ) (room : ℕ) (spare : ℕ) (r : Rights) (kept : List PolledValue) : Type 0 where
   pub served : Serves now batches r.board_pass.taken (r.shelf_pass.put ++ kept)
   pub none : r.board_pass.none ≡ true
   pub count : r.seat.count ≡ first + sizes batches r.board_pass.taken
   pub left : r.seat.allowance + sizes batches r.board_pass.taken + spare ≡ room
 
--- all workers are joined into the rights with which the round began, and these messages were taken from the shelf meanwhile
+-- all workers are joined into the rights with which the round began; meanwhile these messages were
+-- taken from the shelf
 pub record IsWhole (moment : ℕ) (first : Rights) (r : Rights) (overflow : Overflow) (messages : List PolledValue) : Type 0 where
   pub of : (r.board_pass.board ≡ first.board_pass.board) × (r.shelf_pass.shelf ≡ first.shelf_pass.shelf) × (r.seat.tally ≡ first.seat.tally)
   pub same : r.board_pass.batches ≡ first.board_pass.batches

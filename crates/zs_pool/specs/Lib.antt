@@ -1,4 +1,4 @@
--- What the clauses of callers name, and so what has to be believed.
+-- Named by public clauses: a reader who relies on a clause has to believe what it names.
 pub mod Limits
 pub mod Rounds
 pub mod Batches
@@ -8,6 +8,6 @@ pub mod Board
 pub mod Shelf
 pub mod Tally
 pub mod Shares
--- What the bodies keep: private contracts, and the views and invariants of models, alone name these.
+-- What the code stores. Only private contracts, and the views and invariants of models, name these.
 pub mod Counter
 pub mod Joined

@@ -1,4 +1,4 @@
--- Polled batches: what a worker hands in.
+-- Polled batches, which workers hand in.
 use Rattle.std.specs.Prelude.{◌≡◌, ℕ, true, List, [], ◌∷◌, ◌++◌, ◌⊎◌, All, Option, Some, slice_get, map}
 use Rattle.std.specs.List.{AllZip}
 use Rattle.zs_drive.specs.Tasks.{TaskValue}
@@ -11,11 +11,12 @@ pub record PolledValue : Type 0 where
   pub now : ℕ
   pub tasks : List TaskValue
 
--- The task has seen the moment, and has it as the last moment of its records or is broken. A task's moments rise, so
--- the last of them is the greatest.
+-- The task has seen the moment, and was polled then or is broken. A task's moments rise, so the
+-- last of them is the greatest.
 abbrev pub Saw : ℕ → TaskValue → Type 0
 Saw now task = (task.seen ≡ now) × ((task.broken ≡ true) ⊎ ((ms : List ℕ) × (task.moments ≡ ms ++ now ∷ [])))
 
+-- each of the tasks has seen the moment
 abbrev pub AllSaw : ℕ → List TaskValue → Type 0
 AllSaw now tasks = All (Saw now) tasks
 
@@ -33,9 +34,10 @@ ArePollsOf now bs ps = AllZip (IsPollOf now) bs ps
 abbrev pub IsPollAmong : ℕ → List BatchValue → PolledValue → Type 0
 IsPollAmong now batches p = (b : BatchValue) × (slice_get batches p.number ≡ Some b) × IsPollOf now b p
 
--- the slot has the poll of the batch
+-- the slot contains the poll of the batch
 abbrev pub HasPoll : ℕ → BatchValue → Option PolledValue → Type 0
 HasPoll now b slot = (p : PolledValue) × (slot ≡ Some p) × IsPollOf now b p
 
+-- the numbers of the messages
 abbrev pub numbers_of : List PolledValue → List ℕ
 numbers_of ps = map (λ p. p.number) ps

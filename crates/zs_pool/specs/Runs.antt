@@ -1,7 +1,7 @@
--- What holds of each of the passes or seats of one object.
+-- A fact about each pass or seat of one object.
 use Rattle.std.specs.Prelude.{List, [], ◌∷◌}
 
--- a fact of each view
+-- each view has property P
 abbrev pub Every : {V : Type 0} → (V → Type 0) → List V → Type 0
 Every P [] = Unit {0}
 Every P (v ∷ vs) = P v × Every P vs

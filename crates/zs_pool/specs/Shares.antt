@@ -1,4 +1,4 @@
--- What a thread of a round is given, and what it hands back.
+-- What a thread of a round gets, and what it returns.
 use Rattle.std.specs.Prelude.{◌≡◌, ℕ, zero, suc, ◌+◌, ◌≤◌, length, true, false, List, [], ◌∷◌, ◌++◌, All, Result, IfOk, Vec}
 use Rattle.std.specs.Global.{Global}
 use Rattle.std.specs.List.{sum_by}
@@ -14,7 +14,7 @@ use Rattle.zs_pool.specs.Tally.{Seating}
 use Rattle.zs_pool.specs.declared.rounds.shared.Shared.{Shared}
 use Rattle.zs_pool.specs.declared.rounds.shared.Rights.{Rights}
 
--- the messages for which the shelf had no room
+-- the messages for which the shelf had no room, unless storing them ran out of memory
 abbrev pub Overflow : Type 0
 Overflow = Result (Vec PolledValue Global) AllocError
 
@@ -22,21 +22,21 @@ Overflow = Result (Vec PolledValue Global) AllocError
 abbrev pub HasCounted : Seating → ℕ → Seating → Type 0
 HasCounted before n after = (after.tally ≡ before.tally) × (after.count ≡ before.count + n) × (after.allowance + n ≡ before.allowance)
 
--- how many tasks batch k has
+-- the number of tasks of batch k, or 0 if there is no such batch
 abbrev pub size_at : List BatchValue → ℕ → ℕ
 size_at [] k = 0
 size_at (b ∷ bs) zero = length b.tasks
 size_at (b ∷ bs) (suc k) = size_at bs k
 
--- how many tasks these batches have
+-- the number of tasks of the batches with these numbers
 abbrev pub sizes : List BatchValue → List ℕ → ℕ
 sizes batches taken = sum_by (size_at batches) taken
 
--- all that the pass took is put or kept, polled
+-- everything that the pass took is polled, and put on the shelf or stored beside it
 abbrev pub Serves : ℕ → List BatchValue → List ℕ → List PolledValue → Type 0
 Serves now batches taken ps = All (IsPollAmong now batches) ps × IsPermutation taken (numbers_of ps)
 
--- a message is handed in: it is on the shelf, or among those that are kept
+-- a message is handed in: it is put on the shelf, or stored beside it
 abbrev pub HandsIn : List PolledValue → List PolledValue → PolledValue → List PolledValue → List PolledValue → Type 0
 HandsIn put kept m put' kept' = IsPermutation ((put ++ kept) ++ m ∷ []) (put' ++ kept')
 
@@ -45,7 +45,7 @@ abbrev pub rooms : ℕ → ℕ → ℕ
 rooms zero t = 0
 rooms (suc n) t = t + rooms n t
 
--- nothing was taken, put or answered None yet
+-- the thread has taken nothing, put nothing, and not seen the board empty
 abbrev pub IsNew : List BatchValue → Rights → Type 0
 IsNew batches r = (r.board_pass.batches ≡ batches) × (r.board_pass.taken ≡ []) × (r.board_pass.none ≡ false) × (r.shelf_pass.put ≡ []) × (r.shelf_pass.taken ≡ [])
 
@@ -54,8 +54,8 @@ module _ {G : Type 0} where
   abbrev pub IsOf : Shared G → Rights → Type 0
   IsOf shared r = (r.board_pass.board ≡ shared.board.now) × (r.shelf_pass.shelf ≡ shared.shelf.now) × (r.seat.tally ≡ shared.tally.now)
 
-  -- The rights with which the calling thread begins: the whole board and the whole shelf, and an allowance for itself
-  -- and its helpers, each of which may count all tasks.
+  -- The rights with which the calling thread begins: exclusive access to board and shelf, and an
+  -- allowance for it and its helpers, each of which may count all tasks.
   pub record IsFirst (shared : Shared G) (count : ℕ) (r : Rights) : Type 0 where
     pub board_pass : r.board_pass ≡ claimer shared.board.now max_moment r.board_pass.batches [] false
     pub shelf_pass : r.shelf_pass ≡ shelver shared.shelf.now max_moment [] []
@@ -81,13 +81,15 @@ module _ {G : Type 0} where
     pub count : r.seat.count ≡ 0
     pub room : length (tasks_of batches) ≤ r.seat.allowance
 
--- the rights are of the same things as before, with the same shares, and took nothing from the shelf
+-- the rights are of the same objects as before, with the same shares, and took nothing from the
+-- shelf
 abbrev pub IsSame : Rights → Rights → Type 0
 IsSame r after =
     ((after.board_pass.board ≡ r.board_pass.board) × (after.shelf_pass.shelf ≡ r.shelf_pass.shelf) × (after.seat.tally ≡ r.seat.tally))
     × (after.board_pass.batches ≡ r.board_pass.batches) × (after.board_pass.share ≡ r.board_pass.share) × (after.shelf_pass.share ≡ r.shelf_pass.share) × (after.shelf_pass.taken ≡ r.shelf_pass.taken)
 
--- the board was seen empty, and all that was claimed from it is put or kept, polled and counted
+-- the board was seen empty; everything claimed is polled, counted, and put on the shelf or stored
+-- beside it
 abbrev pub HasServed : ℕ → Rights → Rights → Overflow → Type 0
 HasServed now r after overflow =
     IfOk overflow

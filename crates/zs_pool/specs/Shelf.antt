@@ -1,4 +1,4 @@
--- The rule of a shelf: what was taken, with what is left, is a rearrangement of what was put.
+-- The rule of a shelf: what was put is a permutation of what was taken and what is queued.
 use Rattle.std.specs.Prelude.{◌≡◌, ℕ, List, [], ◌++◌}
 use Rattle.std.specs.List.{flat_map, sum_by}
 use Rattle.std.specs.List.Sorted.{IsPermutation}
@@ -17,21 +17,23 @@ module _ {T : Type 0} where
   abbrev pub IdleIsEmpty : Hands T → Type 0
   IdleIsEmpty v = v.share ≡ 0 → (v.put ≡ []) × (v.taken ≡ [])
 
+  -- the rule: each value that was put is taken or queued, and all shares add up to `max_moment`
   pub record ShelfRun (items : List T) (views : List (Hands T)) : Type 0 where
     pub moved : IsPermutation (flat_map (λ v. v.put) views) (flat_map (λ v. v.taken) views ++ items)
     pub shares : sum_by (λ v. v.share) views ≡ max_moment
     pub each : Every IdleIsEmpty views
 
-  -- what a pass with the whole share knows of what is left
+  -- what a pass with exclusive access knows about the queue
   abbrev pub IsLeft : Hands T → List T → Type 0
   IsLeft v items = v.share ≡ max_moment → IsPermutation v.put (v.taken ++ items)
 
--- a pass, as contracts see it: of which shelf it is, its share, what it put and what it took
+-- a pass, as contracts know it: its shelf, its share, what it put and what it took
 pub record Shelver : Type 0 where
   pub shelf : TableId
   pub share : ℕ
   pub put : List PolledValue
   pub taken : List PolledValue
 
+-- the pass with these parts
 abbrev pub shelver : TableId → ℕ → List PolledValue → List PolledValue → Shelver
 shelver shelf share put taken = record { shelf = shelf; share = share; put = put; taken = taken }

@@ -1,3 +1,5 @@
+//! Some due tasks, which one worker polls.
+
 use std::marker::Model;
 use zs_drive::Task;
 
@@ -6,7 +8,7 @@ use zs_drive::Task;
 pub struct Batch {
     /// The place of the batch among those of its round, from 0.
     pub number: u64,
-    /// The tasks.
+    /// The tasks, in the order of their polls.
     pub tasks: Vec<Task>,
 }
 

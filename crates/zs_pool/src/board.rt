@@ -1,3 +1,13 @@
+//! A work queue of batches.
+//!
+//! Atomic steps, each under the rule of the queue (`board/rule.rt`) or of the counter beside it
+//! (`board/counter_rule.rt`):
+//! - `new` pushes each batch.
+//! - `claim` pops. After a batch it adds 1 to the counter. After an empty pop it loads the counter
+//!   until all claims have counted, and then looks at the queue and loads once more.
+//! - `split` splits both handles. `join` joins both, looks at the queue and loads the counter.
+//! - `close` loads the counter, looks at the queue, and pops until it is empty.
+
 ghost use Rattle.std.specs.Prelude.{◌≡◌, ◌∷◌, [], ◌++◌, ◌+◌, ◌-◌, ◌≤◌, ◌<◌, ◌||◌, true, false, length, drop, All, IsOk, IfOk, IfErr, IfSome, IfNone, Some, slice_get};
 ghost use Rattle.std.specs.List.{range_with_len};
 ghost use Rattle.std.specs.List.Sorted.{IsPermutation};
@@ -25,7 +35,7 @@ type Queue = RuledArrayQueue<Batch, Claims<Batch>, InTurn>;
 
 type QueuePass = Pass<Batch, Claims<Batch>>;
 
-/// A work queue: batches in order, each claimed by one pass. Contracts see it as which one it is.
+/// A work queue: batches in order, each claimed by one pass. Contracts know its identity.
 #[derive(Drop)]
 pub struct Board {
     queue: Queue,
@@ -41,7 +51,7 @@ impl Model for Board {
     ghost view = { λ b. record { queue = b.queue.table.shared.table_id; counter = b.counter; size = b.size } };
 }
 
-/// One thread's handle on a board: the right to claim batches.
+/// One thread's handle of a board: the right to claim batches.
 #[derive(Drop)]
 pub struct BoardPass {
     queue: QueuePass,
@@ -65,7 +75,7 @@ impl Model for BoardPass {
 }
 
 impl Board {
-    /// A board of these batches, and its first pass. Want of memory is the only fault.
+    /// Makes a board of these batches, and its first pass. Fails only with `Memory`.
     pub fn new<R: Wait>(
         rt: &R,
         alloc: Global,
@@ -111,7 +121,7 @@ impl Board {
         unreachable!()
     }
 
-    // A pass with the whole share that saw the board empty took each batch once.
+    // A pass with exclusive access that saw the board empty has taken each batch once.
     fn learn_all_taken(&self, pass: &mut BoardPass)
         requires board { pass.old.board ≡ self.now }
         ensures same { pass.new ≡ pass.old }
@@ -121,17 +131,21 @@ impl Board {
         self.counter.look(&mut pass.seat);
     }
 
-    /// The front batch. `None` only where all batches were claimed, and from then on for good.
+    /// Takes the front batch. Returns `None` only if all batches were claimed, and from then on
+    /// always. It may wait for claims of other passes.
     pub fn claim<R: Wait>(&self, rt: &R, pass: &mut BoardPass) -> Option<Batch>
         requires board { pass.old.board ≡ self.now }
 
-        // The batch is whole, and comes after all that the pass took. After a `None` there is none.
+        // The batch is unchanged, and later than everything that the pass took. After a `None`
+        // there is no other.
         ensures taken { IfSome result (λ b. (pass.old.none ≡ false) × (slice_get pass.old.batches b.number ≡ Some b) × All (λ k. k < b.number) pass.old.taken × (pass.new ≡ claimer self.now pass.old.share pass.old.batches (pass.old.taken ++ b.number ∷ []) false)) }
 
-        // A pass with the whole share takes the very next one.
+        // A pass with exclusive access takes the very next one.
         ensures front { IfSome result (λ b. pass.old.share ≡ max_moment → b.number ≡ length pass.old.taken) }
 
+        // A `None` is noted, and changes nothing else.
         ensures none { IfNone result (pass.new ≡ claimer self.now pass.old.share pass.old.batches pass.old.taken true) }
+        // A pass with exclusive access has then taken each batch once.
         ensures whole { IfNone result (pass.old.share ≡ max_moment → IsPermutation (range_with_len 0 (length pass.old.batches)) pass.old.taken) }
     {
         if !pass.none {
@@ -146,7 +160,8 @@ impl Board {
         None
     }
 
-    /// Hands one of the share to a new pass. The first keeps the list, and both keep whether a claim answered `None`.
+    /// Splits off a pass with a share of 1. The first pass retains the list of batches taken. After
+    /// a `None`, both return `None`.
     pub fn split<R>(
         &self,
         _rt: &R,
@@ -159,7 +174,7 @@ impl Board {
         ensures second { IfOk result (λ r. r.1 ≡ claimer self.now 1 pass.batches [] pass.none) }
         ensures memory { IfErr result (λ e. (e.0 ≡ pass) × (e.1 ≡ Memory)) }
 
-        // The room was made by `new`, so nothing grows here.
+        // `new` has allocated the room, so this allocates nothing.
         ensures succeeds { IsOk result }
     {
         let queue = self.queue.another::<Sharing>(&mut pass.queue);
@@ -168,7 +183,7 @@ impl Board {
         Ok((pass, BoardPass { queue, seat, none }))
     }
 
-    /// Makes one pass of two, which took what both took.
+    /// Joins two passes into one, which took what both took.
     pub fn join<R>(&self, _rt: &R, mut pass: BoardPass, other: BoardPass) -> BoardPass
         requires pass { pass.board ≡ self.now }
         requires other { other.board ≡ self.now }
@@ -183,7 +198,8 @@ impl Board {
         pass
     }
 
-    /// What is left, front first. For want of memory that is given up.
+    /// Returns the batches that were not claimed, front first. If it runs out of memory, it drops
+    /// them.
     pub fn close<R: Wait>(
         self,
         rt: &R,
@@ -192,8 +208,10 @@ impl Board {
     ) -> Result<Vec<Batch>, PoolFault>
         requires board { pass.board ≡ self }
         requires whole { pass.share ≡ max_moment }
+        // The pass took the first batches, each once, and after a `None` all of them.
         ensures taken { IsPermutation (range_with_len 0 (length pass.taken)) pass.taken × (length pass.taken ≤ length pass.batches) }
         ensures all { pass.none ≡ true → length pass.taken ≡ length pass.batches }
+        // The others are returned in order.
         ensures left { IfOk result (λ v. v.items ≡ drop (length pass.taken) pass.batches) }
         ensures memory { IfErr result (λ e. e ≡ Memory) }
     {
@@ -203,7 +221,7 @@ impl Board {
     }
 }
 
-// Takes all that is left.
+// Pops until the queue is empty.
 fn drain<R: Wait>(
     rt: &R,
     alloc: Global,

@@ -1,3 +1,5 @@
+//! Why a call of the pool fails.
+
 ghost use Rattle.std.specs.Prelude.{◌≡◌};
 ghost use Rattle.zs_pool.specs.declared.fault.PoolFault.TheVariants.{Memory, NoThread};
 
@@ -5,10 +7,10 @@ use std::alloc::{AllocError, AllocFailed};
 use std::thread::SpawnError;
 use thiserror::Error;
 
-/// Why a call of the pool was refused.
+/// Why a call of the pool fails.
 #[derive(Clone, Copy, Debug, PartialEq, Eq, Error)]
 pub enum PoolFault {
-    /// A growth was refused.
+    /// A memory allocation failed.
     #[error("out of memory")]
     Memory,
     /// A thread could not be started.

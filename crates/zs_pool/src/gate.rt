@@ -1,6 +1,9 @@
+//! A hook that each task passes before it is polled. A gate may block the thread that calls it.
+
 /// A hook that each task passes before it is polled. A gate may hold the thread that passes it.
 pub trait Gate: Sync {
-    /// The task with the number `job` is about to be polled at `now`, and at least `done` polls were counted so far.
+    /// Called before the task with the number `job` is polled at `now`. At least `done` polls were
+    /// counted before.
     fn pass(&self, job: u64, now: u64, done: u64);
 }
 

@@ -1,3 +1,5 @@
+//! A batch after its polls.
+
 ghost use Rattle.std.specs.Prelude.{◌≡◌, ◌↔◌, ℕ, List, true, IsTrue, slice_get, Some, IfOk, IfErr, map};
 ghost use Rattle.std.specs.List.{AllZip};
 ghost use Rattle.zs_drive.specs.Tasks.{TaskValue};
@@ -35,7 +37,7 @@ impl Model for Polled {
 }
 
 impl Polled {
-    /// Whether the poll of a task found no memory, and broke it.
+    /// Whether the poll of a task ran out of memory, and broke the task.
     pub fn broken(&self) -> bool
         ensures value { IsTrue result ↔ ((k : ℕ) × (t : TaskValue) × (slice_get self.entry.now.tasks k ≡ Some t) × (t.broken ≡ true)) }
         ensures saw { AllSaw self.entry.now.now self.entry.now.tasks }
@@ -43,7 +45,7 @@ impl Polled {
         self.tasks.iter().any(|task| task.broken())
     }
 
-    // The tasks, unless one is broken.
+    // Returns the tasks, or `Memory` if one is broken.
     pub(crate) fn into_tasks(self) -> Result<Vec<Task>, PoolFault>
         ensures tasks { IfOk result (λ v. (now : ℕ) (before : List TaskValue) → AllZip (IsPolled now) before self.tasks → v.items ≡ map (polled_at now) before) }
         ensures memory { IfErr result (λ e. e ≡ Memory) }

@@ -25,11 +25,12 @@ use std::sync::Wait;
 use std::thread::Threads;
 use zs_drive::Task;
 
-/// Polls each task once at `now`, in milliseconds, and counts it. Workers claim batches of `grain` tasks until none is left.
+/// Polls each task once at `now`, in milliseconds, and counts it. Each worker claims batches of
+/// `grain` tasks until the board is empty.
 ///
-/// A worker is a thread that is started for the round. The calling thread is one of them, and where one worker or one
-/// batch is all there is, it starts none. Every thread has ended when `round` answers. After a refusal the tasks are
-/// given up, and nothing is said of the seat.
+/// The calling thread is one of the workers; the others are threads that are started for the round.
+/// With one worker or one batch no thread is started. Every thread has ended when `round` returns.
+/// If `round` fails, it drops the tasks, and promises nothing about the seat.
 pub fn round<G: Gate, R: Threads + Wait + Sync>(
     rt: &R,
     alloc: Global,

@@ -1,3 +1,8 @@
+//! A bounded queue of polled batches.
+//!
+//! Atomic steps, each under the rule of the queue (`shelf/rule.rt`): `put` pushes, `take` pops,
+//! `split` splits a handle, `join` joins two, and `close` pops until the queue is empty.
+
 ghost use Rattle.std.specs.Prelude.{◌≡◌, ◌∷◌, [], ◌++◌, ◌+◌, ◌-◌, ◌≤◌, ◌<◌, length, IsOk, IfOk, IfErr, OnOk, IfSome, IfNone};
 ghost use Rattle.std.specs.List.Sorted.{IsPermutation};
 ghost use Rattle.crossbeam_queue.specs.Passes.{view, IsPassOf};
@@ -20,7 +25,7 @@ type Queue = RuledArrayQueue<Polled, Hands<Polled>, EachOnce>;
 
 type QueuePass = Pass<Polled, Hands<Polled>>;
 
-/// A bounded queue of polled batches. Contracts see it as which one it is.
+/// A bounded queue of polled batches. Contracts know its identity.
 #[derive(Drop)]
 pub struct Shelf {
     queue: Queue,
@@ -34,7 +39,7 @@ impl Model for Shelf {
     ghost view = { λ s. s.queue.table.shared.table_id };
 }
 
-/// One thread's handle on a shelf: the right to put and to take.
+/// One thread's handle of a shelf: the right to put and to take.
 #[derive(Drop)]
 pub struct ShelfPass {
     queue: QueuePass,
@@ -56,7 +61,7 @@ impl Model for ShelfPass {
 }
 
 impl Shelf {
-    /// A shelf with room for 1 to 10,000 batches, and its first pass. Want of memory is the only fault.
+    /// Makes a shelf for 1 to 10,000 batches, and its first pass. Fails only with `Memory`.
     pub fn new<R>(_rt: &R, alloc: Global, capacity: u64) -> Result<(Shelf, ShelfPass), PoolFault>
         requires capacity { (1 ≤ capacity) × (capacity ≤ max_tasks) }
         ensures ok { IfOk result (λ r. r.1 ≡ shelver r.0 max_moment [] []) }
@@ -67,7 +72,7 @@ impl Shelf {
         Ok((Shelf { queue }, ShelfPass { queue: pass }))
     }
 
-    /// Puts a polled batch on the shelf, or hands it back where there was no room.
+    /// Appends a polled batch. If the shelf is full, it returns the batch with `Full`.
     pub fn put<R: Wait>(
         &self,
         rt: &R,
@@ -78,7 +83,7 @@ impl Shelf {
         ensures ok { OnOk result (pass.new ≡ shelver self.now pass.old.share (pass.old.put ++ message ∷ []) pass.old.taken) }
         ensures full { IfErr result (λ e. (e.0 ≡ message) × (e.1 ≡ Full) × (pass.new ≡ pass.old)) }
 
-        // A pass with the whole share finds no room only where as many are left as the shelf has slots.
+        // With exclusive access, the shelf is full only if `capacity` batches are queued.
         ensures no_room { IfErr result (λ _. pass.old.share ≡ max_moment → length pass.old.put ≡ length pass.old.taken + self.now.slots) }
     {
         let Err(message) = self.queue.push_as::<Puts, R>(rt, &mut pass.queue, message) else {
@@ -87,19 +92,19 @@ impl Shelf {
         Err((message, PoolFault::Full))
     }
 
-    /// Takes the front batch, or `None` where the shelf was empty.
+    /// Takes the front batch, or returns `None` if the shelf was empty.
     pub fn take<R: Wait>(&self, rt: &R, pass: &mut ShelfPass) -> Option<Polled>
         requires shelf { pass.old.shelf ≡ self.now }
         ensures taken { IfSome result (λ p. pass.new ≡ shelver self.now pass.old.share pass.old.put (pass.old.taken ++ p ∷ [])) }
         ensures none { IfNone result (pass.new ≡ pass.old) }
 
-        // A pass with the whole share finds nothing only where it took all that it put.
+        // With exclusive access, it is empty only if the pass took everything that it put.
         ensures empty { IfNone result (pass.old.share ≡ max_moment → IsPermutation pass.old.put pass.old.taken) }
     {
         self.queue.pop_as::<Takes, R>(rt, &mut pass.queue)
     }
 
-    /// Hands one of the share to a new pass. The first keeps the lists.
+    /// Splits off a pass with a share of 1. The first pass retains what it put and took.
     pub fn split<R>(
         &self,
         _rt: &R,
@@ -112,14 +117,14 @@ impl Shelf {
         ensures second { IfOk result (λ r. r.1 ≡ shelver self.now 1 [] []) }
         ensures memory { IfErr result (λ e. (e.0 ≡ pass) × (e.1 ≡ Memory)) }
 
-        // The room was made by `new`, so nothing grows here.
+        // `new` has allocated the room, so this allocates nothing.
         ensures succeeds { IsOk result }
     {
         let queue = self.queue.another::<Sharing>(&mut pass.queue);
         Ok((pass, ShelfPass { queue }))
     }
 
-    /// Makes one pass of two, which put and took what both did.
+    /// Joins two passes into one, which put and took what both did.
     pub fn join<R>(&self, _rt: &R, mut pass: ShelfPass, other: ShelfPass) -> ShelfPass
         requires pass { pass.shelf ≡ self.now }
         requires other { other.shelf ≡ self.now }
@@ -130,7 +135,8 @@ impl Shelf {
         pass
     }
 
-    /// What is left, front first. For want of memory that is given up.
+    /// Returns the batches that were not taken, front first. If it runs out of memory, it drops
+    /// them.
     pub fn close<R: Wait>(
         self,
         rt: &R,
@@ -146,7 +152,7 @@ impl Shelf {
     }
 }
 
-// Takes all that is left.
+// Pops until the queue is empty.
 fn drain<R: Wait>(
     rt: &R,
     alloc: Global,

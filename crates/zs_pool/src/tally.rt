@@ -1,3 +1,11 @@
+//! A counter of polls that threads share.
+//!
+//! Atomic steps, each under the rule of its word (`tally/rule.rt`):
+//! - `count` is one `fetch_add`, and `seen` one `load`.
+//! - `split` notes the amount by a `compare_exchange` of n by n, which changes nothing, and then
+//!   splits the seat.
+//! - `join` joins two seats, and then loads.
+
 ghost use Rattle.std.specs.Prelude.{◌≡◌, ◌+◌, ◌-◌, ◌≤◌, ◌<◌, max, IfOk, IfErr};
 ghost use Rattle.zs_term.specs.Saturating.{max_moment};
 ghost use Rattle.zs_pool.specs.declared.fault.PoolFault.TheVariants.{Memory};
@@ -10,7 +18,7 @@ use atomic_table::{Seat, Table};
 use std::alloc::Global;
 use std::marker::Model;
 
-/// A counter that threads share. Contracts see it as which one it is.
+/// A counter that threads share. Contracts know its identity.
 #[derive(Drop)]
 pub struct Tally {
     table: Table<(), Tallied, (), Exact, Global>,
@@ -27,7 +35,7 @@ impl Model for Tally {
     ghost invariant = { λ t. (t.table.shared.table_id.words ≡ 1) × (t.table.shared.table_id.slots ≡ 0) };
 }
 
-/// One thread's handle on a tally: the right to count, with a quota.
+/// One thread's handle of a tally: the right to count, at most `left` times.
 #[derive(Drop)]
 pub struct TallySeat {
     seat: Seat<(), Tallied>,
@@ -46,7 +54,8 @@ impl Model for TallySeat {
 }
 
 impl Tally {
-    /// A count of 0, and its first seat, which may count 18,446,744,073,709,551,615 times. Want of memory is the only fault.
+    /// Makes a count of 0, and its first seat, which may count 18,446,744,073,709,551,615 times.
+    /// Fails only with `Memory`.
     pub fn new(alloc: Global) -> Result<(Tally, TallySeat), PoolFault>
         ensures ok { IfOk result (λ t. t.1 ≡ record { tally = t.0; count = 0; allowance = max_moment; seen = 0 }) }
         ensures memory { IfErr result (λ e. e ≡ Memory) }
@@ -59,7 +68,7 @@ impl Tally {
         Ok((Tally { table }, seat))
     }
 
-    /// Adds one.
+    /// Counts one more.
     pub fn count(&self, seat: &mut TallySeat)
         requires tally { seat.old.tally ≡ self.now }
         requires left { 1 ≤ seat.old.allowance }
@@ -69,25 +78,27 @@ impl Tally {
         seat.left -= 1;
     }
 
-    /// What was counted so far, by all seats.
+    /// Returns what all seats have counted so far.
     pub fn seen(&self, seat: &mut TallySeat) -> u64
         requires tally { seat.old.tally ≡ self.now }
+        // At least what the seat counted, and at least what it saw before.
         ensures own { seat.old.count ≤ result }
         ensures rising { seat.old.seen ≤ result }
+        // There is room for all counts that the seat may still make.
         ensures within { result + seat.old.allowance ≤ max_moment }
         ensures kept { seat.new ≡ record { tally = self.now; count = seat.old.count; allowance = seat.old.allowance; seen = result } }
     {
         self.table.shared.load::<Sees>(&mut seat.seat, 0)
     }
 
-    /// How often the seat may still count.
+    /// Returns how often the seat may still count.
     pub fn left(seat: &TallySeat) -> u64
         ensures value { result ≡ seat.now.allowance }
     {
         seat.left
     }
 
-    /// Hands `n` of the allowance to a new seat.
+    /// Splits off a seat with an allowance of `n`.
     pub(crate) fn split_off(&self, seat: &mut TallySeat, n: u64) -> TallySeat
         requires tally { seat.old.tally ≡ self.now }
         requires left { n ≤ seat.old.allowance }
@@ -95,7 +106,8 @@ impl Tally {
         ensures second { result ≡ record { tally = self.now; count = 0; allowance = n; seen = seat.old.seen } }
     {
         let words = &self.table.shared;
-        // A word that is `n` becomes `n`, so this changes nothing.
+        // The split takes no argument, so the amount is noted in the seat's view: a word that is
+        // `n` becomes `n`.
         words.compare_exchange::<Notes>(&mut seat.seat, 0, n, n);
         let other = words.split_seat::<Sharing>(&mut seat.seat);
         seat.left -= n;
@@ -105,7 +117,7 @@ impl Tally {
         }
     }
 
-    /// Takes in what another seat counted and may still count.
+    /// Joins another seat into this one: its count and its allowance are added.
     pub(crate) fn absorb(&self, seat: &mut TallySeat, other: TallySeat)
         requires seat { seat.old.tally ≡ self.now }
         requires other { other.tally ≡ self.now }
@@ -114,12 +126,12 @@ impl Tally {
         let TallySeat { seat: theirs, left } = other;
         let words = &self.table.shared;
         words.join_seat::<Sharing>(&mut seat.seat, theirs);
-        // Both allowances together fit, as the rule says at any step.
+        // The sum of both allowances fits. The rule says so at every step, and this load is one.
         words.load::<Fits>(&mut seat.seat, 0);
         seat.left += left;
     }
 
-    /// Hands `n` of the allowance to a new seat, which counted nothing. The first keeps the rest.
+    /// Splits off a seat with an allowance of `n`, which counted nothing. The first has the rest.
     pub fn split(&self, mut seat: TallySeat, n: u64) -> (TallySeat, TallySeat)
         requires tally { seat.tally ≡ self.now }
         requires left { n ≤ seat.allowance }
@@ -130,7 +142,7 @@ impl Tally {
         (seat, other)
     }
 
-    /// Makes one seat of two: their counts and allowances are added.
+    /// Joins two seats into one: their counts and allowances are added.
     pub fn join(&self, mut seat: TallySeat, other: TallySeat) -> TallySeat
         requires seat { seat.tally ≡ self.now }
         requires other { other.tally ≡ self.now }
@@ -140,12 +152,13 @@ impl Tally {
         seat
     }
 
-    /// What was counted in all. Where all seats were joined into this one, that is its count.
+    /// Returns what was counted in all. If all seats were joined into this one, that is its count.
     pub fn close(self, seat: TallySeat) -> u64
         requires tally { seat.tally ≡ self }
         ensures own { seat.count ≤ result }
         ensures seen { seat.seen ≤ result }
         ensures within { result + seat.allowance ≤ max_moment }
+        // Count and allowance add up to 2^64 - 1 only if no other seat counted or may count.
         ensures whole { seat.count + seat.allowance ≡ max_moment → result ≡ seat.count }
     {
         let TallySeat { seat, left: _ } = seat;

@@ -1,4 +1,7 @@
 //! A word beside the board's queue that counts the batches that were claimed.
+//!
+//! Its atomic steps: `add` is one `fetch_add`, `look` one `load`, `split` splits a seat and `join`
+//! joins two.
 ghost use Rattle.std.specs.Prelude.{◌≡◌, ◌+◌, ◌-◌, ◌≤◌, ◌<◌, max, IfOk};
 ghost use Rattle.zs_term.specs.Saturating.{max_moment};
 
@@ -7,7 +10,7 @@ use atomic_table::{Seat, Table};
 use std::alloc::{AllocError, Global};
 use std::marker::Model;
 
-/// The count of claimed batches. Contracts see it as which one it is.
+/// The count of claimed batches. Contracts know its identity.
 #[derive(Drop)]
 pub struct Counter {
     table: Table<(), Count, (), Summed, Global>,
@@ -24,7 +27,7 @@ impl Model for Counter {
     ghost invariant = { λ t. t.table.shared.table_id.words ≡ 1 };
 }
 
-/// The right to count of one pass.
+/// One pass's right to count.
 #[derive(Drop)]
 pub struct CounterSeat {
     seat: Seat<(), Count>,
@@ -42,7 +45,7 @@ impl Model for CounterSeat {
 }
 
 impl Counter {
-    /// A count of 0, and its first seat.
+    /// Makes a count of 0, and its first seat.
     pub fn new(alloc: Global) -> Result<(Counter, CounterSeat), AllocError>
         ensures ok { IfOk result (λ t. t.1 ≡ record { counter = t.0; share = max_moment; count = 0; seen = 0 }) }
     {
@@ -50,7 +53,7 @@ impl Counter {
         Ok((Counter { table }, CounterSeat { seat }))
     }
 
-    /// Adds one claimed batch.
+    /// Counts one claimed batch.
     pub fn add(&self, seat: &mut CounterSeat)
         requires counter { seat.old.counter ≡ self.now }
         requires share { 0 < seat.old.share }
@@ -59,7 +62,8 @@ impl Counter {
         self.table.shared.fetch_add::<Adds>(&mut seat.seat, 0, 1);
     }
 
-    /// How many were counted so far. A seat with the whole share counted all that it saw.
+    /// Returns how many were counted so far. A seat with exclusive access has counted everything
+    /// that it saw.
     pub fn look(&self, seat: &mut CounterSeat) -> u64
         requires counter { seat.old.counter ≡ self.now }
         ensures seen { seat.new ≡ record { counter = self.now; share = seat.old.share; count = seat.old.count; seen = max seat.old.seen result } }
@@ -68,7 +72,7 @@ impl Counter {
         self.table.shared.load::<Looks>(&mut seat.seat, 0)
     }
 
-    /// Hands one of the share to a new seat.
+    /// Splits off a seat with a share of 1.
     pub fn split(&self, seat: &mut CounterSeat) -> CounterSeat
         requires counter { seat.old.counter ≡ self.now }
         requires share { 2 ≤ seat.old.share }
@@ -80,7 +84,7 @@ impl Counter {
         }
     }
 
-    /// Makes one seat of two.
+    /// Joins two seats into one.
     pub fn join(&self, seat: &mut CounterSeat, other: CounterSeat)
         requires counter { (seat.old.counter ≡ self.now) × (other.counter ≡ self.now) }
         requires share { 0 < seat.old.share }

@@ -1,12 +1,12 @@
-//! The rule of a counter: what each seat knows, and what each step makes of it.
+//! The rule of a counter: what each seat knows, and what each step does to it.
 
 use atomic_table::{Join, Play, Split, TableRule};
 
-/// What a seat knows. No value of it is made.
+/// What a seat knows. No value of this type is made.
 pub struct Count {
-    /// The seat's part of the right to the whole counter.
+    /// The seat's part of the access to the counter.
     pub share: u64,
-    /// How many the seat counted.
+    /// How often the seat counted.
     pub count: u64,
     /// The greatest value of the word that the seat saw.
     pub seen: u64,
@@ -24,7 +24,7 @@ impl TableRule<(), Count, ()> for Summed {
     ghost first = { λ _. counted max_moment 0 0 };
 }
 
-/// Adds one to the word.
+/// Adds 1 to the word.
 pub struct Adds;
 
 impl Play<(), Count> for Adds {
@@ -33,7 +33,7 @@ impl Play<(), Count> for Adds {
     ghost then = { Added };
 }
 
-/// Reads the word. A seat with the whole share learns that it counted all that it saw.
+/// Reads the word. A seat with exclusive access learns that it counted everything that it saw.
 pub struct Looks;
 
 impl Play<(), Count> for Looks {
@@ -42,7 +42,7 @@ impl Play<(), Count> for Looks {
     ghost then = { Looked };
 }
 
-/// Hands one of the share to a new seat, which counted nothing.
+/// Splits off a seat with a share of 1, which counted nothing.
 pub struct Sharing;
 
 impl Split<Count> for Sharing {

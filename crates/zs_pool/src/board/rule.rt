@@ -1,11 +1,11 @@
-//! The rule of a board: what each pass knows, and what each step makes of it.
+//! The rule of a board: what each pass knows, and what each step does to it.
 
 use crossbeam_queue::protocol::{Join, Lesson, Outcome, Protocol, Split};
 use std::collections::LinkedList;
 
-/// What a pass knows. No value of it is made.
+/// What a pass knows. No value of this type is made.
 pub struct Claims<T> {
-    /// The pass's part of the right to the whole board.
+    /// The pass's part of the access to the board.
     pub share: u64,
     /// All batches that were put.
     pub batches: LinkedList<T>,
@@ -57,7 +57,7 @@ impl<T> Lesson<T, Claims<T>> for Takes {
     ghost fact = { IsRest };
 }
 
-/// Hands one of the share to a new pass, which took nothing.
+/// Splits off a pass with a share of 1, which took nothing.
 pub struct Sharing;
 
 impl<T> Split<Claims<T>> for Sharing {

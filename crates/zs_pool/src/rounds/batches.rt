@@ -1,4 +1,4 @@
-//! Cuts a moment's tasks into batches, and puts the polled batches back in order.
+//! Cuts the due tasks of one moment into batches, and merges the polled batches in order.
 ghost use Rattle.std.specs.Prelude.{◌≡◌, ◌≤◌, map, length, All, IfOk, IfErr};
 ghost use Rattle.std.specs.List.{AllZip, range_with_len};
 ghost use Rattle.std.specs.List.Sorted.{IsPermutation};
@@ -15,7 +15,7 @@ use std::mem::drop;
 use std::snapshot::Snapshot;
 use zs_drive::Task;
 
-// Cuts the tasks in order into batches of `grain`, the last first. The last may be shorter.
+// Cuts the tasks into batches of `grain`, from the last on. The last batch may be shorter.
 pub fn cut_into(alloc: Global, grain: u64, mut tasks: Vec<Task>) -> Result<Vec<Batch>, PoolFault>
     requires grain { 1 ≤ grain }
     ensures numbered { IfOk result (λ v. AreNumbered v.items) }
@@ -56,7 +56,7 @@ fn placed(
     Ok(slots)
 }
 
-// The tasks of the messages, in the order of the batches.
+// Returns the tasks of the messages, in the order of the batches.
 pub fn in_order(
     alloc: Global,
     now: u64,

@@ -1,15 +1,15 @@
-//! How a round is cut, and its limits.
+//! How the tasks of a round are shared out, and the limits.
 ghost use Rattle.std.specs.Prelude.{◌≡◌, ◌≤◌, ◌↔◌, IsSome, IfSome};
 ghost use Rattle.zs_pool.specs.Limits.{max_workers, max_tasks};
 ghost use Rattle.zs_pool.specs.Batches.{IsCut};
 
-/// The most threads that poll at once.
+/// The greatest number of threads that poll at once.
 pub const MAX_WORKERS: u64 = 64;
 
-/// The most tasks of a round, and so the most of a batch and the most batches.
+/// The greatest number of tasks of a round, and so of tasks in a batch and of batches.
 pub const MAX_TASKS: u64 = 10_000;
 
-/// How a round is cut: by how many workers, and how many tasks in a batch.
+/// How the tasks of a round are shared out: the number of workers, and of tasks in a batch.
 #[derive(Clone, Copy, Debug)]
 pub struct Cut {
     workers: u64,
@@ -18,7 +18,8 @@ pub struct Cut {
 }
 
 impl Cut {
-    /// A cut by 1 to 64 workers into batches of 1 to 10,000 tasks, or `None` outside these limits.
+    /// Makes a cut of 1 to 64 workers and batches of 1 to 10,000 tasks, or `None` outside these
+    /// limits.
     pub fn new(workers: u64, grain: u64) -> Option<Cut>
         ensures some { IsSome result ↔ IsCut workers grain }
         ensures kept { IfSome result (λ c. (c.workers ≡ workers) × (c.grain ≡ grain)) }
@@ -29,14 +30,14 @@ impl Cut {
         Some(Cut { workers, grain })
     }
 
-    /// The most threads that a round works on.
+    /// Returns the greatest number of threads that a round uses.
     pub fn workers(&self) -> u64
         ensures value { result ≡ self.now.workers }
     {
         self.workers
     }
 
-    /// The tasks of a batch. The last batch of a round may have fewer.
+    /// Returns the number of tasks in a batch. The last batch of a round may have fewer.
     pub fn grain(&self) -> u64
         ensures value { result ≡ self.now.grain }
     {

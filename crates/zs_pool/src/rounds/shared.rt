@@ -1,4 +1,4 @@
-//! What the threads of a round share, and the rights that each of them has.
+//! What the threads of a round share, and the rights of each.
 ghost use Rattle.std.specs.Prelude.{◌≡◌, ◌+◌, ◌-◌, ◌≤◌, ◌++◌, ◌||◌, [], max};
 ghost use Rattle.zs_pool.specs.Board.{claimer};
 ghost use Rattle.zs_pool.specs.Shelf.{shelver};
@@ -9,7 +9,7 @@ use crate::shelf::{Shelf, ShelfPass};
 use crate::tally::{Tally, TallySeat};
 use std::alloc::Global;
 
-// What the threads of a round share: the batches, the polled ones, the count of the polls, and the moment.
+// What the threads of a round share: the batches, the polled ones, the count of polls, the moment.
 #[derive_where(Clone, Copy)]
 pub struct Shared<'s, G> {
     pub gate: &'s G,
@@ -18,12 +18,12 @@ pub struct Shared<'s, G> {
     pub tally: &'s Tally,
     // The moment of the round, in milliseconds.
     pub moment: u64,
-    // How many tasks the batches have, and how many batches there are.
+    // The number of tasks in all batches, and the number of batches.
     pub tasks: u64,
     pub batches: usize,
 }
 
-// The right of one thread to claim, to hand in and to count.
+// One thread's right to claim, to hand in and to count.
 #[derive(Drop)]
 pub struct Rights {
     pub board_pass: BoardPass,
@@ -64,7 +64,7 @@ impl<'s, G> Shared<'s, G> {
         (rest, own)
     }
 
-    // Takes back the rights of a worker.
+    // Joins the rights of a worker into those of the calling thread.
     pub fn join<R>(self, rt: &R, rights: Rights, other: Rights) -> Rights
         requires of { IsOf self rights }
         requires other { IsOf self other }

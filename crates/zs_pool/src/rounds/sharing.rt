@@ -1,4 +1,4 @@
-//! Has batches polled by several threads.
+//! Polls batches on several threads.
 ghost use Rattle.std.specs.Prelude.{◌≡◌, ◌≢◌, ◌+◌, ◌≤◌, All, IfOk, IfErr, length};
 ghost use Rattle.std.specs.Vec.{vec_capacity};
 ghost use Rattle.std.specs.List.{range_with_len};
@@ -24,10 +24,11 @@ use std::sync::Wait;
 use std::thread;
 use std::thread::{Scope, Threads};
 
-// The calling thread waits for the helpers once it has found the shelf empty this often.
+// How often the calling thread may find the shelf empty before it waits for the helpers.
 const TRIES: u64 = 1000;
 
-// The result of a round whose helpers are joined, and the messages that were taken from the shelf meanwhile.
+// The result of a round whose helpers are joined, and the messages that were taken from the shelf
+// before that.
 #[derive(Drop)]
 struct Collected {
     served: Served,
@@ -35,7 +36,8 @@ struct Collected {
 }
 
 impl<'s, G: Gate> Shared<'s, G> {
-    // Takes messages from the shelf while the helpers work, until all are there or too many tries found it empty.
+    // Takes messages from the shelf while the helpers work, until all are there or `TRIES` tries
+    // found it empty.
     fn collect<R: Wait>(self, rt: &R, pass: &mut ShelfPass, messages: &mut Vec<Polled>)
         requires shelf { pass.old.shelf ≡ self.shelf.now }
         requires messages { pass.old.taken ≡ messages.old.items }
@@ -81,7 +83,7 @@ impl<'s, G: Gate> Shared<'s, G> {
     }
 }
 
-// Runs in a scope, in which every thread that was started has ended.
+// Runs in a scope, at whose end every started thread has ended.
 fn run_scoped<G: Gate, R: Threads + Wait + Sync>(
     rt: &R,
     alloc: Global,
@@ -105,7 +107,7 @@ fn run_scoped<G: Gate, R: Threads + Wait + Sync>(
     )
 }
 
-// Batches, how many tasks they have, and how many threads help with them.
+// The batches, the number of their tasks, and the number of threads that help.
 #[derive(Drop)]
 pub struct Work {
     pub batches: Vec<Batch>,
@@ -113,7 +115,8 @@ pub struct Work {
     pub helpers: usize,
 }
 
-// Has the batches polled by the calling thread and its helpers, each of which claims until nothing is left.
+// Polls the batches on the calling thread and its helpers, each of which claims until the board is
+// empty.
 pub fn poll_shared<'s, G: Gate, R: Threads + Wait + Sync>(
     rt: &R,
     alloc: Global,

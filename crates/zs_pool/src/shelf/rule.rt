@@ -1,11 +1,11 @@
-//! The rule of a shelf: what each pass knows, and what each step makes of it.
+//! The rule of a shelf: what each pass knows, and what each step does to it.
 
 use crossbeam_queue::protocol::{Join, Lesson, Outcome, Protocol, Split};
 use std::collections::LinkedList;
 
-/// What a pass knows. No value of it is made.
+/// What a pass knows. No value of this type is made.
 pub struct Hands<T> {
-    /// The pass's part of the right to the whole shelf.
+    /// The pass's part of the access to the shelf.
     pub share: u64,
     /// What the pass put.
     pub put: LinkedList<T>,
@@ -13,7 +13,7 @@ pub struct Hands<T> {
     pub taken: LinkedList<T>,
 }
 
-/// What was put is taken once, or is left.
+/// Each value that was put is taken once, or is queued.
 pub struct EachOnce;
 
 impl<T> Protocol<T, Hands<T>> for EachOnce {
@@ -58,7 +58,7 @@ impl<T> Lesson<T, Hands<T>> for Takes {
     ghost fact = { IsLeft };
 }
 
-/// Hands one of the share to a new pass, which put and took nothing.
+/// Splits off a pass with a share of 1, which put and took nothing.
 pub struct Sharing;
 
 impl<T> Split<Hands<T>> for Sharing {

@@ -1,16 +1,16 @@
-//! The rule of a tally: what each seat knows, and what each step makes of it.
+//! The rule of a tally: what each seat knows, and what each step does to it.
 
 use atomic_table::{Join, Play, Split, TableRule};
 
-/// What a seat knows. No value of it is made.
+/// What a seat knows. No value of this type is made.
 pub struct Tallied {
-    /// How many the seat counted.
+    /// How often the seat counted.
     pub count: u64,
     /// How often the seat may still count.
     pub allowance: u64,
     /// The value of the word that the seat saw last.
     pub seen: u64,
-    /// How much of the allowance is about to be handed on.
+    /// How much of the allowance is about to be split off.
     pub noted: u64,
 }
 
@@ -26,7 +26,7 @@ impl TableRule<(), Tallied, ()> for Exact {
     ghost first = { λ _. tallied 0 max_moment 0 0 };
 }
 
-/// Adds one to the word.
+/// Adds 1 to the word.
 pub struct Counts;
 
 impl Play<(), Tallied> for Counts {
@@ -44,7 +44,7 @@ impl Play<(), Tallied> for Sees {
     ghost then = { Loaded };
 }
 
-/// Notes how much of the allowance is about to be handed on. The word stays what it is.
+/// Notes how much of the allowance is about to be split off. The word is unchanged.
 pub struct Notes;
 
 impl Play<(), Tallied> for Notes {
@@ -62,7 +62,7 @@ impl Play<(), Tallied> for Fits {
     ghost then = { Fitting };
 }
 
-/// Hands what was noted to a new seat, which counted nothing.
+/// Splits off a seat with the noted allowance, which counted nothing.
 pub struct Sharing;
 
 impl Split<Tallied> for Sharing {

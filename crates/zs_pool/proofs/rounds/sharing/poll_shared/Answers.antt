@@ -22,7 +22,7 @@ done g c =
     ended c.args.now c.args.work.batches.items _ c.in_ok-collected.collected.served.rights c.in_ok-collected.collected.served.overflow c.in_ok-collected.collected.messages.items c.in_ok-left.left.items c.in_ok-kept.kept
     c.in_ok-collected.ensures.whole (ap (λ p. p.batches) c.in_ok-board.ensures.ok) c.in_ok-kept.was c.in_ok-close.ensures.taken.0 c.in_ok-close.ensures.all c.in_ok-left.ensures.left
 
--- the messages, in the order in which they were put behind each other
+-- the messages, in the order in which they were appended
 all : (g : Over) (c : In_ok-append-2 g) → (c.in_ok-collected.collected.messages.items ++ c.in_ok-left.left.items) ++ c.in_ok-kept.kept.items ≡ c.append-2.new.self.items
 all g c = sym (c.in_ok-append-2.ensures.items ∙ ap (λ ms. ms ++ c.in_ok-kept.kept.items) c.in_ok-append.ensures.items)
 
