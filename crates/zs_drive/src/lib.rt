@@ -22,6 +22,7 @@ mod log;
 mod progress;
 mod record;
 mod task;
+mod touching;
 
 pub use fault::DriveFault;
 pub use job::{Job, Mode};

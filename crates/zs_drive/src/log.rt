@@ -9,6 +9,7 @@ ghost use Rattle.zs_drive.specs.Log.{BeginsNext, IsFull, IsLog, IsSameLog, keepi
 use crate::fault::DriveFault;
 use crate::lines::append_attempt;
 use crate::record::{Attempted, Ended, Keeping};
+use crate::touching::{touch_end, touch_last, touch_parts};
 use std::alloc::{AllocError, Global};
 use std::mem::{drop, swap};
 use zs_term::Out;
@@ -24,14 +25,14 @@ const FIRST_MOMENTS: usize = 16;
 /// Attempts as lines of text, and the last one as a record.
 #[derive(Drop)]
 pub struct Told {
-    /// The lines of all attempts but the last.
-    pub lines: String,
-    /// The number of these attempts.
-    pub count: u64,
-    /// The moments at which they began and ended, in order, in milliseconds.
-    pub moments: Vec<u64>,
     /// The last attempt.
     pub last: Option<Attempted>,
+    /// The number of the attempts before it.
+    pub count: u64,
+    /// The moments at which these began and ended, in order, in milliseconds.
+    pub moments: Vec<u64>,
+    /// Their lines.
+    pub lines: String,
 }
 
 /// The attempts so far.
@@ -66,6 +67,16 @@ fn add<T: Drop>(list: &mut Vec<T>, item: T, least: usize) -> Result<(), AllocErr
     make_room(list, least)?;
     list.push(item)?;
     Ok(())
+}
+
+// Reads an attempt and the parts of its output.
+fn touch_record(attempt: Option<&Attempted>) -> u64 {
+    let Some(attempt) = attempt else { return 0 };
+    match &attempt.ended {
+        Some(Ended { at, step: Some((out, _)), .. }) => *at ^ touch_parts(out),
+        Some(Ended { at, .. }) => *at,
+        None => attempt.begun,
+    }
 }
 
 // Takes an end away. Its output, if it has one, is given in place of another.
@@ -151,11 +162,23 @@ impl Log {
         match keeps {
             Keeping::Records => Log::Recorded(Vec::new(alloc)),
             Keeping::Lines => Log::Written(Told {
-                lines: String::new(alloc),
+                last: None,
                 count: 0,
                 moments: Vec::new(alloc),
-                last: None,
+                lines: String::new(alloc),
             }),
+        }
+    }
+
+    /// Reads what the next attempt's beginning and end read first. The number has no meaning.
+    pub fn touch(&self) -> u64 {
+        match self {
+            Log::Recorded(records) => touch_record(records.last()),
+            Log::Written(told) => {
+                touch_end(told.lines.as_str())
+                    ^ touch_last(told.moments.as_slice())
+                    ^ touch_record(told.last.as_ref())
+            }
         }
     }
 

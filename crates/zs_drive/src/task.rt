@@ -202,6 +202,13 @@ impl Task {
         self.progress.phase.due()
     }
 
+    /// Reads what its next poll reads first, so that this memory is in the cache by then. The number has no meaning.
+    ///
+    /// If several tasks are touched before the first of them is polled, the processor waits for the memory of all of them at once.
+    pub fn touch(&self) -> u64 {
+        self.progress.touch()
+    }
+
     /// Tells it the moment at which the next poll comes, in milliseconds: not before the last one seen, and at most 999,999,999,999,999.
     pub fn see(&mut self, now: u64)
         requires later { self.old.seen ≤ now }

@@ -11,14 +11,15 @@ use crate::answer::Answer;
 use crate::fault::{EngineFault, refused_round};
 use crate::slots::{into_tasks, take_tasks};
 use crate::timers::set_timer;
-use futures::task::Context;
 use std::alloc::Global;
 use std::mem::drop;
 use std::sync::Wait;
 use std::thread::Threads;
 use zs_agenda::{Agenda, Clock};
 use zs_drive::{Job, Keeping, Task};
-use zs_pool::{Cut, Gate, Poller, Tally, TallySeat, poll_one, round};
+use zs_pool::{
+    Cut, Gate, Poller, Polling, TOUCHED_AT_ONCE, Tally, TallySeat, end_touches, poll_one, round,
+};
 
 // A run of jobs: each job's task in a slot of its own, a timer for each task that waits for a tick, and the tally of the
 // polls.
@@ -98,13 +99,23 @@ impl Engine {
         Ok(())
     }
 
+    // Touches the first of these tasks.
+    fn touch_some(&self, numbers: &[u64]) {
+        let mut touched = 0;
+        for number in numbers.iter().take(TOUCHED_AT_ONCE) {
+            if let Some(Some(task)) = self.slots.get(*number as usize) {
+                touched ^= task.touch();
+            }
+        }
+        end_touches(touched);
+    }
+
     // The due poll of the task in this slot, where it stays; then its timer is armed again.
     fn poll_slot<G: Gate>(
         &mut self,
-        gate: &G,
+        polling: &mut Polling<'_, G>,
         now: u64,
         number: u64,
-        cx: &mut Context<'_>,
     ) -> Result<(), EngineFault>
         requires few { length (jobs_in self.old.slots.items) ≤ max_tasks }
         requires due { (left : List ℕ) × IsDueWith self.old.clock (jobs_in self.old.slots.items) now (number ∷ left) self.old }
@@ -114,7 +125,7 @@ impl Engine {
         let Some(task) = &mut self.slots[number as usize] else {
             unreachable!();
         };
-        poll_one(gate, &self.tally, &mut self.seat, now, cx, task);
+        poll_one(polling, &self.tally, &mut self.seat, now, task);
         if task.broken() {
             return Err(EngineFault::Memory);
         }
@@ -125,18 +136,20 @@ impl Engine {
     // A round of the calling thread alone: the tasks that are due at `now` are polled in their slots.
     fn poll_round<G: Gate>(
         &mut self,
-        gate: &G,
+        polling: &mut Polling<'_, G>,
         now: u64,
         numbers: &[u64],
-        cx: &mut Context<'_>,
     ) -> Result<(), EngineFault>
         requires few { length (jobs_in self.old.slots.items) ≤ max_tasks }
         requires due { IsDueWith self.old.clock (jobs_in self.old.slots.items) now numbers.now self.old }
         ensures rests { OnOk result (RestsWith self.old.clock (jobs_in self.old.slots.items) self.new) }
         ensures taken { OnOk result (self.new.agenda.last_taken ≡ Some now) }
     {
-        for number in numbers {
-            self.poll_slot(gate, now, *number, cx)?;
+        for place in 0..numbers.len() {
+            if place % TOUCHED_AT_ONCE == 0 {
+                self.touch_some(&numbers[place..]);
+            }
+            self.poll_slot(polling, now, numbers[place])?;
         }
         Ok(())
     }
@@ -183,7 +196,7 @@ impl Engine {
         gate: &G,
         now: u64,
         numbers: &[u64],
-        cx: &mut Context<'_>,
+        polling: &mut Polling<'_, G>,
     ) -> Result<(), EngineFault>
         requires few { length (jobs_in self.old.slots.items) ≤ max_tasks }
         requires due { IsDueWith self.old.clock (jobs_in self.old.slots.items) now numbers.now self.old }
@@ -191,7 +204,7 @@ impl Engine {
         ensures taken { OnOk result (self.new.agenda.last_taken ≡ Some now) }
     {
         if cut.workers() == 1 || numbers.len() as u64 <= cut.grain() {
-            self.poll_round(gate, now, numbers, cx)
+            self.poll_round(polling, now, numbers)
         } else {
             self.share_round(rt, cut, gate, now, numbers)
         }
@@ -203,7 +216,7 @@ impl Engine {
         rt: &R,
         cut: Cut,
         gate: &G,
-        cx: &mut Context<'_>,
+        polling: &mut Polling<'_, G>,
     ) -> Result<(), EngineFault>
         requires few { length (jobs_in self.old.slots.items) ≤ max_tasks }
         requires rests { RestsWith self.old.clock (jobs_in self.old.slots.items) self.old }
@@ -211,7 +224,7 @@ impl Engine {
         ensures over { OnOk result (self.new.agenda.moments ≡ empty) }
     {
         while let Some((now, numbers)) = self.agenda.take()? {
-            self.run_round(rt, cut, gate, now, &numbers, cx)?;
+            self.run_round(rt, cut, gate, now, &numbers, polling)?;
             self.agenda.reuse(numbers);
         }
         Ok(())
@@ -234,10 +247,13 @@ impl Engine {
         for job in jobs {
             self.add(job, keeps)?;
         }
-        let poller = Poller::new(self.alloc)?;
-        let mut cx = poller.solo().begin();
-        let done = self.run_all(rt, cut, gate, &mut cx);
-        cx.cancel();
+        let poller = match Poller::new(self.alloc) {
+            Ok(poller) => poller,
+            Err(fault) => return Err(refused_round(fault)),
+        };
+        let mut polling = poller.begin(gate);
+        let done = self.run_all(rt, cut, gate, &mut polling);
+        polling.end();
         done
     }
 

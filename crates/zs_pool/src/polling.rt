@@ -10,7 +10,7 @@ use crate::batch::Batch;
 use crate::fault::PoolFault;
 use crate::gate::Gate;
 use crate::polled::Polled;
-use crate::poller::Poller;
+use crate::poller::{Poller, Polling, TOUCHED_AT_ONCE, touch_some};
 use crate::tally::{Tally, TallySeat};
 use futures::Future;
 use futures::task::Context;
@@ -28,11 +28,10 @@ fn poll_at(task: &mut Task, now: u64, cx: &mut Context<'_>)
 
 /// Polls one task at `now`, and counts it. A poll that finds no memory breaks the task.
 pub fn poll_one<G: Gate>(
-    gate: &G,
+    polling: &mut Polling<'_, G>,
     tally: &Tally,
     seat: &mut TallySeat,
     now: u64,
-    cx: &mut Context<'_>,
     task: &mut Task,
 )
     requires tally { seat.old.tally ≡ tally.now }
@@ -42,18 +41,17 @@ pub fn poll_one<G: Gate>(
     ensures counted { HasCounted seat.old 1 seat.new }
 {
     let done = tally.seen(seat);
-    gate.pass(task.number(), now, done);
-    poll_at(task, now, cx);
+    polling.gate.pass(task.number(), now, done);
+    poll_at(task, now, &mut polling.cx);
     tally.count(seat);
 }
 
 // Polls each task in order.
 fn poll_each<G: Gate>(
-    gate: &G,
+    polling: &mut Polling<'_, G>,
     tally: &Tally,
     seat: &mut TallySeat,
     now: u64,
-    cx: &mut Context<'_>,
     tasks: &mut [Task],
 )
     requires tally { seat.old.tally ≡ tally.now }
@@ -65,18 +63,21 @@ fn poll_each<G: Gate>(
     ensures polled { AllZip (IsPolled now) tasks.old tasks.new }
     ensures saw { AllSaw now tasks.new }
 {
-    for task in tasks.iter_mut() {
-        poll_one(gate, tally, seat, now, cx, task);
+    for place in 0..tasks.len() {
+        if place % TOUCHED_AT_ONCE == 0 {
+            touch_some(&tasks[place..]);
+        }
+        let task = &mut tasks[place];
+        poll_one(polling, tally, seat, now, task);
     }
 }
 
-// Polls each task of the batch in order, under a context that others have used.
+// Polls each task of the batch in order.
 pub fn poll_in<G: Gate>(
-    gate: &G,
+    polling: &mut Polling<'_, G>,
     tally: &Tally,
     seat: &mut TallySeat,
     now: u64,
-    cx: &mut Context<'_>,
     batch: Batch,
 ) -> Polled
     requires tally { seat.old.tally ≡ tally.now }
@@ -86,7 +87,7 @@ pub fn poll_in<G: Gate>(
     ensures polled { IsPollOf now batch result }
 {
     let Batch { number, mut tasks } = batch;
-    poll_each(gate, tally, seat, now, cx, tasks.as_mut_slice());
+    poll_each(polling, tally, seat, now, tasks.as_mut_slice());
     Polled { number, now, tasks }
 }
 
@@ -109,8 +110,8 @@ pub fn poll_batch<G: Gate, R>(
     ensures memory { IfErr result (λ e. e ≡ Memory) }
 {
     let poller = Poller::new(alloc)?;
-    let mut cx = poller.solo().begin();
-    let polled = poll_in(gate, tally, seat, now, &mut cx, batch);
-    cx.cancel();
+    let mut polling = poller.begin(gate);
+    let polled = poll_in(&mut polling, tally, seat, now, batch);
+    polling.end();
     Ok(polled)
 }

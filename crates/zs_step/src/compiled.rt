@@ -5,7 +5,7 @@ ghost use Rattle.zs_term.specs.Schedule.{weight};
 ghost use Rattle.zs_step.specs.State.{state_schedule};
 
 use crate::fault::StepFault;
-use crate::state::{State, state_of};
+use crate::state::{State, state_of, touch_parts};
 use crate::stepped::Stepped;
 use crate::stepping::{Step, step_node};
 use std::alloc::Global;
@@ -18,11 +18,11 @@ use zs_term::{Checked, Out};
 /// still lies in its memory.
 #[derive(Drop)]
 pub struct Compiled {
-    checked: Checked,
     state: State,
     last: u64,
     broken: bool,
     alloc: Global,
+    checked: Checked,
     ghost small: { weight (state_schedule state) ≤ 1000 },
 }
 
@@ -54,6 +54,11 @@ impl Compiled {
         ensures value { result.now ≡ compiled_term self.now }
     {
         &self.checked
+    }
+
+    /// Reads the nodes that the next step reads first, so that their memory is in the cache by then. The number has no meaning.
+    pub fn touch(&self) -> u64 {
+        touch_parts(&self.state) ^ u64::from(self.broken)
     }
 
     /// Whether a step was refused memory. It is then broken for good.

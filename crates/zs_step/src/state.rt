@@ -147,3 +147,33 @@ pub(crate) fn clear(state: &mut State, alloc: Global)
         State::ResetWhen { part, .. } => clear(part, alloc),
     }
 }
+
+// A number for each form of a node, which only its memory tells.
+fn form(state: &State) -> u64 {
+    match state {
+        State::Leaf(_) => 0,
+        State::Both { .. } => 1,
+        State::Either { .. } => 2,
+        State::AndThen { .. } => 3,
+        State::WhileInput { .. } => 4,
+        State::WhileOutput { .. } => 5,
+        State::CollectAll { .. } => 6,
+        State::Map { .. } => 7,
+        State::ResetWhen { .. } => 8,
+    }
+}
+
+// Reads the parts of a node, so that their memory is in the cache at its next step. The number has no meaning.
+pub(crate) fn touch_parts(state: &State) -> u64 {
+    match state {
+        State::Leaf(_) => 0,
+        State::Both { first, second }
+        | State::Either { first, second }
+        | State::AndThen { first, second, .. } => form(first) ^ form(second),
+        State::WhileInput { part, .. }
+        | State::WhileOutput { part, .. }
+        | State::CollectAll { part, .. }
+        | State::Map { part, .. }
+        | State::ResetWhen { part, .. } => form(part),
+    }
+}

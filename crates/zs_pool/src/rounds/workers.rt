@@ -10,10 +10,9 @@ ghost use Rattle.zs_pool.specs.declared.fault.PoolFault.TheVariants.{Full, Memor
 use crate::fault::PoolFault;
 use crate::gate::Gate;
 use crate::polled::Polled;
-use crate::poller::Poller;
+use crate::poller::{Poller, Polling};
 use crate::polling::poll_in;
 use crate::rounds::shared::{Rights, Shared};
-use futures::task::Context;
 use std::alloc::{AllocError, Global};
 use std::snapshot::Snapshot;
 use std::sync::Wait;
@@ -65,13 +64,13 @@ fn wait_for<R: Threads>(rt: &R, workers: Vec<Worker>) -> Result<(), PoolFault>
 }
 
 impl<'s, G: Gate> Shared<'s, G> {
-    // Serves under a context that others have used.
+    // Claims, polls and hands in until nothing is left.
     fn serve_in<R: Wait>(
         self,
         rt: &R,
         alloc: Global,
         rights: &mut Rights,
-        cx: &mut Context<'_>,
+        polling: &mut Polling<'_, G>,
     ) -> Overflow
         requires ready { IsReady self rights.old }
         ensures same { IsSame rights.old rights.new }
@@ -82,14 +81,7 @@ impl<'s, G: Gate> Shared<'s, G> {
             let Some(batch) = self.board.claim(rt, &mut rights.board_pass) else {
                 return Ok(kept);
             };
-            let message = poll_in(
-                self.gate,
-                self.tally,
-                &mut rights.seat,
-                self.moment,
-                cx,
-                batch,
-            );
+            let message = poll_in(polling, self.tally, &mut rights.seat, self.moment, batch);
             if let Err((back, _full)) = self.shelf.put(rt, &mut rights.shelf_pass, message) {
                 kept.push(back)?;
             }
@@ -107,9 +99,9 @@ impl<'s, G: Gate> Shared<'s, G> {
             let overflow = Err(AllocError);
             return Served { rights, overflow };
         };
-        let mut cx = poller.solo().begin();
-        let overflow = self.serve_in(rt, alloc, &mut rights, &mut cx);
-        cx.cancel();
+        let mut polling = poller.begin(self.gate);
+        let overflow = self.serve_in(rt, alloc, &mut rights, &mut polling);
+        polling.end();
         Served { rights, overflow }
     }
 
