@@ -1,4 +1,4 @@
-//! Attempts as lines of text.
+//! Attempts as lines of text. A number that is written twice is passed with its digits, so that it is converted once.
 ghost use Rattle.std.specs.Prelude.{◌≡◌, ◌++◌, codes, OnOk, OnErr, string_bytes};
 ghost use Rattle.std.specs.Fmt.{decimal};
 ghost use Rattle.zs_term.specs.OutputText.{IsBeginning};
@@ -40,39 +40,54 @@ fn append_outcome(text: &mut String, outcome: Outcome) -> Result<(), AllocError>
     }
 }
 
-// Adds a space, and what a schedule decided.
+// Adds a space, and what a schedule decided after an attempt that ended at `at`.
 #[tactic(auto, using(zs_term::proofs::Texts::begins_with_itself, zs_term::proofs::Texts::begins_pushed, zs_term::proofs::Texts::begins_both))]
-fn append_decision(text: &mut String, decision: Decision) -> Result<(), AllocError>
+fn append_decision(
+    text: &mut String,
+    decision: Decision,
+    at: u64,
+    at_digits: &str,
+) -> Result<(), AllocError>
+    requires at { at_digits.now ≡ decimal at }
     ensures text { OnOk result (string_bytes text.new ≡ string_bytes text.old ++ codes " " ++ decision_text decision) }
     ensures kept { IsBeginning (string_bytes text.old) (string_bytes text.new) }
 {
     match decision {
         Decision::Stop => text.push_str(" done"),
-        Decision::Next(at) => {
+        Decision::Next(next) => {
             text.push_str(" next ")?;
-            append_number(text, at)
+            if next == at {
+                text.push_str(at_digits)
+            } else {
+                append_number(text, next)
+            }
         }
     }
 }
 
-// Ends a line, and adds that of a step, where the schedule was stepped.
+// Ends a line, and adds that of a step, if the schedule was stepped.
 #[tactic(auto, using(zs_term::proofs::Texts::begins_with_itself, zs_term::proofs::Texts::begins_pushed, zs_term::proofs::Texts::begins_both))]
 fn append_step(
     text: &mut String,
-    number: u64,
+    _number: u64,
+    digits: &str,
+    at: u64,
+    at_digits: &str,
     step: &Option<(Out, Decision)>,
 ) -> Result<(), AllocError>
-    ensures text { OnOk result (string_bytes text.new ≡ string_bytes text.old ++ codes "\n" ++ step_lines number (step_of step.now)) }
+    requires number { digits.now ≡ decimal _number }
+    requires at { at_digits.now ≡ decimal at }
+    ensures text { OnOk result (string_bytes text.new ≡ string_bytes text.old ++ codes "\n" ++ step_lines _number (step_of step.now)) }
     ensures kept { IsBeginning (string_bytes text.old) (string_bytes text.new) }
 {
     match step {
         None => text.push_str("\n"),
         Some((out, decision)) => {
             text.push_str("\nstep ")?;
-            append_number(text, number)?;
+            text.push_str(digits)?;
             text.push_str(" out ")?;
             append_out(text, out)?;
-            append_decision(text, *decision)?;
+            append_decision(text, *decision, at, at_digits)?;
             text.push_str("\n")
         }
     }
@@ -80,7 +95,13 @@ fn append_step(
 
 // Adds what follows the moment at which an attempt began.
 #[tactic(auto, using(zs_term::proofs::Texts::begins_with_itself, zs_term::proofs::Texts::begins_pushed, zs_term::proofs::Texts::begins_both))]
-fn append_ended(text: &mut String, number: u64, ended: &Option<Ended>) -> Result<(), AllocError>
+fn append_ended(
+    text: &mut String,
+    number: u64,
+    digits: &str,
+    ended: &Option<Ended>,
+) -> Result<(), AllocError>
+    requires number { digits.now ≡ decimal number }
     ensures text { OnOk result (string_bytes text.new ≡ string_bytes text.old ++ ended_lines number (ended_of ended.now)) }
     ensures kept { IsBeginning (string_bytes text.old) (string_bytes text.new) }
 {
@@ -88,9 +109,11 @@ fn append_ended(text: &mut String, number: u64, ended: &Option<Ended>) -> Result
         None => text.push_str(" running\n"),
         Some(ended) => {
             let at = ended.at;
-            append_number(text, at)?;
+            let mut buffer = Buffer::new();
+            let at_digits = buffer.format(at);
+            text.push_str(at_digits)?;
             append_outcome(text, ended.outcome)?;
-            append_step(text, number, &ended.step)
+            append_step(text, number, digits, at, at_digits, &ended.step)
         }
     }
 }
@@ -116,10 +139,12 @@ fn push_attempt(text: &mut String, number: u64, attempt: &Attempted) -> Result<(
     ensures kept { IsBeginning (string_bytes text.old) (string_bytes text.new) }
 {
     let begun = attempt.begun;
+    let mut buffer = Buffer::new();
+    let digits = buffer.format(number);
     text.push_str("attempt ")?;
-    append_number(text, number)?;
+    text.push_str(digits)?;
     text.push_str(" ")?;
     append_number(text, begun)?;
     text.push_str("..")?;
-    append_ended(text, number, &attempt.ended)
+    append_ended(text, number, digits, &attempt.ended)
 }

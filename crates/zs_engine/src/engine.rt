@@ -101,6 +101,9 @@ impl Engine {
 
     // Touches the first of these tasks.
     fn touch_some(&self, numbers: &[u64]) {
+        if numbers.len() < 2 {
+            return;
+        }
         let mut touched = 0;
         for number in numbers.iter().take(TOUCHED_AT_ONCE) {
             if let Some(Some(task)) = self.slots.get(*number as usize) {

@@ -8,36 +8,36 @@ use Rattle.zs_pool.proofs.polling.poll_each.Goals as goal
 
 pub poll_one-requires-clause-pollable : goal.poll_one-requires-clause-pollable
 poll_one-requires-clause-pollable g c κs within =
-    let i = c.loop-task.task-index in let d = c.task-item.result in
-    let same = c.loop-task.invariant.1 i d (omega arith) in
+    let i = c.loop-place.place in let d = c.index-tasks-place.result in
+    let same = c.loop-place.invariant.1 i d (omega arith) in
     let may : IsPollable c.args.now (get_or c.args.tasks.now i d) = c.requires.pollable i d (omega arith) in
     let P : TaskValue → Type 0 = IsPollable c.args.now in
     subst P (sym same) may
 
-pub loop-task-preserved : goal.loop-task-preserved
-loop-task-preserved g c =
-    let i = c.loop-task.task-index in let d = c.task-item.result in
-    let same = c.loop-task.invariant.1 i d (omega arith) in
+pub loop-place-preserved : goal.loop-place-preserved
+loop-place-preserved g c =
+    let i = c.loop-place.place in let d = c.index-tasks-place.result in
+    let same = c.loop-place.invariant.1 i d (omega arith) in
     let P : TaskValue → Type 0 = λ t. IsPolled c.args.now t c.poll_one.new.task in
     let here : P (get_or c.args.tasks.now i d) = subst P same c.poll_one.ensures.polled in
     let counted = c.poll_one.ensures.counted in (
-      zip_write (IsPolled c.args.now) c.args.tasks.now c.loop-task.tasks i d c.poll_one.new.task (omega arith) (omega arith) c.loop-task.invariant.0 here,
-      (λ k e past. let ne : k ≢ i = omega arith in get_or-set_other c.loop-task.tasks i k c.poll_one.new.task e ne ∙ c.loop-task.invariant.1 k e (omega arith)),
-      counted.0 ∙ c.loop-task.invariant.2,
-      omega (arith, counted.1, c.loop-task.invariant.3),
-      omega (arith, counted.2, c.loop-task.invariant.4),
+      zip_write (IsPolled c.args.now) c.args.tasks.now c.loop-place.tasks i d c.poll_one.new.task (omega arith) (omega arith) c.loop-place.invariant.0 here,
+      (λ k e past. let ne : k ≢ i = omega arith in get_or-set_other c.loop-place.tasks i k c.poll_one.new.task e ne ∙ c.loop-place.invariant.1 k e (omega arith)),
+      counted.0 ∙ c.loop-place.invariant.2,
+      omega (arith, counted.1, c.loop-place.invariant.3),
+      omega (arith, counted.2, c.loop-place.invariant.4),
     )
 
 pub returns : goal.returns
 returns g c =
-    let whole : AllZip (IsPolled c.args.now) c.args.tasks.now c.loop-task.tasks =
-    zip_whole (IsPolled c.args.now) c.args.tasks.now c.loop-task.tasks c.loop-task.task-index (omega arith) (omega arith) c.loop-task.invariant.0
+    let whole : AllZip (IsPolled c.args.now) c.args.tasks.now c.loop-place.tasks =
+    zip_whole (IsPolled c.args.now) c.args.tasks.now c.loop-place.tasks c.loop-place.place (omega arith) (omega arith) c.loop-place.invariant.0
     in
-    let end : c.loop-task.task-index ≡ length c.args.tasks.now = omega arith in
+    let end : c.loop-place.place ≡ length c.args.tasks.now = omega arith in
     record {
-      tally = c.loop-task.invariant.2;
-      count = omega (arith, c.loop-task.invariant.3, end);
-      allowance = omega (arith, c.loop-task.invariant.4, end);
+      tally = c.loop-place.invariant.2;
+      count = omega (arith, c.loop-place.invariant.3, end);
+      allowance = omega (arith, c.loop-place.invariant.4, end);
       polled = whole;
-      saw = saw_all c.args.now c.args.tasks.now c.loop-task.tasks whole;
+      saw = saw_all c.args.now c.args.tasks.now c.loop-place.tasks whole;
     }

@@ -3,5 +3,5 @@ use Rattle.zs_engine.specs.Rounds.{jobs_in}
 use Rattle.zs_engine.specs.Engine.{IsDueWith}
 use Rattle.zs_engine.proofs.engine.Engine.poll_round.Given as goal
 
-abbrev pub invariant-loop-number : goal.invariant-loop-number
-invariant-loop-number g l = IsDueWith l.fn.self.clock (jobs_in l.fn.self.slots.items) l.now (drop l.number-index l.numbers) l.self
+abbrev pub invariant-loop-place : goal.invariant-loop-place
+invariant-loop-place g l = IsDueWith l.fn.self.clock (jobs_in l.fn.self.slots.items) l.now (drop l.place l.numbers) l.self
