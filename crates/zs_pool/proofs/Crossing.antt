@@ -99,7 +99,7 @@ checked_sent : IsSend checked_inside.the_row → IsSend checked.the_row
 checked_sent f = view_send checked_inside.the_row _ _ _ _ f
 
 compiled_sent : IsSend checked.the_row → IsSend state.the_row → IsSend compiled.the_row
-compiled_sent c s = declared_send compiled.the_type (c, (s, (search sendable, (search sendable, (heap_send, tt)))))
+compiled_sent c s = declared_send compiled.the_type (s, (search sendable, (search sendable, (heap_send, (c, tt)))))
 
 ended_sent : IsSend out.the_row → IsSend ended.the_row
 ended_sent o = declared_send ended.the_type (search sendable, (search (rules, sendable), (option.the_send _ (search (rules, sendable, o, decision.the_send) depth 20), tt)))
@@ -108,7 +108,7 @@ attempted_sent : IsSend ended.the_row → IsSend attempted.the_row
 attempted_sent e = declared_send attempted.the_type (search sendable, (option.the_send ended.the_row e, tt))
 
 told_sent : IsSend attempted.the_row → IsSend told.the_row
-told_sent a = declared_send told.the_type (search (rules, sendable, crosses) depth 20, (search sendable, (search (rules, sendable, crosses) depth 20, (option.the_send attempted.the_row a, tt))))
+told_sent a = declared_send told.the_type (option.the_send attempted.the_row a, (search sendable, (search (rules, sendable, crosses) depth 20, (search (rules, sendable, crosses) depth 20, tt))))
 
 -- an enum whose variants' fields may go to another thread, at each of its values
 values_live : (Fs : List Field) → FieldsHave IsSend Fs → (v : Values Fs) → FieldsAt SendAt (rows Fs) (intos Fs v)
@@ -129,7 +129,7 @@ log_sent a t = recorded_send_of (Enum (shape log.the_type)) log.the_type.D log.t
     (λ d. enum_send_at (shape log.the_type) (log.the_type.to d) (log_live ((Vec-send attempted.the_row a, tt), ((t, tt), tt)) d))
 
 progress_sent : IsSend compiled.the_row → IsSend log.the_row → IsSend out.the_row → IsSend progress.the_row
-progress_sent c l o = declared_send progress.the_type (search (rules, sendable, crosses) depth 20, (search (rules, sendable), (search sendable, (search (rules, sendable, crosses) depth 20, (c, (l, (o, (search (rules, sendable), (search sendable, (search sendable, tt))))))))))
+progress_sent c l o = declared_send progress.the_type (search (rules, sendable), (search sendable, (search sendable, (search (rules, sendable), (search (rules, sendable, crosses) depth 20, (l, (o, (c, (search (rules, sendable, crosses) depth 20, (search sendable, tt))))))))))
 
 task_fields : IsSend progress.the_row → IsSend task_inside.the_row
 task_fields p = declared_send task_inside.the_type (search sendable, (Box-send progress.the_row p, (search sendable, tt)))

@@ -10,7 +10,7 @@ use crate::batch::Batch;
 use crate::fault::PoolFault;
 use crate::gate::Gate;
 use crate::polled::Polled;
-use crate::poller::{Poller, Polling, TOUCHED_AT_ONCE, touch_some};
+use crate::poller::{Poller, Polling, TOUCHED_AT_ONCE, touch_from};
 use crate::tally::{Tally, TallySeat};
 use futures::Future;
 use futures::task::Context;
@@ -65,7 +65,7 @@ fn poll_each<G: Gate>(
 {
     for place in 0..tasks.len() {
         if place % TOUCHED_AT_ONCE == 0 {
-            touch_some(&tasks[place..]);
+            touch_from(tasks, place);
         }
         let task = &mut tasks[place];
         poll_one(polling, tally, seat, now, task);
