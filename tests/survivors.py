@@ -7,13 +7,14 @@
 
 A survivor is a file crates/NAME/survivors/BELIEF.edit with the lines of a wrong body (tests/wrong_edits.py), and a line
 `caught-by:` in place of the function: CRATE::TEST for a test of a crate, hostile::FUNCTION for a function of
-tests/refused_growths.py, growth::ROW for a row of tests/growth.py, large_plans::PLAN for a plan of that part, or
-`examples`, `reference` or `large_plans` for the plans of these parts of the gate.
+tests/refused_growths.py, growth::ROW for a row of tests/growth.py, large_plans::PLAN for a plan of that part,
+library::TEST for a test of FromC in tests/tools/test_library.py, or `examples`, `reference` or `large_plans` for the plans
+of these parts of the gate.
 
 It is planted in a copy of the crates, which `rt try` builds and runs without any proof: the test that it names, or the
 plans of the part that it names. What `rt try` can't show of a plan, as a report of more than 1 MiB, is left out. For growth and
 for one large plan the program is built without proofs and without the checks of `rt try` (tests/unproved.py). For hostile
-the program is proved and built, over the proofs that ./check or ./run --proved kept. The last line is
+and library the program or the library is proved and built, over the proofs that ./check kept. The last line is
 'N passed, M failed', where a survivor passes that is caught; the exit status is 0 where M is 0, 1 where it isn't, and 2
 where one no longer applies or `rt` isn't there.
 
@@ -22,6 +23,7 @@ too, and the test shows them all the same."""
 import argparse
 import datetime
 import functools
+import os
 import pathlib
 import re
 import shutil
@@ -44,6 +46,7 @@ from wrong_edits import BadEdit, Edit, edited, texts_of
 SEEDS = range(30)
 LONGEST_PLAN = 20000
 PARTS = ["examples", "reference", "large_plans"]
+LIBRARY_TESTS = TOP / "tests" / "tools" / "test_library.py"
 # The line of a wrong body that a test of a crate shows.
 SHOWN_BY_A_TEST = re.compile(r"^caught-by: zs_\w+::", re.MULTILINE)
 # A test of a crate, with its name.
@@ -90,7 +93,8 @@ class Survivor(Edit):
         place, name = self.where()
         tests = "".join(file.read_text() for file in sorted((TOP / "crates" / place).glob("src/**/*.rt")))
         there = {"hostile": lambda: hasattr(refused_growths, name), "growth": lambda: name in growth.ROWS_BY_NAME,
-                 "large_plans": lambda: not name or name in [large_plans.ONE_WRITE, *dict(large_plans.sizes())]}
+                 "large_plans": lambda: not name or name in [large_plans.ONE_WRITE, *dict(large_plans.sizes())],
+                 "library": lambda: f"    def {name}(self)" in LIBRARY_TESTS.read_text()}
         if not (there[place]() if place in there else f"\nfn {name}(" in tests if name else place in PARTS):
             raise Misfit(f"{self.crate}/{self.name}: there is no {self.caught_by}, which should catch it")
 
@@ -170,6 +174,23 @@ def caught_by_refusals(name, copy):
     return failures.names
 
 
+def caught_by_library(name, copy):
+    """The test of the library that fails over the library of a copy, which is proved and built."""
+    for part in ["tools", "tests", "include"]:
+        shutil.copytree(TOP / part, copy / part)
+    for file in ["HANDLES", "VERSION"]:
+        shutil.copy(TOP / file, copy)
+    made = subprocess.run([copy / "tools" / "make-library"], capture_output=True, text=True, check=False)
+    if made.returncode:
+        raise Misfit(f"make-library built no library: {made.stderr[-500:]}")
+    ended = subprocess.run([sys.executable, "-m", "unittest", f"test_library.FromC.{name}"], cwd=LIBRARY_TESTS.parent,
+                           env={**os.environ, "ZSCHED_LIBRARY_DIR": str(copy / "crates" / "zs_c" / "out"),
+                                "PYTHONPATH": f"{TOP}/tests:{TOP}/tools"}, capture_output=True, text=True, check=False)
+    if not re.search(r"^Ran 1 test in ", ended.stderr, re.MULTILINE):
+        raise Misfit(f"{name} of the library didn't run: {ended.stderr[-500:]}")
+    return [name] if ended.returncode else []
+
+
 def built_in(copy, crate):
     """A program of a copy, built without proofs."""
     program = copy / "program"
@@ -224,6 +245,8 @@ def caught(survivor, copy, cases):
     survivor.apply(copy)
     if place == "hostile":
         return caught_by_refusals(name, copy)
+    if place == "library":
+        return caught_by_library(name, copy)
     if place == "growth":
         return caught_by_growth(name, copy, cases.parent / "whole")
     if place == "large_plans" and name:

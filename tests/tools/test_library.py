@@ -25,7 +25,7 @@ import unittest
 
 import generator
 import reference
-from support import TOP
+from support import TOP, tree
 from zsched_tools import program
 
 BINDINGS = TOP / "bindings"
@@ -344,6 +344,16 @@ class FromC(unittest.TestCase):
         found = [int(line) for line in called([path("caller"), "refuse"], self.requests[:REFUSED])]
         self.assertEqual(len(found), REFUSED)
         self.assertGreater(sum(found), 2 * REFUSED)
+
+    def test_long_texts_long_lists_and_many_words_are_taken(self):
+        many_words = tree(400).replace("forever", "fixed(7)").encode()
+        requests = [Request(b"recurs(" + b" " * 100_000 + b"3)", 2, [(5, 7)]),
+                    Request(b"recurs(9000)", 5, [(number, 0) for number in range(5000)]),
+                    Request(many_words, 40, [(1, 0), (9, 0)])]
+        for words in [[], ["state"]]:
+            lines = called([path("caller"), "answer", *words], requests)
+            for request, line in zip(requests, lines, strict=True):
+                self.compare(line, *request.wanted(), str(request)[:60])
 
     def test_a_step_visits_a_part_twice_where_it_resets(self):
         requests = [Request(b"elapsed.resetWhen(>= 5)", 1, pairs) for pairs in [[(1, 0)], [(1, 0), (5, 0)], [(1, 0), (6, 0)]]]

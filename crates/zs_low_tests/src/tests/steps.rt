@@ -436,25 +436,24 @@ fn intervals_meet_at_their_starts(rt: HostRuntime) {
     assert!(rt; early.union(&late).start() == 3);
 }
 
-// A hundred pairs (k, k) with the result `k k` each, in one visit.
+// Pairs (k, k), each with the result `k k`, and one visit a node.
 #[test]
-fn a_hundred_pairs_are_answered(rt: HostRuntime) -> Result<(), Fail> {
+fn many_pairs_are_answered(rt: HostRuntime) -> Result<(), Fail> {
     let mut pairs = Vec::new(rt.alloc());
     let mut answers = String::new(rt.alloc());
-    let mut visits = String::new(rt.alloc());
-    for k in 0..100u64 {
+    let (mut leaf, mut list) = (String::new(rt.alloc()), String::new(rt.alloc()));
+    for k in 0..1100u64 {
+        if k == 150 {
+            let row = ("forever.collectAll.map(size)", &pairs[..], answers.as_str(), list.as_str());
+            expect_answers(&rt, "collected", &[row])?;
+        }
         pairs.push((k, k))?;
         write!(answers, "{k} {k};")?;
-        visits.push_str("1;")?;
+        leaf.push_str("1;")?;
+        list.push_str("3;")?;
     }
-    for schedule in [
-        "forever",
-        "recurs(1000)",
-        "identity",
-        "elapsed",
-        "spaced(0)",
-    ] {
-        expect_answers(&rt, "a hundred", &[(schedule, &pairs, &answers, &visits)])?;
+    for schedule in ["forever", "recurs(2000)", "identity", "elapsed", "spaced(0)"] {
+        expect_answers(&rt, "a leaf", &[(schedule, &pairs, &answers, &leaf)])?;
     }
     Ok(())
 }
