@@ -121,13 +121,13 @@ def long_schedule(spaces):
 
 
 def many_moments(count):
-    """So many jobs, of which the first one begins last."""
-    jobs = [{**job(n, "recurs(0)"), "start": 2 * (count - n)} for n in range(count)]
+    """So many jobs that begin one after the other: the first half from its last job to its first, the others in order."""
+    starts = [*range(count, 0, -2), *range(count + 2, 2 * count + 1, 2)]
     lines = []
-    for n in range(count):
-        start = 2 * (count - n)
-        lines += [f"job j{n} repeat", f"attempt 1 {start}..{start + 1} ok 0", "step 1 out 0 done",
+    for number, start in enumerate(starts):
+        lines += [f"job j{number} repeat", f"attempt 1 {start}..{start + 1} ok 0", "step 1 out 0 done",
                   f"end finished 0 at {start + 1} polls 2"]
+    jobs = [{**job(number, "recurs(0)"), "start": start} for number, start in enumerate(starts)]
     return plan(jobs, horizon=2 * count + 1), (0, "\n".join([*lines, f"polls {2 * count}", ""]).encode(), b"")
 
 
