@@ -158,6 +158,39 @@ NO_REPORTS = [
 ]
 
 
+def random_report(rng, jobs):
+    """Jobs of each kind: those that succeed, fail, finish, run or wait at the horizon, or never begin; with waits of any
+    length, none too, and attempts that begin later than their schedule goes on."""
+    horizon, lines, total = 10_000, [], 0
+    for job in range(jobs):
+        mode, kind = rng.choice([("retry", "ok"), ("retry", "err"), ("repeat", "ok"), ("repeat", "err"),
+                                 ("retry", "running"), ("repeat", "waiting"), ("retry", "never")])
+        going, begin, polls, number = {"retry": "err", "repeat": "ok"}[mode], rng.randrange(2000), 0, 0
+        lines.append(f"job {rng.choice('abc.-_')}{job} {mode}")
+        before = None
+        for number in range(1, 0 if kind == "never" else rng.randrange(2, 9)):
+            end = begin + rng.randrange(1, 300)
+            following = end + rng.choice([0, 0, 5, 500])
+            lines += [f"attempt {number} {begin}..{end} {going} {rng.randrange(9)}",
+                      f"step {number} out {rng.choice(['0', '(1,2)', '[Left(3),Right((4,5))]'])} next {following}"]
+            polls += 2 - (before == begin)
+            before, begin = end, following + rng.choice([0, 0, 0, 7])
+        if kind in ("waiting", "never"):
+            lines.append(f"end unfinished at {horizon} polls {polls}")
+        elif kind == "running":
+            polls += 1 - (before == begin)
+            lines += [f"attempt {number + 1} {begin}.. running", f"end unfinished at {horizon} polls {polls}"]
+        else:
+            end, polls = begin + 40, polls + 2 - (before == begin)
+            lines.append(f"attempt {number + 1} {begin}..{end} {kind} 3")
+            if kind == going:
+                lines.append(f"step {number + 1} out (7,8) done")
+            how = "failed 3" if kind == "err" else "succeeded 3" if mode == "retry" else "finished (7,8)"
+            lines.append(f"end {how} at {end} polls {polls}")
+        total += polls
+    return "\n".join([*lines, f"polls {total}", ""])
+
+
 def long_report(attempts):
     """A retry of so many attempts, one each ten milliseconds, all of which fail."""
     lines = ["job hammer retry"]

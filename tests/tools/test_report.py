@@ -16,14 +16,17 @@ from unittest import mock
 
 import support
 from measured import measured
-from report_samples import GREATEST, NO_REPORTS, REPORTS, RETRIED, RUNNING, SUMMARIES, WAITING, long_report, wide_report
+from report_samples import (GREATEST, NO_REPORTS, REPORTS, RETRIED, RUNNING, SUMMARIES, WAITING, long_report,
+                            random_report, wide_report)
 from zsched_tools import columns, lines, load, progress
+from zsched_tools import summary as summary_tool
 from zsched_tools.axis import Scale, View
 from zsched_tools.command import Refused
 from zsched_tools.join import write_joined
 from zsched_tools.page import LOAD_WIDTHS, page
 from zsched_tools.picture import draw, rows_of
-from zsched_tools.report import records
+from zsched_tools.durations import duration
+from zsched_tools.report import Attempt, Ending, records
 from zsched_tools.summary import Options, write_summary
 
 TOOL = support.TOP / "tools" / "zsched-report"
@@ -442,6 +445,73 @@ class Fast(unittest.TestCase):
                 cut = [], load.read(io.BytesIO(text.encode()), 100)
                 write_summary(io.BytesIO(text.encode()), cut[0].append, Options(within=500))
             self.assertEqual((cut[0], list(cut[1].rows())), (whole[0], list(whole[1].rows())))
+
+    def figures_of_reader(self, text, every):
+        """The figures of the summary, job by job, and the rows of the load, from a Reader's records."""
+        jobs, steps, attempts = [], {}, []
+
+        def count(place, moment, number=1):
+            """Adds to a column of the load."""
+            steps.setdefault(moment // every, [0] * 5)[place] += number
+        for job, record in records(io.StringIO(text)):
+            if isinstance(record, Attempt):
+                attempts.append(record)
+                count(0, record.begin)
+                count(3, record.begin)
+                if len(attempts) == 1:
+                    count(4, record.begin)
+                if record.end is not None:
+                    count(1 if record.outcome == "ok" else 2, record.end)
+                    count(3, record.end, -1)
+            elif isinstance(record, Ending):
+                busy = [(record.at if it.end is None else it.end) - it.begin for it in attempts]
+                waits = [it.waited for it in attempts[1:]]
+                if attempts and attempts[-1].end is not None:
+                    waits.append(record.at - attempts[-1].end)
+                if attempts and record.how != "unfinished":
+                    count(4, record.at, -1)
+                ok = sum(it.outcome == "ok" for it in attempts)
+                err = sum(it.outcome == "err" for it in attempts)
+                jobs.append([job.name, job.mode, " ".join(filter(None, [record.how, record.result()])), duration(record.at),
+                             str(len(attempts)), str(ok), str(err),
+                             *map(duration, [sum(busy), sum(waits), max(waits, default=0)])])
+                attempts = []
+        rows, running, open_ = [], 0, 0
+        for step in range(min(steps), max(steps) + 1):
+            begun, ok, err, changed, joined = steps.get(step, [0] * 5)
+            running, open_ = running + changed, open_ + joined
+            rows.append([step * every, begun, ok, err, running, open_ - running])
+        return jobs, rows
+
+    def test_summary_and_load_are_those_of_the_records(self):
+        rng = random.Random(11)
+        with mock.patch.object(columns, "ALONE", 10**9):
+            for length in [60, 500, 500, 10**6, 10**6, 10**6]:
+                text = random_report(rng, 40)
+                jobs, rows = self.figures_of_reader(text, 100)
+                with mock.patch.object(columns, "PIECE", length), mock.patch.object(columns, "_shown_slowly") as slow:
+                    out = []
+                    write_summary(io.BytesIO(text.encode()), out.append)
+                    found = load.read(io.BytesIO(text.encode()), 100)
+                slow.assert_not_called()
+                cells = [re.split(r"\s{2,}", line) for line in "".join(out).splitlines()[1:41]]
+                self.assertEqual(cells, jobs)
+                self.assertEqual(list(found.rows()), rows)
+                self.assertEqual(self.lines_of_pieces(text), self.lines_of_reader(text))
+
+    def test_a_table_of_many_lines_is_written_by_several_processes(self):
+        text = wide_report(300, 2)
+        for sort in [None, "name", "end", "attempts"]:
+            found = []
+            for many, at_once in [(10**6, 10**6), (10, 7)]:
+                out = []
+                with mock.patch.object(summary_tool, "MANY_LINES", many), \
+                        mock.patch.object(summary_tool, "LINES_AT_ONCE", at_once), \
+                        mock.patch.object(columns, "PIECE", 3000):
+                    write_summary(io.BytesIO(text.encode()), out.append, Options(sort))
+                found.append("".join(out))
+            self.assertEqual(found[0], found[1])
+            self.assertEqual(found[0].count("\n"), 305)
 
     def test_the_forms_keep_up_with_the_program(self):
         text = wide_report(800, 60)

@@ -1,8 +1,8 @@
-"""A report read fast: pieces of its text, in which each job's attempts become columns of numbers.
+"""A report read fast: pieces of its text, in which the attempts of all jobs become columns of numbers.
 
-One pattern takes a whole job, and what isn't shown isn't parsed. It takes nothing that `report.Reader` rejects. A piece
-in which it is unsure (a fault, or a number of 20 digits) is read line by line by a Reader, which has the last word and
-names the fault's line. Pieces are read by several processes when a report is long."""
+One pattern matches the jobs of a whole piece, and what isn't shown isn't parsed. It accepts nothing that
+`report.Reader` rejects. A piece in which it is unsure (a fault, or a number of 20 digits) is read line by line by a
+Reader, which decides, and names the fault's line. Pieces of a long report are read by several processes."""
 import collections
 import io
 import itertools
@@ -15,9 +15,9 @@ from zsched_tools.command import Refused
 from zsched_tools.patterns import maybe, run_of
 from zsched_tools.report import LONGEST_LINE, Attempt, Ending, Job, Reader, Total, is_output, text_lines
 
-PIECE = 2**19
-# So many pieces are read by this process before others help.
-ALONE = 8
+PIECE = 2**18
+# The number of pieces that this process reads before others help.
+ALONE = 16
 MOST_OUTPUTS = 2**16
 
 _NUMBER = "(?:0|[1-9][0-9]{0,18}+)"
@@ -25,33 +25,34 @@ _OUTPUT = "(?:(?>" + r"[0-9(),\[\]]++|Left(?=\()|Right(?=\()" + "))++"
 _NAME = r"([A-Za-z0-9._-]{1,64}+)"
 _LAST = maybe(rf"attempt ({_NUMBER}) ({_NUMBER})\.\.(?:({_NUMBER}) (ok|err) ({_NUMBER})\n"
               + maybe(rf"step ({_NUMBER}) out ({_OUTPUT}) done\n") + r"| running\n)")
-_END = (rf"end (?:(succeeded|failed) ({_NUMBER})|finished ({_OUTPUT})|unfinished) at ({_NUMBER}) "
-        rf"polls ({_NUMBER})\n")
+_END = rf"end (succeeded|failed|finished|unfinished)(?: ({_OUTPUT}))? at ({_NUMBER}) polls ({_NUMBER})\n"
 ASKED = {"retry": "err", "repeat": "ok"}
 
 
 def _goes_on(mode):
-    """The pattern of attempts after each of which the schedule goes on."""
-    return rf"attempt {_NUMBER} {_NUMBER}\.\.{_NUMBER} {ASKED[mode]} {_NUMBER}\nstep {_NUMBER} out {_OUTPUT} next {_NUMBER}\n"
+    """The pattern of attempts after each of which the schedule continues."""
+    return (rf"attempt {_NUMBER} {_NUMBER}\.\.{_NUMBER} {ASKED[mode]} {_NUMBER}\n"
+            rf"step {_NUMBER} out {_OUTPUT} next {_NUMBER}\n")
 
 
-def _compiled(pattern):
-    return re.compile(pattern.encode())
-
-
-_RUNS = {mode: f"({run_of(_goes_on(mode))})" for mode in ASKED}
-_JOB = _compiled(f"job {_NAME} (?:retry\n{_RUNS['retry']}|repeat\n{_RUNS['repeat']})" + maybe(_LAST + _END))
-_REST = {mode: _compiled("()" + run + "()" + maybe(_LAST + _END)) for mode, run in _RUNS.items()}
-_TOTAL = _compiled(r"polls (0|[1-9][0-9]*+)\n")
-_HEAD = _compiled(rf"job {_NAME} (retry|repeat)\n")
-_BEFORE = _compiled(rf"attempt ({_NUMBER}) {_NUMBER}\.\.({_NUMBER}) (?:ok|err) {_NUMBER}\n"
-                    rf"step {_NUMBER} out {_OUTPUT} next ({_NUMBER})\n")
-# An attempt's seven words are those that are left: of the letters, those of outputs alone.
+_RUNS = "|".join(rf"(?<={mode}\n){run_of(_goes_on(mode))}" for mode in ASKED)
+# A job, as far as it is in the piece; or else all that remains of the piece.
+_JOB = re.compile(rf"job {_NAME} (retry|repeat)\n({_RUNS})" + maybe(_LAST + _END) + r"|([\s\S]+)")
+_TOTAL = re.compile(r"polls (0|[1-9][0-9]*+)\n")
+_HEAD = re.compile(rf"job {_NAME} (retry|repeat)\n".encode())
+_BEFORE = re.compile(rf"attempt ({_NUMBER}) {_NUMBER}\.\.({_NUMBER}) (?:ok|err) {_NUMBER}\n"
+                     rf"step {_NUMBER} out {_OUTPUT} next ({_NUMBER})\n".encode())
+_SHORT_OUTPUTS = re.compile(run_of(rf"(?:{_NUMBER}|\({_NUMBER},{_NUMBER}\))\n"))
+# An attempt's seven words are what remains without letters, but for those of outputs.
 _LETTERS = bytes(range(ord("a"), ord("z") + 1))
 _SPACES = bytes.maketrans(b".\n", b"  ")
 WORDS = ("number", "begin", "end", "value", "number", "output", "next")
 _WORDS = len(WORDS)
-_NUMBERS = list(map(str, range(1, 2001)))
+_NUMBERS = []
+# Mode, outcome of the last attempt, whether it has a step, and ending, of a job that ended and of one that goes on.
+_ENDED = {("retry", "ok", False, "succeeded"), ("retry", "err", True, "failed"), ("repeat", "err", False, "failed"),
+          ("repeat", "ok", True, "finished"), ("retry", "", False, "unfinished"), ("repeat", "", False, "unfinished")}
+_GOING = {("retry", "", False, ""), ("repeat", "", False, "")}
 
 
 class Unsure(Exception):
@@ -73,60 +74,118 @@ class Piece(NamedTuple):
     open: Open | None
 
 
-class Last(NamedTuple):
-    """A job's last attempt, after which its schedule doesn't go on."""
-    number: int
-    begin: int
-    end: int | None
-    outcome: str
-    value: str | None
-    out: str | None
-
-
-class Stretch(NamedTuple):
-    """A job's attempts that are in one piece. `words` has seven texts for each attempt after which the schedule goes
-    on: number, begin, end, value, number, output, next. `begins` and `ends` are those of all attempts, `waits` the times
-    since the end of the attempt before, for each attempt but the job's first, and `last` is the attempt after which the
-    schedule doesn't go on. `number` and `end` are those of the attempt before these."""
-    name: str
-    mode: str
-    number: int
-    end: int | None
+class Texts(NamedTuple):
+    """The words of a piece. `words` has seven for each attempt after which the schedule continues, of all jobs: those
+    of WORDS. The other columns have one a job: the number of such attempts, then the words of the attempt after which
+    it doesn't continue and of the ending, which are empty if there is none."""
+    names: tuple
+    modes: tuple
+    counts: list
     words: list
-    begins: list
-    ends: list
-    waits: list
-    last: Last | None
-    ending: Ending | None
+    numbers: tuple
+    begins: tuple
+    ends: tuple
+    outcomes: tuple
+    values: tuple
+    steps: tuple
+    outs: tuple
+    hows: tuple
+    results: tuple
+    ats: tuple
+    polls: tuple
+    total: int | None
 
-    def attempts(self):
-        """The attempts as objects."""
-        waits = self.waits if self.end is not None else [None, *self.waits]
-        asked, last = ASKED[self.mode], self.last
-        found = [Attempt(int(number), begin, end, asked, int(value), waited, long(out), int(following))
-                 for number, begin, end, value, waited, out, following
-                 in zip(self.words[0::_WORDS], self.begins, self.ends, self.words[3::_WORDS], waits,
-                        self.words[5::_WORDS], self.words[6::_WORDS])]
-        if last is not None:
-            value = None if last.value is None else int(last.value)
-            found.append(Attempt(last.number, last.begin, last.end, last.outcome, value, waits[-1], last.out))
-        return found
 
-    def counts(self):
-        """How many attempts succeeded, failed, and run at the horizon."""
-        found = {"ok": 0, "err": 0, "running": 0, ASKED[self.mode]: len(self.words) // _WORDS}
-        if self.last is not None:
-            found[self.last.outcome] += 1
-        return found["ok"], found["err"], found["running"]
+class Block:
+    """The jobs of a piece in columns of numbers. `begins`, `ends` and `waits` are those of the attempts after which the
+    schedule continues, job after job; those of job j are at edges[j] up to edges[j + 1]. A wait is the time up to the
+    job's next attempt; without one, up to the horizon, or 0 if the job goes on in the next piece. `last_begins` and
+    `last_ends` are those of the attempt after which it doesn't continue; None if there is none, or if it runs.
+    `first_begins` are those of the jobs' first attempts in this piece, or None.
+    The first job had the attempts up to `before.number` in earlier pieces; `lead` is the wait after these."""
+
+    def __init__(self, texts, before):
+        self.texts, self.before = texts, before
+        self.begins, self.ends = [list(map(int, texts.words[place::_WORDS])) for place in (1, 2)]
+        self.edges = list(itertools.accumulate(texts.counts, initial=0))
+        self.last_begins, self.last_ends, self.ats = map(_numbers_of, (texts.begins, texts.ends, texts.ats))
+        self.waits = list(map(operator.sub, self._following(), self.ends))
+        self.first_begins = self.last_begins if not self.begins else [
+            self.begins[edge] if count else begin
+            for edge, count, begin in zip(self.edges, texts.counts, self.last_begins)]
+        self.lead = self._lead()
+
+    def _following(self):
+        """The moment of what follows each attempt after which the schedule continues."""
+        following, ends = self.begins[1:], self.ends
+        if not ends:
+            return []
+        following.append(0)
+        for count, edge, begin, at in zip(self.texts.counts, self.edges[1:], self.last_begins, self.ats):
+            if count:
+                following[edge - 1] = begin if begin is not None else at if at is not None else ends[edge - 1]
+        return following
+
+    def _lead(self):
+        """The wait between the attempts of the first job in earlier pieces and what follows; None if there is none."""
+        if self.before.end is None or not self.texts.names:
+            return None
+        found = [moment for moment in [self.first_begins[0], self.ats[0]] if moment is not None]
+        return found[0] - self.before.end if found else None
 
     def polls(self):
-        """The moments at which attempts began or ended."""
-        return len(self.begins) + len(self.ends) - self.waits.count(0)
+        """For each job the number of moments at which its attempts began or ended in this piece."""
+        texts, tails = self.texts, {}
+        found = [2 * count + (begin != "") + (end != "")
+                 for count, begin, end in zip(texts.counts, texts.begins, texts.ends)]
+        if 0 in self.waits:
+            zeros = list(itertools.accumulate(map(operator.not_, self.waits), initial=0))
+            for job, (count, begin) in enumerate(zip(texts.counts, texts.begins)):
+                edge = self.edges[job + 1]
+                tail = count and not begin and not self.waits[edge - 1]
+                found[job] -= zeros[edge] - zeros[self.edges[job]] - bool(tail)
+        if self.lead == 0 and self.first_begins[0] is not None:
+            found[0] -= 1
+        return found
+
+    def ending(self, job):
+        """A job's ending, or None if it goes on."""
+        texts = self.texts
+        how, result = texts.hows[job], texts.results[job]
+        if not how:
+            return None
+        has_value = how in ("succeeded", "failed")
+        return Ending(how, int(result) if has_value else None, result if how == "finished" else None, self.ats[job],
+                      int(texts.polls[job]))
+
+    def of(self, jobs):
+        """The block of some of the jobs, by their numbers in order."""
+        texts, edges = self.texts, self.edges
+        words = itertools.chain.from_iterable(texts.words[_WORDS * edges[job]:_WORDS * edges[job + 1]] for job in jobs)
+        columns = {name: [getattr(texts, name)[job] for job in jobs]
+                   for name in Texts._fields if name not in ("words", "total")}
+        return Block(Texts(words=list(words), total=texts.total, **columns), self.before if 0 in jobs else Open("", ""))
+
+    def attempts(self, job):
+        """A job's attempts in this piece as objects."""
+        texts, first, edge = self.texts, self.edges[job], self.edges[job + 1]
+        words, asked = texts.words[_WORDS * first:_WORDS * edge], ASKED[texts.modes[job]]
+        waits = [self.lead if job == 0 else None, *self.waits[first:edge]]
+        found = [Attempt(int(number), begin, end, asked, int(value), waited, long(out), int(following))
+                 for number, begin, end, value, waited, out, following
+                 in zip(words[0::_WORDS], self.begins[first:edge], self.ends[first:edge], words[3::_WORDS], waits,
+                        words[5::_WORDS], words[6::_WORDS])]
+        if texts.numbers[job]:
+            value, out = texts.values[job], texts.outs[job]
+            found.append(Attempt(int(texts.numbers[job]), self.last_begins[job], self.last_ends[job],
+                                 texts.outcomes[job] or "running", int(value) if value else None, waits[-1],
+                                 out or None))
+        return found
 
 
 class Passed(NamedTuple):
     """What is known after a piece: its lines, the polls of the jobs that end in it, the polls that the job which it
-    begins in must have had before (None when that doesn't end), the job that goes on, with its polls in the piece, and
+    begins in must have had before (None if that doesn't end), the job that goes on, with its polls in the piece, and
     the moments of endings."""
     lines: int
     polls: int
@@ -139,7 +198,7 @@ class Passed(NamedTuple):
 
 
 def pieces(file, length=None):
-    """The pieces of a binary file. Each ends with a job, or, when a job is longer than a piece, with an attempt."""
+    """The pieces of a binary file. Each ends with a job, or, if a job is longer than a piece, with an attempt."""
     length = length or PIECE
     rest, going = b"", None
     while read := file.read(max(length, len(rest))):
@@ -168,165 +227,159 @@ def _open_after(text, cut, going):
     return Open(*name, *map(int, before.groups()))
 
 
-def _waits(begins, ends, end):
-    """The times between attempts, after one that ended at a moment, or None."""
-    return list(map(operator.sub, begins[1:], ends) if end is None else map(operator.sub, begins, [end, *ends]))
-
-
-def _stretch(match, name, mode, before, outputs):
-    """A job's attempts in a piece, of which the pattern knows the form. All that lies between the lines is looked at
-    here."""
-    words = (match[2] or match[3] or b"").translate(_SPACES, _LETTERS).decode("ascii").split()
-    begins, ends = list(map(int, words[1::_WORDS])), list(map(int, words[2::_WORDS]))
-    first = before.number + 1
-    count = len(begins)
-    numbers = _NUMBERS[first - 1:first - 1 + count]
-    if len(numbers) < count:
-        numbers = list(map(str, range(first, first + count)))
-    if words[0::_WORDS] != numbers or words[4::_WORDS] != numbers:
-        raise Unsure
-    _look_at_outputs(words[5::_WORDS], outputs)
-    last, ending = None, None
-    if match[14] is not None:
-        last, ending = _last(match, mode, first + count), _ending(match)
-    if last is not None:
-        begins.append(last.begin)
-        if last.end is not None:
-            ends.append(last.end)
-        if last.out is not None:
-            _look_at_outputs([_short(last.out)], outputs)
-    waits = _waits(begins, ends, before.end)
-    if not (all(map(operator.lt, begins, ends)) and min(waits, default=0) >= 0
-            and _are_late_enough(words, begins, before.following or 0)):
-        raise Unsure
-    return Stretch(name, mode, before.number, before.end, words, begins, ends, waits, last, ending)
-
-
-def _are_late_enough(words, begins, following):
-    """Whether no attempt begins before the schedule goes on. Mostly each begins just then, which its text shows."""
-    nexts = words[6::_WORDS]
-    if nexts and nexts[:-1] == words[1 + _WORDS::_WORDS]:
-        return begins[0] >= following and (len(begins) == len(nexts) or begins[-1] >= int(nexts[-1]))
-    return all(map(operator.le, itertools.chain([following], map(int, nexts)), begins))
-
-
-def _short(out):
-    """An output as it is among the words, where sides are single letters."""
-    return out.replace("Left", "L").replace("Right", "R")
+def _numbers_of(texts):
+    """The numbers of texts, of which an empty one is None."""
+    return list(map(int, texts)) if all(texts) else [int(text) if text else None for text in texts]
 
 
 def long(out):
-    """The output again."""
+    """An output again, from that among the words, in which sides are single letters."""
     return out.replace("L(", "Left(").replace("R(", "Right(")
 
 
-def _look_at_outputs(found, outputs):
-    """Every output must be one of a schedule."""
-    if outputs.issuperset(found):
-        return
-    for out in set(found) - outputs:
-        if not is_output(long(out)):
-            raise Unsure
-        if len(outputs) < MOST_OUTPUTS:
-            outputs.add(out)
-
-
-def _last(match, mode, number):
-    """The attempt after which the schedule doesn't go on, or None when each one goes on."""
-    if match[4] is None:
-        return None
-    end, outcome, value, step, out = match.group(6, 7, 8, 9, 10)
-    if int(match[4]) != number or (step is not None) != (outcome is not None and outcome.decode() == ASKED[mode]):
-        raise Unsure
-    if step is not None and int(step) != number:
-        raise Unsure
-    if end is None:
-        return Last(number, int(match[5]), None, "running", None, None)
-    return Last(number, int(match[5]), int(end), outcome.decode(), value.decode(), out and out.decode())
-
-
-def _ending(match):
-    """A job's ending."""
-    how, value, out, at, polls = match.group(11, 12, 13, 14, 15)
-    name = how.decode() if how else "unfinished" if out is None else "finished"
-    return Ending(name, value and int(value), out and out.decode(), int(at), int(polls))
-
-
-def _is_right(stretch):
-    """Whether a job ends as its last attempt has it."""
-    last, ending = stretch.last, stretch.ending
-    if ending.how == "unfinished":
-        moments = stretch.ends[-1:] + stretch.begins[-1:] + ([] if stretch.end is None else [stretch.end])
-        return (last is None or last.end is None) and ending.at >= max(moments, default=0)
-    if last is None or last.end is None or ending.at != last.end:
-        return False
-    if ending.how == "finished":
-        return stretch.mode == "repeat" and last.outcome == "ok" and ending.out == last.out
-    outcome = "ok" if ending.how == "succeeded" else "err"
-    is_of_mode = stretch.mode == "retry" or ending.how == "failed"
-    return is_of_mode and last.outcome == outcome and str(ending.value) == last.value
-
-
-def _stretches(piece):
-    """The attempts of a piece, job by job, and last the total, if it is there."""
-    text, at, outputs = piece.text, 0, set()
-    if piece.open is not None:
-        match = _REST[piece.open.mode].match(text)
-        yield _stretch(match, piece.open.name, piece.open.mode, piece.open, outputs)
-        at = match.end()
-    while match := _JOB.match(text, at):
-        mode = "retry" if match[2] is not None else "repeat"
-        at = match.end()
-        yield _stretch(match, match[1].decode(), mode, Open("", mode), outputs)
-    if at < len(text):
-        match = _TOTAL.fullmatch(text, at)
+def _texts(piece):
+    """The words of a piece, of which the form of each line is right."""
+    head = f"job {piece.open.name} {piece.open.mode}\n" if piece.open is not None else ""
+    found = _JOB.findall(head + piece.text.decode("latin-1"))
+    total = None
+    if found and found[-1][-1]:
+        match = _TOTAL.fullmatch(found.pop()[-1])
         if match is None:
             raise Unsure
-        yield Total(int(match[1]))
+        total = int(match[1])
+    names, modes, runs, *rest = list(zip(*found))[:-1] if found else [()] * 14
+    counts = [run.count("\n") // 2 for run in runs]
+    words = "".join(runs).encode("ascii").translate(_SPACES, _LETTERS).decode("ascii").split()
+    return Texts(names, modes, counts, words, *rest, total)
+
+
+def _check_numbers(texts, number):
+    """Attempts must be numbered from 1, or from the number after that of the job's attempts in earlier pieces."""
+    counts = texts.counts
+    most = max(counts, default=0) + 1
+    if len(_NUMBERS) < most:
+        _NUMBERS.extend(map(str, range(len(_NUMBERS) + 1, most + 1)))
+    wanted = list(itertools.chain.from_iterable(map(_NUMBERS.__getitem__, map(slice, counts)))) if texts.words else []
+    last = list(map(_NUMBERS.__getitem__, counts))
+    if number:
+        wanted[:counts[0]] = map(str, range(number + 1, number + counts[0] + 1))
+        last[0] = str(number + counts[0] + 1)
+    if texts.words[0::_WORDS] != wanted or texts.words[4::_WORDS] != wanted:
+        raise Unsure
+    if any(found and found != number for found, number in zip(texts.numbers, last)):
+        raise Unsure
+    if any(texts.steps) and any(found and found != number for found, number in zip(texts.steps, texts.numbers)):
+        raise Unsure
+
+
+def _check_endings(texts):
+    """Each job must end as its last attempt says. A job that has no ending must be the last in the piece."""
+    found = set(zip(texts.modes, texts.outcomes, map(bool, texts.steps), texts.hows))
+    if not found <= _ENDED:
+        if not found <= _ENDED | _GOING or texts.total is not None or "" in texts.hows[:-1]:
+            raise Unsure
+    if "finished" in texts.hows or texts.results != texts.values:
+        wanted = [out if how == "finished" else value for how, value, out in zip(texts.hows, texts.values, texts.outs)]
+        if list(texts.results) != wanted:
+            raise Unsure
+    if texts.ats != texts.ends and any(at != end and how != "unfinished"
+                                       for at, end, how in zip(texts.ats, texts.ends, texts.hows)):
+        raise Unsure
+
+
+def _check_outputs(texts, outputs):
+    """Every output must be one of a schedule. Those in `outputs` are known to be."""
+    found = set(texts.words[5::_WORDS])
+    found.update(out.replace("Left", "L").replace("Right", "R") for out in set(texts.outs) - {""})
+    found -= outputs
+    if not found:
+        return
+    lines = "\n".join(found) + "\n"
+    rest = lines[_SHORT_OUTPUTS.match(lines).end():]
+    if not all(map(is_output, map(long, rest.split()))):
+        raise Unsure
+    if len(outputs) < MOST_OUTPUTS:
+        outputs |= found
+
+
+def _check_times(block):
+    """Attempts must not overlap, and none begins before the schedule goes on."""
+    texts = block.texts
+    if not all(map(operator.lt, block.begins, block.ends)) or min(block.waits, default=0) < 0 or (block.lead or 0) < 0:
+        raise Unsure
+    if not all(end is None or begin < end for begin, end in zip(block.last_begins, block.last_ends)):
+        raise Unsure
+    if texts.words:
+        nexts, following = texts.words[6::_WORDS], texts.words[1 + _WORDS::_WORDS]
+        following.append("")
+        for count, edge, begin in zip(texts.counts, block.edges[1:], texts.begins):
+            if count:
+                following[edge - 1] = begin or nexts[edge - 1]
+        # Mostly each attempt begins just when the schedule goes on, which its text shows.
+        if nexts != following and not all(map(operator.le, map(int, nexts), map(int, following))):
+            raise Unsure
+    if block.before.following is not None and any(first is not None and first < block.before.following
+                                                  for first in block.first_begins[:1]):
+        raise Unsure
+
+
+def _horizon(block):
+    """The horizon of the unfinished jobs, or None, and the latest end. No attempt begins after the horizon."""
+    texts = block.texts
+    latest = max((at for at in block.ats if at is not None), default=0)
+    if "unfinished" not in texts.hows:
+        return None, latest
+    horizons = {at for how, at in zip(texts.hows, texts.ats) if how == "unfinished"}
+    if horizons != {str(latest)}:
+        raise Unsure
+    if max((begin for begin in block.last_begins if begin is not None), default=0) > latest:
+        raise Unsure
+    return latest, latest
+
+
+def _passed(piece, block):
+    """What is known after a piece, which is checked."""
+    texts, before = block.texts, block.before
+    _check_times(block)
+    horizon, latest = _horizon(block)
+    counted, polls_before = block.polls(), None
+    if texts.hows and not texts.hows[-1]:
+        going, open_polls = _open_of(block, piece), counted.pop()
+    else:
+        going, open_polls = None, 0
+    polls = list(map(int, texts.polls[:len(counted)]))
+    if piece.open is not None and counted:
+        polls_before = polls[0] - counted[0]
+        counted[0] = polls[0]
+    if polls != counted:
+        raise Unsure
+    return Passed(piece.text.count(b"\n"), sum(polls), polls_before, going, open_polls, horizon, latest, texts.total)
+
+
+def _open_of(block, piece):
+    """The job that goes on after a piece."""
+    texts = block.texts
+    if not texts.counts[-1]:
+        is_first = piece.open is not None and len(texts.names) == 1
+        return piece.open if is_first else Open(texts.names[-1], texts.modes[-1])
+    number = texts.counts[-1] + (block.before.number if len(texts.names) == 1 else 0)
+    return Open(texts.names[-1], texts.modes[-1], number, block.ends[-1], int(texts.words[-1]))
+
+
+_outputs = set()
 
 
 def _fast(view, piece):
     """What is known after a piece and what a view shows of it; None if the fast way is unsure."""
     try:
-        found = list(_stretches(piece))
-        return _passed(piece, found), view(found)
+        texts = _texts(piece)
+        _check_numbers(texts, piece.open.number if piece.open is not None else 0)
+        _check_endings(texts)
+        _check_outputs(texts, _outputs)
+        block = Block(texts, piece.open or Open("", ""))
+        return _passed(piece, block), view(block)
     except (Unsure, ValueError):
         return None
-
-
-def _passed(piece, found):
-    """What is known after a piece. A job that has no ending must be the last."""
-    total = found[-1].polls if found and isinstance(found[-1], Total) else None
-    jobs = found if total is None else found[:-1]
-    polls, before, horizons, latest = 0, None, set(), 0
-    for number, stretch in enumerate(jobs):
-        if stretch.ending is None:
-            if number + 1 < len(jobs) or total is not None:
-                raise Unsure
-            continue
-        own = stretch.polls()
-        if number == 0 and piece.open is not None:
-            before = stretch.ending.polls - own
-            own += before
-        if stretch.ending.polls != own or not _is_right(stretch):
-            raise Unsure
-        polls += own
-        latest = max(latest, stretch.ending.at)
-        if stretch.ending.how == "unfinished":
-            horizons.add(stretch.ending.at)
-    if len(horizons) > 1 or horizons and horizons != {latest}:
-        raise Unsure
-    going = jobs[-1] if jobs and jobs[-1].ending is None else None
-    return Passed(piece.text.count(b"\n"), polls, before, going and _open_of(going, piece),
-                  going.polls() if going else 0, max(horizons, default=None), latest, total)
-
-
-def _open_of(stretch, piece):
-    """The job that goes on after a piece."""
-    if not stretch.words:
-        return piece.open if piece.open is not None and stretch.number else Open(stretch.name, stretch.mode)
-    return Open(stretch.name, stretch.mode, stretch.number + len(stretch.begins), stretch.ends[-1],
-                int(stretch.words[-1]))
 
 
 def _state(reader):
@@ -367,63 +420,63 @@ def _advance(reader, piece, passed):
 
 
 class _Gathered:
-    """A job's attempts in a piece, gathered record by record."""
+    """The words of a piece, gathered record by record."""
 
-    def __init__(self, job, last):
-        self.job = job
-        self.number, self.end = (0, None) if last is None else (last.number, last.end)
-        self.words, self.begins, self.ends, self.last = [], [], [], None
+    def __init__(self):
+        self.jobs, self.words, self.total = [], [], None
 
-    def add(self, attempt):
-        """One attempt more."""
-        self.begins.append(attempt.begin)
-        if attempt.end is not None:
-            self.ends.append(attempt.end)
-        if attempt.next is None:
-            value = None if attempt.value is None else str(attempt.value)
-            self.last = Last(attempt.number, attempt.begin, attempt.end, attempt.outcome, value, attempt.out)
+    def begin(self, job):
+        """A job begins, or goes on in this piece."""
+        self.jobs.append([job.name, job.mode, 0, *[""] * 11])
+
+    def add(self, record):
+        """One record more, of the last job or of the report."""
+        if isinstance(record, Total):
+            self.total = record.polls
+        elif isinstance(record, Ending):
+            self.jobs[-1][10:] = record.how, record.result(), str(record.at), str(record.polls)
+        elif record.next is not None:
+            self.jobs[-1][2] += 1
+            number = str(record.number)
+            self.words += [number, str(record.begin), str(record.end), str(record.value), number, record.out,
+                           str(record.next)]
         else:
-            number = str(attempt.number)
-            self.words += [number, str(attempt.begin), str(attempt.end), str(attempt.value), number, attempt.out,
-                           str(attempt.next)]
+            self._add_last(record)
 
-    def stretch(self, ending=None):
+    def _add_last(self, attempt):
+        """The attempt after which the schedule doesn't continue."""
+        self.jobs[-1][3:5] = str(attempt.number), str(attempt.begin)
+        if attempt.end is not None:
+            self.jobs[-1][5:8] = str(attempt.end), attempt.outcome, str(attempt.value)
+        if attempt.out is not None:
+            self.jobs[-1][8:10] = str(attempt.number), attempt.out
+
+    def block(self, before):
         """All of it."""
-        return Stretch(self.job.name, self.job.mode, self.number, self.end, self.words, self.begins, self.ends,
-                       _waits(self.begins, self.ends, self.end), self.last, ending)
+        names, modes, counts, *rest = list(zip(*self.jobs)) if self.jobs else [()] * 14
+        return Block(Texts(names, modes, list(counts), self.words, *rest, self.total), before or Open("", ""))
 
 
-def _slow(reader, text):
-    """The attempts of a piece, job by job, as a Reader takes them line by line. What is before a fault is yielded
-    before the fault is raised."""
-    open_ = None if reader.job is None else _Gathered(reader.job, reader.attempt)
-    try:
-        for line in text_lines(io.TextIOWrapper(io.BytesIO(text), encoding="latin-1", newline="\n"), before=reader.line):
-            job, last = reader.job, reader.attempt
-            record = reader.take(line)
-            if isinstance(record, Total):
-                yield record
-            elif record is not None:
-                open_ = open_ or _Gathered(job, last if job is not None else None)
-                if isinstance(record, Ending):
-                    yield open_.stretch(record)
-                    open_ = None
-                else:
-                    open_.add(record)
-            elif open_ is None and reader.job is not None:
-                open_ = _Gathered(reader.job, None)
-    finally:
-        if open_ is not None:
-            yield open_.stretch()
+def _slow(reader, text, gathered):
+    """Gathers the records of a piece, as a Reader takes them line by line."""
+    if reader.job is not None:
+        gathered.begin(reader.job)
+    for line in text_lines(io.TextIOWrapper(io.BytesIO(text), encoding="latin-1", newline="\n"), before=reader.line):
+        job = reader.job
+        record = reader.take(line)
+        if record is not None:
+            gathered.add(record)
+        elif job is None and reader.job is not None:
+            gathered.begin(reader.job)
 
 
 def shown(file, view, progress=None, is_shared=True, reader=None):
-    """What a view shows of each piece of a report, in order: `view` takes a list of stretches, the last of which may be
-    the report's Total, and runs in another process. What is before a fault is yielded before the fault is raised."""
+    """What a view shows of each piece of a report, in order: `view` takes a Block, and runs in another process. What is
+    before a fault is yielded before the fault is raised."""
     reader, waiting = reader or Reader(), collections.deque()
 
     def given():
-        """The pieces, which are kept until they were read."""
+        """The pieces, which are stored until they were read."""
         for piece in pieces(file):
             waiting.append(piece)
             yield piece
@@ -452,12 +505,11 @@ def shown(file, view, progress=None, is_shared=True, reader=None):
 
 def _shown_slowly(reader, piece, view):
     """What a view shows of a piece that is read line by line."""
-    found, fault = [], None
+    gathered, fault, before = _Gathered(), None, _state(reader)
     try:
-        for stretch in _slow(reader, piece.text):
-            found.append(stretch)
+        _slow(reader, piece.text, gathered)
     except Refused as refused:
         fault = refused
-    yield view(found)
+    yield view(gathered.block(before))
     if fault is not None:
         raise fault

@@ -15,7 +15,7 @@ from zsched_tools import columns, manifest, processes
 from zsched_tools.command import Refused
 from zsched_tools.names import Names, first_repeat
 from zsched_tools.progress import Progress
-from zsched_tools.report import Reader, Total, as_text, text_lines
+from zsched_tools.report import Reader, as_text, text_lines
 
 PIECE = 2**20
 # As much as a processor holds near itself while it is hashed and looked through.
@@ -50,12 +50,10 @@ def _state(file, path):
     return found.st_dev, found.st_ino, found.st_size, found.st_mtime_ns
 
 
-def _marks(stretches):
+def _marks(block):
     """What `join` keeps of a piece: the names of the jobs that begin in it."""
     names = Names()
-    for stretch in stretches:
-        if not isinstance(stretch, Total) and stretch.number == 0:
-            names.add(stretch.name)
+    names.add_each(block.texts.names[1 if block.before.name else 0:])
     return names
 
 

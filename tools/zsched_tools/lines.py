@@ -3,11 +3,12 @@
 Each attempt is an object of type `attempt`, each job's ending one of type `end`, and the last line one of type
 `total`. Numbers are JSON numbers, up to 2^64 - 1 (the total has no bound); outputs of schedules are texts, as the
 report has them."""
+import itertools
 import json
 
 from zsched_tools import columns
 from zsched_tools.command import Refused
-from zsched_tools.report import Attempt, Ending, Job, Reader, Total, shown, text_lines
+from zsched_tools.report import Attempt, Ending, Reader, Total, shown, text_lines
 
 _decode = json.JSONDecoder(parse_float=str).decode
 
@@ -35,31 +36,77 @@ def json_line(job, record):
     return f'{{"type":"total","polls":{record.polls}}}'
 
 
-def _lines_of(stretch):
-    """The JSON lines of a job's attempts in a piece of a report, and of its ending."""
-    if isinstance(stretch, Total):
-        return json_line(None, stretch) + "\n"
-    job, words, waits = Job(stretch.name, stretch.mode), list(stretch.words), list(map(str, stretch.waits))
-    if stretch.end is None:
-        waits.insert(0, "null")
-    count = len(words) // len(columns.WORDS)
-    words[4::len(columns.WORDS)] = waits[:count]
-    outcome = columns.ASKED[stretch.mode]
-    form = (f'{{"type":"attempt","job":"{job.name}","mode":"{job.mode}","attempt":%s,"begin":%s,"end":%s,'
-            f'"outcome":"{outcome}","value":%s,"waited":%s,"out":"%s","next":%s}}\n')
-    text = columns.long((form * count) % tuple(words))
-    if stretch.last is not None:
-        number, begin, end, outcome, value, out = stretch.last
-        waited = None if waits[count] == "null" else int(waits[count])
-        text += json_line(job, Attempt(number, begin, end, outcome, value and int(value), waited, out)) + "\n"
-    if stretch.ending is not None:
-        text += json_line(job, stretch.ending) + "\n"
-    return text
+# Between the words of an attempt after which the schedule continues. The first and the outcome are its job's.
+_BETWEEN = ["", None, ',"begin":', None, ',"end":', None, "", None, ',"waited":', None, ',"out":"', None, '","next":',
+            None, "}\n"]
+
+
+def _attempt_pieces(block, waits):
+    """The pieces of the JSON lines of all attempts after which a schedule continues: those of _BETWEEN for each."""
+    texts, stride = block.texts, len(columns.WORDS)
+    words, found, step = texts.words, _BETWEEN * len(block.begins), len(_BETWEEN)
+    outs = words[5::stride]
+    if any(map("\n".join(outs).__contains__, "LR")):
+        outs = columns.long("\n".join(outs)).split("\n")
+    heads = [f'{{"type":"attempt","job":"{name}","mode":"{mode}","attempt":'
+             for name, mode in zip(texts.names, texts.modes)]
+    outcomes = [f',"outcome":"{columns.ASKED[mode]}","value":' for mode in texts.modes]
+    for place, pieces in enumerate([heads, outcomes]):
+        found[6 * place::step] = itertools.chain.from_iterable(map(itertools.repeat, pieces, texts.counts))
+    columns_of_words = [words[place::stride] for place in range(4)]
+    for place, pieces in enumerate([*columns_of_words, waits, outs, words[6::stride]]):
+        found[1 + 2 * place::step] = pieces
+    return found
+
+
+def _attempt_texts(block):
+    """For each job the JSON lines of the attempts after which its schedule continues, and the wait before the next."""
+    texts, edges, step = block.texts, block.edges, len(_BETWEEN)
+    if not texts.words:
+        return [""] * len(texts.names), ["null"] * len(texts.names)
+    waits = ["", *map(str, block.waits)]
+    after = [waits[edge] if count else "null" for count, edge in zip(texts.counts, edges[1:])]
+    for edge in edges[:-1]:
+        waits[edge] = "null"
+    if block.lead is not None and texts.counts[0]:
+        waits[0] = str(block.lead)
+    pieces = _attempt_pieces(block, waits[:-1])
+    return ["".join(pieces[step * first:step * edge]) for first, edge in zip(edges, edges[1:])], after
+
+
+def _end_texts(block, waits):
+    """For each job the JSON lines of the attempt after which its schedule doesn't continue, and of its ending."""
+    texts = block.texts
+    if block.lead is not None and not texts.counts[0]:
+        waits[0] = str(block.lead)
+    for (name, mode, number, begin, end, outcome, value, out, how, result, at, polls), waited in zip(
+            zip(texts.names, texts.modes, texts.numbers, texts.begins, texts.ends, texts.outcomes, texts.values,
+                texts.outs, texts.hows, texts.results, texts.ats, texts.polls), waits):
+        text = ""
+        if number:
+            out = f'"{out}"' if out else "null"
+            text = (f'{{"type":"attempt","job":"{name}","mode":"{mode}","attempt":{number},"begin":{begin},'
+                    f'"end":{end or "null"},"outcome":"{outcome or "running"}","value":{value or "null"},'
+                    f'"waited":{waited},"out":{out},"next":null}}\n')
+        if how:
+            value, out = ("null", f'"{result}"') if how == "finished" else (result or "null", "null")
+            text += (f'{{"type":"end","job":"{name}","mode":"{mode}","ending":"{how}","value":{value},"out":{out},'
+                     f'"at":{at},"polls":{polls}}}\n')
+        yield text
+
+
+def _lines_of(block):
+    """The JSON lines of a piece of a report."""
+    runs, waits = _attempt_texts(block)
+    found = list(itertools.chain.from_iterable(zip(runs, _end_texts(block, waits))))
+    if block.texts.total is not None:
+        found.append(json_line(None, Total(block.texts.total)) + "\n")
+    return "".join(found)
 
 
 def write_lines(file, write, progress=None):
     """Writes the JSON lines of a report, a binary file, each as soon as it is known."""
-    for text in columns.shown(file, lambda stretches: "".join(map(_lines_of, stretches)), progress):
+    for text in columns.shown(file, _lines_of, progress):
         write(text)
 
 

@@ -6,13 +6,27 @@ import operator
 from zsched_tools import columns
 from zsched_tools.command import Refused
 from zsched_tools.durations import duration
-from zsched_tools.report import Total
 from zsched_tools.summary import plural, table
 
 HEAD = ["from", "begun", "ok", "err", "running", "waiting"]
 MOST_STEPS = 100_000
 MOST_FITTED = 5_000
 SECOND = 1000
+
+
+def _is_known(moment):
+    """Whether there is a moment."""
+    return moment is not None
+
+
+def _by_mode(block):
+    """The ends of the attempts after which the schedule continues, each list with the mode of its jobs."""
+    modes = block.texts.modes
+    if len(set(modes)) == 1:
+        yield modes[0], block.ends
+        return
+    for mode, first, edge in zip(modes, block.edges, block.edges[1:]):
+        yield mode, block.ends[first:edge]
 
 
 class Load:
@@ -23,25 +37,20 @@ class Load:
         self.every = every
         self.begun, self.ok, self.err, self.joined, self.left = [collections.Counter() for _ in range(5)]
 
-    def take(self, stretches):
-        """Adds some jobs' attempts. Returns the load itself."""
-        begins, ends, joined, left = [], {"ok": [], "err": []}, [], []
-        for stretch in stretches:
-            if isinstance(stretch, Total):
-                continue
-            begins.append(stretch.begins)
-            count = len(stretch.begins) - (stretch.last is not None)
-            ends[columns.ASKED[stretch.mode]].append(stretch.ends[:count])
-            if stretch.last is not None and stretch.last.end is not None:
-                ends[stretch.last.outcome].append((stretch.last.end,))
-            if stretch.number == 0 and stretch.begins:
-                joined.append(stretch.begins[0])
-            if stretch.ending is not None and stretch.ending.how != "unfinished":
-                left.append(stretch.ending.at)
-        for counter, moments in [(self.begun, itertools.chain.from_iterable(begins)),
-                                 (self.ok, itertools.chain.from_iterable(ends["ok"])),
-                                 (self.err, itertools.chain.from_iterable(ends["err"])),
-                                 (self.joined, joined), (self.left, left)]:
+    def take(self, block):
+        """Adds a piece of a report. Returns the load itself."""
+        texts, ends = block.texts, {"ok": [], "err": []}
+        for mode, moments in _by_mode(block):
+            ends[columns.ASKED[mode]].append(moments)
+        for outcome, found in ends.items():
+            found.append([end for end, how in zip(block.last_ends, texts.outcomes) if how == outcome])
+        joined = block.first_begins[1 if block.before.number else 0:]
+        for counter, moments in [
+                (self.begun, itertools.chain(block.begins, filter(_is_known, block.last_begins))),
+                (self.ok, itertools.chain.from_iterable(ends["ok"])),
+                (self.err, itertools.chain.from_iterable(ends["err"])),
+                (self.joined, filter(_is_known, joined)),
+                (self.left, (at for at, how in zip(block.ats, texts.hows) if how not in ("", "unfinished")))]:
             counter.update(map(operator.floordiv, moments, itertools.repeat(self.every)))
         return self
 
@@ -125,7 +134,7 @@ class Load:
 def read(file, every, progress=None):
     """The load of a report, a binary file."""
     whole = Load(every)
-    for part in columns.shown(file, lambda stretches: Load(every).take(stretches), progress):
+    for part in columns.shown(file, lambda block: Load(every).take(block), progress):
         whole.add(part)
     return whole
 

@@ -56,7 +56,7 @@ class Row:
         many = plural(len(self.attempts), "attempt") if self.attempts else "never began"
         if self.ending.how == "unfinished":
             return f"unfinished at {when} · {many}"
-        return f"{ending_text(self.ending, LONGEST_RESULT)} · {many} · {when}"
+        return f"{ending_text(self.ending.how, self.ending.result(), LONGEST_RESULT)} · {many} · {when}"
 
 
 def rows_of(source, chosen):
@@ -221,7 +221,9 @@ def draw_row(layout, number, row):
 
 def verdict_title(row):
     """All of a job's ending, for the words that are cut."""
-    return f"{row.job.name}: {ending_text(row.ending, 200)} at {row.ending.at} ms, {plural(row.ending.polls, 'poll')}"
+    ending = row.ending
+    text = ending_text(ending.how, ending.result(), 200)
+    return f"{row.job.name}: {text} at {ending.at} ms, {plural(ending.polls, 'poll')}"
 
 
 def legend(layout, rows):

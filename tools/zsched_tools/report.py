@@ -56,6 +56,10 @@ class Ending:
     at: int
     polls: int
 
+    def result(self):
+        """The value or the output as text; empty if there is neither."""
+        return self.out or ("" if self.value is None else str(self.value))
+
 
 @dataclasses.dataclass(slots=True)
 class Total:

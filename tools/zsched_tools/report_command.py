@@ -1,5 +1,6 @@
 """The command zsched-report: a report in other forms, and many reports as one."""
 import argparse
+import gc
 import os
 import sys
 
@@ -239,6 +240,8 @@ def _arguments():
 
 def main():
     """The command line."""
+    # Nothing here refers to itself, and looking for what does takes a quarter of the time of short jobs.
+    gc.disable()
     given = starting.parsed(_arguments())
     command.color(given.color)
     run = command.run if given.work is _join else starting.run

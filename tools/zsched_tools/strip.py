@@ -7,7 +7,7 @@ from zsched_tools.command import Refused
 from zsched_tools.drawing import cut_text, path, place, rectangle, text, text_width, titled
 from zsched_tools.durations import duration
 from zsched_tools.load import Load
-from zsched_tools.report import Job, Total
+from zsched_tools.report import Job
 from zsched_tools.summary import plural
 
 # In pixels: the height of the bars of attempts, that of running and waiting, and the room for words above each.
@@ -161,11 +161,14 @@ class Crowd:
         self.rows, self.jobs, self.load, self.missing = [], 0, Load(1), set(chosen)
         self.attempts = []
 
-    def view(self, stretches):
-        """What is drawn of a piece: names, stretches if they are few, and the load."""
-        found = [it for it in stretches if not isinstance(it, Total) and (not self.chosen or it.name in self.chosen)]
-        kept = found if len(found) <= picture.MOST_JOBS else None
-        return [it.name for it in found if it.ending is not None], kept, Load(1).take(found).fitted()
+    def view(self, block):
+        """What is drawn of a piece: the names of jobs that end in it, the attempts if jobs are few, and the load."""
+        if self.chosen:
+            block = block.of([job for job, name in enumerate(block.texts.names) if name in self.chosen])
+        names, hows = block.texts.names, block.texts.hows
+        jobs = range(len(names)) if len(names) <= picture.MOST_JOBS else None
+        kept = jobs and [(names[job], block.texts.modes[job], block.attempts(job), block.ending(job)) for job in jobs]
+        return [name for name, how in zip(names, hows) if how], kept, Load(1).take(block).fitted()
 
     def add(self, names, kept, load):
         """One piece more."""
@@ -175,10 +178,10 @@ class Crowd:
         if kept is None or self.jobs > picture.MOST_JOBS:
             self.attempts = []
             return
-        for stretch in kept:
-            self.attempts += stretch.attempts()
-            if stretch.ending is not None:
-                self.rows.append(picture.Row(Job(stretch.name, stretch.mode), self.attempts, stretch.ending))
+        for name, mode, attempts, ending in kept:
+            self.attempts += attempts
+            if ending is not None:
+                self.rows.append(picture.Row(Job(name, mode), self.attempts, ending))
                 self.attempts = []
 
 

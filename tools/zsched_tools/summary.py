@@ -1,87 +1,148 @@
 """A report as a table with a line a job, the most attempts that ran at once, and the times to the end."""
 import array
 import collections
-import dataclasses
+import functools
 import itertools
 import operator
+from typing import NamedTuple
 
-from zsched_tools import columns
+from zsched_tools import columns, processes
 from zsched_tools.durations import duration
-from zsched_tools.report import Ending, Total
 
 HEAD = ["job", "mode", "ending", "at", "attempts", "ok", "err", "busy", "waited", "longest wait"]
 LEFT_COLUMNS = 3
 WIDEST_ENDING = 30
 PERCENTS = [50, 95, 99]
 WELL = ["succeeded", "finished"]
-SORTS = {"end": lambda figures: figures.ending.at, "name": lambda figures: figures.name,
-         "attempts": lambda figures: -figures.attempts}
+# From how many lines of a table on several processes write it.
+MANY_LINES = 100_000
+LINES_AT_ONCE = 10_000
+MOST_KNOWN = 2**16
 
 
-@dataclasses.dataclass
-class Options:
+class Options(NamedTuple):
     """What the user chose: the order of the table, one line in place of the table, and a limit in milliseconds."""
     sort: str | None = None
     one_line: bool = False
     within: int | None = None
 
 
-@dataclasses.dataclass(slots=True)
-class Figures:
-    """What a job's line of the table says, as far as its attempts were read."""
-    name: str
-    mode: str
-    begin: int | None
+class Figures(NamedTuple):
+    """What is known of jobs, as columns with an entry a job. Times are milliseconds. What goes on at the horizon, an
+    attempt or a wait, counts up to there."""
+    names: list
+    modes: list
+    hows: list
+    results: list
+    ats: list
+    begins: list
+    attempts: list
+    oks: list
+    errs: list
+    busy: list
+    waited: list
+    longest: list
+
+    def of(self, jobs):
+        """Some of the jobs."""
+        return Figures(*(column[jobs] for column in self))
+
+    def joined_with(self, later):
+        """One job whose attempts go on in the next piece: all of them."""
+        sums = {name: [getattr(self, name)[0] + getattr(later, name)[0]]
+                for name in ("attempts", "oks", "errs", "busy", "waited")}
+        begins = later.begins if self.begins[0] is None else self.begins
+        return later._replace(begins=begins, longest=[max(self.longest[0], later.longest[0])], **sums)
+
+
+SORTS = {"end": lambda figures: figures.ats, "name": lambda figures: figures.names,
+         "attempts": lambda figures: [-count for count in figures.attempts]}
+
+
+class Chunk(NamedTuple):
+    """Jobs that ended: their lines of the table, with tabs between the cells, and the greatest width of each column;
+    what the lines are sorted by; the times of those that aren't unfinished; how many ended well within the limit; the
+    endings; the attempts."""
+    rows: str
+    widths: list
+    keys: list
+    times: array.array
+    well: int
+    endings: collections.Counter
     attempts: int
-    ok: int
-    err: int
-    busy: int
-    waited: int
-    longest: int
-    ending: Ending | None
-
-    def add(self, other):
-        """The same job's attempts after these."""
-        self.begin = other.begin if self.begin is None else self.begin
-        self.attempts += other.attempts
-        self.ok += other.ok
-        self.err += other.err
-        self.busy += other.busy
-        self.waited += other.waited
-        self.longest = max(self.longest, other.longest)
-        self.ending = other.ending
-
-    def time(self):
-        """The time from the job's first attempt to its end; None if it is unfinished."""
-        return None if self.ending.how == "unfinished" else self.ending.at - self.begin
-
-    def row(self):
-        """The job's line of the table."""
-        times = [duration(time) for time in [self.busy, self.waited, self.longest]]
-        counts = [str(self.attempts), str(self.ok), str(self.err)]
-        return [self.name, self.mode, ending_text(self.ending), duration(self.ending.at), *counts, *times]
 
 
-def figures_of(stretch):
-    """The figures of a job's attempts in a piece. What goes on at the horizon, an attempt or a wait, counts up to
-    there."""
-    begins, ends, ending = stretch.begins, stretch.ends, stretch.ending
-    busy, waited, longest = sum(ends) - sum(begins), sum(stretch.waits), max(stretch.waits, default=0)
-    ok, err, running = stretch.counts()
-    if running:
-        busy += begins[-1] + (ending.at - begins[-1] if ending is not None else 0)
-    elif ending is not None and (ends or stretch.end is not None):
-        last = ending.at - (ends[-1] if ends else stretch.end)
-        waited, longest = waited + last, max(longest, last)
-    begin = begins[0] if begins and stretch.number == 0 else None
-    return Figures(stretch.name, stretch.mode, begin, len(begins), ok, err, busy, waited, longest, ending)
+def _sums(values, edges):
+    """The sums of the values between each two edges."""
+    sums = list(itertools.accumulate(values, initial=0))
+    found = list(map(sums.__getitem__, edges))
+    return list(map(operator.sub, found[1:], found))
 
 
-def ending_text(ending, widest=WIDEST_ENDING):
-    """How a job ended, with its value or output, which is cut where it is long."""
-    result = ending.out if ending.value is None else str(ending.value)
-    text = ending.how if result is None else f"{ending.how} {result}"
+def _figures(block):
+    """The figures of a piece's jobs."""
+    texts, edges, waits = block.texts, block.edges, block.waits
+    lasts = [0 if begin is None else (at if end is None else end) - begin
+             for begin, end, at in zip(block.last_begins, block.last_ends, block.ats)]
+    busy = list(map(operator.add, _sums(map(operator.sub, block.ends, block.begins), edges), lasts))
+    waited = _sums(waits, edges)
+    longest = [max(waits[edge - count:edge]) if count else 0 for count, edge in zip(texts.counts, edges[1:])]
+    if block.lead is not None:
+        waited[0], longest[0] = waited[0] + block.lead, max(longest[0], block.lead)
+    attempts = [count + (number != "") for count, number in zip(texts.counts, texts.numbers)]
+    oks, errs = [[(count if columns.ASKED[mode] == asked else 0) + (outcome == asked)
+                  for count, mode, outcome in zip(texts.counts, texts.modes, texts.outcomes)]
+                 for asked in ("ok", "err")]
+    begins = [None, *block.first_begins[1:]] if block.before.number else block.first_begins
+    return Figures(texts.names, texts.modes, texts.hows, texts.results, block.ats, begins, attempts, oks, errs, busy,
+                   waited, longest)
+
+
+class _Known(dict):
+    """What a function returns, for values that are often the same."""
+
+    def __init__(self, function):
+        super().__init__()
+        self.function = function
+
+    def __missing__(self, value):
+        if len(self) == MOST_KNOWN:
+            self.clear()
+        self[value] = found = self.function(value)
+        return found
+
+
+_durations, _counts = _Known(duration), _Known(str)
+
+
+def ending_text(how, result, widest=WIDEST_ENDING):
+    """How a job ended, with its value or output, which is cut if it is long."""
+    text = f"{how} {result}" if result else how
     return text if len(text) <= widest else text[:widest - 2] + ".."
+
+
+def _rows(figures):
+    """The lines of the table, with tabs between the cells, and the greatest width of each column."""
+    times = [list(map(_durations.__getitem__, column))
+             for column in (figures.ats, figures.busy, figures.waited, figures.longest)]
+    counts = [list(map(_counts.__getitem__, column)) for column in (figures.attempts, figures.oks, figures.errs)]
+    cells = [figures.names, figures.modes, list(map(ending_text, figures.hows, figures.results)), times[0], *counts,
+             *times[1:]]
+    widths = [max(map(len, column), default=0) for column in cells]
+    return "\n".join([*map("\t".join, zip(*cells)), ""]), widths
+
+
+def _chunk(options, figures):
+    """Jobs that ended."""
+    rows, widths = ("", []) if options.one_line else _rows(figures)
+    times, well = [at - begin for how, at, begin in zip(figures.hows, figures.ats, figures.begins)
+                   if how != "unfinished"], 0
+    if options.within is not None:
+        hows = [how for how in figures.hows if how != "unfinished"]
+        well = sum(how in WELL and time <= options.within for how, time in zip(hows, times))
+    keys = list(SORTS[options.sort](figures)) if options.sort and not options.one_line else []
+    return Chunk(rows, widths, keys, array.array("Q", sorted(times)), well, collections.Counter(figures.hows),
+                 sum(figures.attempts))
 
 
 class Crowd:
@@ -104,28 +165,84 @@ class Crowd:
         return (most, moments[running.index(most)]) if most else (0, 0)
 
 
-def _joined(lists):
-    """Lists of moments as one array, which is short on its way from a process to another."""
-    return array.array("Q", itertools.chain.from_iterable(lists))
+def _moments(runs, lasts):
+    """Moments as an array, which is short on its way from a process to another."""
+    found = array.array("Q", runs)
+    found.extend(moment for moment in lasts if moment is not None)
+    return found
 
 
-def _figures(stretches):
-    """The figures of the jobs of a piece, when their attempts began and ended, and the total if it is there."""
-    total = stretches.pop().polls if stretches and isinstance(stretches[-1], Total) else None
-    begins, ends = _joined(stretch.begins for stretch in stretches), _joined(stretch.ends for stretch in stretches)
-    return list(map(figures_of, stretches)), begins, ends, total
+class _Found(NamedTuple):
+    """What a piece shows: the rest of the job that it begins in, the jobs that begin and end in it, the job that goes on
+    after it, when attempts began and ended, and the total if it is there."""
+    first: Figures | None
+    whole: Chunk
+    last: Figures | None
+    begins: array.array
+    ends: array.array
+    total: int | None
 
 
-def summarised(file, progress=None):
-    """The figures of each job, the crowd, and the total of polls."""
-    jobs, crowd, total = [], Crowd(), 0
-    for found, begins, ends, polls in columns.shown(file, _figures, progress):
-        if found and jobs and jobs[-1].ending is None:
-            jobs[-1].add(found.pop(0))
-        jobs += found
-        crowd.add(begins, ends)
-        total = total if polls is None else polls
-    return jobs, crowd, total
+def _shown(options, block):
+    """What a piece shows."""
+    figures, texts = _figures(block), block.texts
+    count = len(texts.names)
+    first = 1 if block.before.name and count else 0
+    edge = count - 1 if count > first and not texts.hows[-1] else count
+    return _Found(figures.of(slice(first)) if first else None, _chunk(options, figures.of(slice(first, edge))),
+                  figures.of(slice(edge, None)) if edge < count else None,
+                  _moments(block.begins, block.last_begins), _moments(block.ends, block.last_ends), texts.total)
+
+
+class Summary:
+    """All jobs of a report, chunk by chunk, the crowd, and the total of polls."""
+
+    def __init__(self, options):
+        self.options, self.chunks, self.crowd, self.total = options, [], Crowd(), 0
+        self.open = None
+
+    def add(self, found):
+        """One piece more."""
+        if found.first is not None:
+            self.open = found.first if self.open is None else self.open.joined_with(found.first)
+            if self.open.hows[0]:
+                self.chunks.append(_chunk(self.options, self.open))
+                self.open = None
+        self.chunks.append(found.whole)
+        self.open = found.last or self.open
+        self.crowd.add(found.begins, found.ends)
+        self.total = self.total if found.total is None else found.total
+
+    def jobs(self):
+        """The number of jobs."""
+        return sum(sum(chunk.endings.values()) for chunk in self.chunks)
+
+    def table(self):
+        """The lines of the table, as texts of some lines each."""
+        texts, count = [chunk.rows for chunk in self.chunks if chunk.rows], self.jobs()
+        widths = list(map(max, zip(map(len, HEAD), *(chunk.widths for chunk in self.chunks if chunk.rows))))
+        if self.options.sort:
+            rows = "".join(texts).splitlines(keepends=True)
+            keys = list(itertools.chain.from_iterable(chunk.keys for chunk in self.chunks))
+            rows = [rows[place] for place in sorted(range(count), key=keys.__getitem__)]
+            texts = ["".join(rows[place:place + LINES_AT_ONCE]) for place in range(0, count, LINES_AT_ONCE)]
+        yield _lined_up(widths, "\t".join(HEAD) + "\n")
+        yield from (processes.in_order if count > MANY_LINES else map)(functools.partial(_lined_up, widths), texts)
+
+
+def _lined_up(widths, rows):
+    """Lines of a table: the first columns to the left, the others to the right."""
+    cells = rows.replace("\n", "\t").split("\t")[:-1]
+    form = "  ".join(f"%{'-' if place < LEFT_COLUMNS else ''}{width}s" for place, width in enumerate(widths)) + "\n"
+    return form * (len(cells) // len(widths)) % tuple(cells)
+
+
+def summarised(file, options, progress=None):
+    """The summary of a report, a binary file."""
+    summary = Summary(options)
+    for found in columns.shown(file, functools.partial(_shown, options), progress):
+        summary.add(found)
+    return summary
 
 
 def plural(number, name):
@@ -142,49 +259,46 @@ def table(rows, left=LEFT_COLUMNS):
         yield "  ".join(cells).rstrip()
 
 
-def _percentiles(jobs):
+def _percentiles(times, jobs):
     """The times within which half of all jobs ended, and 95 and 99 of 100. An unfinished job takes longer than all."""
-    times = sorted((figures.time() for figures in jobs if figures.time() is not None))
     for percent in PERCENTS:
-        rank = -(-percent * len(jobs) // 100)
+        rank = -(-percent * jobs // 100)
         yield f"p{percent} {duration(times[rank - 1]) if rank <= len(times) else 'unfinished'}"
 
 
-def _within(jobs, limit):
-    """How many jobs ended well within a time, and their share, rounded down so that 100 % are all."""
-    well = sum(figures.ending.how in WELL and figures.time() <= limit for figures in jobs)
-    share = 10_000 * well // len(jobs) if jobs else 0
-    return f"ended well within {duration(limit)}: {well} of {plural(len(jobs), 'job')}, {share // 100}.{share % 100:02} %"
-
-
-def _lines(jobs, crowd, total, within):
+def _lines(summary):
     """What is said of all jobs together."""
-    endings = collections.Counter(figures.ending.how for figures in jobs)
+    chunks, jobs, within = summary.chunks, summary.jobs(), summary.options.within
+    endings = collections.Counter()
+    for chunk in chunks:
+        endings.update(chunk.endings)
     said = ", ".join(f"{number} {how}" for how, number in endings.items())
-    attempts = sum(figures.attempts for figures in jobs)
-    yield f"{plural(len(jobs), 'job')}{': ' if said else ''}{said}; {plural(attempts, 'attempt')}; {plural(total, 'poll')}"
-    most, moment = crowd.most()
+    attempts = plural(sum(chunk.attempts for chunk in chunks), "attempt")
+    yield f"{plural(jobs, 'job')}{': ' if said else ''}{said}; {attempts}; {plural(summary.total, 'poll')}"
+    most, moment = summary.crowd.most()
     if most:
         yield f"most attempts at once: {most}, first at {duration(moment)}"
     if jobs:
-        yield f"time to the end: {', '.join(_percentiles(jobs))}"
+        times = sorted(itertools.chain.from_iterable(chunk.times for chunk in chunks))
+        yield f"time to the end: {', '.join(_percentiles(times, jobs))}"
     if within is not None:
-        yield _within(jobs, within)
+        well = sum(chunk.well for chunk in chunks)
+        share = 10_000 * well // jobs if jobs else 0
+        yield (f"ended well within {duration(within)}: {well} of {plural(jobs, 'job')}, "
+               f"{share // 100}.{share % 100:02} %")
 
 
 def write_summary(file, write, options=Options(), progress=None):
     """Writes the table, the number of endings of each kind, the most attempts at once, and the times to the end; or all
     but the table in one line. `file` is binary."""
-    jobs, crowd, total = summarised(file, progress)
-    lines = list(_lines(jobs, crowd, total, options.within))
+    summary = summarised(file, options, progress)
+    lines = list(_lines(summary))
     if options.one_line:
         write("; ".join(lines) + "\n")
         return
-    if options.sort:
-        jobs.sort(key=SORTS[options.sort])
-    if jobs:
-        for line in table([HEAD] + [figures.row() for figures in jobs]):
-            write(f"{line}\n")
+    if summary.jobs():
+        for text in summary.table():
+            write(text)
         write("\n")
     for line in lines:
         write(f"{line}\n")
