@@ -706,8 +706,8 @@ class Pictures(unittest.TestCase):
                 made = "".join(page(rows_of(io.StringIO(text), ()), "A & B"))
                 self.assertEqual(re.findall(r"://|src=|href|@import|url\((?!#)", made), [])
                 self.assertIn("<title>A &amp; B</title>", made)
-                drawn = "".join(f"{line}\n" for line in draw(rows_of(io.StringIO(text), ()), "A & B"))
-                self.assertIn(drawn.replace(' xmlns="http://www.w3.org/2000/svg"', ""), made)
+                drawn = "".join(f"{line}\n" for line in draw(rows_of(io.StringIO(text), ()), "A & B", is_file=False))
+                self.assertIn(drawn, made)
 
     def test_a_part_of_time_has_its_attempts_alone(self):
         shown = titles(picture_of(RUNNING, view=View(2000, 6000)))
@@ -781,6 +781,13 @@ class Pictures(unittest.TestCase):
         text = "".join(draw(rows_of(io.StringIO(WAITING), ()), ""))
         self.assertIn("@media(prefers-color-scheme:dark){text{fill:#e4e7eb}", text)
         self.assertGreaterEqual(min(int(size) for size in re.findall(r"font-size:(\d+)px", text)), 11)
+
+    def test_a_picture_of_a_file_is_no_wider_than_its_window(self):
+        for words in [["svg"], ["load", "--svg", "--every", "50ms"]]:
+            for text in [WAITING, wide_report(201, 2)]:
+                root = xml.etree.ElementTree.fromstring(tool(*words, text=text)[1])
+                self.assertEqual((root.get("width"), root.get("height")), ("100%", None))
+                self.assertEqual(root.get("style"), f"max-width:{root.get('viewBox').split()[2]}px")
 
     def test_a_page_has_the_report_that_its_scripts_draw(self):
         for name, text in pictures():

@@ -41,7 +41,7 @@ def curve_page(scenario, figures):
     yield HEAD.format(title=html.escape(headline(scenario)))
     for style, width in [("wide", WIDE), ("narrow", NARROW)]:
         yield f'<div class="{style}">\n'
-        for line in draw_curves(scenario, figures, width, namespace=""):
+        for line in draw_curves(scenario, figures, width, is_file=False):
             yield f"{line}\n"
         yield "</div>\n"
     yield '<div class="table"><table>\n'

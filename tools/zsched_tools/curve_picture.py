@@ -1,10 +1,9 @@
 """The load of policies as a picture: a panel a policy, all with one time axis and one height for the same load. The
 windows of the service are shaded. An outcome is shown by its colour and by its place: ok is above err."""
-import html
 
 from zsched_tools.axis import Scale, labels
 from zsched_tools.curve import headline, seconds, state_words
-from zsched_tools.drawing import cut_text, path, place, rectangle, text, text_width
+from zsched_tools.drawing import cut_text, path, place, rectangle, root, text, text_width
 from zsched_tools.durations import duration
 from zsched_tools.scenario import DOWN, THOUSAND
 
@@ -188,12 +187,11 @@ def _legend(layout):
     yield text(left, base, words, "soft")
 
 
-def draw_curves(scenario, figures, width=960, namespace=' xmlns="http://www.w3.org/2000/svg"'):
-    """The picture as SVG, in lines. Inside of a page the namespace is left out."""
+def draw_curves(scenario, figures, width=960, is_file=True):
+    """The picture as SVG, in lines: for a file, or inside of a page."""
     layout = Layout(scenario, figures, width)
-    words, height = html.escape(headline(scenario)), layout.bottom + 92
-    yield (f'<svg{namespace} viewBox="0 0 {width} {place(height)}" width="{width}" height="{place(height)}" role="img" '
-           f'aria-label="{words}">')
+    height = layout.bottom + 92
+    yield root(width, height, headline(scenario), is_file)
     yield f"<style>{STYLE}</style>"
     yield f'<rect class="page" width="{width}" height="{place(height)}"/>'
     for number, words in enumerate(layout.title):

@@ -103,7 +103,7 @@ def page(rows, title, view=View()):
     yield from _head(title)
     yield TOOLS
     yield "<main tabindex=\"0\">\n"
-    for line in picture.draw(rows, title, view, namespace=""):
+    for line in picture.draw(rows, title, view, is_file=False):
         yield f"{line}\n"
     yield "</main>\n"
     yield '<script type="text/plain" id="report">\n'
@@ -134,7 +134,7 @@ def load_page(load, title, note, view=View()):
     yield f'<main tabindex="0">\n<p><small>{html.escape(note)}</small></p>\n'
     for width in LOAD_WIDTHS:
         yield f'<div class="w{width}">\n'
-        for line in draw_strip(load, "", namespace="", view=view, width=width):
+        for line in draw_strip(load, "", view=view, width=width):
             yield f"{line}\n"
         yield "</div>\n"
     yield "</main>\n</html>\n"

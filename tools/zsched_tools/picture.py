@@ -1,12 +1,11 @@
 """A report as a picture: jobs from top to bottom, time from left to right."""
-import html
 from dataclasses import dataclass
 
 from zsched_tools import strip
 from zsched_tools.axis import Scale, View, labels, shown_moments
 from zsched_tools.bars import Shapes, draw_shape, mark
 from zsched_tools.command import Refused
-from zsched_tools.drawing import cut_text, path, place, rectangle, text, text_width
+from zsched_tools.drawing import cut_text, path, place, rectangle, root, text, text_width
 from zsched_tools.durations import duration
 from zsched_tools.report import Attempt, Ending, Job, records
 from zsched_tools.summary import ending_text, plural
@@ -266,14 +265,12 @@ def legend_entries(layout, rows):
         yield lambda x, y: [path(f"M{place(x + 8)} {place(y - 8)}v16", "horizon")], words
 
 
-def draw(rows, title, view=View(), namespace=' xmlns="http://www.w3.org/2000/svg"'):
-    """The picture of some jobs as SVG, in lines. Inside of a page the namespace is left out."""
+def draw(rows, title, view=View(), is_file=True):
+    """The picture of some jobs as SVG, in lines: for a file, or inside of a page."""
     layout = Layout(rows, title, view)
     entries, height = legend(layout, rows)
     tall = place(layout.foot + height)
-    told = html.escape(title or "Timeline of a report of zsched")
-    yield (f'<svg{namespace} viewBox="0 0 {WIDTH} {tall}" width="{WIDTH}" height="{tall}" role="img" '
-           f'aria-label="{told}">')
+    yield root(WIDTH, layout.foot + height, title or "Timeline of a report of zsched", is_file)
     yield f"<style>{STYLE}</style>"
     yield f"<defs>{PATTERNS}</defs>"
     yield f'<rect class="page" width="{WIDTH}" height="{tall}"/>'

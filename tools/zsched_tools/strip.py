@@ -1,10 +1,9 @@
 """The load of many jobs as a picture: a strip of bars, under the rows of a picture or in their place."""
-import html
 
 from zsched_tools import columns, picture
 from zsched_tools.axis import NEAREST_LABELS, Scale, View, labels, step_between_labels
 from zsched_tools.command import Refused
-from zsched_tools.drawing import cut_text, path, place, rectangle, text, text_width, titled
+from zsched_tools.drawing import cut_text, path, place, rectangle, root, text, text_width, titled
 from zsched_tools.durations import duration
 from zsched_tools.load import Load
 from zsched_tools.report import Job
@@ -124,9 +123,10 @@ def _moments_of(load, view):
     return picture.view_within(first * load.every, (last + 1) * load.every, view)
 
 
-def draw_strip(load, title, namespace=' xmlns="http://www.w3.org/2000/svg"', note=None, view=View(), width=None):
-    """The load as a picture of its own, in lines of SVG, as wide as a picture of rows unless a width is given."""
-    width = width or picture.WIDTH
+def draw_strip(load, title, note=None, view=View(), width=None):
+    """The load as a picture of its own, in lines of SVG: a file as wide as a picture of rows, or, with a width, inside of
+    a page."""
+    is_file, width = width is None, width or picture.WIDTH
     first, last = _moments_of(load, view)
     load = load.coarser(_round_number(-(-(-(-last // load.every) - first // load.every) // MOST_BARS)))
     scale = Scale(*_moments_of(load, view), LEFT, width - LEFT, load.every if view.is_log else None)
@@ -134,9 +134,7 @@ def draw_strip(load, title, namespace=' xmlns="http://www.w3.org/2000/svg"', not
     top = 16 + (30 if title else 0) + (20 if note else 0) + (18 if base else 0)
     bottom = _lines(top, ALONE)[1] + 8
     tall = place(bottom + 34)
-    said = html.escape(title or "Load of a report of zsched")
-    yield (f'<svg{namespace} viewBox="0 0 {width} {tall}" width="{width}" height="{tall}" role="img" '
-           f'aria-label="{said}">')
+    yield root(width, bottom + 34, title or "Load of a report of zsched", is_file)
     yield f"<style>{picture.STYLE}</style>"
     yield f"<defs>{picture.PATTERNS}</defs>"
     yield f'<rect class="page" width="{width}" height="{tall}"/>'
