@@ -3,6 +3,7 @@ import ast
 import os
 import pathlib
 import re
+import shlex
 import subprocess
 import sys
 import tempfile
@@ -28,8 +29,69 @@ def ended(tool, *words, **environment):
     return run.returncode, run.stdout.decode(), run.stderr.decode()
 
 
+# For each tool the words of runs that write to standard output; LOG, PLAN, REPORT and SCENARIO are files.
+WRITING = {
+    "zsched-explain": [["PLAN"]],
+    "zsched-outage": [["SCENARIO"]],
+    "zsched-plan": [["from", "LOG", "--schedule", "recurs(3)"]],
+    "zsched-play": [["--port", "0"]],
+    "zsched-report": [["lines", "REPORT"], ["summary", "REPORT"], ["load", "REPORT"], ["svg", "REPORT"], ["html", "REPORT"],
+                      ["from-lines", "LINES"], ["join", "REPORT"]],
+    "zsched-try": [["recurs(2)"], ["recurs(2)", "--plan"], ["recurs(2)", "--svg"]],
+}
+SCENARIO = """{"horizon": "5s", "clients": {"number": 1}, "outcomes": {"up": {"ms": 5, "ok": 1}},
+"policies": {"steady": "spaced(400)"}}"""
+
+
 class Tools(unittest.TestCase):
     """Each command."""
+
+    def files(self, folder):
+        """The files that the words of WRITING name."""
+        texts = {"LOG": "name,ms,status\na,5,200\n", "SCENARIO": SCENARIO}
+        found = {name: pathlib.Path(folder) / name.lower() for name in [*texts, "LINES"]}
+        for name, text in texts.items():
+            found[name].write_text(text)
+        found.update(PLAN=TOP / "examples" / "checkout.json", REPORT=TOP / "examples" / "checkout.json.stdout")
+        found["LINES"].write_text(ended(TOP / "tools" / "zsched-report", "lines", found["REPORT"])[1])
+        return found
+
+    def lines_written(self, folder):
+        """The shell's words of each run of WRITING, and of help and version."""
+        self.assertEqual(sorted(WRITING), [tool.name for tool in TOOLS])
+        files = self.files(folder)
+        for name, runs in WRITING.items():
+            for words in [["--help"], ["--version"], *runs]:
+                yield name, " ".join(map(shlex.quote, [str(TOP / "tools" / name), *(str(files.get(it, it)) for it in words)]))
+
+    def test_an_output_that_takes_nothing_ends_each_with_3_and_one_line(self):
+        with tempfile.TemporaryDirectory() as folder:
+            for name, line in self.lines_written(folder):
+                for target, said in [("> /dev/full", "No space left on device"), (">&-", "standard output is closed")]:
+                    with self.subTest(f"{line} {target}"):
+                        run = subprocess.run(["bash", "-c", f"{line} {target}"], stdin=subprocess.DEVNULL,
+                                             capture_output=True, text=True, timeout=60, check=False)
+                        self.assertEqual(run.returncode, 3, run.stderr)
+                        self.assertRegex(run.stderr, rf"^{name}: (standard output: )?{said}\n$")
+
+    def test_a_reader_that_goes_away_ends_each_quietly(self):
+        with tempfile.TemporaryDirectory() as folder:
+            for name, line in self.lines_written(folder):
+                with self.subTest(line):
+                    # The reader is gone before anything is written.
+                    run = subprocess.run(["bash", "-c", f"(sleep 0.5; exec {line}) | :; exit ${{PIPESTATUS[0]}}"],
+                                         stdin=subprocess.DEVNULL, capture_output=True, text=True, timeout=60, check=False)
+                    wanted = ((3, "zsched-report: the reader of standard output went away\n") if " join " in line
+                              else (141, ""))
+                    self.assertEqual((run.returncode, run.stderr), wanted)
+
+    def test_without_python_each_says_so_in_one_line(self):
+        for tool in TOOLS:
+            with self.subTest(tool.name):
+                run = subprocess.run(["/bin/sh", tool, "--help"], env={"PATH": "/nowhere"}, capture_output=True, text=True,
+                                     check=False)
+                self.assertEqual((run.returncode, run.stdout, run.stderr),
+                                 (3, "", f"{tool.name}: needs Python 3.11 or later, and there is no python3 on this machine\n"))
 
     def test_the_version_is_that_of_the_tree(self):
         for tool in [*TOOLS, *MAKERS]:

@@ -65,7 +65,7 @@ def words():
 
 def main(arguments=None):
     """Runs the command, by default with the words that it was called with, and answers its exit status."""
-    taken = words().parse_args(arguments)
+    taken = starting.parsed(words(), arguments)
     try:
         return _explain("standard input" if taken.plan == "-" else taken.plan, taken)
     except KeyboardInterrupt:
@@ -174,6 +174,8 @@ def tell(name, look, status, line, paint=lambda _, text: text):
         said = f"{paint('bad', line.rstrip())}\n" if line.strip() else line
         sys.stderr.write(said + (look.explanation(name, line, paint) if status == 2 else ""))
         return status
+    if sys.stdout is None:
+        return _failed("standard output is closed", 3)
     try:
         print(f"{shown(name, WIDTH)}: no fault", flush=True)
     except BrokenPipeError:

@@ -239,6 +239,6 @@ def main():
     words.add_argument("--zsched", metavar="PATH", help="the program (ZSCHED, or the one that is built or on PATH)")
     release.add_version(words)
     colors.add_color(words)
-    given = words.parse_args()
+    given = starting.parsed(words)
     command.color(given.color)
     return starting.run("zsched-play", lambda: serve(given))

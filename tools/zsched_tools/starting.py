@@ -1,6 +1,8 @@
 """How a tool starts and ends: the Python that it needs, its exit status, and a reader of its output that goes away.
 
 A Python older than the tools need must be able to read this file."""
+import contextlib
+import io
 import os
 import signal
 import sys
@@ -24,17 +26,16 @@ def require_python(tool):
         sys.exit(3)
 
 
-def parsed(parser):
-    """What a parser makes of the command line. A reader that goes away while help is written ends the process as in
-    `run`."""
+def parsed(parser, words=None):
+    """What a parser makes of the command line. Help and version are written as in `run`, and end the process."""
+    shown = io.StringIO()
     try:
-        return parser.parse_args()
-    except SystemExit:
-        try:
-            sys.stdout.flush()
-        except BrokenPipeError:
-            end_by_pipe()
-        raise
+        with contextlib.redirect_stdout(shown):
+            return parser.parse_args(words)
+    except SystemExit as ended:
+        if ended.code:
+            raise
+    sys.exit(run(parser.prog, lambda: sys.stdout.write(shown.getvalue()) and None))
 
 
 def run(tool, work):
