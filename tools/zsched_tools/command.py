@@ -1,4 +1,4 @@
-"""How a command ends: what it refuses, what the machine refuses it, and the exit status of each."""
+"""How a command ends: rejected input, failures of the machine, and the exit status of each."""
 import contextlib
 import io
 import os
@@ -12,12 +12,12 @@ _colored = ["auto"]
 
 
 class Refused(Exception):
-    """What the user gave is refused. The text tells the place: a file, a line."""
+    """What the user gave is rejected. The text says the place: a file, a line."""
 
 
 def run(tool, work):
-    """Does a command's work and answers its exit status: 0, 2 where what was given is refused, 3 where reading or
-    writing failed, 130 where the user broke it off. Each of these but 0 is told on standard error, in one line.
+    """Does a command's work and returns its exit status: 0, 2 if what was given is rejected, 3 if reading or writing
+    failed, 130 if the user interrupted it. Each of these but 0 has one line on standard error.
     `starting.run` does the same, but says nothing when the reader of standard output goes away."""
     if sys.stdout is None:
         return _told(tool, "standard output is closed", FAILED)
@@ -53,7 +53,7 @@ def color(choice):
 
 
 def _told(tool, text, status):
-    """Says why a command ends, and answers its status."""
+    """Writes why a command ends. Returns its status."""
     if sys.stderr is not None:
         print(colors.Paint(_colored[0], sys.stderr)("bad", f"{tool}: {text}"), file=sys.stderr)
     return status

@@ -1,4 +1,4 @@
-"""The command zsched-explain: runs the program on a plan, and tells where in the plan its fault is.
+"""The command zsched-explain: runs the program on a plan, and shows where in the plan its fault is.
 
 While the program runs the plan is looked through, for what takes longest to find; what that needs is imported then."""
 import argparse
@@ -11,20 +11,20 @@ import threading
 from zsched_tools import colors, plan_size, program, release, starting
 from zsched_tools.cause import WIDTH, shown
 
-ABOUT = """Runs zsched on a plan, and tells where the plan's fault is.
+ABOUT = """Runs zsched on a plan, and shows where the plan's fault is.
 
-The first line on standard error is the program's own. Where the plan is refused,
+The first line on standard error is that of the program. If the plan is rejected,
 these follow: the place as FILE:LINE:COLUMN, both counted from 1, a column being a
-character; the line, cut where it is long; what is wrong there, and what to write,
-where that is known; the name of the job. Where the plan is taken, 'FILE: no fault'
-is written to standard output. The report is left to zsched itself.
+character; the line, cut if it is long; what is wrong there, and what to write, if
+that is known; the name of the job. If the plan is accepted, 'FILE: no fault' is
+written to standard output. zsched itself writes the report.
 
 With --all the faults after the first one follow: each that was found is mended in
 a copy, which is run again. A plan that may have more than 100000000 attempts gets a
 warning, and is run with a clock of one moment, on which it has the same faults."""
 STATUSES = """exit status, that of zsched:
   0  the plan has no fault
-  2  the plan is refused, or the words of the command are wrong
+  2  the plan is rejected, or an option is wrong
   3  reading or writing failed, also that of the command itself
   4  there was no memory or no thread
   128 and more: a signal ended zsched
@@ -64,7 +64,7 @@ def words():
 
 
 def main(arguments=None):
-    """Runs the command, by default with the words that it was called with, and answers its exit status."""
+    """Runs the command, by default with the words that it was called with. Returns its exit status."""
     taken = starting.parsed(words(), arguments)
     try:
         return _explain("standard input" if taken.plan == "-" else taken.plan, taken)
@@ -75,7 +75,7 @@ def main(arguments=None):
 
 
 def _explain(name, taken):
-    """Explains the plan that has this name in what is written; answers the exit status."""
+    """Explains the plan, which has this name in what is written. Returns the exit status."""
     paint = colors.Paint(taken.color, sys.stderr)
     try:
         zsched = program.find(taken.zsched)
@@ -97,7 +97,7 @@ def _explain(name, taken):
 
 
 def _tell_all(name, zsched, data, most, paint):
-    """Writes all faults of a plan, and answers the status."""
+    """Writes all faults of a plan. Returns the status."""
     from zsched_tools import all_faults, explanation
     count = 0
     for line, found in all_faults.all_faults(lambda text: outcome(zsched, text), data, most + 1):
@@ -116,7 +116,7 @@ def outcome(zsched, data):
 
 
 def _failed(what, status):
-    """Tells on standard error what failed, and answers the status."""
+    """Writes to standard error what failed. Returns the status."""
     print(f"zsched-explain: {what}", file=sys.stderr)
     return status
 
@@ -130,7 +130,7 @@ def _plan(name):
 
 
 class Look(threading.Thread):
-    """A look through a plan's bytes. It is given up where the command ends before it."""
+    """A look through a plan's bytes. It is dropped if the command ends before it."""
 
     def __init__(self, data):
         super().__init__(daemon=True)
@@ -144,7 +144,7 @@ class Look(threading.Thread):
         self.plan.look()
 
     def explanation(self, name, line, paint):
-        """The lines that tell where the fault is of which the program wrote this line, once the look has ended."""
+        """The lines that show where the fault is of which the program wrote this line, once the look has ended."""
         from zsched_tools import explanation
         self.join()
         return explanation.explanation(name, self.plan, line, paint)
@@ -169,7 +169,7 @@ def refusal(zsched, look, seconds=None, data=None):
 
 
 def tell(name, look, status, line, paint=lambda _, text: text):
-    """Writes what is to be said of a plan on which the program ended with this status and line; answers the status."""
+    """Writes what the program's status and line say of a plan. Returns the status."""
     if status != 0:
         said = f"{paint('bad', line.rstrip())}\n" if line.strip() else line
         sys.stderr.write(said + (look.explanation(name, line, paint) if status == 2 else ""))

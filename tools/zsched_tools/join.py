@@ -1,8 +1,8 @@
 """One report of many: the jobs of the parts one after another, and the sum of their polls.
 
-All parts are read and held against each other before a byte is written; then they are copied. Neither keeps a part in
-memory. Parts are read by several processes. With a manifest a part is held against its digest, and its jobs' names
-against the manifest's; without one its lines are held against each other, which a change of a value passes."""
+All parts are read and compared before a byte is written; then they are copied. Neither holds a part in
+memory. Parts are read by several processes. With a manifest a part is compared with its digest, and its jobs' names
+with the manifest's; without one its lines are compared with each other, which a change of a value passes."""
 import errno
 import functools
 import hashlib
@@ -26,7 +26,7 @@ _LAST_LINE = re.compile(rb"\npolls (0|[1-9][0-9]*)\n\Z")
 
 @dataclass
 class Part:
-    """A report that was read: the place of its last line, what tells that it is still the same file, the horizon where
+    """A report that was read: the place of its last line, what shows that it is still the same file, the horizon if
     a job is unfinished, and the latest end of its jobs."""
     path: str
     length: int
@@ -36,7 +36,7 @@ class Part:
     latest: int
 
     def fits(self, horizon, latest):
-        """Whether its jobs may stand behind others of this horizon and latest end: no job ends after a horizon, and an
+        """Whether its jobs may follow others of this horizon and latest end: no job ends after a horizon, and an
         unfinished one ends there."""
         horizons = {self.horizon, horizon} - {None}
         return not horizons or horizons == {max(self.latest, latest)}
@@ -58,7 +58,7 @@ def _marks(block):
 
 
 def _read_part(path, horizon=None, latest=0):
-    """Reads one part to its end, and holds its moments against those of the parts before it. Answers the part and its
+    """Reads one part to its end, and compares its moments with those of the parts before it. Returns the part and its
     names."""
     reader, names = Reader(), Names()
     reader.horizon, reader.latest = horizon, latest
@@ -123,7 +123,7 @@ def _progress(count, what):
 
 
 def write_joined(paths, write):
-    """Writes the report of all parts as bytes, where every part is good, and else nothing."""
+    """Writes the report of all parts as bytes if every part is good, else nothing."""
     progress = _progress(len(paths), "parts read")
     try:
         parts = checked(paths, progress)
@@ -171,7 +171,7 @@ class _Heads:
 
 
 def _read_known(folder, entry):
-    """Reads a part of a manifest: its plan, if that is here, its digest and its report. Answers the part."""
+    """Reads a part of a manifest: its plan, if that is here, its digest and its report. Returns the part."""
     place = os.path.join(folder, entry.name)
     report = f"{place}.report"
     with open(report, "rb") as file:
@@ -196,7 +196,7 @@ def _read_known(folder, entry):
 
 
 def write_known(path, write):
-    """Writes the report of a manifest's parts as bytes, where every part is good, and else nothing."""
+    """Writes the report of a manifest's parts as bytes if every part is good, else nothing."""
     entries, folder, parts = manifest.read(path), os.path.dirname(path), []
     absent = [name for name in (os.path.join(folder, entry.name + ending) for entry in entries
                                 for ending in (".report", ".sha256")) if not os.path.exists(name)]

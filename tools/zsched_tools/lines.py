@@ -128,7 +128,7 @@ def _end_line(item):
 
 
 def report_lines(item, is_open):
-    """The report's lines of a JSON object; the job's first line before them where no job is open."""
+    """The report's lines of a JSON object; the job's first line before them if no job is open."""
     if item["type"] == "total":
         return [f"polls {item['polls']}"]
     first = [] if is_open else [f"job {item['job']} {item['mode']}"]
@@ -140,7 +140,7 @@ def report_lines(item, is_open):
 
 
 def _again(reader, line):
-    """The report's lines of a JSON line, which is refused where it isn't the object of just these lines."""
+    """The report's lines of a JSON line, which is rejected if it isn't the object of just these lines."""
     item = _decode(line)
     job, record = reader.job, None
     texts = report_lines(item, job is not None)
@@ -156,7 +156,7 @@ def _again(reader, line):
 
 
 def write_report(source, write):
-    """Writes the report that JSON lines stand for, each line as soon as it is known. The lines must be those that
+    """Writes the report of JSON lines, each line as soon as it is known. The lines must be those that
     `write_lines` gives for that report; the white space in them and the order of keys may be others."""
     reader, number = Reader(), 0
     for number, line in enumerate(text_lines(source), 1):

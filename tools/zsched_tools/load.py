@@ -65,7 +65,7 @@ class Load:
                 (self.ok if attempt.outcome == "ok" else self.err)[attempt.end // self.every] += 1
 
     def coarser(self, factor):
-        """The load in steps that are so many times as long."""
+        """The load in steps that are `factor` times as long."""
         if factor == 1:
             return self
         found = Load(self.every * factor)

@@ -1,4 +1,4 @@
-"""Names that stand twice among millions, found in little memory: 8 bytes a name."""
+"""Repeated names among millions, found in little memory: 8 bytes a name."""
 from array import array
 
 _BUCKETS = 256
@@ -35,7 +35,7 @@ class Names:
             bucket.extend(other)
 
     def repeats(self):
-        """The marks that stand twice."""
+        """The repeated marks."""
         found = set()
         for bucket in self.buckets:
             marks = sorted(bucket)

@@ -16,11 +16,11 @@ A log of calls (CSV) or a policy file (YAML, TOML) as a plan.
 
   zsched-plan from log.csv --schedule '(exponential(100) && recurs(5))' > plan.json"""
 SPLIT = """Cuts PLAN by its jobs into plans of at most N jobs, in order: FOLDER/part-000001.json, part-000002.json and
-so on, and FOLDER/manifest, by which `zsched-report join` checks their reports. The other keys of the document stand in each part. All is kept as it was written. Where PLAN is refused,
-nothing is made. The report of PLAN is the reports of its parts, joined by `zsched-report join`; docs/SCALE.md has
-recipes."""
-EPILOG = """Exit status: 0, with the number of parts and jobs on standard output; 2 where the plan or the words are
-refused, with the file and the line on standard error; 3 where reading or writing fails."""
+so on, and FOLDER/manifest, by which `zsched-report join` checks their reports. Each part has the other keys of the
+document. Everything is copied as it was written. If PLAN is rejected, nothing is made. The report of PLAN is the reports
+of its parts, joined by `zsched-report join`; docs/SCALE.md has recipes."""
+EPILOG = """Exit status: 0, with the number of parts and jobs on standard output; 2 if the plan or an option is rejected,
+with the file and the line on standard error; 3 if reading or writing fails."""
 
 
 def _jobs_of_a_part(word):

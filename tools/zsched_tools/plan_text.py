@@ -69,7 +69,7 @@ class Source:
         raise Refused(f"line {self.line()}: {why}")
 
     def _more(self):
-        """Reads on, and answers whether there was more to read. What was taken is let go."""
+        """Reads on, and returns whether there was more to read. What was taken is dropped."""
         piece = self.file.read(max(PIECE, len(self.text) - self.at))
         if piece:
             self.line()
@@ -78,7 +78,7 @@ class Source:
         return bool(piece)
 
     def space(self):
-        """Takes white space, and answers it."""
+        """Takes white space, and returns it."""
         found = ""
         while True:
             end = _SPACE.match(self.text, self.at).end()
@@ -92,7 +92,7 @@ class Source:
         return self.at == len(self.text) and not self._more()
 
     def symbol(self, wanted):
-        """Takes white space and one of some symbols, and answers them."""
+        """Takes white space and one of some symbols, and returns them."""
         space = self.space()
         if self.is_at_end():
             self.refuse(f"the text ends where {' or '.join(wanted)} is due")
@@ -102,7 +102,7 @@ class Source:
         return space + self.text[self.at - 1]
 
     def value(self):
-        """Takes a JSON value, and answers its text and what it stands for."""
+        """Takes a JSON value, and returns its text and its value."""
         while True:
             try:
                 value, end = _DECODER.raw_decode(self.text, self.at)
@@ -125,7 +125,7 @@ class Source:
         return text, value
 
     def _refuse_value(self, fault):
-        """Refuses a value at the place where it is no JSON."""
+        """Rejects a value at the place where it is no JSON."""
         is_at_place = isinstance(fault, json.JSONDecodeError)
         self.at = fault.pos if is_at_place else self.at
         if self.at >= len(self.text):
@@ -134,7 +134,7 @@ class Source:
 
 
 def _job(text, value, line):
-    """A job with its name. What isn't an object with a name is refused."""
+    """A job with its name. What isn't an object with a name is rejected."""
     if not isinstance(value, dict) or type(value.get("name")) is not str:
         raise Refused(f"line {line}: the job that begins here isn't an object with a name")
     return JobText(text, value["name"], line)
@@ -175,7 +175,7 @@ class PlanText:
             yield [job.text], [job.name]
 
     def _key(self):
-        """Takes a key of the document, with the colon and the white space after it. Answers the text and the key."""
+        """Takes a key of the document, with the colon and the white space after it. Returns the text and the key."""
         space = self.source.space()
         text, key = self.source.value()
         if type(key) is not str:
@@ -210,7 +210,7 @@ class PlanText:
 
 class LinesText:
     """A plan as JSON lines: the document without its jobs, then a job a line. It becomes one document as those of
-    `PlanText`, in which each job stands on a line of its own."""
+    `PlanText`, in which each job has a separate line."""
 
     def __init__(self, file):
         self.file = file

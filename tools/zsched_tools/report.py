@@ -1,6 +1,6 @@
-"""Reads a report line by line into records, and refuses what is no whole report, with the line's number.
+"""Reads a report line by line into records, and rejects what is no whole report, with the line's number.
 
-docs/FORMATS.md has the form of a report. Besides the form of each line this reader holds the lines against each other:
+docs/FORMATS.md has the form of a report. Besides the form of each line this reader compares the lines with each other:
 attempts are numbered from 1 and don't overlap, a step stands where the schedule was asked and only there, an ending is
 that of the last attempt, and the polls are the moments at which attempts began or ended. Numbers are whole and go up to
 2^64 - 1; the total of the last line has no bound, since a joined report may have any number of jobs."""
@@ -34,8 +34,8 @@ class Job:
 
 @dataclasses.dataclass(slots=True)
 class Attempt:
-    """An attempt with its step. One that runs at the horizon has no end and no value; `out` is None where the schedule
-    wasn't asked, and `next` where it wasn't asked or is done; `waited` is the time since the end of the attempt before,
+    """An attempt with its step. One that runs at the horizon has no end and no value; `out` is None if the schedule
+    wasn't stepped, and `next` if it wasn't stepped or is done; `waited` is the time since the end of the attempt before,
     and None for the first."""
     number: int
     begin: int
@@ -89,7 +89,7 @@ def shown(text):
 
 
 class Reader:
-    """What is known of a report between two of its lines. A fault is told by the line's number alone; whoever knows the
+    """What is known of a report between two of its lines. A fault has the line's number alone; whoever knows the
     file's name puts it before."""
 
     def __init__(self):
@@ -104,7 +104,7 @@ class Reader:
         self.horizon = None
 
     def take(self, text):
-        """Takes the next line without its newline. Answers the record that is whole with it: an attempt, where no step
+        """Takes the next line without its newline. Returns the record that is whole with it: an attempt, if no step
         is due after it, or with its step; an ending; the total; else None."""
         self.line += 1
         form, taker = _FORMS.get(text[:1], _NO_FORM)
@@ -116,7 +116,7 @@ class Reader:
         return taker(self, match)
 
     def close(self):
-        """Refuses a report that has no last line."""
+        """Rejects a report that has no last line."""
         if self.line == 0:
             raise Refused("is empty, and no report")
         if self.total is None:
@@ -127,7 +127,7 @@ class Reader:
         raise Refused(f"line {self.line} {why}: {shown(text)}")
 
     def _due(self):
-        """What may stand next, in words."""
+        """What may be next, in words."""
         last = self.attempt
         if self.job is None:
             return "a job or the last line"
@@ -218,7 +218,7 @@ class Reader:
         return is_of_mode and last.outcome == outcome and ending.value == last.value
 
     def _hold_horizon(self, ending, match):
-        """All unfinished jobs stand at one horizon, and no job ended after it."""
+        """All unfinished jobs have one horizon, and no job ended after it."""
         self.latest = max(self.latest, ending.at)
         if ending.how == "unfinished":
             if self.horizon not in [None, ending.at]:
@@ -252,7 +252,7 @@ _NO_FORM = (re.compile("(?!)"), None)
 
 
 def text_lines(source, longest=LONGEST_LINE, before=0):
-    """The lines of an open text file, without their newlines. A line that has none is refused. Lines are counted from
+    """The lines of an open text file, without their newlines. A line that has none is rejected. Lines are counted from
     the number of those that were before."""
     number = before
     while line := source.readline(longest):
@@ -266,7 +266,7 @@ def text_lines(source, longest=LONGEST_LINE, before=0):
 
 def records(source, reader=None):
     """The records of a report, each with its job: attempts and ending of each job, and last the total without a job.
-    What was read before a fault has been given before the fault is told."""
+    What is before a fault is yielded before the fault is raised."""
     reader = reader or Reader()
     for text in text_lines(source):
         job = reader.job

@@ -24,39 +24,40 @@ DESCRIPTION = """A report of zsched in other forms, and many reports as one.
   zsched < plan.json | zsched-report summary
   zsched < plan.json | zsched-report load --every 1s
   zsched < plan.json > whole.report && zsched-report svg whole.report > whole.svg"""
-EPILOG = """Exit status: 0; 2 where the report or the words are refused, with the file and the line on standard error;
-3 where reading or writing fails. What is refused by summary, load, svg, html and join has written nothing.
-When the reader of standard output goes away (`| head`), all but join end without a word, by SIGPIPE.
+EPILOG = """Exit status: 0; 2 if the report or an option is rejected, with the file and the line on standard error; 3 if
+reading or writing fails. If summary, load, svg, html or join rejects a report, it has written nothing.
+If the reader of standard output closes it (`| head`), all but join end by SIGPIPE, without a message.
 docs/FORMATS.md has the form of a report, docs/SCALE.md recipes with join."""
 LINES = """Writes a report as JSON lines: an object of type attempt for each attempt with its step, one of type end
-for each job, and last one of type total. `next` is null where the schedule is done, `out` is null where it wasn't
-asked, `waited` is the time since the end of the attempt before. Numbers are whole and go up to 2^64 - 1: a reader
-that takes them for 64-bit floats loses their last digits. Lines are written as the report is read, so that its length
-doesn't matter: where the report is refused, the lines before the fault have gone out, the status is 2, and there is
-no line of type total."""
-FROM_LINES = """Writes the report that JSON lines stand for, byte for byte the one that `lines` was given. Lines that
-are those of no report are refused; as with `lines`, what stands before the fault has gone out then."""
-SUMMARY = """Writes a table with a line a job: its ending, the moment of that, its attempts, how many succeeded (ok)
-and failed (err), the time that its attempts took (busy), the time between them (waited) and the longest wait. An
-attempt that runs or a wait that goes on at the horizon counts up to it. The lines below are the most attempts at once,
+for each job, and one of type total at the end. `next` is null if the schedule is done, `out` is null if the schedule
+wasn't stepped, `waited` is the time since the end of the attempt before. Numbers are whole, at most 2^64 - 1: a reader
+that reads them as 64-bit floats loses their last digits. Lines are written while the report is read, so its length
+doesn't matter. If the report is rejected, the lines before the fault are written, the status is 2, and there is no line
+of type total."""
+FROM_LINES = """Writes the report of JSON lines, with the same bytes that `lines` read. Lines of no report are rejected; as
+with `lines`, what is before the fault is written."""
+SUMMARY = """Writes a table with a line a job: its ending, the moment of the ending, its attempts, the number that succeeded
+(ok) and failed (err), the time that its attempts took (busy), the time between them (waited) and the longest wait. An
+attempt that runs or a wait that continues at the horizon counts up to it. The lines below are the most attempts at once,
 with the first such moment, and the times within which 50, 95 and 99 of 100 jobs ended. A job's time is that from its
 first attempt to its end; an unfinished job takes longer than all others."""
-LOAD = """Writes a table with a line for each step of time: how many attempts began in it, succeeded (ok) and failed (err)
-in it, how many attempts run and how many jobs wait for their next attempt at its end. The first line is the first step in
-which something begins, the last line the last step in which something begins or ends. A step includes its first moment
-and not its last."""
-SVG = """Writes a picture: jobs from top to bottom, time from left to right. Each attempt that stands apart tells what
-it was where the pointer rests on it; attempts that are too near each other share a striped block. Under more than 16 jobs
-is a strip with their load; of more than 200 jobs the load is drawn alone."""
-HTML = """Writes the picture of `svg` as a page whose axis of time zooms. The page loads nothing from elsewhere."""
+LOAD = """Writes a table with a line for each step of time: the number of attempts that began, succeeded (ok) and failed
+(err) in it, the number of attempts that run and of jobs that wait for their next attempt at its end. The first line is the
+first step in which something begins, the last line the last step in which something begins or ends. A step includes its
+first moment and not its last."""
+SVG = """Writes a picture: jobs from top to bottom, time from left to right. Rest the pointer on an attempt to see what it
+was; attempts that are too near each other share a striped block. Below more than 16 jobs is a strip with their load; of
+more than 200 jobs only the load is drawn. The picture is as wide as its window, at most 1240 pixels: on a phone its
+letters are small, and the page of `html` is better."""
+HTML = """Writes the picture of `svg` as a page with a time axis that zooms. The page loads nothing from elsewhere."""
 JOIN = """Makes one report of the reports of a plan's parts: the jobs of each, in order, and the sum of all polls.
-With the manifest that `zsched-plan split` wrote, each part's report is held against its digest part-NNNNNN.sha256, which
-is what `sha256sum part-NNNNNN.json part-NNNNNN.report` prints, and its jobs' names against the manifest: a changed byte,
-a part that is swapped, given twice or from elsewhere is rejected by name, and so is a plan that was changed. Where a
-report or a digest is missing, its name is said and the status is 3.
-With parts in place of a manifest their lines are held against each other. Parts that are empty, cut or no report, a part
-or a job that is given twice, and a part with another horizon are rejected by name. This doesn't see another digit of a
-value or an output, another name of a job, parts in another order, and a part that isn't given.
+With the manifest that `zsched-plan split` wrote, each part's report is compared with its digest part-NNNNNN.sha256, which
+is what `sha256sum part-NNNNNN.json part-NNNNNN.report` prints, and its jobs' names with the manifest. It rejects by name
+a part with a changed byte, and one that is swapped, given twice or foreign, and a plan that was changed. If a report or a
+digest is missing, the message has its name, and the status is 3.
+With parts instead of a manifest it compares their lines with each other. It rejects by name a part that is empty, cut or
+no report, a part or a job that is given twice, and a part with another horizon. It doesn't find another digit of a value
+or an output, another name of a job, parts in another order, and a part that isn't given.
 All parts are read before a byte is written, so they must be files and no pipes. docs/SCALE.md has recipes."""
 
 
@@ -221,7 +222,7 @@ def _arguments():
             ("html", _html, HTML, "a page with the picture, that zooms")]:
         one = forms.add_parser(name, description=told, epilog=EPILOG, formatter_class=form, help=short)
         what = "JSON lines" if name == "from-lines" else "the report"
-        one.add_argument("file", metavar="FILE", nargs="?", help=f"{what}; standard input where none is named")
+        one.add_argument("file", metavar="FILE", nargs="?", help=f"{what}; standard input if there is none")
         if name in ["svg", "html"]:
             one.add_argument("--title", default="", help="words above the picture")
             one.add_argument("--job", metavar="NAME", action="append", default=[],

@@ -1,4 +1,4 @@
-"""Cuts a plan by its jobs into plans of at most so many jobs, in order, with a manifest of them.
+"""Cuts a plan by its jobs into plans of at most n jobs, in order, with a manifest of them.
 
 The document around the jobs, and each job, stand in a part as they were written. The parts are made in a folder of
 another name, which gets its own when the whole plan is known to be good. Besides the document around the jobs, few jobs
@@ -95,7 +95,7 @@ class Parts:
             self.file = None
 
     def close(self, after):
-        """Writes what stands after the jobs to each part, and the manifest."""
+        """Writes what is after the jobs to each part, and the manifest."""
         self.end()
         text, entries = after.encode("latin-1"), []
         for number, sums in enumerate(self.sums, 1):
