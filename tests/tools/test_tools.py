@@ -35,8 +35,8 @@ WRITING = {
     "zsched-outage": [["SCENARIO"]],
     "zsched-plan": [["from", "LOG", "--schedule", "recurs(3)"]],
     "zsched-play": [["--port", "0"]],
-    "zsched-report": [["lines", "REPORT"], ["summary", "REPORT"], ["load", "REPORT"], ["svg", "REPORT"], ["html", "REPORT"],
-                      ["from-lines", "LINES"], ["join", "REPORT"]],
+    "zsched-report": [*([form, "REPORT"] for form in ("lines", "summary", "load", "svg", "html", "join")),
+                      ["from-lines", "LINES"]],
     "zsched-try": [["recurs(2)"], ["recurs(2)", "--plan"], ["recurs(2)", "--svg"]],
 }
 SCENARIO = """{"horizon": "5s", "clients": {"number": 1}, "outcomes": {"up": {"ms": 5, "ok": 1}},
@@ -62,7 +62,8 @@ class Tools(unittest.TestCase):
         files = self.files(folder)
         for name, runs in WRITING.items():
             for words in [["--help"], ["--version"], *runs]:
-                yield name, " ".join(map(shlex.quote, [str(TOP / "tools" / name), *(str(files.get(it, it)) for it in words)]))
+                run = [TOP / "tools" / name, *(files.get(it, it) for it in words)]
+                yield name, shlex.join(map(str, run))
 
     def test_an_output_that_takes_nothing_ends_each_with_3_and_one_line(self):
         with tempfile.TemporaryDirectory() as folder:
@@ -70,7 +71,7 @@ class Tools(unittest.TestCase):
                 for target, said in [("> /dev/full", "No space left on device"), (">&-", "standard output is closed")]:
                     with self.subTest(f"{line} {target}"):
                         run = subprocess.run(["bash", "-c", f"{line} {target}"], stdin=subprocess.DEVNULL,
-                                             capture_output=True, text=True, timeout=60, check=False)
+                                             capture_output=True, text=True, timeout=300, check=False)
                         self.assertEqual(run.returncode, 3, run.stderr)
                         self.assertRegex(run.stderr, rf"^{name}: (standard output: )?{said}\n$")
 
@@ -80,7 +81,8 @@ class Tools(unittest.TestCase):
                 with self.subTest(line):
                     # The reader is gone before anything is written.
                     run = subprocess.run(["bash", "-c", f"(sleep 0.5; exec {line}) | :; exit ${{PIPESTATUS[0]}}"],
-                                         stdin=subprocess.DEVNULL, capture_output=True, text=True, timeout=60, check=False)
+                                         stdin=subprocess.DEVNULL, capture_output=True, text=True, timeout=300,
+                                         check=False)
                     wanted = ((3, "zsched-report: the reader of standard output went away\n") if " join " in line
                               else (141, ""))
                     self.assertEqual((run.returncode, run.stderr), wanted)
@@ -88,10 +90,10 @@ class Tools(unittest.TestCase):
     def test_without_python_each_says_so_in_one_line(self):
         for tool in TOOLS:
             with self.subTest(tool.name):
-                run = subprocess.run(["/bin/sh", tool, "--help"], env={"PATH": "/nowhere"}, capture_output=True, text=True,
-                                     check=False)
-                self.assertEqual((run.returncode, run.stdout, run.stderr),
-                                 (3, "", f"{tool.name}: needs Python 3.11 or later, and there is no python3 on this machine\n"))
+                run = subprocess.run(["/bin/sh", tool, "--help"], env={"PATH": "/nowhere"}, capture_output=True,
+                                     text=True, check=False)
+                said = f"{tool.name}: needs Python 3.11 or later, and there is no python3 on this machine\n"
+                self.assertEqual((run.returncode, run.stdout, run.stderr), (3, "", said))
 
     def test_the_version_is_that_of_the_tree(self):
         for tool in [*TOOLS, *MAKERS]:
