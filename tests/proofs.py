@@ -1,8 +1,8 @@
 #!/usr/bin/env python3
-"""Runs `rt ci`: each proof, each test of the crates, and each program as two compilers build it. It keeps what passed
-on this machine, by the checksums of all that it read, and takes it over; --anew proves all. Behind what it says come the
-seconds and the processor seconds of each crate's proofs, by a look at the processes each second. It notes the libraries that
-were left, for tools/make-library. The last line is 'N passed, M failed'."""
+"""Runs `rt ci`: each proof, each test of the crates, and each program as two compilers build it. If the toolchain stores what
+passed on this machine, by the checksums of all that it read, it takes that over; --anew proves all. After its output come
+the seconds and the processor seconds of each crate's proofs, by a look at the processes each second. It notes the libraries
+that were built, for tools/make-library. The last line is 'N passed, M failed'."""
 import collections
 import os
 import pathlib
@@ -74,13 +74,19 @@ def environment():
     return {**jobs, **os.environ}
 
 
+def known(words):
+    """The words that `rt ci` of this toolchain knows: one that stores no proofs has no --anew, and always proves all."""
+    said = subprocess.run(["rt", "help"], capture_output=True, text=True, check=False)
+    return [it for it in words if it in said.stdout + said.stderr]
+
+
 def main(words):
     """Runs `rt ci`, and passes on what it says."""
     if {"-h", "--help"} & set(words):
         print(__doc__)
         return 0
     before = left_libraries.sources_sum()
-    running = subprocess.Popen(["rt", "ci", *words], cwd=TOP, env=environment(), text=True, errors="replace",
+    running = subprocess.Popen(["rt", "ci", *known(words)], cwd=TOP, env=environment(), text=True, errors="replace",
                                stdout=subprocess.PIPE, stderr=subprocess.STDOUT)
     usage = Usage(os.getsid(0))
     usage.start()
