@@ -5,6 +5,8 @@
     python3 tests/survivors.py --some 5           five of them, others on another day: the date chooses
     python3 tests/survivors.py --check            only whether each still applies, and what it names is there
 
+Whether all still apply is looked at first, also with --some, and whether the tests and plans that wrong bodies name are there.
+
 A survivor is a file crates/NAME/survivors/BELIEF.edit with the lines of a wrong body (tests/wrong_edits.py), and a line
 `caught-by:` in place of the function: CRATE::TEST for a test of a crate, hostile::FUNCTION for a function of
 tests/refused_growths.py, growth::ROW for a row of tests/growth.py, large_plans::PLAN for a plan of that part,
@@ -274,6 +276,18 @@ def judge(survivors):
     return missed
 
 
+def check_wrong_bodies():
+    """The test or the plan that a wrong body names has to be there."""
+    for path in sorted(TOP.glob("crates/*/wrong-bodies/*.edit")):
+        body = Survivor(path)
+        place, name = body.where()
+        if place == "examples":
+            if not (TOP / "tests" / "plans" / f"{name}.json").exists():
+                raise Misfit(f"{body.crate}/{body.name}: there is no plan {name}, which should show it")
+        elif place:
+            body.check()
+
+
 def some_of(survivors, number, day):
     """A number of the survivors, in turn by the day: each is among them again after all others were."""
     begin = day.toordinal() * number % len(survivors)
@@ -299,10 +313,11 @@ def main():
     try:
         # Those of one test together: without them it is built once.
         survivors = sorted([Survivor(path) for path in paths], key=lambda it: it.caught_by)
-        if given.some:
-            survivors = some_of(survivors, min(given.some, len(paths)), datetime.date.today())
         for survivor in survivors:
             survivor.check()
+        check_wrong_bodies()
+        if given.some:
+            survivors = some_of(survivors, min(given.some, len(paths)), datetime.date.today())
         if not given.check and shutil.which("rt") is None:
             raise Misfit("the command 'rt' isn't on this machine")
         missed = 0 if given.check else judge(survivors)
