@@ -14,9 +14,9 @@ library::TEST for a test of FromC in tests/tools/test_library.py, or `examples`,
 of these parts of the gate.
 
 It is planted in a copy of the crates, which `rt try` builds and runs without any proof: the test that it names, or the
-plans of the part that it names. What `rt try` can't show of a plan, as a report of more than 1 MiB, is left out. For growth and
-for one large plan the program is built without proofs and without the checks of `rt try` (tests/unproved.py). For hostile
-and library the program or the library is proved and built, over the proofs that ./check kept. The last line is
+plans of the part that it names. What `rt try` can't show of a plan, as a report of more than 1 MiB, is left out. For growth,
+for hostile and for one large plan the program is built without proofs and without the checks of `rt try`
+(tests/unproved.py). For library the library is proved and built. The last line is
 'N passed, M failed', where a survivor passes that is caught; the exit status is 0 where M is 0, 1 where it isn't, and 2
 where one no longer applies or `rt` isn't there.
 
@@ -164,13 +164,19 @@ def passes_unplanted(crate, test):
         return passes(pathlib.Path(folder), crate, test)
 
 
+def built_in(copy, crate):
+    """A program of a copy, built without proofs."""
+    program = copy / "program"
+    try:
+        unproved.build(copy / "crates" / crate, program)
+    except unproved.NotBuilt as cause:
+        raise Misfit(str(cause)) from None
+    return program
+
+
 def caught_by_refusals(name, copy):
-    """The cases of a function of refused_growths.py that fail with the program of a copy, which is proved and built."""
-    support.ZSCHED = copy / "crates" / "zsched" / "out" / "zsched"
-    support.ZSCHED.unlink(missing_ok=True)
-    said = said_by_rt(copy / "crates" / "zsched", "run")
-    if not support.ZSCHED.exists():
-        raise Misfit(f"rt run built no program: {said[-500:]}")
+    """The cases of a function of refused_growths.py that fail with the program of a copy."""
+    support.ZSCHED = built_in(copy, "zsched")
     failures = Failures()
     getattr(refused_growths, name)(failures, refused_growths.Refuser(copy))
     return failures.names
@@ -191,16 +197,6 @@ def caught_by_library(name, copy):
     if not re.search(r"^Ran 1 test in ", ended.stderr, re.MULTILINE):
         raise Misfit(f"{name} of the library didn't run: {ended.stderr[-500:]}")
     return [name] if ended.returncode else []
-
-
-def built_in(copy, crate):
-    """A program of a copy, built without proofs."""
-    program = copy / "program"
-    try:
-        unproved.build(copy / "crates" / crate, program)
-    except unproved.NotBuilt as cause:
-        raise Misfit(str(cause)) from None
-    return program
 
 
 def grown_too_far(name, copy, program):
@@ -243,7 +239,7 @@ def caught_by_plans(copy, cases):
 def caught(survivor, copy, cases):
     """What catches a survivor in a copy."""
     place, name = survivor.where()
-    copy_crates(copy, *([] if place == "hostile" else ["out"]))
+    copy_crates(copy, "out")
     survivor.apply(copy)
     if place == "hostile":
         return caught_by_refusals(name, copy)
