@@ -16,7 +16,7 @@ of these parts of the gate.
 It is planted in a copy of the crates, which `rt try` builds and runs without any proof: the test that it names, or the
 plans of the part that it names. What `rt try` can't show of a plan, as a report of more than 1 MiB, is left out. For growth,
 for hostile and for one large plan the program is built without proofs and without the checks of `rt try`
-(tests/unproved.py). For library the library is proved and built. The last line is
+(tests/unproved.py). For library the library is proved and built, over the libraries that ./check built. The last line is
 'N passed, M failed', where a survivor passes that is caught; the exit status is 0 where M is 0, 1 where it isn't, and 2
 where one no longer applies or `rt` isn't there.
 
@@ -239,7 +239,7 @@ def caught_by_plans(copy, cases):
 def caught(survivor, copy, cases):
     """What catches a survivor in a copy."""
     place, name = survivor.where()
-    copy_crates(copy, "out")
+    copy_crates(copy, *([] if place == "library" else ["out"]))
     survivor.apply(copy)
     if place == "hostile":
         return caught_by_refusals(name, copy)
