@@ -120,6 +120,12 @@ def long_schedule(spaces):
     return plan([job(0, "recurs(" + " " * spaces + "0)")], horizon=9), ended(lines, "finished 0 at 1", 2)
 
 
+def deep_schedule(levels):
+    """A schedule of so many levels: too big."""
+    text = plan([job(0, "(" * levels + "forever" + "&&forever)" * levels)], horizon=9)
+    return text, (2, b"", b"zsched: job 0: schedule: too big\n")
+
+
 def many_moments(count):
     """So many jobs that begin one after the other: the first half from its last job to its first, the others in order."""
     starts = [*range(count, 0, -2), *range(count + 2, 2 * count + 1, 2)]
@@ -153,6 +159,7 @@ def sizes():
         ("70,000 attempts", many_attempts(70000)),
         ("a report of 45 million bytes", long_report(2100)),
         ("a schedule of 4,000,000 bytes", long_schedule(4000000)),
+        ("a schedule of 1,400,000 levels", deep_schedule(1400000)),
         ("9,000 moments", many_moments(9000)),
         ("attempts at the last ticks, and a name of 64 bytes", late_moments(["n" * 64, "second"])),
     ]

@@ -97,14 +97,20 @@ static void print_bytes(char **end, const uint8_t *bytes, size_t len)
         *end += sprintf(*end, "%02x", bytes[i]);
 }
 
-/* Whether a state with one word too few is refused, and stays. */
+/* Whether a state with one word too few is refused, and stays. A moment that falls goes before that. */
 static int is_too_small(const request *it, uint64_t *state, const uint64_t *before, size_t size)
 {
     zs_reply reply;
     uint64_t at;
-    return zs_begin(it->text, it->text_len, state, size - 1, &at) == ZS_NO_ROOM &&
-           zs_step(it->text, it->text_len, state, size - 1, UINT64_MAX, 0, &reply, NULL, 0) == ZS_NO_ROOM &&
-           memcmp(state, before, size * sizeof *state) == 0;
+    int is_refused = zs_begin(it->text, it->text_len, state, size - 1, &at) == ZS_NO_ROOM &&
+                     zs_step(it->text, it->text_len, state, size - 1, UINT64_MAX, 0, &reply, NULL, 0) == ZS_NO_ROOM;
+    if (size > 1) {
+        uint64_t last = state[0];
+        state[0] = 1;
+        is_refused &= zs_step(it->text, it->text_len, state, size - 1, 0, 0, &reply, NULL, 0) == ZS_FALLS;
+        state[0] = last;
+    }
+    return is_refused && memcmp(state, before, size * sizeof *state) == 0;
 }
 
 /* Whether a step over words that stand for nothing is answered, and leaves those behind the state. */

@@ -5,6 +5,8 @@
     python3 tests/survivors.py --some 5           five of them, others on another day: the date chooses
     python3 tests/survivors.py --check            only whether each still applies, and what it names is there
 
+Whether all still apply is looked at first, also with --some, and whether the tests and plans that wrong bodies name are there.
+
 A survivor is a file crates/NAME/survivors/BELIEF.edit with the lines of a wrong body (tests/wrong_edits.py), and a line
 `caught-by:` in place of the function: CRATE::TEST for a test of a crate, hostile::FUNCTION for a function of
 tests/refused_growths.py, growth::ROW for a row of tests/growth.py, large_plans::PLAN for a plan of that part,
@@ -12,9 +14,9 @@ library::TEST for a test of FromC in tests/tools/test_library.py, or `examples`,
 of these parts of the gate.
 
 It is planted in a copy of the crates, which `rt try` builds and runs without any proof: the test that it names, or the
-plans of the part that it names. What `rt try` can't show of a plan, as a report of more than 1 MiB, is left out. For growth and
-for one large plan the program is built without proofs and without the checks of `rt try` (tests/unproved.py). For hostile
-and library the program or the library is proved and built, over the proofs that ./check kept. The last line is
+plans of the part that it names. What `rt try` can't show of a plan, as a report of more than 1 MiB, is left out. For growth,
+for hostile and for one large plan the program is built without proofs and without the checks of `rt try`
+(tests/unproved.py). For library the library is proved and built, over the libraries that ./check built. The last line is
 'N passed, M failed', where a survivor passes that is caught; the exit status is 0 where M is 0, 1 where it isn't, and 2
 where one no longer applies or `rt` isn't there.
 
@@ -162,13 +164,19 @@ def passes_unplanted(crate, test):
         return passes(pathlib.Path(folder), crate, test)
 
 
+def built_in(copy, crate):
+    """A program of a copy, built without proofs."""
+    program = copy / "program"
+    try:
+        unproved.build(copy / "crates" / crate, program)
+    except unproved.NotBuilt as cause:
+        raise Misfit(str(cause)) from None
+    return program
+
+
 def caught_by_refusals(name, copy):
-    """The cases of a function of refused_growths.py that fail with the program of a copy, which is proved and built."""
-    support.ZSCHED = copy / "crates" / "zsched" / "out" / "zsched"
-    support.ZSCHED.unlink(missing_ok=True)
-    said = said_by_rt(copy / "crates" / "zsched", "run")
-    if not support.ZSCHED.exists():
-        raise Misfit(f"rt run built no program: {said[-500:]}")
+    """The cases of a function of refused_growths.py that fail with the program of a copy."""
+    support.ZSCHED = built_in(copy, "zsched")
     failures = Failures()
     getattr(refused_growths, name)(failures, refused_growths.Refuser(copy))
     return failures.names
@@ -189,16 +197,6 @@ def caught_by_library(name, copy):
     if not re.search(r"^Ran 1 test in ", ended.stderr, re.MULTILINE):
         raise Misfit(f"{name} of the library didn't run: {ended.stderr[-500:]}")
     return [name] if ended.returncode else []
-
-
-def built_in(copy, crate):
-    """A program of a copy, built without proofs."""
-    program = copy / "program"
-    try:
-        unproved.build(copy / "crates" / crate, program)
-    except unproved.NotBuilt as cause:
-        raise Misfit(str(cause)) from None
-    return program
 
 
 def grown_too_far(name, copy, program):
@@ -241,7 +239,7 @@ def caught_by_plans(copy, cases):
 def caught(survivor, copy, cases):
     """What catches a survivor in a copy."""
     place, name = survivor.where()
-    copy_crates(copy, *([] if place == "hostile" else ["out"]))
+    copy_crates(copy, *([] if place == "library" else ["out"]))
     survivor.apply(copy)
     if place == "hostile":
         return caught_by_refusals(name, copy)
@@ -274,6 +272,18 @@ def judge(survivors):
     return missed
 
 
+def check_wrong_bodies():
+    """The test or the plan that a wrong body names has to be there."""
+    for path in sorted(TOP.glob("crates/*/wrong-bodies/*.edit")):
+        body = Survivor(path)
+        place, name = body.where()
+        if place == "examples":
+            if not (TOP / "tests" / "plans" / f"{name}.json").exists():
+                raise Misfit(f"{body.crate}/{body.name}: there is no plan {name}, which should show it")
+        elif place:
+            body.check()
+
+
 def some_of(survivors, number, day):
     """A number of the survivors, in turn by the day: each is among them again after all others were."""
     begin = day.toordinal() * number % len(survivors)
@@ -299,10 +309,11 @@ def main():
     try:
         # Those of one test together: without them it is built once.
         survivors = sorted([Survivor(path) for path in paths], key=lambda it: it.caught_by)
-        if given.some:
-            survivors = some_of(survivors, min(given.some, len(paths)), datetime.date.today())
         for survivor in survivors:
             survivor.check()
+        check_wrong_bodies()
+        if given.some:
+            survivors = some_of(survivors, min(given.some, len(paths)), datetime.date.today())
         if not given.check and shutil.which("rt") is None:
             raise Misfit("the command 'rt' isn't on this machine")
         missed = 0 if given.check else judge(survivors)
