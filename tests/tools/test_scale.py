@@ -40,6 +40,15 @@ done
 exit 0
 """
 
+# In place of ssh: a machine is a folder, which notes the parts that it ran.
+SSH = """#!/bin/bash
+while [[ $1 == -* ]]; do case $1 in -[lop]) shift 2 ;; *) shift ;; esac; done
+export SHELL=/bin/bash HOME={folder}/machines/$1
+mkdir -p "$HOME" && cd "$HOME" && shift
+[ "$1" != -- ] || shift
+exec bash -c "$*"
+"""
+
 
 def recipe(title, language="sh"):
     """The blocks of commands in a section of docs/SCALE.md."""
@@ -236,6 +245,29 @@ class Recipes(unittest.TestCase):
         if "GNU" not in self.needs("parallel", "--version"):
             self.skipTest("the parallel of this machine isn't GNU's")
         self.check_recipe(recipe("GNU parallel")[0], 1, joins=False)
+
+    def test_gnu_parallel_on_several_machines(self):
+        if "GNU" not in self.needs("parallel", "--version"):
+            self.skipTest("the parallel of this machine isn't GNU's")
+        self.needs("rsync", "--version")
+        self.program("ssh", SSH.format(folder=self.folder))
+        self.program("zsched", f"#!/bin/sh\necho run >> ~/../${{HOME##*/}}.log\nexec {self.zsched}\n")
+        commands, machines = recipe("GNU parallel")[1], self.folder / "machines"
+        self.cut(3)
+        broken = self.folder / "parts" / "part-000002.json"
+        good = broken.read_text()
+        broken.write_text(good.replace("recurs", "recur"))
+        status, said = self.run_in_folder(commands)
+        self.assertEqual(status, 1, said)
+        self.assertEqual(self.done(), [1, 3, 4, 5, 6, 7, 8, 9])
+        broken.write_text(good)
+        self.assertEqual(self.run_in_folder(commands), (0, ""))
+        self.assertEqual(self.run_in_folder(recipe("Join")[0]), (0, ""))
+        self.assertEqual((self.folder / "whole.report").read_bytes(), self.whole)
+        runs = [len((machines / f"{name}.log").read_text().split()) for name in ["alpha", "beta"]]
+        self.assertEqual((sum(runs), min(runs) > 0), (10, True))
+        left = [path.name for name in ["alpha", "beta"] for path in (machines / name).glob("**/part-*")]
+        self.assertEqual([name for name in left if ".partial." not in name], [])
 
     def test_gnu_make(self):
         self.needs("make", "--version")
