@@ -40,6 +40,10 @@ done
 exit 0
 """
 
+# A plan of 10^15 attempts, with its newline of 114 bytes.
+ENDLESS = """{"horizon":999999999999999,"jobs":[{"name":"a","mode":"repeat","schedule":"forever",\
+"script":[{"ms":1,"ok":1}]}]}
+"""
 # In place of ssh: a machine is a folder, which notes the parts that it ran.
 SSH = """#!/bin/bash
 while [[ $1 == -* ]]; do case $1 in -[lop]) shift 2 ;; *) shift ;; esac; done
@@ -210,6 +214,39 @@ class Recipes(unittest.TestCase):
                 self.assertEqual(self.run_in_folder(command), (0, ""))
                 self.assertEqual({ending: path.read_bytes() for ending, path in found.items()}, right)
 
+    def bounded(self):
+        """The rows of the table of bounds: what is written, and how a run ends that exceeds it. The bounds are smaller
+        here."""
+        rows = re.findall(r"^\| `([^`]*)`( on a line before)? \| [^|]* \| status ([0-9]+)", (
+            support.TOP / "docs" / "SCALE.md").read_text(), re.MULTILINE)
+        for written, before, status in rows:
+            words = written.replace(" 600", " 1").replace("2000000", "60000").replace("2G", "60M")
+            script = recipe("Run a part")[0]
+            changed = script.replace("set -eu\n", f"set -eu\n{words}\n") if before else script.replace("zsched <", f"{words} <")
+            self.assertNotEqual(changed, script)
+            yield words, changed, int(status)
+
+    def test_a_run_that_exceeds_a_bound(self):
+        self.assertEqual(len(ENDLESS), 114)
+        (self.folder / "parts").mkdir()
+        (self.folder / "parts" / "part-000001.json").write_text(ENDLESS)
+        tried = []
+        for words, script, status in self.bounded():
+            if words.startswith("systemd-run") and self.run_in_folder(words.replace("zsched", "true"))[0] != 0:
+                continue
+            with self.subTest(words):
+                (self.folder / "run-part.sh").write_text(script)
+                ended, said = self.run_in_folder("sh run-part.sh parts/part-000001.json")
+                self.assertEqual(ended, status, said)
+                if status == 4:
+                    self.assertEqual(said, "zsched: out of memory\n")
+                (partial,) = (self.folder / "parts").glob("part-000001.partial.*")
+                self.assertEqual(partial.read_bytes(), b"")
+                partial.unlink()
+                self.assertEqual((self.done(), self.done("report")), ([], []))
+                tried.append(words.split()[0])
+        self.assertLessEqual({"ulimit", "timeout"}, set(tried))
+
     def test_what_to_do_when_a_part_fails(self):
         self.cut(10)
         again = "for p in parts/part-*.json; do [ -e \"${p%json}sha256\" ] || sh run-part.sh $p || exit; done"
@@ -328,11 +365,26 @@ class Recipes(unittest.TestCase):
         self.assertEqual(self.run_in_folder(commands), (0, ""))
         self.assertEqual(whole.read_bytes(), right)
         whole.unlink()
+        self.check_bounds(commands, partial, block)
         with open(self.folder / "population.jsonl", "a", encoding="ascii") as file:
             file.write(support.job("job-7"))
         status, said = self.run_in_folder(commands)
         self.assertEqual((status, said), (2, f"zsched-population: line {MANY_JOBS + 2}: job {MANY_JOBS}: name used before\n"))
         self.assertEqual((whole.exists(), partial.read_bytes()), (False, block))
+
+    def check_bounds(self, commands, partial, block):
+        """A block that exceeds a bound, after another one."""
+        population = self.folder / "population.jsonl"
+        good = population.read_bytes()
+        endless = support.job("endless", "forever", "repeat", '"script":[{"ms":1,"ok":1}]')
+        population.write_bytes(good.replace(b'"horizon":1000,', b'"horizon":999999999999999,') + f"{endless}\n".encode())
+        for words, status in [("ulimit -v 100000; ", 4), ("ulimit -t 2; ", 137)]:
+            with self.subTest(words):
+                ended, said = self.run_in_folder(words + commands)
+                self.assertEqual((ended, partial.read_bytes()), (status, block), said)
+                if status == 4:
+                    self.assertEqual(said, "zsched-population: out of memory\n")
+        population.write_bytes(good)
 
     def test_the_pipe(self):
         if "GNU" not in self.needs("parallel", "--version"):
