@@ -13,7 +13,7 @@ import fuzz
 import hostile_plans
 import hostile_streams
 import refused_growths
-from support import REFUSALS, ZSCHED, Count
+from support import POPULATION, REFUSALS, ZSCHED, Count
 
 FUZZ_SECONDS = 20
 FUZZ_SEED = 1
@@ -21,7 +21,7 @@ FUZZ_SEED = 1
 
 def main():
     """All parts in turn."""
-    for binary in [ZSCHED, REFUSALS]:
+    for binary in [ZSCHED, POPULATION, REFUSALS]:
         if not binary.exists():
             print(f"hostile: {binary} isn't there; 'rt ci' builds it")
             return 1

@@ -6,6 +6,7 @@ import dataclasses
 import functools
 import os
 import pathlib
+import re
 import resource
 import subprocess
 
@@ -82,6 +83,11 @@ MANY_PLACES = 40
 # How the program ends where memory or a thread is missing: with nothing written.
 NO_MEMORY = (4, b"", b"zsched: out of memory\n")
 NO_THREAD = (4, b"", b"zsched: no thread\n")
+
+
+# A population's run without memory: at a line of it, or while a block is run.
+POPULATION_ENDS = re.compile(rb"zsched-population: (?:line (\d+): )?out of memory\n")
+BLOCK_OF_JOBS = 10_000
 
 
 class Refuser:
@@ -198,6 +204,93 @@ def two_causes_are_told_apart(count, refuser):
         count.test(case, ended, wanted)
 
 
+class Population:
+    """Equal jobs as JSON lines, and how their run may end: with the report, or without memory, and then with the lines of
+    all blocks before."""
+
+    def __init__(self, jobs, workers, grain):
+        names = [f"j{number}" for number in range(jobs)]
+        self.last_line, self.workers = jobs + 1, workers
+        self.text = program.population(names, workers, grain)
+        self.report = program.equal_jobs(names, workers, grain)[1]
+        self.blocks = [program.equal_jobs(names[:first], 1, 1)[1].rpartition(b"polls ")[0]
+                       for first in range(0, jobs + 1, BLOCK_OF_JOBS)]
+
+    def place(self, ended):
+        """Where a run ended: (blocks before, line, or the line after the last one of the block that was run), None for
+        the whole report. ValueError if no run may end so."""
+        status, output, errors = ended
+        if ended == (0, self.report, b""):
+            return None
+        found = POPULATION_ENDS.fullmatch(errors)
+        is_thread = self.workers > 1 and errors == b"zsched-population: no thread\n"
+        if status != 4 or not (found or is_thread) or output not in self.blocks:
+            raise ValueError(ended)
+        before = self.blocks.index(output)
+        line = int(found[1]) if found and found[1] else min((before + 1) * BLOCK_OF_JOBS, self.last_line) + 2
+        # The line after the last one is where the end of input is found.
+        is_read = found and found[1]
+        if is_read and (not 1 <= line <= self.last_line + 1 or before != max(0, line - 2) // BLOCK_OF_JOBS):
+            raise ValueError(ended)
+        return before, line
+
+    def test(self, count, name, ended):
+        """A test that a run may end so. Returns its place, None if it may not."""
+        try:
+            found = self.place(ended)
+        except ValueError:
+            count.test(name, ended, (0, self.report, b""))
+            return None
+        count.test(name, "a known end", "a known end")
+        return found
+
+
+def populations_are_refused_well(count, refuser):
+    """zsched-population on seven jobs, with each request refused: it says the line, or that a block found no memory. A
+    later request is refused at no earlier place, and each line is such a place."""
+    for workers, grain in [(1, 1), (2, 3)]:
+        population = Population(7, workers, grain)
+        case, places = f"a population on {workers} workers", []
+        for refusal in ["refuse_at", "refuse_from"]:
+            for number, ended in refuser.each(program.POPULATION, population.text, refusal):
+                place = population.test(count, f"{case}, {refusal} {number}", ended)
+                if refusal == "refuse_from":
+                    places += [place] if place else []
+        count.test(f"{case}, the order of its places", places, sorted(places))
+        count.test(f"{case}, its places", {line for _, line in places} >= set(range(1, population.last_line + 1)), True)
+        count.test(f"{case}, blocks without memory", places[-1], (0, population.last_line + 2))
+
+
+def many_blocks_are_refused_well(count, refuser):
+    """zsched-population on more than two blocks, with a request refused at places all over the run."""
+    for workers, grain in [(1, 1), (2, 5000)]:
+        population = Population(2 * BLOCK_OF_JOBS + 3, workers, grain)
+        case, found = f"three blocks on {workers} workers", set()
+        whole, requests = refuser.run(program.POPULATION, population.text)
+        count.test(f"{case}, nothing refused", whole, (0, population.report, b""))
+        for place in range(0, MANY_PLACES, 2):
+            number = 1 + requests * place // MANY_PLACES
+            ended, _ = refuser.run(program.POPULATION, population.text, refuse_at=number)
+            reached = population.test(count, f"{case}, request {number} refused", ended)
+            found.add(reached[0] if reached else None)
+        count.test(f"{case}, blocks before a refusal", found >= {0, 1}, True)
+        ended, _ = refuser.run(program.POPULATION, population.text, refuse_threads=1)
+        wanted = (4, b"", b"zsched-population: no thread\n") if workers > 1 else whole
+        count.test(f"{case}, no thread can be started", ended, wanted)
+
+
+def populations_with_little_memory(count):
+    """zsched-population on more than two blocks, with so many million bytes for all of its memory."""
+    population = Population(2 * BLOCK_OF_JOBS + 3, 1, 1)
+    for millions in [4, 8, 16, 24, 32, 40, 48, 256]:
+        limit = (millions * 1_000_000, millions * 1_000_000)
+        ended = program.run(program.POPULATION, population.text,
+                            preexec_fn=functools.partial(resource.setrlimit, resource.RLIMIT_AS, limit))
+        place = population.test(count, f"three blocks, {millions},000,000 bytes of memory", ended)
+        if millions in (4, 256):
+            count.test(f"three blocks, {millions},000,000 bytes are enough", place is None, millions == 256)
+
+
 def many_jobs_with_little_memory(count):
     """The program on 10,000 jobs, with so many million bytes for all of its memory: from too few to enough."""
     text, report = program.equal_jobs([f"j{number}" for number in range(10000)], 2, 3)
@@ -219,3 +312,6 @@ def test(count, folder):
     program_with_few_threads(count, refuser)
     two_causes_are_told_apart(count, refuser)
     many_jobs_with_little_memory(count)
+    populations_are_refused_well(count, refuser)
+    many_blocks_are_refused_well(count, refuser)
+    populations_with_little_memory(count)

@@ -6,6 +6,7 @@ import subprocess
 
 TOP = pathlib.Path(__file__).resolve().parent.parent
 ZSCHED = TOP / "crates" / "zsched" / "out" / "zsched"
+POPULATION = TOP / "crates" / "zsched_population" / "out" / "zsched_population"
 REFUSALS = TOP / "crates" / "zs_refusals" / "out" / "zs_refusals"
 
 SCRIPT = '"script":[{"ms":5,"err":7},{"ms":5,"ok":1}]'
@@ -35,6 +36,12 @@ def equal_jobs(names, workers, grain, schedule="recurs(3)"):
     more = f',"workers":{workers},"grain":{grain}'
     report = "".join(BLOCK.format(name) for name in names) + f"polls {3 * len(names)}\n"
     return plan([job(name, schedule) for name in names], more=more), report.encode()
+
+
+def population(names, workers, grain):
+    """The jobs of `equal_jobs` as JSON lines."""
+    head = f'{{"horizon":1000,"workers":{workers},"grain":{grain}}}'
+    return "".join(f"{line}\n" for line in [head, *map(job, names)]).encode()
 
 
 def tree(leaves):

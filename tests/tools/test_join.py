@@ -1,6 +1,6 @@
 """zsched-report join with a manifest: whatever is changed, lost, doubled, swapped or foreign is found, by name.
 
-`CHANGES=10000 tests/tools.py join` makes so many changes in place of 300."""
+`ZSCHED_CHANGES=10000 tests/tools.py join` makes so many changes in place of 300."""
 import io
 import itertools
 import os
@@ -18,7 +18,7 @@ from zsched_tools.command import Refused
 from zsched_tools.split import write_parts
 
 TOOL = support.TOP / "tools" / "zsched-report"
-CHANGES = int(os.environ.get("CHANGES", "300"))
+CHANGES = int(os.environ.get("ZSCHED_CHANGES", "300"))
 PARTS = 4
 JOBS = [f"job-{number}" for number in range(3 * PARTS - 1)]
 

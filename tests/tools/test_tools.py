@@ -4,6 +4,7 @@ import os
 import pathlib
 import re
 import shlex
+import signal
 import subprocess
 import sys
 import tempfile
@@ -49,7 +50,8 @@ class Tools(unittest.TestCase):
     def files(self, folder):
         """The files that the words of WRITING name."""
         texts = {"LOG": "name,ms,status\na,5,200\n", "SCENARIO": SCENARIO}
-        found = {name: pathlib.Path(folder) / name.lower() for name in [*texts, "LINES"]}
+        found = {name: pathlib.Path(folder) / file for name, file in
+                 {"LOG": "log.csv", "SCENARIO": "scenario.json", "LINES": "lines.jsonl"}.items()}
         for name, text in texts.items():
             found[name].write_text(text)
         found.update(PLAN=TOP / "examples" / "checkout.json", REPORT=TOP / "examples" / "checkout.json.stdout")
@@ -80,11 +82,13 @@ class Tools(unittest.TestCase):
             for name, line in self.lines_written(folder):
                 with self.subTest(line):
                     # The reader is gone before anything is written.
-                    run = subprocess.run(["bash", "-c", f"(sleep 0.5; exec {line}) | :; exit ${{PIPESTATUS[0]}}"],
-                                         stdin=subprocess.DEVNULL, capture_output=True, text=True, timeout=300,
-                                         check=False)
+                    reader, writer = os.pipe()
+                    os.close(reader)
+                    with os.fdopen(writer, "wb", 0) as output:
+                        run = subprocess.run(shlex.split(line), stdin=subprocess.DEVNULL, stdout=output,
+                                             stderr=subprocess.PIPE, text=True, timeout=300, check=False)
                     wanted = ((3, "zsched-report: the reader of standard output went away\n") if " join " in line
-                              else (141, ""))
+                              else (-signal.SIGPIPE, ""))
                     self.assertEqual((run.returncode, run.stderr), wanted)
 
     def test_without_python_each_says_so_in_one_line(self):

@@ -32,9 +32,11 @@ _DIGITS = "(?:0|[1-9][0-9]*+)"
 _FLAT = rf"(?:{_TEXT}|{_DIGITS})"
 _ENTRY = rf"\{{ ?{_TEXT}: ?{_FLAT}{run_of(rf', ?{_TEXT}: ?{_FLAT}')} ?\}}"
 _MEMBER = rf', ?"(?!name")[ !#-\[\]-~]*+": ?(?:{_FLAT}|\[{maybe(_ENTRY + run_of(f", ?{_ENTRY}"))}\])'
-_PLAIN = rf'\{{ ?"name": ?"([ !#-\[\]-~]*+)"{run_of(_MEMBER)} ?\}}'
-_PLAIN_JOB = re.compile(_PLAIN)
-_PLAIN_LINES = re.compile(f"({_PLAIN})\n")
+_NAME = r'\{ ?"name": ?"([ !#-\[\]-~]*+)"'
+_REST = rf"{run_of(_MEMBER)} ?\}}"
+_PLAIN_JOB = re.compile(_NAME + _REST)
+_NAMED_LINES = re.compile(rf"^{_NAME}(.*)\n", re.MULTILINE)
+_PLAIN_REST = re.compile(_REST)
 # As many characters of JSON lines are looked at together.
 BLOCK = 2**16
 
@@ -228,9 +230,11 @@ class LinesText:
         self._lines_after_head()
         number = 2
         while block := self.file.read(BLOCK) + self.file.readline(LONGEST_PLAN):
-            found = _PLAIN_LINES.findall(block)
-            if sum(len(line) + 1 for line, _ in found) == len(block):
-                yield ["\n" + line for line, _ in found], [name for _, name in found]
+            found, lines = _NAMED_LINES.findall(block), block.split("\n")
+            # Most jobs of a block have the same text after their name, so each text is looked at once.
+            rests = {rest for _, rest in found}
+            if lines.pop() == "" and len(found) == len(lines) and all(map(_PLAIN_REST.fullmatch, rests)):
+                yield ["\n" + line for line in lines], [name for name, _ in found]
                 number += len(found)
                 continue
             for number, text in enumerate(text_lines(io.StringIO(block, newline="\n"), LONGEST_PLAN, number - 1), number):
