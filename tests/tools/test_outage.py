@@ -573,6 +573,7 @@ class Faults(unittest.TestCase):
                             (b"[]", "braces"), (b"horizon: 5", "YAML, and a scenario is JSON")]:
             with self.subTest(data):
                 status, out, err = tool(None, text=data)
+                self.assertNotIn("zsched-plan", err)
                 self.assertEqual((status, out), (2, ""))
                 self.assertIn(cause, err)
                 self.assertNotIn("a plan", err)
