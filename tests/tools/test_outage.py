@@ -460,6 +460,19 @@ class Files(InFolder):
         self.assertEqual(page.count("<svg"), 2)
         self.assertIn(f"<td>{figures['a'].attempts:,}</td>", page)
 
+    def test_no_load_and_no_line_goes_through_a_windows_name(self):
+        found = read(self.DRAWN)
+        figures = {name: simulated(self.DRAWN, name)[-1] for name in found.policies}
+        for width in [360, 960]:
+            names = re.findall(r'<text class="soft" x="[\d.]+" y="([\d.]+)">(?:down|slow)<', "\n".join(
+                curve_picture.draw_curves(found, figures, width)))
+            self.assertEqual(len(names), 2)
+            layout = curve_picture.Layout(found, figures, width)
+            for number, base in enumerate(map(float, names)):
+                highest = curve_picture._height(layout, layout.panel(number), layout.most)
+                self.assertLess(base + 3, min(highest, layout.panel(number)))
+                self.assertGreater(base - curve_picture.SMALL, layout.panel(number) - curve_picture.WORDS)
+
 
 class Curves(unittest.TestCase):
     """Seconds, peaks and shares."""
@@ -560,6 +573,7 @@ class Faults(unittest.TestCase):
                             (b"[]", "braces"), (b"horizon: 5", "YAML, and a scenario is JSON")]:
             with self.subTest(data):
                 status, out, err = tool(None, text=data)
+                self.assertNotIn("zsched-plan", err)
                 self.assertEqual((status, out), (2, ""))
                 self.assertIn(cause, err)
                 self.assertNotIn("a plan", err)

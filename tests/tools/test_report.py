@@ -782,12 +782,12 @@ class Pictures(unittest.TestCase):
         self.assertIn("@media(prefers-color-scheme:dark){text{fill:#e4e7eb}", text)
         self.assertGreaterEqual(min(int(size) for size in re.findall(r"font-size:(\d+)px", text)), 11)
 
-    def test_a_picture_of_a_file_is_no_wider_than_its_window(self):
+    def test_a_picture_of_a_file_is_as_large_as_it_was_drawn(self):
         for words in [["svg"], ["load", "--svg", "--every", "50ms"]]:
             for text in [WAITING, wide_report(201, 2)]:
                 root = xml.etree.ElementTree.fromstring(tool(*words, text=text)[1])
-                self.assertEqual((root.get("width"), root.get("height")), ("100%", None))
-                self.assertEqual(root.get("style"), f"max-width:{root.get('viewBox').split()[2]}px")
+                self.assertEqual(["0", "0", root.get("width"), root.get("height")], root.get("viewBox").split())
+                self.assertIsNone(root.get("style"))
 
     def test_a_page_has_the_report_that_its_scripts_draw(self):
         for name, text in pictures():

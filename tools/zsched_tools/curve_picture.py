@@ -10,6 +10,8 @@ from zsched_tools.scenario import DOWN, THOUSAND
 MARGIN = 16
 PANEL = 120
 GAP = 34
+# The room above a panel's loads for what the service does.
+WORDS = 18
 SMALL = 11
 LETTERS = 12
 # A picture has no more columns than this; of more seconds some share one.
@@ -49,7 +51,7 @@ class Layout:
 
     def panel(self, number):
         """The top of a panel's plot."""
-        return self.top + number * (PANEL + GAP) + 20
+        return self.top + number * (WORDS + PANEL + GAP) + 20 + WORDS
 
     @property
     def bottom(self):
@@ -94,16 +96,16 @@ def _windows(layout, top):
         if window.begin < layout.scale.last:
             words = f"{state_words(window)} from {window.begin} ms" + (
                 f" to {window.end} ms" if window.end <= layout.scenario.horizon else "")
-            yield rectangle(left, top, right, top + PANEL, _style_of(window), words)
+            yield rectangle(left, top - WORDS, right, top + PANEL, _style_of(window), words)
 
 
 def _window_names(layout, top):
-    """What the service does in each window, if there is room for it."""
+    """What the service does in each window, above all loads, if there is room for it."""
     for window in layout.scenario.windows:
         left, right = layout.scale.at(window.begin), layout.scale.at(window.end)
         words = cut_text(state_words(window), SMALL, right - left - 8)
         if window.begin < layout.scale.last and len(words) > 1:
-            yield text(left + 4, top + 13, words, "soft")
+            yield text(left + 4, top - 5, words, "soft")
 
 
 def _grid(layout, top):
@@ -154,12 +156,12 @@ def _panel(layout, number, name):
     height, second = figures.peak or (0, 0)
     verdict = [f"{figures.attempts:,} attempts", f"peak {height:,} at {seconds(second * THOUSAND)}", _served(figures)]
     shown = cut_text(name, LETTERS, (layout.width - MARGIN - layout.left) / 3)
-    yield text(layout.left, top - 7, shown, "name", title=name)
+    yield text(layout.left, top - WORDS - 7, shown, "name", title=name)
     begin = layout.left + 1.15 * text_width(shown, LETTERS) + 8
     words = "; ".join(verdict)
     while text_width(words, SMALL) > layout.width - MARGIN - begin and "; " in words:
         words = words.rpartition("; ")[0]
-    yield text(begin, top - 7, words, "soft", title="; ".join(verdict))
+    yield text(begin, top - WORDS - 7, words, "soft", title="; ".join(verdict))
     yield from _windows(layout, top)
     yield from _grid(layout, top)
     yield path(_area(layout, top, rows, lambda row: 0, lambda row: row[3]), "err")
@@ -171,26 +173,26 @@ def _panel(layout, number, name):
 
 
 def _legend(layout):
-    """What the colours and lines mean, and the height that the words take."""
-    left, base = float(MARGIN), layout.bottom + 44
+    """What the colours and lines mean, and the height of its foot."""
+    left, base, found = float(MARGIN), layout.bottom + 44, []
     for style, words in [("begun", "begun"), ("ok", "ended ok"), ("err", "ended err"), ("running", "running")]:
         if left + 24 + text_width(words, SMALL) > layout.width - MARGIN:
             left, base = float(MARGIN), base + 18
         is_line = style in ("begun", "running")
-        yield path(f"M{place(left)} {place(base - 4)}h18", style) if is_line else rectangle(
-            left, base - 10, left + 18, base + 1, style)
-        yield text(left + 24, base, words, "soft")
+        found.append(path(f"M{place(left)} {place(base - 4)}h18", style) if is_line else rectangle(
+            left, base - 10, left + 18, base + 1, style))
+        found.append(text(left + 24, base, words, "soft"))
         left += 24 + text_width(words, SMALL) + 18
     words = "attempts in each second" + (f", the most of {layout.every} seconds" if layout.every > 1 else "")
     if left + text_width(words, SMALL) > layout.width - MARGIN:
         left, base = float(MARGIN), base + 18
-    yield text(left, base, words, "soft")
+    return [*found, text(left, base, words, "soft")], base + MARGIN
 
 
 def draw_curves(scenario, figures, width=960, is_file=True):
     """The picture as SVG, in lines: for a file, or inside of a page."""
     layout = Layout(scenario, figures, width)
-    height = layout.bottom + 92
+    legend, height = _legend(layout)
     yield root(width, height, headline(scenario), is_file)
     yield f"<style>{STYLE}</style>"
     yield f'<rect class="page" width="{width}" height="{place(height)}"/>'
@@ -200,5 +202,5 @@ def draw_curves(scenario, figures, width=960, is_file=True):
         yield from _panel(layout, number, name)
     for moment, label in labels(layout.scale)[0]:
         yield text(layout.scale.at(moment), layout.bottom + 16, label, "soft", "middle")
-    yield from _legend(layout)
+    yield from legend
     yield "</svg>"

@@ -28,14 +28,10 @@ def place(pixels):
 
 
 def root(width, height, label, is_file=True):
-    """The beginning of a picture. That of a file is as wide as its window, if the window is narrower than the picture;
-    inside of a page it is as wide as it was drawn."""
+    """The beginning of a picture, which is as large as it was drawn: a narrow window scrolls, and letters stay readable."""
     height = place(height)
-    size = f'width="{width}" height="{height}"'
-    if is_file:
-        size = (f'xmlns="http://www.w3.org/2000/svg" width="100%" style="max-width:{width}px" '
-                'preserveAspectRatio="xMinYMin"')
-    return f'<svg {size} viewBox="0 0 {width} {height}" role="img" aria-label="{html.escape(label)}">'
+    kind = 'xmlns="http://www.w3.org/2000/svg" ' if is_file else ""
+    return f'<svg {kind}width="{width}" height="{height}" viewBox="0 0 {width} {height}" role="img" aria-label="{html.escape(label)}">'
 
 
 def rectangle(left, top, right, bottom, style, title=None, corner=0.0):

@@ -6,6 +6,7 @@ from zsched_tools.hints import UNITS, in_milliseconds
 from zsched_tools.patterns import run_of
 
 SKETCH = '{"horizon": 60000, "jobs": [ .. ]}'
+FROM = "make a plan of policies by zsched-plan from FILE, or "
 _WORD = re.compile(r"[A-Za-z_$][A-Za-z0-9_$]*")
 _SPACE = " \t\n\r"
 _COMMENTS = ("//", "/*", "#")
@@ -30,7 +31,7 @@ _OTHER_TEXTS = [
     (r"job [A-Za-z0-9._-]+ (?:retry|repeat)\n|polls [0-9]+\n", "this is a report of zsched, and no plan",
      "give the plan of which zsched made it; zsched-report reads reports"),
     (r"\[\[?[A-Za-z_.]+\]\]?[ \t]*\n|[A-Za-z_]\w*[ \t]*=", "this looks like TOML, and a plan is JSON",
-     f"write {SKETCH}"),
+     f"{FROM}write {SKETCH}"),
     (r"\x00+\Z", "this file has NUL bytes alone: what was in it is lost", "take the plan from a backup"),
     (r"(?:[^\x00]\x00){2}|(?:\x00[^\x00]){2}", "this is UTF-16, and no UTF-8", "save the plan as UTF-8"),
 ]
@@ -120,7 +121,8 @@ def no_value(reading, at):
 def _no_beginning(text, at):
     """No plan begins like this."""
     if re.compile(r"\w+[ \t]*:").match(text, at):
-        return Cause(at, 1, "this looks like YAML, and a plan is JSON", f"write {SKETCH}")
+        return Cause(at, 1, "this looks like YAML, and a plan is JSON",
+                     f"{FROM}write {SKETCH}")
     if text[at].isspace() or not text[at].isprintable():
         return _odd_letter(text, at)
     return Cause(at, 1, "no plan begins like this", f"a plan begins as {SKETCH}")

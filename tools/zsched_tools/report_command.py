@@ -47,8 +47,8 @@ first step in which something begins, the last line the last step in which somet
 first moment and not its last."""
 SVG = """Writes a picture: jobs from top to bottom, time from left to right. Rest the pointer on an attempt to see what it
 was; attempts that are too near each other share a striped block. Below more than 16 jobs is a strip with their load; of
-more than 200 jobs only the load is drawn. The picture is as wide as its window, at most 1240 pixels: on a phone its
-letters are small, and the page of `html` is better."""
+more than 200 jobs only the load is drawn. The picture is 1240 pixels wide, and a narrower window scrolls: on a phone the
+page of `html` is better."""
 HTML = """Writes the picture of `svg` as a page with a time axis that zooms. The page loads nothing from elsewhere."""
 JOIN = """Makes one report of the reports of a plan's parts: the jobs of each, in order, and the sum of all polls.
 With the manifest that `zsched-plan split` wrote, each part's report is compared with its digest part-NNNNNN.sha256, which

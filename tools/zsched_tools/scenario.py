@@ -92,7 +92,8 @@ def read_scenario(data):
 
 def _of_scenario(cause):
     """A cause that speaks of plans, for a scenario."""
-    what, help = (re.sub(r"\b(a|the|no) plan\b", r"\1 scenario", words) for words in [cause.what, cause.help])
+    what, help = (re.sub(r"\b(a|the|no) plan\b", r"\1 scenario", words)
+                  for words in [cause.what, cause.help.removeprefix(not_json.FROM)])
     return cause._replace(what=what, help=help.replace(not_json.SKETCH, SKETCH))
 
 
