@@ -217,7 +217,11 @@ pub(crate) fn begin(alloc: Global, node: &mut Node) -> Result<(), AllocError>
             *time = Span::one(0);
             Ok(())
         }
-        Node::Both { first, second } | Node::Either { first, second } => {
+        Node::Both { first, second } => {
+            begin(alloc, first)?;
+            begin(alloc, second)
+        }
+        Node::Either { first, second } => {
             begin(alloc, first)?;
             begin(alloc, second)
         }
@@ -237,10 +241,10 @@ pub(crate) fn begin(alloc: Global, node: &mut Node) -> Result<(), AllocError>
             *items = more_items(first_decisions(alloc, part)?, Span::one(0));
             begin(alloc, part)
         }
-        Node::WhileInput { part, .. }
-        | Node::WhileOutput { part, .. }
-        | Node::Map { part, .. }
-        | Node::ResetWhen { part, .. } => begin(alloc, part),
+        Node::WhileInput { part, .. } => begin(alloc, part),
+        Node::WhileOutput { part, .. } => begin(alloc, part),
+        Node::Map { part, .. } => begin(alloc, part),
+        Node::ResetWhen { part, .. } => begin(alloc, part),
     }
 }
 
@@ -256,7 +260,11 @@ pub(crate) fn widen(alloc: Global, node: &mut Node) -> Result<(), AllocError>
             *time = time.hull(Span::one(0));
             Ok(())
         }
-        Node::Both { first, second } | Node::Either { first, second } => {
+        Node::Both { first, second } => {
+            widen(alloc, first)?;
+            widen(alloc, second)
+        }
+        Node::Either { first, second } => {
             widen(alloc, first)?;
             widen(alloc, second)
         }
@@ -278,10 +286,10 @@ pub(crate) fn widen(alloc: Global, node: &mut Node) -> Result<(), AllocError>
             *items = items.hull(more_items(decision, Span::one(0)));
             widen(alloc, part)
         }
-        Node::WhileInput { part, .. }
-        | Node::WhileOutput { part, .. }
-        | Node::Map { part, .. }
-        | Node::ResetWhen { part, .. } => widen(alloc, part),
+        Node::WhileInput { part, .. } => widen(alloc, part),
+        Node::WhileOutput { part, .. } => widen(alloc, part),
+        Node::Map { part, .. } => widen(alloc, part),
+        Node::ResetWhen { part, .. } => widen(alloc, part),
     }
 }
 

@@ -84,16 +84,16 @@ fn step_while_output(
 fn step_collect_all(
     alloc: Global,
     part: &mut Node,
-    items: &mut Span,
+    count: &mut Span,
     later: u64,
 ) -> Result<Answer, AllocError>
-    ensures answer { IfOk result (λ r. range (output_range_of r.0) r.1 ≡ next_range (over (node_schedule part.old) collect_all) (items items.old (node_state part.old)) later) }
-    ensures state { OnOk result (items items.new (node_state part.new) ≡ next_state (over (node_schedule part.old) collect_all) (items items.old (node_state part.old)) later) }
+    ensures answer { IfOk result (λ r. range (output_range_of r.0) r.1 ≡ next_range (over (node_schedule part.old) collect_all) (items count.old (node_state part.old)) later) }
+    ensures state { OnOk result (items count.new (node_state part.new) ≡ next_state (over (node_schedule part.old) collect_all) (items count.old (node_state part.old)) later) }
     ensures same { OnOk result (node_schedule part.new ≡ node_schedule part.old) }
 {
     let (_out, decision) = step(alloc, part, later)?;
-    let earlier = *items;
-    *items = more_items(decision, earlier);
+    let earlier = *count;
+    *count = more_items(decision, earlier);
     Ok((OutRange::Lists(earlier), decision))
 }
 
