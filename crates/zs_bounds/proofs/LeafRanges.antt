@@ -84,7 +84,7 @@ span_of-in f n s rises h = record {
 factor-some : (f : ℕ) → nat_le 1 f ≡ true → 0 < f
 factor-some f e = grind arith
 
-power-rises : (b f : ℕ) → 0 < f → (i j : ℕ) → i ≤ j → saturated (b * f ^ i) ≤ saturated (b * f ^ j)
+pub power-rises : (b f : ℕ) → 0 < f → (i j : ℕ) → i ≤ j → saturated (b * f ^ i) ≤ saturated (b * f ^ j)
 power-rises b f some i j le = saturated-rises (b * f ^ i) (b * f ^ j) (mul-le-mul_left b (pow-le-pow_right some le))
 
 linear-rises : (b i j : ℕ) → i ≤ j → saturated (b * i) ≤ saturated (b * j)

@@ -1,5 +1,5 @@
 -- The bounds that are computed step by step hold for every history that a driver can make.
-use Rattle.std.proofs.Common.{◌≡◌, ℕ, zero, suc, ◌+◌, ◌-◌, ◌<◌, ◌≤◌, ◌⊎◌, inl, inr, min, max, Bool, true, false, not, ◌&&◌, nat_lt, nat_le, if◌then◌else◌, Option, Some, None, [], ◌∷◌, length, refl, sym, ap, subst, arith}
+use Rattle.std.proofs.Common.{◌≡◌, ℕ, zero, suc, ◌+◌, ◌-◌, ◌<◌, ◌≤◌, ◌⊎◌, inl, inr, min, max, Bool, true, false, not, ◌&&◌, nat_lt, nat_le, if◌then◌else◌, Option, Some, None, [], ◌∷◌, length, refl, sym, ap, subst, arith, Result, Ok, Err, IfOk}
 use Rattle.zs_term.specs.Saturating.{saturated, max_moment}
 use Rattle.zs_term.specs.Schedule.{Schedule, has_factors}
 use Rattle.zs_step.specs.declared.decision.Decision.{Decision}
@@ -324,3 +324,11 @@ first-reaches s factors (p ∷ (q ∷ h)) driven long = absurd (omega (arith, lo
 pub bounds_of-promises : (s : Schedule) (steps : ℕ) → has_factors s ≡ true → Promises s (bounds_of s steps)
 bounds_of-promises s steps factors =
     bounds_from-promises s steps 0 (first_state s) (first_range s).decision 0 no_bounds factors (no-holds s) (first-reaches s factors)
+
+-- bounds that are those of a schedule, whatever state they were computed from
+pub result-promises : {E : Type 0} (s t : Schedule) (steps : ℕ) (c : StateRange) (d : Decisions) (r : Result Bounds E) → t ≡ s → c ≡ first_state s →
+    d ≡ (first_range s).decision → has_factors s ≡ true → IfOk r (λ b. b ≡ bounds_from t steps c d 0 no_bounds) → IfOk r (Promises s)
+result-promises s t steps c d (Ok b) same state decides factors is =
+    let e : bounds_of s steps ≡ b = cc in
+    subst (Promises s) e (bounds_of-promises s steps factors)
+result-promises s t steps c d (Err e) same state decides factors is = tt

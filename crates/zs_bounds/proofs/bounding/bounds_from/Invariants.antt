@@ -8,7 +8,7 @@ use Rattle.zs_bounds.proofs.bounding.bounds_from.Given as goal
 abbrev pub invariant-loop : goal.invariant-loop
 invariant-loop l = record {
   told : bounds_from (node_schedule l.node) (l.steps - l.counter) (node_state l.node) l.decision l.passed l.told
-      ≡ bounds_from (node_schedule l.fn.node) l.steps (node_state l.fn.node) l.first 0 no_bounds;
+      ≡ bounds_from (node_schedule l.fn.node) l.fn.steps (node_state l.fn.node) l.fn.first 0 no_bounds;
   seen : l.told.seen ≡ l.counter;
   passed : l.passed ≤ max_tick;
 }
