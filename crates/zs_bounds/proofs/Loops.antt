@@ -59,3 +59,22 @@ loop_goes_on s steps k c d passed b w lt some within =
         ∙ ap (λ x. after_waits x passed (with_step d b) (rest_of s (steps - (k + 1)) c (with_step d b))) some
         ∙ ap (λ x. unless_past x (with_step d b) (λ _. rest_of s (steps - (k + 1)) c (with_step d b) (w.low + 1) (passed + (w.low + 1))))
             (past-false max_tick (passed + (w.low + 1)) within))
+
+-- what a turn of the loop keeps
+pub loop_keeps : (s t : Schedule) (steps k : ℕ) (c c' : StateRange) (d d' : Decisions) (passed later time : ℕ) (b b' all : Bounds) (w : Span) →
+    k < steps → d.waits ≡ Some w → later ≡ min (w.low + 1) 18446744073709551615 → time ≡ min (passed + later) 18446744073709551615 →
+    time ≤ max_tick → t ≡ s → c' ≡ next_state s c later → d' ≡ (next_range s c later).decision → b' ≡ with_step d b →
+    bounds_from s (steps - k) c d passed b ≡ all → bounds_from t (steps - (k + 1)) c' d' time b' ≡ all
+loop_keeps s t steps k c c' d d' passed later time b b' all w lt some late timed within same state decides told before =
+    let is_later : later ≡ w.low + 1 = omega arith in
+    let is_time : time ≡ passed + (w.low + 1) = omega arith in
+    let c-is : c' ≡ next_state s c (w.low + 1) = state ∙ ap (λ x. next_state s c x) is_later in
+    let d-is : d' ≡ (next_range s c (w.low + 1)).decision = decides ∙ ap (λ x. (next_range s c x).decision) is_later in
+    let moved : bounds_from t (steps - (k + 1)) c' d' time b'
+        ≡ bounds_from s (steps - (k + 1)) (next_state s c (w.low + 1)) (next_range s c (w.low + 1)).decision (passed + (w.low + 1)) (with_step d b) =
+        ap (λ x. bounds_from x (steps - (k + 1)) c' d' time b') same
+        ∙ ap (λ x. bounds_from s (steps - (k + 1)) x d' time b') c-is
+        ∙ ap (λ x. bounds_from s (steps - (k + 1)) (next_state s c (w.low + 1)) x time b') d-is
+        ∙ ap (λ x. bounds_from s (steps - (k + 1)) (next_state s c (w.low + 1)) (next_range s c (w.low + 1)).decision x b') is_time
+        ∙ ap (λ x. bounds_from s (steps - (k + 1)) (next_state s c (w.low + 1)) (next_range s c (w.low + 1)).decision (passed + (w.low + 1)) x) told in
+    moved ∙ loop_goes_on s steps k c d passed b w lt some (omega arith) ∙ before
