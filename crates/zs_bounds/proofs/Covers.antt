@@ -49,7 +49,7 @@ pub record Comes (d : ℕ) (h : History) (p : ℕ × ℕ) : Type 0 where
 pub counts-first : (p : ℕ × ℕ) → Counts (span 1 1) (span 0 0) (p ∷ [])
 counts-first p = record {
   some = omega arith;
-  steps = record { low = omega arith; high = omega arith; };
+  steps = record { low = omega arith; high = omega arith };
   early = omega arith;
   late = omega arith;
 }
@@ -66,7 +66,7 @@ counts-keeps n t h c = record {
 pub counts-begins : (n t : Span) (p : ℕ × ℕ) → Counts (hull n (span 1 1)) (hull t (span 0 0)) (p ∷ [])
 counts-begins n t p = record {
   some = omega arith;
-  steps = record { low = omega arith; high = omega arith; };
+  steps = record { low = omega arith; high = omega arith };
   early = omega arith;
   late = omega arith;
 }
@@ -76,7 +76,7 @@ pub counts-next : (n t : Span) (d : ℕ) (h : History) (p : ℕ × ℕ) → Come
 counts-next n t d [] p comes c = absurd (omega (arith, c.some))
 counts-next n t d (q ∷ h) p comes c = record {
   some = omega arith;
-  steps = record { low = omega (arith, c.steps.low); high = omega (arith, c.steps.high, comes.small); };
+  steps = record { low = omega (arith, c.steps.low); high = omega (arith, c.steps.high, comes.small) };
   early = omega (arith, c.early, comes.later);
   late = omega (arith, comes.step.tick);
 }

@@ -247,7 +247,7 @@ leaf-in (counted Fibonacci o) n t p h factor step small c =
       decision = delay-in p.0 (saturated (o * fibonacci_number (length (p ∷ h)))) (span_of (λ k. saturated (o * fibonacci_number k)) n) step.tick x;
     }
 leaf-in (plain Identity) n t p h factor step small c = record {
-  output = record { low = omega arith; high = step.input; };
+  output = record { low = omega arith; high = step.input };
   decision = at_once-in p.0;
 }
 leaf-in (plain Elapsed) n t p h factor step small c = record {

@@ -30,7 +30,7 @@ pub loop_ends : (s : Schedule) (steps k : ℕ) (c : StateRange) (d : Decisions) 
 loop_ends s steps k c d passed b lt none =
     let more : steps - k ≡ suc (steps - k - 1) = omega arith in
     sym (bounds_from-more s (steps - k) (steps - k - 1) c d passed b more
-        ∙ ap (λ w. after_waits w passed (with_step d b) (rest_of s (steps - k - 1) c (with_step d b))) none)
+    ∙ ap (λ w. after_waits w passed (with_step d b) (rest_of s (steps - k - 1) c (with_step d b))) none)
 
 past-true : (x y : ℕ) → x < y → nat_lt x y ≡ true
 past-true x y lt = grind arith
@@ -44,9 +44,9 @@ pub loop_past : (s : Schedule) (steps k : ℕ) (c : StateRange) (d : Decisions) 
 loop_past s steps k c d passed b w lt some past =
     let more : steps - k ≡ suc (steps - k - 1) = omega arith in
     sym (bounds_from-more s (steps - k) (steps - k - 1) c d passed b more
-        ∙ ap (λ x. after_waits x passed (with_step d b) (rest_of s (steps - k - 1) c (with_step d b))) some
-        ∙ ap (λ x. unless_past x (with_step d b) (λ _. rest_of s (steps - k - 1) c (with_step d b) (w.low + 1) (passed + (w.low + 1))))
-            (past-true max_tick (passed + (w.low + 1)) past))
+    ∙ ap (λ x. after_waits x passed (with_step d b) (rest_of s (steps - k - 1) c (with_step d b))) some
+    ∙ ap (λ x. unless_past x (with_step d b) (λ _. rest_of s (steps - k - 1) c (with_step d b) (w.low + 1) (passed + (w.low + 1))))
+    (past-true max_tick (passed + (w.low + 1)) past))
 
 -- a step that may go on
 pub loop_goes_on : (s : Schedule) (steps k : ℕ) (c : StateRange) (d : Decisions) (passed : ℕ) (b : Bounds) (w : Span) → k < steps → d.waits ≡ Some w →
@@ -56,9 +56,9 @@ pub loop_goes_on : (s : Schedule) (steps k : ℕ) (c : StateRange) (d : Decision
 loop_goes_on s steps k c d passed b w lt some within =
     let more : steps - k ≡ suc (steps - (k + 1)) = omega arith in
     sym (bounds_from-more s (steps - k) (steps - (k + 1)) c d passed b more
-        ∙ ap (λ x. after_waits x passed (with_step d b) (rest_of s (steps - (k + 1)) c (with_step d b))) some
-        ∙ ap (λ x. unless_past x (with_step d b) (λ _. rest_of s (steps - (k + 1)) c (with_step d b) (w.low + 1) (passed + (w.low + 1))))
-            (past-false max_tick (passed + (w.low + 1)) within))
+    ∙ ap (λ x. after_waits x passed (with_step d b) (rest_of s (steps - (k + 1)) c (with_step d b))) some
+    ∙ ap (λ x. unless_past x (with_step d b) (λ _. rest_of s (steps - (k + 1)) c (with_step d b) (w.low + 1) (passed + (w.low + 1))))
+    (past-false max_tick (passed + (w.low + 1)) within))
 
 -- what a turn of the loop keeps
 pub loop_keeps : (s t : Schedule) (steps k : ℕ) (c c' : StateRange) (d d' : Decisions) (passed later time : ℕ) (b b' all : Bounds) (w : Span) →
@@ -71,10 +71,10 @@ loop_keeps s t steps k c c' d d' passed later time b b' all w lt some late timed
     let c-is : c' ≡ next_state s c (w.low + 1) = state ∙ ap (λ x. next_state s c x) is_later in
     let d-is : d' ≡ (next_range s c (w.low + 1)).decision = decides ∙ ap (λ x. (next_range s c x).decision) is_later in
     let moved : bounds_from t (steps - (k + 1)) c' d' time b'
-        ≡ bounds_from s (steps - (k + 1)) (next_state s c (w.low + 1)) (next_range s c (w.low + 1)).decision (passed + (w.low + 1)) (with_step d b) =
-        ap (λ x. bounds_from x (steps - (k + 1)) c' d' time b') same
-        ∙ ap (λ x. bounds_from s (steps - (k + 1)) x d' time b') c-is
-        ∙ ap (λ x. bounds_from s (steps - (k + 1)) (next_state s c (w.low + 1)) x time b') d-is
-        ∙ ap (λ x. bounds_from s (steps - (k + 1)) (next_state s c (w.low + 1)) (next_range s c (w.low + 1)).decision x b') is_time
-        ∙ ap (λ x. bounds_from s (steps - (k + 1)) (next_state s c (w.low + 1)) (next_range s c (w.low + 1)).decision (passed + (w.low + 1)) x) told in
+    ≡ bounds_from s (steps - (k + 1)) (next_state s c (w.low + 1)) (next_range s c (w.low + 1)).decision (passed + (w.low + 1)) (with_step d b) =
+    ap (λ x. bounds_from x (steps - (k + 1)) c' d' time b') same
+    ∙ ap (λ x. bounds_from s (steps - (k + 1)) x d' time b') c-is
+    ∙ ap (λ x. bounds_from s (steps - (k + 1)) (next_state s c (w.low + 1)) x time b') d-is
+    ∙ ap (λ x. bounds_from s (steps - (k + 1)) (next_state s c (w.low + 1)) (next_range s c (w.low + 1)).decision x b') is_time
+    ∙ ap (λ x. bounds_from s (steps - (k + 1)) (next_state s c (w.low + 1)) (next_range s c (w.low + 1)).decision (passed + (w.low + 1)) x) told in
     moved ∙ loop_goes_on s steps k c d passed b w lt some (omega arith) ∙ before

@@ -67,8 +67,8 @@ power_zero b f k n d le is none =
     let x : b * f ^ k ≡ 0 = zero-cut (b * f ^ k) (sym none ∙ is) in
     let e : k + (n - k) ≡ n = omega arith in
     let all : b * f ^ n ≡ 0 =
-        ap (λ m. b * f ^ m) (sym e) ∙ ap (λ y. b * y) (pow-add f k (n - k)) ∙ sym (mul_assoc b (f ^ k) (f ^ (n - k)))
-        ∙ ap (λ y. y * f ^ (n - k)) x ∙ omega arith in
+    ap (λ m. b * f ^ m) (sym e) ∙ ap (λ y. b * y) (pow-add f k (n - k)) ∙ sym (mul_assoc b (f ^ k) (f ^ (n - k)))
+    ∙ ap (λ y. y * f ^ (n - k)) x ∙ omega arith in
     omega (arith, none, all)
 
 -- what is cut stays

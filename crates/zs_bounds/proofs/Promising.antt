@@ -159,7 +159,7 @@ step-holds s n c d passed b holds reaches = record {
     | inl before ↦ holds.least h driven before (least-before b.seen b.least n (length h) d.stops holds.seen holds.small before lt)
     | inr now ↦ next-only (last_moment h) (answer_of s h).decision d (reaches h driven now).decides
         (least-cases b.seen b.least n d.stops holds.seen holds.small
-            (subst (λ k. k < (if nat_lt b.seen b.least && not d.stops then saturated (b.least + 1) else b.least)) now lt))
+        (subst (λ k. k < (if nat_lt b.seen b.least && not d.stops then saturated (b.least + 1) else b.least)) now lt))
   ];
   longest = λ h driven le. elim (up_to-or (length h) n le) [
     | inl before ↦ (let shorter = holds.longest h driven before in omega (arith, shorter))
@@ -170,9 +170,9 @@ step-holds s n c d passed b holds reaches = record {
       elim (up_to-or (length h) n le) [
         | inl before ↦ (let shorter = holds.total part.0 part.1.0 h driven before in omega (arith, shorter, part.1.1))
         | inr now ↦ (
-          let wait = wait-longest (last_moment h) (answer_of s h).decision d (reaches h driven now).decides in
-          let all = total-step s n b part.0 h holds part.1.0 driven now in
-          omega (arith, wait, all, part.1.1))
+            let wait = wait-longest (last_moment h) (answer_of s h).decision d (reaches h driven now).decides in
+            let all = total-step s n b part.0 h holds part.1.0 driven now in
+            omega (arith, wait, all, part.1.1))
       ];
 }
 
@@ -294,7 +294,7 @@ bounds_from-promises s (suc more) n c d passed b factors holds reaches =
     after-promises s n c d passed b d.waits
     (λ later time. bounds_from s more (next_state s c later) (next_range s c later).decision time (with_step d b)) now reaches refl
     (λ w is. bounds_from-promises s more (suc n) (next_state s c (w.low + 1)) (next_range s c (w.low + 1)).decision (passed + (w.low + 1)) (with_step d b)
-        factors now (step-reaches s n c d passed w factors reaches is))
+    factors now (step-reaches s n c d passed w factors reaches is))
 
 some-step : (s : Schedule) (h : History) → IsDriven s h → length h ≤ 0 → ⊥
 some-step s [] driven le = driven

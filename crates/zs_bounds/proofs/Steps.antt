@@ -124,27 +124,30 @@ with_first-keeps (two and_then a b) c h covers =
     (Covers a (begun (may_go_on d) (is_first_on c) (with_first a (first_in c)) (first_state a) (first_in c)) h)
     (Covers b (second_in c)) (Covers b (begun d.stops (is_second_on c) (with_first b (second_in c)) (first_state b) (second_in c)))
     (λ on first. begun-keeps (λ x. Covers a x h) (may_go_on d) (is_first_on c) (with_first a (first_in c)) (first_state a) (first_in c) on
-        (with_first-keeps a (first_in c) h first) first)
+    (with_first-keeps a (first_in c) h first) first)
     (λ g on second. begun-keeps (λ x. Covers b x g) d.stops (is_second_on c) (with_first b (second_in c)) (first_state b) (second_in c) on
-        (with_first-keeps b (second_in c) g second) second)
+    (with_first-keeps b (second_in c) g second) second)
     covers
 with_first-keeps (over s (while_input t)) c h covers = with_first-keeps s c h covers
 with_first-keeps (over s (while_output k t)) c h covers = with_first-keeps s c h covers
-with_first-keeps (over s collect_all) c h covers =
-    (in-hull_left (count (collected (answer_of s) h)) (items_in c) (more_items (first_range s).decision (span 0 0)) covers.0,
-    with_first-keeps s (part_in c) h covers.1)
+with_first-keeps (over s collect_all) c h covers = (
+  in-hull_left (count (collected (answer_of s) h)) (items_in c) (more_items (first_range s).decision (span 0 0)) covers.0,
+  with_first-keeps s (part_in c) h covers.1,
+)
 with_first-keeps (over s (mapped f)) c h covers = with_first-keeps s c h covers
 with_first-keeps (over s (reset_when k t)) c h covers = with_first-keeps s c (since_reset (answer_of s) k t h) covers
 
 -- and each history of one step
 pub with_first-begins : (s : Schedule) (c : StateRange) (p : ℕ × ℕ) → has_factors s ≡ true → IsStep p → Covers s (with_first s c) (p ∷ [])
 with_first-begins (leaf l) c p factors step = counts-begins (steps_in c) (time_in c) p
-with_first-begins (two both a b) c p factors step =
-    (with_first-begins a (first_in c) p (and-left (has_factors a) (has_factors b) factors) step,
-    with_first-begins b (second_in c) p (and-right (has_factors a) (has_factors b) factors) step)
-with_first-begins (two either a b) c p factors step =
-    (with_first-begins a (first_in c) p (and-left (has_factors a) (has_factors b) factors) step,
-    with_first-begins b (second_in c) p (and-right (has_factors a) (has_factors b) factors) step)
+with_first-begins (two both a b) c p factors step = (
+  with_first-begins a (first_in c) p (and-left (has_factors a) (has_factors b) factors) step,
+  with_first-begins b (second_in c) p (and-right (has_factors a) (has_factors b) factors) step,
+)
+with_first-begins (two either a b) c p factors step = (
+  with_first-begins a (first_in c) p (and-left (has_factors a) (has_factors b) factors) step,
+  with_first-begins b (second_in c) p (and-right (has_factors a) (has_factors b) factors) step,
+)
 with_first-begins (two and_then a b) c p factors step =
     let left = and-left (has_factors a) (has_factors b) factors in
     let right = and-right (has_factors a) (has_factors b) factors in
@@ -155,14 +158,15 @@ with_first-begins (two and_then a b) c p factors step =
     (Covers b (begun d.stops (is_second_on c) (with_first b (second_in c)) (first_state b) (second_in c)))
     refl (first-in a p left step) (or-right (is_first_on c) (may_go_on d)) (or-right (is_second_on c) d.stops)
     (λ e. begun-begins (λ x. Covers a x (p ∷ [])) (may_go_on d) (is_first_on c) (with_first a (first_in c)) (first_state a) (first_in c) e
-        (with_first-begins a (first_in c) p left step) (first-covers a p left step))
+    (with_first-begins a (first_in c) p left step) (first-covers a p left step))
     (λ e. begun-begins (λ x. Covers b x (p ∷ [])) d.stops (is_second_on c) (with_first b (second_in c)) (first_state b) (second_in c) e
-        (with_first-begins b (second_in c) p right step) (first-covers b p right step))
+    (with_first-begins b (second_in c) p right step) (first-covers b p right step))
 with_first-begins (over s (while_input t)) c p factors step = with_first-begins s c p factors step
 with_first-begins (over s (while_output k t)) c p factors step = with_first-begins s c p factors step
-with_first-begins (over s collect_all) c p factors step =
-    (in-hull_right (count (collected (answer_of s) (p ∷ []))) (items_in c) (more_items (first_range s).decision (span 0 0)) (items-first s p factors step),
-    with_first-begins s (part_in c) p factors step)
+with_first-begins (over s collect_all) c p factors step = (
+  in-hull_right (count (collected (answer_of s) (p ∷ []))) (items_in c) (more_items (first_range s).decision (span 0 0)) (items-first s p factors step),
+  with_first-begins s (part_in c) p factors step,
+)
 with_first-begins (over s (mapped f)) c p factors step = with_first-begins s c p factors step
 with_first-begins (over s (reset_when k t)) c p factors step =
     subst (Covers s (with_first s c)) (sym (since_reset-first (answer_of s) k t p)) (with_first-begins s c p factors step)
@@ -178,18 +182,18 @@ turn-in p h a b None true on_a on_b r q begins first second next covers f g k =
     answer-left p.0 _ (answer_hull (answers_if on_a (left_range r)) (answers_if on_b (right_range q)))
     (answers_if (on_a && r.decision.stops) (right_range begins))
     (answer-left p.0 _ (answers_if on_a (left_range r)) (answers_if on_b (right_range q))
-        (answers_if-in p.0 on_a _ (left_range r) covers.0 (left_range-in p.0 (a (p ∷ h)) r next (f covers.1))))
+    (answers_if-in p.0 on_a _ (left_range r) covers.0 (left_range-in p.0 (a (p ∷ h)) r next (f covers.1))))
 turn-in p h a b None false on_a on_b r q begins first second next covers f g k =
     answer-right p.0 _ (answer_hull (answers_if on_a (left_range r)) (answers_if on_b (right_range q)))
     (answers_if (on_a && r.decision.stops) (right_range begins))
     (answers_if-in p.0 (on_a && r.decision.stops) _ (right_range begins)
-        (and-both on_a r.decision.stops covers.0 (stop-may p.0 (a (p ∷ h)).decision r.decision (f covers.1).decision next))
-        (right_range-in p.0 (b (p ∷ [])) begins k))
+    (and-both on_a r.decision.stops covers.0 (stop-may p.0 (a (p ∷ h)).decision r.decision (f covers.1).decision next))
+    (right_range-in p.0 (b (p ∷ [])) begins k))
 turn-in p h a b (Some part) n on_a on_b r q begins first second next covers f g k =
     answer-left p.0 _ (answer_hull (answers_if on_a (left_range r)) (answers_if on_b (right_range q)))
     (answers_if (on_a && r.decision.stops) (right_range begins))
     (answer-right p.0 _ (answers_if on_a (left_range r)) (answers_if on_b (right_range q))
-        (answers_if-in p.0 on_b _ (right_range q) covers.0 (right_range-in p.0 (b (p ∷ part)) q (g part refl covers.1))))
+    (answers_if-in p.0 on_b _ (right_range q) covers.0 (right_range-in p.0 (b (p ∷ part)) q (g part refl covers.1))))
 
 -- a part that may be reset
 reset-in : (p : ℕ × ℕ) (g : History) (f : History → Answer) (k : Pick) (t : Test) (r first : AnswerRange) (n : Bool) →
@@ -284,12 +288,14 @@ reset-covers p g f k t r false P w first c e h w_keeps c_keeps w_begins first_be
 pub next-covers : (s : Schedule) (c : StateRange) (d : ℕ) (h : History) (p : ℕ × ℕ) → has_factors s ≡ true → Comes d h p → Covers s c h →
     Covers s (next_state s c d) (p ∷ h)
 next-covers (leaf l) c d h p factors comes covers = counts-next (steps_in c) (time_in c) d h p comes covers
-next-covers (two both a b) c d h p factors comes covers =
-    (next-covers a (first_in c) d h p (and-left (has_factors a) (has_factors b) factors) comes covers.0,
-    next-covers b (second_in c) d h p (and-right (has_factors a) (has_factors b) factors) comes covers.1)
-next-covers (two either a b) c d h p factors comes covers =
-    (next-covers a (first_in c) d h p (and-left (has_factors a) (has_factors b) factors) comes covers.0,
-    next-covers b (second_in c) d h p (and-right (has_factors a) (has_factors b) factors) comes covers.1)
+next-covers (two both a b) c d h p factors comes covers = (
+  next-covers a (first_in c) d h p (and-left (has_factors a) (has_factors b) factors) comes covers.0,
+  next-covers b (second_in c) d h p (and-right (has_factors a) (has_factors b) factors) comes covers.1,
+)
+next-covers (two either a b) c d h p factors comes covers = (
+  next-covers a (first_in c) d h p (and-left (has_factors a) (has_factors b) factors) comes covers.0,
+  next-covers b (second_in c) d h p (and-right (has_factors a) (has_factors b) factors) comes covers.1,
+)
 next-covers (two and_then a b) c d h p factors comes covers =
     let left = and-left (has_factors a) (has_factors b) factors in
     let right = and-right (has_factors a) (has_factors b) factors in
@@ -304,18 +310,19 @@ next-covers (two and_then a b) c d h p factors comes covers =
     (λ first. next-in a (first_in c) d h p left comes first)
     (λ on first. chosen (λ z. Covers a z (p ∷ h)) (is_first_on c) x (first_in c) on (next-covers a (first_in c) d h p left comes first))
     (λ g on e second.
-        let now = next-covers b (second_in c) d g p right (comes-done (answer_of a) d h g p comes e) second in
-        begun-keeps (λ z. Covers b z (p ∷ g)) begins (is_second_on c) (with_first b y) (first_state b) kept on (with_first-keeps b y (p ∷ g) now)
-        (chosen (λ z. Covers b z (p ∷ g)) (is_second_on c) y (second_in c) on now))
+    let now = next-covers b (second_in c) d g p right (comes-done (answer_of a) d h g p comes e) second in
+    begun-keeps (λ z. Covers b z (p ∷ g)) begins (is_second_on c) (with_first b y) (first_state b) kept on (with_first-keeps b y (p ∷ g) now)
+    (chosen (λ z. Covers b z (p ∷ g)) (is_second_on c) y (second_in c) on now))
     (λ e. begun-begins (λ z. Covers b z (p ∷ [])) begins (is_second_on c) (with_first b y) (first_state b) kept e
-        (with_first-begins b y p right comes.step) (first-covers b p right comes.step))
+    (with_first-begins b y p right comes.step) (first-covers b p right comes.step))
 next-covers (over s (while_input t)) c d h p factors comes covers = next-covers s c d h p factors comes covers
 next-covers (over s (while_output k t)) c d h p factors comes covers = next-covers s c d h p factors comes covers
-next-covers (over s collect_all) c d h p factors comes covers =
-    (more_items-in p.0 (answer_of s (p ∷ h)).decision (next_range s (part_in c) d).decision (collected (answer_of s) h) (answer_of s (p ∷ h)).output
-        (items_in c) (next-in s (part_in c) d h p factors comes covers.1).decision covers.0
-        (let le = count-collected (answer_of s) (p ∷ h) in omega (arith, le, comes.small)),
-    next-covers s (part_in c) d h p factors comes covers.1)
+next-covers (over s collect_all) c d h p factors comes covers = (
+  more_items-in p.0 (answer_of s (p ∷ h)).decision (next_range s (part_in c) d).decision (collected (answer_of s) h) (answer_of s (p ∷ h)).output
+      (items_in c) (next-in s (part_in c) d h p factors comes covers.1).decision covers.0
+      (let le = count-collected (answer_of s) (p ∷ h) in omega (arith, le, comes.small)),
+  next-covers s (part_in c) d h p factors comes covers.1,
+)
 next-covers (over s (mapped f)) c d h p factors comes covers = next-covers s c d h p factors comes covers
 next-covers (over s (reset_when k t)) c d h p factors comes covers =
     let g = since_reset (answer_of s) k t h in

@@ -80,5 +80,9 @@ pub(crate) fn reset(passes: bool, fails: bool, answer: Answer, first: Answer) ->
     if !passes {
         return answer;
     }
-    if fails { answer_hull(answer, first) } else { first }
+    if fails {
+        answer_hull(answer, first)
+    } else {
+        first
+    }
 }

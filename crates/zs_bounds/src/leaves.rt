@@ -81,14 +81,21 @@ fn recurring(k: u64, earlier: Span) -> Decisions
 fn waiting(delays: Span) -> Answer
     ensures value { range (output_range_of result.0) result.1 ≡ waiting delays }
 {
-    (OutRange::Numbers(delays), Decisions::always(delays.delays()))
+    (
+        OutRange::Numbers(delays),
+        Decisions::always(delays.delays()),
+    )
 }
 
 // The waits up to the end of a period: a whole one at the first step, and at least `some` or a whole one at another step.
 fn period_waits(period: u64, some: u64, steps: Span) -> Option<Span>
     ensures value { result ≡ period_waits period some steps }
 {
-    let low = if steps.high <= 1 { period.min(UNCUT_WAIT) } else { some.min(period) };
+    let low = if steps.high <= 1 {
+        period.min(UNCUT_WAIT)
+    } else {
+        some.min(period)
+    };
     Some(Span::new(low, period))
 }
 

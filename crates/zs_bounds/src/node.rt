@@ -4,7 +4,6 @@ ghost use Rattle.std.specs.Prelude.{◌≡◌, true, IfOk, OnOk};
 ghost use Rattle.zs_term.specs.Schedule.{schedule_of, leaf};
 ghost use Rattle.zs_step.specs.Memory.{is_leaf};
 ghost use Rattle.zs_bounds.specs.OutRange.{output_range_of};
-ghost use Rattle.zs_bounds.specs.Span.{span};
 ghost use Rattle.zs_bounds.specs.AnswerRange.{range, any_input};
 ghost use Rattle.zs_bounds.specs.StateRange.{first_range, first_turn, first_state, with_first, more_items, begun};
 ghost use Rattle.zs_bounds.specs.Leaf.{bare_leaf};
@@ -201,8 +200,16 @@ pub(crate) fn first_decisions(alloc: Global, node: &Node) -> Result<Decisions, A
 pub(crate) fn more_items(decision: Decisions, items: Span) -> Span
     ensures value { result ≡ more_items decision items }
 {
-    let low = if decision.stops { items.low } else { items.low.saturating_add(1) };
-    let high = if decision.may_go_on() { items.high.saturating_add(1) } else { items.high };
+    let low = if decision.stops {
+        items.low
+    } else {
+        items.low.saturating_add(1)
+    };
+    let high = if decision.may_go_on() {
+        items.high.saturating_add(1)
+    } else {
+        items.high
+    };
     Span::new(low, high)
 }
 
@@ -307,7 +314,11 @@ pub(crate) fn add_first(
     if !begins {
         return Ok(());
     }
-    if is_on { widen(alloc, node) } else { begin(alloc, node) }
+    if is_on {
+        widen(alloc, node)
+    } else {
+        begin(alloc, node)
+    }
 }
 
 // The leaf of a term without parts.

@@ -1,8 +1,7 @@
 // What a step may return as its output.
 
-ghost use Rattle.std.specs.Prelude.{◌≡◌, ◌+◌, ◌*◌, IfOk};
-ghost use Rattle.zs_term.specs.Saturating.{saturated};
-ghost use Rattle.zs_bounds.specs.OutputRange.{output_hull, nothing, numbers, pairs, sides, lists, number_span, size_span, first_range_in, second_range_in, picked_span, may_compare, opposite, may_pass, may_fail, numbers_in, merge_range, applied_range};
+ghost use Rattle.std.specs.Prelude.{◌≡◌, IfOk};
+ghost use Rattle.zs_bounds.specs.OutputRange.{output_hull, numbers, pairs, sides, lists, number_span, size_span, first_range_in, second_range_in, picked_span, may_compare, opposite, may_pass, may_fail, numbers_in, merge_range, applied_range};
 ghost use Rattle.zs_bounds.specs.OutRange.{output_range_of};
 
 use crate::span::Span;
@@ -32,10 +31,7 @@ pub(crate) fn make_pairs(
 ) -> Result<OutRange, AllocError>
     ensures value { IfOk result (λ r. output_range_of r ≡ pairs (output_range_of first) (output_range_of second)) }
 {
-    Ok(OutRange::Pairs(
-        Box::new(alloc, first)?,
-        Box::new(alloc, second)?,
-    ))
+    Ok(OutRange::Pairs(Box::new(alloc, first)?, Box::new(alloc, second)?))
 }
 
 // A choice of two ranges.
@@ -46,10 +42,7 @@ pub(crate) fn make_sides(
 ) -> Result<OutRange, AllocError>
     ensures value { IfOk result (λ r. output_range_of r ≡ sides (output_range_of left) (output_range_of right)) }
 {
-    Ok(OutRange::Sides(
-        Box::new(alloc, left)?,
-        Box::new(alloc, right)?,
-    ))
+    Ok(OutRange::Sides(Box::new(alloc, left)?, Box::new(alloc, right)?))
 }
 
 // A range around two.
@@ -87,10 +80,8 @@ fn lists_hull(span: Span, second: OutRange) -> OutRange
     match second {
         OutRange::Nothing => OutRange::Lists(span),
         OutRange::Lists(other) => OutRange::Lists(span.hull(other)),
-        OutRange::Pairs(_, _)
-        | OutRange::Sides(_, _)
-        | OutRange::Numbers(_)
-        | OutRange::Anything => OutRange::Anything,
+        OutRange::Pairs(_, _) | OutRange::Sides(_, _) | OutRange::Numbers(_) | OutRange::Anything =>
+            OutRange::Anything,
     }
 }
 
@@ -102,10 +93,8 @@ fn pairs_hull(a: Box<OutRange>, b: Box<OutRange>, second: OutRange) -> OutRange
     match second {
         OutRange::Nothing => OutRange::Pairs(a, b),
         OutRange::Pairs(c, d) => OutRange::Pairs(boxed_hull(a, c), boxed_hull(b, d)),
-        OutRange::Numbers(_)
-        | OutRange::Sides(_, _)
-        | OutRange::Lists(_)
-        | OutRange::Anything => OutRange::Anything,
+        OutRange::Numbers(_) | OutRange::Sides(_, _) | OutRange::Lists(_) | OutRange::Anything =>
+            OutRange::Anything,
     }
 }
 
@@ -117,10 +106,8 @@ fn sides_hull(a: Box<OutRange>, b: Box<OutRange>, second: OutRange) -> OutRange
     match second {
         OutRange::Nothing => OutRange::Sides(a, b),
         OutRange::Sides(c, d) => OutRange::Sides(boxed_hull(a, c), boxed_hull(b, d)),
-        OutRange::Numbers(_)
-        | OutRange::Pairs(_, _)
-        | OutRange::Lists(_)
-        | OutRange::Anything => OutRange::Anything,
+        OutRange::Numbers(_) | OutRange::Pairs(_, _) | OutRange::Lists(_) | OutRange::Anything =>
+            OutRange::Anything,
     }
 }
 

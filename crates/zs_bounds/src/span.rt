@@ -1,6 +1,6 @@
 // Numbers between two bounds.
 
-ghost use Rattle.std.specs.Prelude.{◌≡◌, ◌-◌, None, Some};
+ghost use Rattle.std.specs.Prelude.{◌≡◌};
 ghost use Rattle.zs_bounds.specs.Span.{span, hull};
 ghost use Rattle.zs_bounds.specs.AnswerRange.{earlier_steps, delays};
 ghost use Rattle.zs_bounds.specs.StateRange.{more_steps, more_time};

@@ -1,7 +1,7 @@
 // One step of all states in which a schedule may be.
 
-ghost use Rattle.std.specs.Prelude.{◌≡◌, ◌&&◌, ◌||◌, IfOk, OnOk, if◌then◌else◌};
-ghost use Rattle.zs_term.specs.Schedule.{leaf, two, over, both, either, and_then, while_input, while_output, collect_all, mapped, reset_when};
+ghost use Rattle.std.specs.Prelude.{◌≡◌, ◌&&◌, IfOk, OnOk, if◌then◌else◌};
+ghost use Rattle.zs_term.specs.Schedule.{two, over, and_then, while_output, collect_all, mapped, reset_when};
 ghost use Rattle.zs_bounds.specs.OutRange.{output_range_of};
 ghost use Rattle.zs_bounds.specs.AnswerRange.{range, answers_if, left_range, right_range};
 ghost use Rattle.zs_bounds.specs.DecisionRange.{may_go_on};
@@ -99,12 +99,7 @@ fn step_collect_all(
 
 // One step of a part with a function of its output.
 #[cycle(stepping)]
-fn step_map(
-    alloc: Global,
-    part: &mut Node,
-    func: Func,
-    later: u64,
-) -> Result<Answer, AllocError>
+fn step_map(alloc: Global, part: &mut Node, func: Func, later: u64) -> Result<Answer, AllocError>
     ensures answer { IfOk result (λ r. range (output_range_of r.0) r.1 ≡ next_range (over (node_schedule part.old) (mapped func)) (node_state part.old) later) }
     ensures state { OnOk result (node_state part.new ≡ next_state (node_schedule part.old) (node_state part.old) later) }
     ensures same { OnOk result (node_schedule part.new ≡ node_schedule part.old) }

@@ -44,7 +44,11 @@ impl Bounds {
         let goes_on = self.seen < self.least && !decision.stops;
         Bounds {
             seen: self.seen + 1,
-            least: if goes_on { self.least.saturating_add(1) } else { self.least },
+            least: if goes_on {
+                self.least.saturating_add(1)
+            } else {
+                self.least
+            },
             most: None,
             longest: self.longest.max(wait),
             total: sum_within(self.total, wait),

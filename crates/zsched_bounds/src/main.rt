@@ -41,8 +41,12 @@ fn print_bounds(rt: &impl Print, alloc: Global, text: &str, told: Bounds) -> Res
         return Err(Refusal::Memory);
     };
     let (least, longest, seen) = (told.least, told.longest, told.seen);
-    let begun = print!(rt; "{{\"policy\":\"{text}\",\"attempts\":{{\"least\":{least},\"most\":{most}}},");
-    let ended = println!(rt; "\"longest_wait\":{longest},\"total_wait\":{total},\"steps_seen\":{seen}}}");
+    let begun = print!(rt;
+        "{{\"policy\":\"{text}\",\"attempts\":{{\"least\":{least},\"most\":{most}}},"
+    );
+    let ended = println!(rt;
+        "\"longest_wait\":{longest},\"total_wait\":{total},\"steps_seen\":{seen}}}"
+    );
     match (begun, ended) {
         (Ok(()), Ok(())) => Ok(()),
         _ => Err(Refusal::Write),
