@@ -1,19 +1,16 @@
 -- The answers of operators are within the ranges that their rules for ranges give.
-use Rattle.std.proofs.Common.{◌≡◌, ℕ, ◌≤◌, Bool, true, false, Option, Some, None, refl, sym, ap, subst, arith}
+use Rattle.std.proofs.Common.{◌≡◌, ℕ, ◌≤◌, Bool, true, false, Option, arith}
 use Rattle.zs_term.specs.Saturating.{max_moment}
-use Rattle.zs_term.specs.Output.{Output, number, pair, left, right, passes, picked, applied}
+use Rattle.zs_term.specs.Output.{left, right, passes}
 use Rattle.zs_term.specs.declared.term.Test.{Test}
-use Rattle.zs_term.specs.declared.term.Pick.{Pick}
-use Rattle.zs_step.specs.declared.decision.Decision.{Decision}
 use Rattle.zs_step.specs.Answer.{Answer, answer, is_next, only_if, later_of, earlier_of, together}
 use Rattle.zs_bounds.specs.declared.span.Span.{Span}
-use Rattle.zs_bounds.specs.Span.{span}
-use Rattle.zs_bounds.specs.DecisionRange.{IsDecisionIn, both_decide, either_decides, may_go_on, going_on}
-use Rattle.zs_bounds.specs.OutputRange.{picked_span, may_pass, may_fail, nothing, sides}
+use Rattle.zs_bounds.specs.DecisionRange.{both_decide, either_decides, may_go_on, going_on}
+use Rattle.zs_bounds.specs.OutputRange.{may_pass, may_fail, nothing, sides}
 use Rattle.zs_bounds.specs.AnswerRange.{AnswerRange, range, IsAnswerIn, answer_hull, answers_if, pair_range, left_range, right_range, test_range, any_input, reset_range}
 use Rattle.zs_bounds.proofs.Spans.{IsNumberIn, test-may_pass, test-may_fail}
 use Rattle.zs_bounds.proofs.Deciding.{decision-left, decision-right, both-in, either-in, test-in, going_on-in, next-may}
-use Rattle.zs_bounds.proofs.Outputs.{output-left, output-right, picked-in}
+use Rattle.zs_bounds.proofs.Outputs.{output-left, output-right}
 
 pub answer-left : (m : ℕ) (a : Answer) (r q : AnswerRange) → IsAnswerIn m a r → IsAnswerIn m a (answer_hull r q)
 answer-left m a r q h = record {

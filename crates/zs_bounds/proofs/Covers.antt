@@ -1,5 +1,5 @@
 -- When a range of states covers a history, as `Represents` says it of a state: what the next step needs to know of the steps so far.
-use Rattle.std.proofs.Common.{◌≡◌, ℕ, ◌+◌, ◌<◌, ◌≤◌, min, max, Bool, true, false, ◌||◌, ◌&&◌, if◌then◌else◌, Option, Some, None, [], ◌∷◌, length, refl, sym, ap, subst, arith}
+use Rattle.std.proofs.Common.{◌≡◌, ℕ, ◌+◌, ◌≤◌, Bool, true, false, if◌then◌else◌, Option, Some, None, [], ◌∷◌, length, refl, sym, ap, subst, arith}
 use Rattle.zs_term.specs.Saturating.{saturated, max_moment}
 use Rattle.zs_term.specs.Output.{Output, Outputs, none, more, with_last, count, passes, picked}
 use Rattle.zs_term.specs.Schedule.{Schedule, leaf, two, over, both, either, and_then, while_input, while_output, collect_all, mapped, reset_when}
@@ -7,16 +7,16 @@ use Rattle.zs_term.specs.declared.term.Test.{Test}
 use Rattle.zs_term.specs.declared.term.Pick.{Pick}
 use Rattle.zs_step.specs.declared.decision.Decision.{Decision}
 use Rattle.zs_step.specs.declared.decision.Decision.TheVariants.{Stop, Next}
-use Rattle.zs_step.specs.History.{History, first_moment, last_moment}
+use Rattle.zs_step.specs.History.{History, last_moment}
 use Rattle.zs_step.specs.Answer.{Answer, answer_of, is_next, done_from, from_done, collect_if, collected, reset_if, since_reset}
 use Rattle.zs_bounds.specs.declared.span.Span.{Span}
 use Rattle.zs_bounds.specs.declared.decisions.Decisions.{Decisions}
-use Rattle.zs_bounds.specs.Driven.{max_tick, IsStep}
+use Rattle.zs_bounds.specs.Driven.{IsStep}
 use Rattle.zs_bounds.specs.Span.{IsIn, hull, span}
 use Rattle.zs_bounds.specs.DecisionRange.{IsDecisionIn, may_go_on}
 use Rattle.zs_bounds.specs.StateRange.{StateRange, steps_in, time_in, first_in, second_in, is_first_on, is_second_on, items_in, part_in, more_items, begun, more_steps, more_time}
-use Rattle.zs_bounds.proofs.Spans.{in-hull_left, in-hull_right}
-use Rattle.zs_bounds.proofs.Deciding.{next-may, stop-may}
+use Rattle.zs_bounds.proofs.Spans.{in-hull_left}
+use Rattle.zs_bounds.proofs.Deciding.{next-may}
 use Rattle.zs_bounds.proofs.LeafRanges.{Counts}
 
 -- The first part is on and covers the history; or the second is, and covers it from the first's end on.

@@ -1,12 +1,11 @@
 -- Decisions and how the operators join them.
-use Rattle.std.proofs.Common.{◌≡◌, ℕ, ◌+◌, ◌≤◌, min, max, Bool, true, false, ◌&&◌, ◌||◌, is_some, Option, Some, None, refl, sym, ap, subst, arith}
+use Rattle.std.proofs.Common.{◌≡◌, ℕ, min, max, Bool, true, false, is_some, Option, Some, None, refl, arith}
 use Rattle.zs_step.specs.declared.decision.Decision.{Decision}
 use Rattle.zs_step.specs.declared.decision.Decision.TheVariants.{Stop, Next}
 use Rattle.zs_step.specs.Answer.{later_of, earlier_of, only_if, is_next}
 use Rattle.zs_bounds.specs.declared.span.Span.{Span}
 use Rattle.zs_bounds.specs.declared.decisions.Decisions.{Decisions}
-use Rattle.zs_bounds.specs.Span.{span, hull}
-use Rattle.zs_bounds.specs.DecisionRange.{IsAfter, IsWaitIn, IsDecisionIn, may_go_on, wait_hull, later_waits, earlier_waits, waits_if, decision_hull, both_decide, either_decides, test_decides, going_on}
+use Rattle.zs_bounds.specs.DecisionRange.{IsWaitIn, IsDecisionIn, may_go_on, wait_hull, later_waits, earlier_waits, waits_if, decision_hull, both_decide, either_decides, test_decides, going_on}
 use Rattle.zs_bounds.proofs.Spans.{or-left, or-right, and-both}
 
 -- ---- waits

@@ -1,18 +1,17 @@
 -- The answers of leaves are within their ranges, by the number of steps and the time since the first one.
-use Rattle.std.proofs.Common.{◌≡◌, ℕ, zero, suc, ◌+◌, ◌-◌, ◌*◌, ◌%◌, ◌/◌, ◌^◌, ◌<◌, ◌≤◌, min, Bool, true, false, ◌||◌, nat_lt, nat_le, nat_eq, if◌then◌else◌, Option, Some, None, [], ◌∷◌, length, refl, sym, ap, subst, ◌∙◌, arith}
+use Rattle.std.proofs.Common.{◌≡◌, ℕ, zero, suc, ◌+◌, ◌-◌, ◌*◌, ◌%◌, ◌^◌, ◌<◌, ◌≤◌, min, Bool, true, false, ◌||◌, nat_lt, nat_le, nat_eq, if◌then◌else◌, Some, None, [], ◌∷◌, length, refl, sym, subst, arith}
 use Rattle.std.proofs.Math.Nat.{pow-le-pow_right, mul-le-mul_left, mod-lt, mod-le}
 use Rattle.zs_term.specs.Saturating.{saturated, max_moment}
 use Rattle.zs_term.specs.Schedule.{Leaf, plain, counted, exponential, has_factor}
 use Rattle.zs_term.specs.declared.forms.Plain.TheVariants.{Forever, Identity, Elapsed}
 use Rattle.zs_term.specs.declared.forms.Counted.TheVariants.{Recurs, Spaced, Fixed, Fibonacci, Linear, Windowed}
-use Rattle.zs_step.specs.declared.decision.Decision.{Decision}
-use Rattle.zs_step.specs.declared.decision.Decision.TheVariants.{Stop, Next}
+use Rattle.zs_step.specs.declared.decision.Decision.TheVariants.{Next}
 use Rattle.zs_step.specs.History.{History, first_moment, last_moment}
 use Rattle.zs_step.specs.Answer.{fibonacci_number, leaf_answer, next_run, run_after, window_end, only_if}
 use Rattle.zs_bounds.specs.declared.span.Span.{Span}
 use Rattle.zs_bounds.specs.Driven.{max_tick, IsStep}
 use Rattle.zs_bounds.specs.Span.{IsIn, span}
-use Rattle.zs_bounds.specs.DecisionRange.{IsAfter, IsWaitIn, IsDecisionIn, decisions}
+use Rattle.zs_bounds.specs.DecisionRange.{IsWaitIn, IsDecisionIn, decisions}
 use Rattle.zs_bounds.specs.AnswerRange.{IsAnswerIn, leaf_range, delays, at_once, uncut_wait, earlier_steps, period_waits, span_of}
 use Rattle.zs_bounds.proofs.Spans.{in-itself}
 use Rattle.zs_bounds.proofs.Outputs.{saturated-rises}

@@ -1,5 +1,5 @@
 -- The turns of the loop of `bounds`.
-use Rattle.std.proofs.Common.{◌≡◌, ℕ, zero, suc, ◌+◌, ◌-◌, ◌<◌, ◌≤◌, min, Bool, true, false, nat_lt, Option, Some, None, refl, sym, ap, subst, ◌∙◌, arith}
+use Rattle.std.proofs.Common.{◌≡◌, ℕ, suc, ◌+◌, ◌-◌, ◌<◌, ◌≤◌, min, true, false, nat_lt, Some, None, sym, ap, ◌∙◌, arith}
 use Rattle.zs_term.specs.Schedule.{Schedule}
 use Rattle.zs_bounds.specs.declared.told.Bounds.{Bounds}
 use Rattle.zs_bounds.specs.declared.span.Span.{Span}

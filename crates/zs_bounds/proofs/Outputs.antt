@@ -1,5 +1,5 @@
 -- Ranges of outputs, and what tests and functions make of them.
-use Rattle.std.proofs.Common.{◌≡◌, ℕ, ◌+◌, ◌*◌, ◌≤◌, Bool, true, false, Option, Some, None, refl, arith}
+use Rattle.std.proofs.Common.{ℕ, ◌+◌, ◌*◌, ◌≤◌, Option, Some, None, arith}
 use Rattle.std.proofs.Math.Nat.{mul-le-mul_right}
 use Rattle.zs_term.specs.Saturating.{saturated}
 use Rattle.zs_term.specs.Output.{Output, number, pair, left, right, listed, count, number_in, first_in, second_in, size_in, merge_in, picked, applied}
@@ -8,7 +8,6 @@ use Rattle.zs_term.specs.declared.term.Pick.TheVariants.{Whole, First as PickFir
 use Rattle.zs_term.specs.declared.term.Func.{Func}
 use Rattle.zs_term.specs.declared.term.Func.TheVariants.{First, Second, Size, Merge, Const, Add, Mul}
 use Rattle.zs_bounds.specs.declared.span.Span.{Span}
-use Rattle.zs_bounds.specs.Span.{IsIn, span}
 use Rattle.zs_bounds.specs.OutputRange.{OutputRange, nothing, numbers, pairs, sides, lists, anything, IsOutputIn, output_hull, number_span, first_range_in, second_range_in, size_span, picked_span, numbers_in, each_bound, merge_range, applied_range}
 use Rattle.zs_bounds.proofs.Spans.{IsNumberIn, in-hull_left, in-hull_right, in-itself}
 

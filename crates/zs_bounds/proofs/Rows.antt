@@ -1,6 +1,6 @@
 -- Worked bounds, each worked out by hand from docs/SEMANTICS.md. Each holds by computing alone.
 use Rattle.std.proofs.Common.{◌≡◌, ℕ, Option, Some, None, refl}
-use Rattle.zs_term.specs.Schedule.{Schedule, leaf, two, over, forever, recurs, spaced, fixed, exponential, identity, elapsed, linear, windowed, both, either, and_then, while_input, while_output, collect_all, mapped, reset_when}
+use Rattle.zs_term.specs.Schedule.{Schedule, leaf, two, over, forever, recurs, spaced, fixed, exponential, elapsed, linear, both, either, and_then, while_input, while_output, collect_all, mapped, reset_when}
 use Rattle.zs_term.specs.declared.term.Cmp.TheVariants.{Lt, Ne, Ge, Eq}
 use Rattle.zs_term.specs.declared.term.Pick.TheVariants.{Whole, Second as SecondPart, Size as SizeOf}
 use Rattle.zs_term.specs.declared.term.Func.TheVariants.{Merge}

@@ -1,22 +1,21 @@
 -- Each operator's step keeps that a range of states covers a history, and its answer is within the range of answers.
-use Rattle.std.proofs.Common.{◌≡◌, ℕ, ◌+◌, ◌≤◌, Bool, true, false, ◌||◌, ◌&&◌, if◌then◌else◌, Option, Some, None, [], ◌∷◌, length, refl, sym, ap, subst, arith}
-use Rattle.zs_term.specs.Saturating.{max_moment}
+use Rattle.std.proofs.Common.{◌≡◌, ℕ, Bool, true, false, ◌||◌, ◌&&◌, if◌then◌else◌, Option, Some, None, [], ◌∷◌, refl, sym, subst, arith}
 use Rattle.zs_term.specs.Output.{none, count, passes, picked}
 use Rattle.zs_term.specs.Schedule.{Schedule, leaf, two, over, has_factors, both, either, and_then, while_input, while_output, collect_all, mapped, reset_when}
 use Rattle.zs_term.specs.declared.term.Test.{Test}
 use Rattle.zs_term.specs.declared.term.Pick.{Pick}
-use Rattle.zs_step.specs.History.{History, last_moment}
-use Rattle.zs_step.specs.Answer.{Answer, answer, answer_of, is_next, done_from, from_done, sequel_of, collected, reset_if, since_reset}
+use Rattle.zs_step.specs.History.{History}
+use Rattle.zs_step.specs.Answer.{Answer, answer_of, is_next, done_from, from_done, sequel_of, collected, reset_if, since_reset}
 use Rattle.zs_bounds.specs.Driven.{IsStep}
 use Rattle.zs_bounds.specs.Span.{IsIn, span}
 use Rattle.zs_bounds.specs.DecisionRange.{may_go_on}
 use Rattle.zs_bounds.specs.OutputRange.{picked_span, may_pass, may_fail}
 use Rattle.zs_bounds.specs.AnswerRange.{AnswerRange, IsAnswerIn, answer_hull, answers_if, left_range, right_range, any_input, reset_range}
-use Rattle.zs_bounds.specs.StateRange.{StateRange, steps_in, time_in, first_in, second_in, is_first_on, is_second_on, items_in, part_in, first_turn, first_range, first_state, with_first, begun, turn_range, turn_state, more_items, more_steps, more_time, next_range, next_state}
+use Rattle.zs_bounds.specs.StateRange.{StateRange, steps_in, time_in, first_in, second_in, is_first_on, is_second_on, items_in, part_in, first_turn, first_range, first_state, with_first, begun, turn_range, more_items, more_steps, more_time, next_range, next_state}
 use Rattle.zs_bounds.proofs.Spans.{or-left, or-right, and-both, and-left, and-right, in-itself, in-hull_left, in-hull_right, test-may_pass, test-may_fail}
 use Rattle.zs_bounds.proofs.Deciding.{next-may, stop-may}
 use Rattle.zs_bounds.proofs.Outputs.{picked-in, applied-in}
-use Rattle.zs_bounds.proofs.LeafRanges.{Counts, leaf-in}
+use Rattle.zs_bounds.proofs.LeafRanges.{leaf-in}
 use Rattle.zs_bounds.proofs.Answering.{answer-left, answer-right, answers_if-in, pair_both-in, pair_either-in, left_range-in, right_range-in, test_range-in, input-in, reset-first, reset-goes_on}
 use Rattle.zs_bounds.proofs.Covers.{TurnCovers, Covers, Comes, counts-first, counts-keeps, counts-begins, counts-next, more_items-in, count-collected, from_done-moment, from_done-length, since_reset-moment, since_reset-length, since_reset-first, comes-part, begun-keeps, begun-begins, chosen}
 

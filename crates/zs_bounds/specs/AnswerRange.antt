@@ -1,5 +1,5 @@
 -- What a step may return: a range of outputs, and decisions. An operator's rule for ranges, given those of its parts.
-use Rattle.std.specs.Prelude.{ℕ, ◌+◌, ◌-◌, ◌*◌, ◌^◌, min, Bool, true, false, Option, Some, None, nat_lt, nat_le, if◌then◌else◌}
+use Rattle.std.specs.Prelude.{ℕ, ◌-◌, ◌*◌, ◌^◌, min, Bool, true, false, Option, Some, None, nat_lt, nat_le, if◌then◌else◌}
 use Rattle.zs_term.specs.Saturating.{saturated, max_moment}
 use Rattle.zs_term.specs.Schedule.{Leaf, plain, counted, exponential, Modifier, while_input, while_output, collect_all, mapped, reset_when}
 use Rattle.zs_term.specs.declared.forms.Plain.TheVariants.{Forever, Identity, Elapsed}
@@ -10,7 +10,7 @@ use Rattle.zs_bounds.specs.declared.span.Span.{Span}
 use Rattle.zs_bounds.specs.declared.decisions.Decisions.{Decisions}
 use Rattle.zs_bounds.specs.Driven.{max_tick}
 use Rattle.zs_bounds.specs.Span.{span}
-use Rattle.zs_bounds.specs.DecisionRange.{decisions, IsDecisionIn, may_go_on, decision_hull, both_decide, either_decides, test_decides, going_on, no_decision}
+use Rattle.zs_bounds.specs.DecisionRange.{decisions, IsDecisionIn, may_go_on, decision_hull, test_decides, going_on, no_decision}
 use Rattle.zs_bounds.specs.OutputRange.{OutputRange, nothing, numbers, pairs, sides, lists, IsOutputIn, output_hull, picked_span, may_pass, may_fail, applied_range}
 
 -- a range of outputs, and decisions

@@ -1,5 +1,5 @@
 -- Numbers between two bounds.
-use Rattle.std.specs.Prelude.{ℕ, ◌≤◌, min, max, Option, Some, None}
+use Rattle.std.specs.Prelude.{ℕ, ◌≤◌, min, max}
 use Rattle.zs_bounds.specs.declared.span.Span.{Span}
 
 -- the span of two bounds

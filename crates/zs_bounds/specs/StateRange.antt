@@ -1,7 +1,7 @@
 -- In which states a schedule may be after some steps, as intervals in place of a state's numbers, and what the next step makes of
 -- them. `proofs/Covers.antt` says when a range of states covers a history; nobody has to believe this file, since `bounds_hold`
 -- says of its results what `Bounds` promises.
-use Rattle.std.specs.Prelude.{ℕ, ◌+◌, min, Bool, true, false, ◌&&◌, ◌||◌, if◌then◌else◌}
+use Rattle.std.specs.Prelude.{ℕ, ◌+◌, Bool, true, false, ◌&&◌, ◌||◌, if◌then◌else◌}
 use Rattle.zs_term.specs.Saturating.{saturated}
 use Rattle.zs_term.specs.Schedule.{Schedule, leaf, two, over, both, either, and_then, while_input, while_output, collect_all, mapped, reset_when}
 use Rattle.zs_bounds.specs.declared.span.Span.{Span}
@@ -10,7 +10,7 @@ use Rattle.zs_bounds.specs.Driven.{max_tick}
 use Rattle.zs_bounds.specs.Span.{span, hull}
 use Rattle.zs_bounds.specs.DecisionRange.{may_go_on, both_decide, either_decides}
 use Rattle.zs_bounds.specs.OutputRange.{picked_span, may_pass, may_fail}
-use Rattle.zs_bounds.specs.AnswerRange.{AnswerRange, range, answer_hull, answers_if, leaf_range, pair_range, left_range, right_range, modified_range}
+use Rattle.zs_bounds.specs.AnswerRange.{AnswerRange, answer_hull, answers_if, leaf_range, pair_range, left_range, right_range, modified_range}
 
 -- The shape of a schedule's state: a leaf has its number of steps and the time since the first one; `andThenEither` has whether
 -- its first part may still be on, and whether its second part may be; `collectAll` has the number of its items.
