@@ -36,7 +36,7 @@ PROVED = re.compile(r"rt: (\w+) (?:proved|is kept: .*)\n?")
 # A row of a part's own: a crate, what was done to it, its processor seconds and its seconds.
 ROW = re.compile(r"(\w+): (?:.*, )?([\d.]+) processor seconds in ([\d.]+) s\n?")
 # What would have a part test another program, or fewer cases.
-REDIRECTS = ["ZSCHED", "ZSCHED_POPULATION", "ZSCHED_LIBRARY", "ZSCHED_LIBRARY_DIR", "ZSCHED_CHANGES"]
+REDIRECTS = ["ZSCHED", "ZSCHED_POPULATION", "ZSCHED_BOUNDS", "ZSCHED_LIBRARY", "ZSCHED_LIBRARY_DIR", "ZSCHED_CHANGES"]
 
 
 @dataclasses.dataclass

@@ -17,8 +17,9 @@ from zsched_tools import program
 
 TOOLS = sorted(file.name for file in (TOP / "tools").glob("zsched-*"))
 MANUAL = (TOP / "docs" / "zsched.1").read_text()
-MANUALS = [TOP / "docs" / "zsched.1", TOP / "docs" / "zsched-population.1"]
+MANUALS = [TOP / "docs" / "zsched.1", TOP / "docs" / "zsched-population.1", TOP / "docs" / "zsched-bounds.1"]
 POPULATION = program.find_population()
+BOUNDS = program.find_bounds()
 FORMATS = (TOP / "docs" / "FORMATS.md").read_text()
 MISSING = [tool for tool in ["dpkg", "dpkg-deb", "objdump", "strip"] if shutil.which(tool) is None]
 EPOCH = "1800000000"
@@ -130,7 +131,7 @@ class Package(unittest.TestCase):
         self.assertEqual(self.package.name, f"zsched_{fields['Version']}_{fields['Architecture']}.deb")
 
     def test_libc_is_what_objdump_says(self):
-        told = output(["objdump", "-T", *filter(None, [program.find(), POPULATION])])
+        told = output(["objdump", "-T", *filter(None, [program.find(), POPULATION, BOUNDS])])
         most = max(tuple(map(int, found)) for found in re.findall(r"GLIBC_(\d+)\.(\d+)", told))
         self.assertIn(f"libc6 (>= {most[0]}.{most[1]})", output(["dpkg-deb", "-f", self.package, "Depends"]))
 
@@ -148,7 +149,7 @@ class Package(unittest.TestCase):
         for mode, owner, path in self.members():
             with self.subTest(path):
                 self.assertEqual(owner, "root/root")
-                is_program = re.fullmatch(r"/usr/bin/zsched(-population)?|/usr/share/zsched/zsched-\w+", path) is not None
+                is_program = re.fullmatch(r"/usr/bin/zsched(-population|-bounds)?|/usr/share/zsched/zsched-\w+", path) is not None
                 of_file = "-rwxr-xr-x" if is_program else "-rw-r--r--"
                 self.assertEqual(mode, {"d": "drwxr-xr-x", "l": "lrwxrwxrwx"}.get(mode[0], of_file))
 
@@ -162,6 +163,8 @@ class Package(unittest.TestCase):
         if POPULATION:
             wanted += ["usr/bin/zsched-population", "usr/share/man/man1/zsched-population.1.gz",
                        "usr/share/zsched/population.schema.json"]
+        if BOUNDS:
+            wanted += ["usr/bin/zsched-bounds", "usr/share/man/man1/zsched-bounds.1.gz"]
         wanted += ["usr/share/zsched/play.html"]
         wanted += [f"usr/share/doc/zsched/examples/{file.name}" for file in TOP.glob("examples/*.json*")]
         self.assertEqual([path for path in wanted if not (self.root / path).is_file()], [])
@@ -193,6 +196,11 @@ class Package(unittest.TestCase):
         lines, report = re.search(r"^\$ cat population.jsonl\n(.*?)^\$ zsched-population < population.jsonl\n(.*?)^\.Ed",
                                   MANUALS[1].read_text(), re.M | re.S).groups()
         self.assertEqual(output([self.root / "usr/bin/zsched-population"], input=lines.encode()), report)
+
+    @unittest.skipIf(BOUNDS is None, "zsched_bounds isn't built")
+    def test_the_page_of_bounds_shows_a_run(self):
+        policy, line = re.search(r"^\$ echo '(.*)' \| zsched-bounds\n(.*?)^\.Ed", MANUALS[2].read_text(), re.M | re.S).groups()
+        self.assertEqual(output([self.root / "usr/bin/zsched-bounds"], input=f"{policy}\n".encode()), line)
 
     @unittest.skipIf(os.geteuid() != 0, "only root may change the root folder")
     def test_the_program_runs_where_only_the_c_library_is(self):

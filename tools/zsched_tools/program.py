@@ -7,7 +7,6 @@ import subprocess
 MAX_BYTES = 16777216
 CRATES = pathlib.Path(__file__).resolve().parents[2] / "crates"
 BUILT = CRATES / "zsched" / "out" / "zsched"
-POPULATION = CRATES / "zsched_population" / "out" / "zsched_population"
 
 
 class NoProgram(Exception):
@@ -33,15 +32,27 @@ def find(named=None):
     return installed
 
 
-def find_population(named=None):
-    """The path of zsched-population, looked for as zsched is, with the variable ZSCHED_POPULATION; None if there is
-    none."""
-    for place in [named, os.environ.get("ZSCHED_POPULATION")]:
+def find_beside(name, named=None):
+    """The path of another program, zsched-population or zsched-bounds, looked for as zsched is, with a variable such as
+    ZSCHED_POPULATION; None if there is none."""
+    for place in [named, os.environ.get(name.upper().replace("-", "_"))]:
         if place:
             if not os.access(place, os.X_OK) or os.path.isdir(place):
                 raise NoProgram(f"no program at {place}")
             return str(place)
-    return str(POPULATION) if os.access(POPULATION, os.X_OK) else shutil.which("zsched-population")
+    crate = name.replace("-", "_")
+    built = CRATES / crate / "out" / crate
+    return str(built) if os.access(built, os.X_OK) else shutil.which(name)
+
+
+def find_population(named=None):
+    """The path of zsched-population, or None if there is none."""
+    return find_beside("zsched-population", named)
+
+
+def find_bounds(named=None):
+    """The path of zsched-bounds, or None if there is none."""
+    return find_beside("zsched-bounds", named)
 
 
 def run(program, plan, seconds=None):

@@ -1,0 +1,11 @@
+pub mod Spans
+pub mod Deciding
+pub mod Outputs
+pub mod LeafRanges
+pub mod Answering
+pub mod Covers
+pub mod Steps
+pub mod Promising
+pub mod Rows
+pub mod Powers
+pub mod Loops

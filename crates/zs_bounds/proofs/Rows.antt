@@ -1,0 +1,71 @@
+-- Worked bounds, each worked out by hand from docs/SEMANTICS.md. Each holds by computing alone.
+use Rattle.std.proofs.Common.{◌≡◌, ℕ, Option, Some, None, refl}
+use Rattle.zs_term.specs.Schedule.{Schedule, leaf, two, over, forever, recurs, spaced, fixed, exponential, elapsed, linear, both, either, and_then, while_input, while_output, collect_all, mapped, reset_when}
+use Rattle.zs_term.specs.declared.term.Cmp.TheVariants.{Lt, Ne, Ge, Eq}
+use Rattle.zs_term.specs.declared.term.Pick.TheVariants.{Whole, Second as SecondPart, Size as SizeOf}
+use Rattle.zs_term.specs.declared.term.Func.TheVariants.{Merge}
+use Rattle.zs_bounds.specs.declared.told.Bounds.{Bounds}
+use Rattle.zs_bounds.specs.BoundsOf.{bounds_of}
+
+-- the steps looked at, the least and the most, the longest wait, all waits
+abbrev told : ℕ → ℕ → Option ℕ → ℕ → Option ℕ → Bounds
+told seen least most longest total = record { seen = seen; least = least; most = most; longest = longest; total = total }
+
+-- 100, 200, 400, 800, 1600 ms, and no sixth wait
+abbrev backoff : Schedule
+backoff = two both (leaf (exponential 100 2)) (leaf (recurs 5))
+
+gives_up_after_six : bounds_of backoff 20 ≡ told 6 6 (Some 6) 1600 (Some 3100)
+gives_up_after_six = refl
+
+-- it may give up at once, if the first error isn't a server's; else it has waits of 100, 200, .., 3200, 5000, 5000
+abbrev server_errors : Schedule
+server_errors =
+    over (two both (two either (leaf (exponential 100 2)) (leaf (spaced 5000))) (leaf (recurs 8))) (while_input (record { cmp = Ge; than = 500 }))
+
+only_server_errors : bounds_of server_errors 20 ≡ told 9 1 (Some 9) 5000 (Some 16300)
+only_server_errors = refl
+
+-- each attempt takes 1 ms at least, so after five waits 2005 ms have passed; a long attempt ends it at the second step
+abbrev two_seconds : Schedule
+two_seconds = over (two both (leaf (spaced 400)) (leaf elapsed)) (while_output SecondPart (record { cmp = Lt; than = 2000 }))
+
+for_two_seconds : bounds_of two_seconds 20 ≡ told 6 2 (Some 6) 400 (Some 2000)
+for_two_seconds = refl
+
+-- 250, 500, .., 1250; the sixth delay is 1500, and ends it
+growing_delays : bounds_of (over (leaf (linear 250)) (while_output Whole (record { cmp = Lt; than = 1500 }))) 20 ≡ told 6 6 (Some 6) 1250 (Some 3750)
+growing_delays = refl
+
+-- three quick waits of 100, 200, 400 ms, four slow ones of 5000 ms, and a minute in all
+abbrev quick_then_slow : Schedule
+quick_then_slow =
+    two both (over (two and_then (two both (leaf (exponential 100 2)) (leaf (recurs 3))) (two both (leaf (spaced 5000)) (leaf (recurs 4)))) (mapped Merge))
+    (over (leaf elapsed) (while_output Whole (record { cmp = Lt; than = 60000 })))
+
+fallback : bounds_of quick_then_slow 20 ≡ told 8 2 (Some 8) 5000 (Some 20700)
+fallback = refl
+
+-- it gives up at the first missing page, which may be at once or never
+until_missing : bounds_of (over (leaf (spaced 1000)) (while_input (record { cmp = Ne; than = 404 }))) 5 ≡ told 5 1 None 1000 None
+until_missing = refl
+
+-- it never gives up by itself
+always_at_once : bounds_of (leaf forever) 5 ≡ told 5 6 None 0 None
+always_at_once = refl
+
+-- no step is looked at
+no_step : bounds_of (leaf (recurs 3)) 0 ≡ told 0 1 None 0 None
+no_step = refl
+
+-- the third step would be past every clock
+past_the_clock : bounds_of (leaf (spaced 600000000000000)) 5 ≡ told 2 3 None 600000000000000 (Some 1200000000000000)
+past_the_clock = refl
+
+-- a whole period at the first step, and any part of one later
+periods : bounds_of (two both (leaf (fixed 100)) (leaf (recurs 2))) 5 ≡ told 3 3 (Some 3) 100 (Some 200)
+periods = refl
+
+-- a reset at the third step, where two items are there: then it begins anew
+resets : bounds_of (over (over (leaf (recurs 5)) collect_all) (reset_when SizeOf (record { cmp = Eq; than = 2 }))) 9 ≡ told 9 10 None 0 None
+resets = refl

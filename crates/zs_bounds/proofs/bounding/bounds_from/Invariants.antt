@@ -1,0 +1,14 @@
+use Rattle.std.proofs.Common.{◌≡◌, ◌-◌, ◌≤◌}
+use Rattle.zs_bounds.specs.Driven.{max_tick}
+use Rattle.zs_bounds.specs.Node.{node_schedule, node_state}
+use Rattle.zs_bounds.specs.BoundsOf.{bounds_from, no_bounds}
+use Rattle.zs_bounds.proofs.bounding.bounds_from.Given as goal
+
+-- what is told so far, with what the later steps tell, is what all of them tell
+abbrev pub invariant-loop : goal.invariant-loop
+invariant-loop l = record {
+  told : bounds_from (node_schedule l.node) (l.steps - l.counter) (node_state l.node) l.decision l.passed l.told
+      ≡ bounds_from (node_schedule l.fn.node) l.fn.steps (node_state l.fn.node) l.fn.first 0 no_bounds;
+  seen : l.told.seen ≡ l.counter;
+  passed : l.passed ≤ max_tick;
+}

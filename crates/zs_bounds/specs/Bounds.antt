@@ -1,0 +1,37 @@
+-- What bounds promise: facts about every history that a driver can make with a schedule. No loop and no interval is named here.
+use Rattle.std.specs.Prelude.{◌≡◌, ℕ, ◌+◌, ◌-◌, ◌<◌, ◌≤◌, true, Some, [], ◌∷◌, length}
+use Rattle.zs_term.specs.Schedule.{Schedule}
+use Rattle.zs_step.specs.declared.decision.Decision.{Decision}
+use Rattle.zs_step.specs.declared.decision.Decision.TheVariants.{Stop, Next}
+use Rattle.zs_step.specs.History.{History, last_moment}
+use Rattle.zs_step.specs.Answer.{answer_of, is_next}
+use Rattle.zs_bounds.specs.declared.told.Bounds.{Bounds}
+use Rattle.zs_bounds.specs.Driven.{IsDriven}
+
+-- how long a decision at a moment waits: not at all if it is to stop
+abbrev pub wait_of : ℕ → Decision → ℕ
+wait_of m Stop = 0
+wait_of m (Next x) = x - m
+
+-- the wait after the last step of a history
+abbrev pub last_wait : Schedule → History → ℕ
+last_wait s h = wait_of (last_moment h) (answer_of s h).decision
+
+-- the waits after all steps of a history, the last one too
+abbrev pub total_wait : Schedule → History → ℕ
+total_wait s [] = 0
+total_wait s (p ∷ h) = last_wait s (p ∷ h) + total_wait s h
+
+-- What is promised of every history that a driver can make with a schedule.
+pub record Promises (s : Schedule) (b : Bounds) : Type 0 where
+  -- with a most, no history has more steps, and at that step the schedule is done
+  pub most : (k : ℕ) → b.most ≡ Some k → (h : History) → IsDriven s h → length h ≤ k
+  pub done : (k : ℕ) → b.most ≡ Some k → (h : History) → IsDriven s h → length h ≡ k → (answer_of s h).decision ≡ Stop
+  -- before the least step the schedule goes on
+  pub least : (h : History) → IsDriven s h → length h < b.least → is_next (answer_of s h).decision ≡ true
+  -- no wait after a step that was looked at is longer
+  pub longest : (h : History) → IsDriven s h → length h ≤ b.seen → last_wait s h ≤ b.longest
+  -- with a total, all waits of a history are no longer in all
+  pub total : (t : ℕ) → b.total ≡ Some t → (h : History) → IsDriven s h → total_wait s h ≤ t
+  -- with a most, every step was looked at
+  pub whole : (k : ℕ) → b.most ≡ Some k → b.seen ≡ k

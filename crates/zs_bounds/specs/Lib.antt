@@ -1,0 +1,15 @@
+-- What the clauses of callers name, and so what has to be believed.
+pub mod Driven
+pub mod Bounds
+-- What `bounds` computes. `bounds_hold` ties it to `Bounds`, so nobody has to believe it.
+pub mod Span
+pub mod DecisionRange
+pub mod OutputRange
+pub mod AnswerRange
+pub mod StateRange
+pub mod BoundsOf
+-- What the bodies store: private contracts alone name these.
+pub mod OutRange
+pub mod Leaf
+pub mod Node
+pub mod Sizes

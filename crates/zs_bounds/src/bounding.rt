@@ -1,0 +1,69 @@
+// The bounds of a schedule, step by step.
+
+ghost use Rattle.std.specs.Prelude.{◌≡◌, IfOk, OnOk};
+ghost use Rattle.zs_term.specs.Schedule.{schedule_of};
+ghost use Rattle.zs_bounds.specs.Bounds.{Promises};
+ghost use Rattle.zs_bounds.specs.BoundsOf.{bounds_of, bounds_from, no_bounds};
+ghost use Rattle.zs_bounds.specs.StateRange.{next_range, next_state};
+ghost use Rattle.zs_bounds.specs.Node.{node_schedule, node_state};
+
+use crate::decisions::Decisions;
+use crate::node::{Node, begin, first_decisions, node_of};
+use crate::span::MAX_TICK;
+use crate::stepping::step;
+use crate::told::Bounds;
+use std::alloc::{AllocError, Global};
+use zs_term::Checked;
+
+/// What holds for every history that a driver can make with a schedule: each step at a moment of a clock, each attempt of 1
+/// millisecond at least, any input.
+///
+/// It looks at so many steps at most, and at fewer if the schedule is done by then, or a clock is over. Fails only if memory
+/// runs out.
+pub fn bounds(alloc: Global, checked: &Checked, steps: u64) -> Result<Bounds, AllocError>
+    ensures promises { IfOk result (Promises (schedule_of checked.now)) }
+    ensures value { IfOk result (λ b. b ≡ bounds_of (schedule_of checked.now) steps) }
+{
+    let mut node = node_of(alloc, checked.term())?;
+    begin(alloc, &mut node)?;
+    let first = first_decisions(alloc, &node)?;
+    bounds_from(alloc, &mut node, first, steps)
+}
+
+// The bounds of so many steps at most, with the state after the first one and what it may decide.
+#[tactic(auto, using(crate::proofs::Loops::loop_end, crate::proofs::Loops::loop_ends, crate::proofs::Loops::loop_past, crate::proofs::Loops::loop_goes_on))]
+fn bounds_from(
+    alloc: Global,
+    node: &mut Node,
+    first: Decisions,
+    steps: u64,
+) -> Result<Bounds, AllocError>
+    ensures value { IfOk result (λ b. b ≡ bounds_from (node_schedule node.old) steps (node_state node.old) first 0 no_bounds) }
+{
+    let mut decision = first;
+    let mut passed = 0u64;
+    let mut told = Bounds::nothing();
+    for _ in 0..steps {
+        told = told.with_step(decision);
+        let Some(wait) = decision.waits else {
+            return Ok(told.ended());
+        };
+        let later = wait.low.saturating_add(1);
+        passed = passed.saturating_add(later);
+        if passed > MAX_TICK {
+            return Ok(told);
+        }
+        decision = step_decisions(alloc, node, later)?;
+    }
+    Ok(told.unended())
+}
+
+// What the next step may decide.
+fn step_decisions(alloc: Global, node: &mut Node, later: u64) -> Result<Decisions, AllocError>
+    ensures decision { IfOk result (λ d. d ≡ (next_range (node_schedule node.old) (node_state node.old) later).decision) }
+    ensures state { OnOk result (node_state node.new ≡ next_state (node_schedule node.old) (node_state node.old) later) }
+    ensures same { OnOk result (node_schedule node.new ≡ node_schedule node.old) }
+{
+    let (_out, decision) = step(alloc, node, later)?;
+    Ok(decision)
+}

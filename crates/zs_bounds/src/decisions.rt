@@ -1,0 +1,136 @@
+// What a step may decide, and how the operators join it.
+
+ghost use Rattle.std.specs.Prelude.{◌≡◌, false};
+ghost use Rattle.zs_bounds.specs.DecisionRange.{may_go_on, wait_hull, later_waits, earlier_waits, waits_if, decisions, decision_hull, both_decide, either_decides, test_decides, going_on, no_decision};
+
+use crate::span::Span;
+
+// Whether a step may be the last one, and after which waits it may go on, if it may.
+#[derive(Clone, Copy, Debug, PartialEq, Eq)]
+pub(crate) struct Decisions {
+    pub(crate) stops: bool,
+    pub(crate) waits: Option<Span>,
+}
+
+impl Decisions {
+    // No decision at all.
+    pub(crate) fn nothing() -> Decisions
+        ensures value { result ≡ no_decision }
+    {
+        Decisions {
+            stops: false,
+            waits: None,
+        }
+    }
+
+    // Always to go on, after some waits.
+    pub(crate) fn always(waits: Option<Span>) -> Decisions
+        ensures value { result ≡ decisions false waits }
+    {
+        Decisions {
+            stops: false,
+            waits,
+        }
+    }
+
+    // Whether it may be to go on.
+    pub(crate) fn may_go_on(self) -> bool
+        ensures value { result ≡ may_go_on self }
+    {
+        self.waits.is_some()
+    }
+
+    // Those of one or the other.
+    pub(crate) fn hull(self, other: Decisions) -> Decisions
+        ensures value { result ≡ decision_hull self other }
+    {
+        Decisions {
+            stops: self.stops || other.stops,
+            waits: wait_hull(self.waits, other.waits),
+        }
+    }
+
+    // Those of two that both have to go on.
+    pub(crate) fn both(self, other: Decisions) -> Decisions
+        ensures value { result ≡ both_decide self other }
+    {
+        Decisions {
+            stops: self.stops || other.stops,
+            waits: later_waits(self.waits, other.waits),
+        }
+    }
+
+    // Those of two of which one has to go on: with the wait of one alone if the other may be done.
+    pub(crate) fn either(self, other: Decisions) -> Decisions
+        ensures value { result ≡ either_decides self other }
+    {
+        let alone = waits_if(other.stops, self.waits);
+        let alone = wait_hull(alone, waits_if(self.stops, other.waits));
+        Decisions {
+            stops: self.stops && other.stops,
+            waits: wait_hull(earlier_waits(self.waits, other.waits), alone),
+        }
+    }
+
+    // Those under a test, which may pass or fail.
+    pub(crate) fn tested(self, passes: bool, fails: bool) -> Decisions
+        ensures value { result ≡ test_decides passes fails self }
+    {
+        Decisions {
+            stops: self.stops || fails,
+            waits: waits_if(passes, self.waits),
+        }
+    }
+
+    // Those to go on alone.
+    pub(crate) fn going_on(self) -> Decisions
+        ensures value { result ≡ going_on self }
+    {
+        Decisions {
+            stops: false,
+            waits: self.waits,
+        }
+    }
+}
+
+// The waits of one or the other.
+fn wait_hull(first: Option<Span>, second: Option<Span>) -> Option<Span>
+    ensures value { result ≡ wait_hull first second }
+{
+    match (first, second) {
+        (None, _) => second,
+        (Some(_), None) => first,
+        (Some(s), Some(t)) => Some(s.hull(t)),
+    }
+}
+
+// The later of two waits, if both go on.
+fn later_waits(first: Option<Span>, second: Option<Span>) -> Option<Span>
+    ensures value { result ≡ later_waits first second }
+{
+    let s = first?;
+    let t = second?;
+    Some(Span {
+        low: s.low.max(t.low),
+        high: s.high.max(t.high),
+    })
+}
+
+// The earlier of two waits, if both go on.
+fn earlier_waits(first: Option<Span>, second: Option<Span>) -> Option<Span>
+    ensures value { result ≡ earlier_waits first second }
+{
+    let s = first?;
+    let t = second?;
+    Some(Span {
+        low: s.low.min(t.low),
+        high: s.high.min(t.high),
+    })
+}
+
+// Waits, if a fact holds.
+fn waits_if(holds: bool, waits: Option<Span>) -> Option<Span>
+    ensures value { result ≡ waits_if holds waits }
+{
+    if holds { waits } else { None }
+}

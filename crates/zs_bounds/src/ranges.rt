@@ -1,0 +1,304 @@
+// What a step may return as its output.
+
+ghost use Rattle.std.specs.Prelude.{◌≡◌, IfOk};
+ghost use Rattle.zs_bounds.specs.OutputRange.{output_hull, numbers, pairs, sides, lists, number_span, size_span, first_range_in, second_range_in, picked_span, may_compare, opposite, may_pass, may_fail, numbers_in, merge_range, applied_range};
+ghost use Rattle.zs_bounds.specs.OutRange.{output_range_of};
+
+use crate::span::Span;
+use std::alloc::{AllocError, Global};
+use std::mem::replace;
+use zs_term::{Cmp, Func, Pick, Test};
+
+// A range of outputs: of numbers, pairs, sides of a choice, or lists by their number of items.
+#[derive(Drop)]
+pub(crate) enum OutRange {
+    // No output.
+    Nothing,
+    Numbers(Span),
+    Pairs(Box<OutRange>, Box<OutRange>),
+    // What may be on the left, and on the right.
+    Sides(Box<OutRange>, Box<OutRange>),
+    Lists(Span),
+    // Every output. No schedule meets it, since both sides that are joined have one kind.
+    Anything,
+}
+
+// Pairs of two ranges.
+pub(crate) fn make_pairs(
+    alloc: Global,
+    first: OutRange,
+    second: OutRange,
+) -> Result<OutRange, AllocError>
+    ensures value { IfOk result (λ r. output_range_of r ≡ pairs (output_range_of first) (output_range_of second)) }
+{
+    Ok(OutRange::Pairs(Box::new(alloc, first)?, Box::new(alloc, second)?))
+}
+
+// A choice of two ranges.
+pub(crate) fn make_sides(
+    alloc: Global,
+    left: OutRange,
+    right: OutRange,
+) -> Result<OutRange, AllocError>
+    ensures value { IfOk result (λ r. output_range_of r ≡ sides (output_range_of left) (output_range_of right)) }
+{
+    Ok(OutRange::Sides(Box::new(alloc, left)?, Box::new(alloc, right)?))
+}
+
+// A range around two.
+#[cycle(hulls)]
+pub(crate) fn hull(first: OutRange, second: OutRange) -> OutRange
+    ensures value { output_range_of result ≡ output_hull (output_range_of first) (output_range_of second) }
+{
+    match first {
+        OutRange::Nothing => second,
+        OutRange::Numbers(s) => numbers_hull(s, second),
+        OutRange::Pairs(a, b) => pairs_hull(a, b, second),
+        OutRange::Sides(a, b) => sides_hull(a, b, second),
+        OutRange::Lists(s) => lists_hull(s, second),
+        OutRange::Anything => OutRange::Anything,
+    }
+}
+
+// A range around a span of numbers and another range.
+fn numbers_hull(span: Span, second: OutRange) -> OutRange
+    ensures value { output_range_of result ≡ output_hull (numbers span) (output_range_of second) }
+{
+    match second {
+        OutRange::Nothing => OutRange::Numbers(span),
+        OutRange::Numbers(other) => OutRange::Numbers(span.hull(other)),
+        OutRange::Pairs(_, _) | OutRange::Sides(_, _) | OutRange::Lists(_) | OutRange::Anything => {
+            OutRange::Anything
+        }
+    }
+}
+
+// A range around lists and another range.
+fn lists_hull(span: Span, second: OutRange) -> OutRange
+    ensures value { output_range_of result ≡ output_hull (lists span) (output_range_of second) }
+{
+    match second {
+        OutRange::Nothing => OutRange::Lists(span),
+        OutRange::Lists(other) => OutRange::Lists(span.hull(other)),
+        OutRange::Pairs(_, _) | OutRange::Sides(_, _) | OutRange::Numbers(_) | OutRange::Anything =>
+            OutRange::Anything,
+    }
+}
+
+// A range around pairs and another range.
+#[cycle(hulls)]
+fn pairs_hull(a: Box<OutRange>, b: Box<OutRange>, second: OutRange) -> OutRange
+    ensures value { output_range_of result ≡ output_hull (pairs (output_range_of a.value) (output_range_of b.value)) (output_range_of second) }
+{
+    match second {
+        OutRange::Nothing => OutRange::Pairs(a, b),
+        OutRange::Pairs(c, d) => OutRange::Pairs(boxed_hull(a, c), boxed_hull(b, d)),
+        OutRange::Numbers(_) | OutRange::Sides(_, _) | OutRange::Lists(_) | OutRange::Anything =>
+            OutRange::Anything,
+    }
+}
+
+// A range around the sides of a choice and another range.
+#[cycle(hulls)]
+fn sides_hull(a: Box<OutRange>, b: Box<OutRange>, second: OutRange) -> OutRange
+    ensures value { output_range_of result ≡ output_hull (sides (output_range_of a.value) (output_range_of b.value)) (output_range_of second) }
+{
+    match second {
+        OutRange::Nothing => OutRange::Sides(a, b),
+        OutRange::Sides(c, d) => OutRange::Sides(boxed_hull(a, c), boxed_hull(b, d)),
+        OutRange::Numbers(_) | OutRange::Pairs(_, _) | OutRange::Lists(_) | OutRange::Anything =>
+            OutRange::Anything,
+    }
+}
+
+// A range around two in the memory of the first.
+#[cycle(hulls)]
+fn boxed_hull(first: Box<OutRange>, second: Box<OutRange>) -> Box<OutRange>
+    ensures value { output_range_of result.value ≡ output_hull (output_range_of first.value) (output_range_of second.value) }
+{
+    let mut first = first;
+    let inside = replace(&mut *first, OutRange::Nothing);
+    *first = hull(inside, Box::into_inner(second));
+    first
+}
+
+// The span of a range's numbers, if it has numbers alone.
+fn number_span(range: &OutRange) -> Option<Span>
+    ensures value { result ≡ number_span (output_range_of range.now) }
+{
+    match range {
+        OutRange::Numbers(s) => Some(*s),
+        OutRange::Nothing
+        | OutRange::Pairs(_, _)
+        | OutRange::Sides(_, _)
+        | OutRange::Lists(_)
+        | OutRange::Anything => None,
+    }
+}
+
+// The span of the lengths of lists, if it has lists alone.
+fn size_span(range: &OutRange) -> Option<Span>
+    ensures value { result ≡ size_span (output_range_of range.now) }
+{
+    match range {
+        OutRange::Lists(s) => Some(*s),
+        OutRange::Nothing
+        | OutRange::Numbers(_)
+        | OutRange::Pairs(_, _)
+        | OutRange::Sides(_, _)
+        | OutRange::Anything => None,
+    }
+}
+
+// The span of the numbers that a test reads, if they have one.
+pub(crate) fn picked_span(pick: Pick, range: &OutRange) -> Option<Span>
+    ensures value { result ≡ picked_span pick (output_range_of range.now) }
+{
+    match pick {
+        Pick::Whole => number_span(range),
+        Pick::First => match range {
+            OutRange::Pairs(a, _) => number_span(a),
+            OutRange::Nothing
+            | OutRange::Numbers(_)
+            | OutRange::Sides(_, _)
+            | OutRange::Lists(_)
+            | OutRange::Anything => number_span(range),
+        },
+        Pick::Second => match range {
+            OutRange::Pairs(_, b) => number_span(b),
+            OutRange::Nothing
+            | OutRange::Numbers(_)
+            | OutRange::Sides(_, _)
+            | OutRange::Lists(_)
+            | OutRange::Anything => number_span(range),
+        },
+        Pick::Size => size_span(range),
+    }
+}
+
+// Whether a comparison may hold of a number of a span.
+fn may_compare(cmp: Cmp, span: Span, than: u64) -> bool
+    ensures value { result ≡ may_compare cmp span than }
+{
+    match cmp {
+        Cmp::Lt => span.low < than,
+        Cmp::Le => span.low <= than,
+        Cmp::Eq => span.low <= than && than <= span.high,
+        Cmp::Ne => !(span.low == than && span.high == than),
+        Cmp::Gt => than < span.high,
+        Cmp::Ge => than <= span.high,
+    }
+}
+
+// The comparison that holds where another one doesn't.
+fn opposite(cmp: Cmp) -> Cmp
+    ensures value { result ≡ opposite cmp }
+{
+    match cmp {
+        Cmp::Lt => Cmp::Ge,
+        Cmp::Le => Cmp::Gt,
+        Cmp::Eq => Cmp::Ne,
+        Cmp::Ne => Cmp::Eq,
+        Cmp::Gt => Cmp::Le,
+        Cmp::Ge => Cmp::Lt,
+    }
+}
+
+// Whether a test of a number of a span may pass.
+pub(crate) fn may_pass(test: Test, span: Option<Span>) -> bool
+    ensures value { result ≡ may_pass test span }
+{
+    match span {
+        None => true,
+        Some(s) => may_compare(test.cmp, s, test.than),
+    }
+}
+
+// Whether it may fail.
+pub(crate) fn may_fail(test: Test, span: Option<Span>) -> bool
+    ensures value { result ≡ may_fail test span }
+{
+    match span {
+        None => true,
+        Some(s) => may_compare(opposite(test.cmp), s, test.than),
+    }
+}
+
+// Numbers, if they have a span.
+fn numbers_in(span: Option<Span>) -> OutRange
+    ensures value { output_range_of result ≡ numbers_in span }
+{
+    match span {
+        None => OutRange::Anything,
+        Some(s) => OutRange::Numbers(s),
+    }
+}
+
+// The range of the first parts of pairs.
+fn first_of(range: OutRange) -> OutRange
+    ensures value { output_range_of result ≡ first_range_in (output_range_of range) }
+{
+    match range {
+        OutRange::Pairs(a, _) => Box::into_inner(a),
+        OutRange::Nothing => OutRange::Nothing,
+        OutRange::Numbers(s) => OutRange::Numbers(s),
+        OutRange::Sides(a, b) => OutRange::Sides(a, b),
+        OutRange::Lists(s) => OutRange::Lists(s),
+        OutRange::Anything => OutRange::Anything,
+    }
+}
+
+// The range of the second parts of pairs.
+fn second_of(range: OutRange) -> OutRange
+    ensures value { output_range_of result ≡ second_range_in (output_range_of range) }
+{
+    match range {
+        OutRange::Pairs(_, b) => Box::into_inner(b),
+        OutRange::Nothing => OutRange::Nothing,
+        OutRange::Numbers(s) => OutRange::Numbers(s),
+        OutRange::Sides(a, b) => OutRange::Sides(a, b),
+        OutRange::Lists(s) => OutRange::Lists(s),
+        OutRange::Anything => OutRange::Anything,
+    }
+}
+
+// The range of what is on either side.
+fn merged(range: OutRange) -> OutRange
+    ensures value { output_range_of result ≡ merge_range (output_range_of range) }
+{
+    match range {
+        OutRange::Sides(a, b) => hull(Box::into_inner(a), Box::into_inner(b)),
+        OutRange::Nothing => OutRange::Nothing,
+        OutRange::Numbers(s) => OutRange::Numbers(s),
+        OutRange::Pairs(a, b) => OutRange::Pairs(a, b),
+        OutRange::Lists(s) => OutRange::Lists(s),
+        OutRange::Anything => OutRange::Anything,
+    }
+}
+
+// The range of a function's results.
+pub(crate) fn applied(func: Func, range: OutRange) -> OutRange
+    ensures value { output_range_of result ≡ applied_range func (output_range_of range) }
+{
+    match func {
+        Func::First => first_of(range),
+        Func::Second => second_of(range),
+        Func::Size => numbers_in(size_span(&range)),
+        Func::Merge => merged(range),
+        Func::Const(n) => OutRange::Numbers(Span::one(n)),
+        Func::Add(n) => match number_span(&range) {
+            None => OutRange::Anything,
+            Some(s) => OutRange::Numbers(Span::new(
+                s.low.saturating_add(n),
+                s.high.saturating_add(n),
+            )),
+        },
+        Func::Mul(n) => match number_span(&range) {
+            None => OutRange::Anything,
+            Some(s) => OutRange::Numbers(Span::new(
+                s.low.saturating_mul(n),
+                s.high.saturating_mul(n),
+            )),
+        },
+    }
+}

@@ -1,0 +1,88 @@
+// Numbers between two bounds.
+
+ghost use Rattle.std.specs.Prelude.{◌≡◌};
+ghost use Rattle.zs_bounds.specs.Span.{span, hull};
+ghost use Rattle.zs_bounds.specs.AnswerRange.{earlier_steps, delays};
+ghost use Rattle.zs_bounds.specs.StateRange.{more_steps, more_time};
+
+/// The greatest moment of a clock, in milliseconds: about 31,700 years.
+pub const MAX_TICK: u64 = 999_999_999_999_999;
+
+// The longest wait that is never cut at the greatest moment.
+pub(crate) const UNCUT_WAIT: u64 = u64::MAX - MAX_TICK;
+
+// All numbers from `low` to `high`.
+#[derive(Clone, Copy, Debug, PartialEq, Eq)]
+pub(crate) struct Span {
+    pub(crate) low: u64,
+    pub(crate) high: u64,
+}
+
+impl Span {
+    // The span of two bounds.
+    pub(crate) fn new(low: u64, high: u64) -> Span
+        ensures value { result ≡ span low high }
+    {
+        Span { low, high }
+    }
+
+    // A number alone.
+    pub(crate) fn one(number: u64) -> Span
+        ensures value { result ≡ span number number }
+    {
+        Span {
+            low: number,
+            high: number,
+        }
+    }
+
+    // The least span around both.
+    pub(crate) fn hull(self, other: Span) -> Span
+        ensures value { result ≡ hull self other }
+    {
+        Span {
+            low: self.low.min(other.low),
+            high: self.high.max(other.high),
+        }
+    }
+
+    // Each number with one less: of steps, the earlier ones.
+    pub(crate) fn earlier(self) -> Span
+        ensures value { result ≡ earlier_steps self }
+    {
+        Span {
+            low: self.low.saturating_sub(1),
+            high: self.high.saturating_sub(1),
+        }
+    }
+
+    // One step more.
+    pub(crate) fn more_steps(self) -> Span
+        ensures value { result ≡ more_steps self }
+    {
+        Span {
+            low: self.low.saturating_add(1),
+            high: self.high.saturating_add(1),
+        }
+    }
+
+    // Some time more at least, and at most a whole clock.
+    pub(crate) fn more_time(self, later: u64) -> Span
+        ensures value { result ≡ more_time later self }
+    {
+        Span {
+            low: self.low.saturating_add(later),
+            high: MAX_TICK,
+        }
+    }
+
+    // The waits for a delay: a moment that would be too great is cut.
+    pub(crate) fn delays(self) -> Option<Span>
+        ensures value { result ≡ delays self }
+    {
+        Some(Span {
+            low: self.low.min(UNCUT_WAIT),
+            high: self.high,
+        })
+    }
+}

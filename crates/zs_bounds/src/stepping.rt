@@ -1,0 +1,216 @@
+// One step of all states in which a schedule may be.
+
+ghost use Rattle.std.specs.Prelude.{◌≡◌, ◌&&◌, IfOk, OnOk, if◌then◌else◌};
+ghost use Rattle.zs_term.specs.Schedule.{two, over, and_then, while_output, collect_all, mapped, reset_when};
+ghost use Rattle.zs_bounds.specs.OutRange.{output_range_of};
+ghost use Rattle.zs_bounds.specs.AnswerRange.{range, answers_if, left_range, right_range};
+ghost use Rattle.zs_bounds.specs.DecisionRange.{may_go_on};
+ghost use Rattle.zs_bounds.specs.StateRange.{turns, items, first_range, first_state, with_first, begun, next_range, next_state};
+ghost use Rattle.zs_bounds.specs.Node.{node_schedule, node_state};
+
+use crate::answers::{
+    Answer, answer_hull, left_range, no_answer, paired, reset, right_range, tested,
+};
+use crate::leaves::leaf_range;
+use crate::node::{Node, add_first, any_input, first_range, more_items};
+use crate::ranges::{OutRange, applied, may_fail, may_pass, picked_span};
+use crate::span::Span;
+use std::alloc::{AllocError, Global};
+use zs_term::{Func, Pick, Test};
+
+// One step, in place, some milliseconds at least after the one before: what it may return.
+#[cycle(stepping)]
+pub(crate) fn step(alloc: Global, node: &mut Node, later: u64) -> Result<Answer, AllocError>
+    ensures answer { IfOk result (λ r. range (output_range_of r.0) r.1 ≡ next_range (node_schedule node.old) (node_state node.old) later) }
+    ensures state { OnOk result (node_state node.new ≡ next_state (node_schedule node.old) (node_state node.old) later) }
+    ensures same { OnOk result (node_schedule node.new ≡ node_schedule node.old) }
+{
+    match node {
+        Node::Leaf { leaf, steps, time } => {
+            *steps = steps.more_steps();
+            *time = time.more_time(later);
+            Ok(leaf_range(*leaf, *steps, *time))
+        }
+        Node::Both { first, second } => {
+            let (x, y) = (step(alloc, first, later)?, step(alloc, second, later)?);
+            let decision = x.1.both(y.1);
+            paired(alloc, x.0, y.0, decision)
+        }
+        Node::Either { first, second } => {
+            let (x, y) = (step(alloc, first, later)?, step(alloc, second, later)?);
+            let decision = x.1.either(y.1);
+            paired(alloc, x.0, y.0, decision)
+        }
+        Node::AndThen {
+            first_on,
+            second_on,
+            first,
+            second,
+        } => step_and_then(alloc, first_on, second_on, first, second, later),
+        Node::WhileInput { part, test } => {
+            Ok(tested(*test, any_input(), step(alloc, part, later)?))
+        }
+        Node::WhileOutput { part, pick, test } => {
+            step_while_output(alloc, part, *pick, *test, later)
+        }
+        Node::CollectAll { part, items } => step_collect_all(alloc, part, items, later),
+        Node::Map { part, func } => step_map(alloc, part, *func, later),
+        Node::ResetWhen { part, pick, test } => {
+            step_reset_when(alloc, part, *pick, *test, later)
+        }
+    }
+}
+
+// One step of a part under a test of its output.
+#[cycle(stepping)]
+fn step_while_output(
+    alloc: Global,
+    part: &mut Node,
+    pick: Pick,
+    test: Test,
+    later: u64,
+) -> Result<Answer, AllocError>
+    ensures answer { IfOk result (λ r. range (output_range_of r.0) r.1 ≡ next_range (over (node_schedule part.old) (while_output pick test)) (node_state part.old) later) }
+    ensures state { OnOk result (node_state part.new ≡ next_state (node_schedule part.old) (node_state part.old) later) }
+    ensures same { OnOk result (node_schedule part.new ≡ node_schedule part.old) }
+{
+    let x = step(alloc, part, later)?;
+    let span = picked_span(pick, &x.0);
+    Ok(tested(test, span, x))
+}
+
+// One step of a part whose outputs are collected.
+#[cycle(stepping)]
+fn step_collect_all(
+    alloc: Global,
+    part: &mut Node,
+    count: &mut Span,
+    later: u64,
+) -> Result<Answer, AllocError>
+    ensures answer { IfOk result (λ r. range (output_range_of r.0) r.1 ≡ next_range (over (node_schedule part.old) collect_all) (items count.old (node_state part.old)) later) }
+    ensures state { OnOk result (items count.new (node_state part.new) ≡ next_state (over (node_schedule part.old) collect_all) (items count.old (node_state part.old)) later) }
+    ensures same { OnOk result (node_schedule part.new ≡ node_schedule part.old) }
+{
+    let (_out, decision) = step(alloc, part, later)?;
+    let earlier = *count;
+    *count = more_items(decision, earlier);
+    Ok((OutRange::Lists(earlier), decision))
+}
+
+// One step of a part with a function of its output.
+#[cycle(stepping)]
+fn step_map(alloc: Global, part: &mut Node, func: Func, later: u64) -> Result<Answer, AllocError>
+    ensures answer { IfOk result (λ r. range (output_range_of r.0) r.1 ≡ next_range (over (node_schedule part.old) (mapped func)) (node_state part.old) later) }
+    ensures state { OnOk result (node_state part.new ≡ next_state (node_schedule part.old) (node_state part.old) later) }
+    ensures same { OnOk result (node_schedule part.new ≡ node_schedule part.old) }
+{
+    let (out, decision) = step(alloc, part, later)?;
+    Ok((applied(func, out), decision))
+}
+
+// One step of a part that may be reset.
+#[cycle(stepping)]
+fn step_reset_when(
+    alloc: Global,
+    part: &mut Node,
+    pick: Pick,
+    test: Test,
+    later: u64,
+) -> Result<Answer, AllocError>
+    ensures answer { IfOk result (λ r. range (output_range_of r.0) r.1 ≡ next_range (over (node_schedule part.old) (reset_when pick test)) (node_state part.old) later) }
+    ensures state { OnOk result (node_state part.new ≡ next_state (over (node_schedule part.old) (reset_when pick test)) (node_state part.old) later) }
+    ensures same { OnOk result (node_schedule part.new ≡ node_schedule part.old) }
+{
+    let x = step(alloc, part, later)?;
+    let span = picked_span(pick, &x.0);
+    let (passes, fails) = (may_pass(test, span), may_fail(test, span));
+    if !passes {
+        return Ok(x);
+    }
+    let first = first_range(alloc, part)?;
+    add_first(alloc, passes, fails, part)?;
+    Ok(reset(passes, fails, x, first))
+}
+
+// One step of two parts in turn: of the first if it may be on, of the second if it may be, and the second's first step if the first
+// may be done.
+#[cycle(stepping)]
+fn step_and_then(
+    alloc: Global,
+    first_on: &mut bool,
+    second_on: &mut bool,
+    first: &mut Node,
+    second: &mut Node,
+    later: u64,
+) -> Result<Answer, AllocError>
+    ensures answer { IfOk result (λ r. range (output_range_of r.0) r.1 ≡ next_range (two and_then (node_schedule first.old) (node_schedule second.old)) (turns first_on.old second_on.old (node_state first.old) (node_state second.old)) later) }
+    ensures state { OnOk result (turns first_on.new second_on.new (node_state first.new) (node_state second.new) ≡ next_state (two and_then (node_schedule first.old) (node_schedule second.old)) (turns first_on.old second_on.old (node_state first.old) (node_state second.old)) later) }
+    ensures same { OnOk result ((node_schedule first.new ≡ node_schedule first.old) × (node_schedule second.new ≡ node_schedule second.old)) }
+{
+    let (left, begins) = step_first(alloc, first_on, first, later)?;
+    let right = step_second(alloc, *second_on, second, later)?;
+    let all = answer_hull(left, right);
+    let new = begin_second(alloc, begins, *second_on, second)?;
+    *second_on = *second_on || begins;
+    Ok(answer_hull(all, new))
+}
+
+// One step of the first of two parts in turn, if it may be on, and whether the second may begin.
+#[cycle(stepping)]
+fn step_first(
+    alloc: Global,
+    is_on: &mut bool,
+    part: &mut Node,
+    later: u64,
+) -> Result<(Answer, bool), AllocError>
+    ensures answer { IfOk result (λ r. range (output_range_of r.0.0) r.0.1 ≡ answers_if is_on.old (left_range (next_range (node_schedule part.old) (node_state part.old) later))) }
+    ensures begins { IfOk result (λ r. r.1 ≡ (is_on.old && (next_range (node_schedule part.old) (node_state part.old) later).decision.stops)) }
+    ensures on { OnOk result (is_on.new ≡ (is_on.old && may_go_on (next_range (node_schedule part.old) (node_state part.old) later).decision)) }
+    ensures state { OnOk result (node_state part.new ≡ (if is_on.old then next_state (node_schedule part.old) (node_state part.old) later else node_state part.old)) }
+    ensures same { OnOk result (node_schedule part.new ≡ node_schedule part.old) }
+{
+    if !*is_on {
+        return Ok((no_answer(), false));
+    }
+    let x = step(alloc, part, later)?;
+    let begins = x.1.stops;
+    *is_on = x.1.may_go_on();
+    Ok((left_range(alloc, x)?, begins))
+}
+
+// One step of the second of two parts in turn, if it may be on.
+#[cycle(stepping)]
+fn step_second(
+    alloc: Global,
+    is_on: bool,
+    part: &mut Node,
+    later: u64,
+) -> Result<Answer, AllocError>
+    ensures answer { IfOk result (λ r. range (output_range_of r.0) r.1 ≡ answers_if is_on (right_range (next_range (node_schedule part.old) (node_state part.old) later))) }
+    ensures state { OnOk result (node_state part.new ≡ (if is_on then next_state (node_schedule part.old) (node_state part.old) later else node_state part.old)) }
+    ensures same { OnOk result (node_schedule part.new ≡ node_schedule part.old) }
+{
+    if !is_on {
+        return Ok(no_answer());
+    }
+    right_range(alloc, step(alloc, part, later)?)
+}
+
+// The first step of the second of two parts in turn, if it may begin.
+fn begin_second(
+    alloc: Global,
+    begins: bool,
+    is_on: bool,
+    part: &mut Node,
+) -> Result<Answer, AllocError>
+    ensures answer { IfOk result (λ r. range (output_range_of r.0) r.1 ≡ answers_if begins (right_range (first_range (node_schedule part.old)))) }
+    ensures state { OnOk result (node_state part.new ≡ begun begins is_on (with_first (node_schedule part.old) (node_state part.old)) (first_state (node_schedule part.old)) (node_state part.old)) }
+    ensures same { OnOk result (node_schedule part.new ≡ node_schedule part.old) }
+{
+    if !begins {
+        return Ok(no_answer());
+    }
+    let first = first_range(alloc, part)?;
+    add_first(alloc, begins, is_on, part)?;
+    right_range(alloc, first)
+}

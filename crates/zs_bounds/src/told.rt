@@ -1,0 +1,95 @@
+// What is known of a schedule for every history that a driver can make.
+
+ghost use Rattle.std.specs.Prelude.{◌≡◌, ◌+◌, ◌<◌, ◌^◌};
+ghost use Rattle.zs_bounds.specs.BoundsOf.{no_bounds, with_step, ended, unended, sum_within, longest_in};
+
+use crate::decisions::Decisions;
+use crate::span::Span;
+
+/// What holds for every history that a driver can make with a schedule.
+#[derive(Clone, Copy, Debug, PartialEq, Eq)]
+pub struct Bounds {
+    /// The number of steps that were looked at.
+    pub seen: u64,
+    /// No step before this one is the last: the schedule gives up after so many attempts at the earliest.
+    pub least: u64,
+    /// The step at which the schedule is done at the latest, if it always is within the steps that were looked at.
+    pub most: Option<u64>,
+    /// The longest wait after a step that was looked at, in milliseconds.
+    pub longest: u64,
+    /// At most so many milliseconds of waiting in all, if there is a bound.
+    pub total: Option<u64>,
+}
+
+impl Bounds {
+    // Before the first step.
+    pub(crate) fn nothing() -> Bounds
+        ensures value { result ≡ no_bounds }
+    {
+        Bounds {
+            seen: 0,
+            least: 1,
+            most: None,
+            longest: 0,
+            total: Some(0),
+        }
+    }
+
+    // One more step, with what it may decide.
+    pub(crate) fn with_step(self, decision: Decisions) -> Bounds
+        requires within { self.seen + 1 < 2 ^ 64 }
+        ensures value { result ≡ with_step decision self }
+    {
+        let wait = longest_in(decision.waits);
+        let goes_on = self.seen < self.least && !decision.stops;
+        Bounds {
+            seen: self.seen + 1,
+            least: if goes_on {
+                self.least.saturating_add(1)
+            } else {
+                self.least
+            },
+            most: None,
+            longest: self.longest.max(wait),
+            total: sum_within(self.total, wait),
+        }
+    }
+
+    // The last step that was seen is the last that there may be.
+    pub(crate) fn ended(self) -> Bounds
+        ensures value { result ≡ ended self }
+    {
+        Bounds {
+            most: Some(self.seen),
+            ..self
+        }
+    }
+
+    // There may be more steps than were seen.
+    pub(crate) fn unended(self) -> Bounds
+        ensures value { result ≡ unended self }
+    {
+        Bounds {
+            most: None,
+            total: None,
+            ..self
+        }
+    }
+}
+
+// The longest wait of some decisions.
+fn longest_in(waits: Option<Span>) -> u64
+    ensures value { result ≡ longest_in waits }
+{
+    match waits {
+        None => 0,
+        Some(span) => span.high,
+    }
+}
+
+// A sum, if it fits.
+fn sum_within(total: Option<u64>, wait: u64) -> Option<u64>
+    ensures value { result ≡ sum_within total wait }
+{
+    total?.checked_add(wait)
+}

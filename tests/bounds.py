@@ -1,0 +1,325 @@
+#!/usr/bin/env python3
+"""Compares what zsched-bounds tells of random policies with an interval run of its own, and with driven histories.
+
+    python3 tests/bounds.py --seeds 0..2000             random policies: equal bounds, and no driven history outside them
+    python3 tests/bounds.py --policy 'POLICY' ..        the bounds of each policy, by this file alone
+    python3 tests/bounds.py --tight 0..300              small policies: the share of bounds that a history meets exactly
+
+The interval run is written from docs/SEMANTICS.md: each number of a schedule's state is an interval. A driven history is one
+that a driver can make: moments up to LAST, an attempt takes at least 1 ms and begins no earlier than the schedule said. The
+program is run unproved, by `rt try`."""
+import argparse
+import json
+import pathlib
+import random
+import subprocess
+import sys
+
+import generator
+import reference
+
+TOP = pathlib.Path(__file__).resolve().parent.parent
+MOST, LAST = 2 ** 64 - 1, 999999999999999
+STEPS = 20000
+INPUTS = [0, 1, 2, 3, 4, 5, 7, 404, 503, MOST]
+ANY = ("num", 0, MOST)
+
+
+def sat(x):
+    return min(x, MOST)
+
+
+def hull(a, b):
+    """The least interval around two, either of which may be missing."""
+    return b if a is None else a if b is None else (min(a[0], b[0]), max(a[1], b[1]))
+
+
+# Ranges of outputs: ("num", low, high), ("pair", a, b), ("sum", left or None, right or None), ("items", low, high).
+
+def join(a, b):
+    if a is None or b is None:
+        return a or b
+    if a[0] in ("num", "items"):
+        return a[0], *hull(a[1:], b[1:])
+    return a[0], join(a[1], b[1]), join(a[2], b[2])
+
+
+def tested(interval, comparison, k):
+    """Whether a number of the interval may pass, and may fail."""
+    low, high = interval
+    return {"<": (low < k, high >= k), "<=": (low <= k, high > k), ">": (high > k, low <= k), ">=": (high >= k, low < k),
+            "=": (low <= k <= high, not low == high == k), "!=": (not low == high == k, low <= k <= high)}[comparison]
+
+
+def picked(pick, out):
+    return {None: out, "_1": out[1], "_2": out[2], "size": out}[pick][1:3]
+
+
+def mapped(function, k, out):
+    if function in ("_1", "_2"):
+        return out[1 if function == "_1" else 2]
+    if function == "merge":
+        return join(out[1], out[2])
+    if function == "size":
+        return "num", out[1], out[2]
+    if function == "as":
+        return "num", k, k
+    return ("num", sat(out[1] + k), sat(out[2] + k)) if function == "+" else ("num", sat(out[1] * k), sat(out[2] * k))
+
+
+# An answer: a range of outputs, the interval of waits if it may go on or None, and whether it may stop.
+
+def either(a, b):
+    return (join(a[0], b[0]), hull(a[1], b[1]), a[2] or b[2]) if a and b else a or b
+
+
+def power(b, f, e):
+    return b if b == 0 or f == 1 else MOST if e > 64 else sat(b * f ** e)
+
+
+def fibonacci(n):
+    return MOST if n > 100 else reference.fibonacci(n)
+
+
+def leaf(s, steps, time):
+    """The answer of a leaf by the intervals of its number of steps, with this one, and of the time since the first one."""
+    (low, high), first = steps, steps[1] == 1
+    number = "num", low - 1, high - 1
+    match s:
+        case ["forever"]:
+            return number, (0, 0), False
+        case "recurs", k:
+            return number, (0, 0) if low - 1 < k else None, high - 1 >= k
+        case "spaced", p:
+            return number, (min(p, MOST - LAST), p), False
+        case "fixed", p:
+            return number, (min(p, MOST - LAST) if first else 0, p), False
+        case "windowed", p:
+            return number, (min(p, MOST - LAST) if first else min(1, p), p), False
+        case "exponential", b, f:
+            x = power(b, f, low - 1), power(b, f, high - 1)
+        case "fibonacci", o:
+            x = sat(o * fibonacci(low)), sat(o * fibonacci(high))
+        case "linear", k:
+            x = sat(k * low), sat(k * high)
+        case ["identity"]:
+            return ANY, (0, 0), False
+        case ["elapsed"]:
+            return ("num", *time), (0, 0), False
+    return ("num", *x), (min(x[0], MOST - LAST), x[1]), False
+
+
+def side(name, a):
+    """An answer of one of two schedules in turn."""
+    return None if a is None else (("sum", a[0], None) if name == "Left" else ("sum", None, a[0]), a[1], a[2])
+
+
+def merge(s, a, b):
+    """The states of one or the other."""
+    if a is None or b is None:
+        return a or b
+    match s[0]:
+        case "&&" | "||":
+            return merge(s[1], a[0], b[0]), merge(s[2], a[1], b[1])
+        case "andThenEither":
+            return merge(s[1], a[0], b[0]), merge(s[2], a[1], b[1])
+        case "collectAll":
+            return merge(s[1], a[0], b[0]), hull(a[1], b[1])
+        case "whileInput" | "whileOutput" | "map" | "resetWhen":
+            return merge(s[1], a, b)
+    return hull(a[0], b[0]), hull(a[1], b[1])
+
+
+def step(s, state, d):
+    """The answer of one more step, at least d after the one before, and the states after it; None is before the first step."""
+    match s:
+        case ("&&" | "||") as operator, a, b:
+            (x, wa, pa), sa = step(a, state and state[0], d)
+            (y, wb, pb), sb = step(b, state and state[1], d)
+            both = wa and wb
+            if operator == "&&":
+                return (("pair", x, y), both and (max(wa[0], wb[0]), max(wa[1], wb[1])), pa or pb), (sa, sb)
+            wait = both and (min(wa[0], wb[0]), min(wa[1], wb[1]))
+            return (("pair", x, y), hull(hull(wait, wa if pb else None), wb if pa else None), pa and pb), (sa, sb)
+        case "andThenEither", a, b:
+            return step_in_turn(a, b, state, d)
+        case "whileInput", part, _, comparison, k:
+            (x, w, p), state = step(part, state, d)
+            passes, fails = tested((0, MOST), comparison, k)
+            return (x, w if passes else None, p or fails), state
+        case "whileOutput", part, pick, comparison, k:
+            (x, w, p), state = step(part, state, d)
+            passes, fails = tested(picked(pick, x), comparison, k)
+            return (x, w if passes else None, p or fails), state
+        case "collectAll", part:
+            count = state[1] if state else (0, 0)
+            (x, w, p), inner = step(part, state and state[0], d)
+            return (("items", *count), w, p), (inner, (count[0] + (not p), count[1] + (w is not None)))
+        case "map", part, function, k:
+            (x, w, p), state = step(part, state, d)
+            return (mapped(function, k, x), w, p), state
+        case "resetWhen", part, pick, comparison, k:
+            answer, after = step(part, state, d)
+            passes, fails = tested(picked(pick, answer[0]), comparison, k)
+            if not passes:
+                return answer, after
+            first, begun = step(part, None, 0)
+            return (either(answer, first), merge(part, after, begun)) if fails else (first, begun)
+    steps, time = state or ((0, 0), (0, 0))
+    after = (steps[0] + 1, steps[1] + 1), (time[0] + d, LAST) if state else (0, 0)
+    return leaf(s, *after), after
+
+
+def step_in_turn(a, b, state, d):
+    """The same of `andThenEither`: a state is those of both parts, None for one that can't be on."""
+    answer, first, second = None, None, None
+    if state is None or state[0]:
+        (x, w, stops), after = step(a, state and state[0], d)
+        if w:
+            answer, first = side("Left", (x, w, False)), after
+        if stops:
+            begun, second = step(b, None, 0)
+            answer = either(answer, side("Right", begun))
+    if state and state[1]:
+        later, after = step(b, state[1], d)
+        answer, second = either(answer, side("Right", later)), merge(b, second, after)
+    return answer, (first, second)
+
+
+def bounds(s, most=STEPS):
+    state, d, passed, least, longest, total = None, 0, 0, 1, 0, 0
+    for n in range(1, most + 1):
+        (_, wait, may_stop), state = step(s, state, d)
+        if least == n and not may_stop:
+            least = n + 1
+        if wait:
+            longest, total = max(longest, wait[1]), total + wait[1]
+            d = wait[0] + 1
+            passed += d
+        if wait is None or passed > LAST:
+            return told(least, n if wait is None else None, longest, total, n)
+    return told(least, None, longest, None, most)
+
+
+def told(least, most, longest, total, seen):
+    return {"attempts": {"least": least, "most": most}, "longest_wait": longest,
+            "total_wait": total if total is None or total <= MOST else None, "steps_seen": seen}
+
+
+# ---- driven histories
+
+def history_outside(chance, s, b, steps):
+    """What a random driven history of so many steps at most says against bounds, or None, and how many steps went on."""
+    moment = chance.choice([0, 1, 5, 1000, LAST // 2])
+    pairs, memo, total = [], {}, 0
+    for n in range(1, min(steps, b["steps_seen"]) + 1):
+        pairs.append((moment, chance.choice(INPUTS)))
+        _, x = reference.step(s, reference.History(pairs, memo, 0, n))
+        if x is None:
+            return (f"stops at {n}" if n < b["attempts"]["least"] else None), n - 1
+        total += x - moment
+        if n == b["attempts"]["most"]:
+            return f"goes on at {n}", n
+        if x - moment > b["longest_wait"]:
+            return f"waits {x - moment} at {n}", n
+        if b["total_wait"] is not None and total > b["total_wait"]:
+            return f"waits {total} in all at {n}", n
+        moment = x + chance.choice([1, 1, 2, 5, 40, 1000])
+        if moment > LAST:
+            return None, n
+    return None, len(pairs)
+
+
+def random_policy(seed):
+    """A text and its schedule, or None where the text is none."""
+    chance = random.Random(seed)
+    tokens, _ = generator.made_term(chance, chance.choice([1, 2, 3, 4, 5, 7, 10, 14]))
+    text = generator.spelled(chance, tokens).strip()
+    try:
+        return text, reference.read_schedule(text.encode())
+    except reference.Fault:
+        return None
+
+
+def program_lines(policies):
+    """What the program tells of policies."""
+    ran = subprocess.run(["rt", "try"], cwd=TOP / "crates" / "zsched_bounds", input="".join(p + "\n" for p in policies), text=True,
+                         capture_output=True, check=False)
+    lines = [line for line in ran.stdout.splitlines() if line.startswith("{")]
+    if len(lines) != len(policies):
+        sys.exit(f"{len(lines)} lines for {len(policies)} policies\n{ran.stdout[-2000:]}\n{ran.stderr[-2000:]}")
+    return [json.loads(line) for line in lines]
+
+
+def compare(seeds, histories, steps):
+    policies = [p for seed in seeds if (p := random_policy(seed))]
+    wrong = gone = 0
+    for at in range(0, len(policies), 500):
+        some = policies[at:at + 500]
+        for (text, s), line in zip(some, program_lines([text for text, _ in some])):
+            line.pop("policy")
+            if line != bounds(s):
+                wrong += 1
+                print(f"{text}\n    program {line}\n    here    {bounds(s)}")
+            for k in range(histories):
+                said, went_on = history_outside(random.Random(f"{text} {k}"), s, line, steps)
+                gone += went_on
+                if said:
+                    wrong += 1
+                    print(f"{text}\n    a driven history {said}, but the program says {line}")
+    print(f"{len(policies)} policies, {histories} histories each, {gone} steps that went on; {wrong} differences")
+    return wrong
+
+
+# ---- how tight bounds are
+
+def reached(s, steps):
+    """The least and most steps, the longest wait and the total that driven histories of inputs 0..3 and durations 1..3 reach."""
+    least, most, longest, total = steps + 1, 0, 0, 0
+    open_histories = [([(0, i)], 0) for i in range(4)]
+    while open_histories:
+        pairs, waited = open_histories.pop()
+        n = len(pairs)
+        _, x = reference.step(s, reference.History(pairs, {}, 0, n))
+        if x is None:
+            least, most, total = min(least, n), max(most, n), max(total, waited)
+            continue
+        wait = x - pairs[-1][0]
+        longest, total = max(longest, wait), max(total, waited + wait)
+        if n == steps:
+            most = steps + 1
+        elif x + 3 <= LAST:
+            open_histories += [(pairs + [(x + d, i)], waited + wait) for d in (1, 3) for i in range(4)]
+    return least, most, longest, total
+
+
+def tightness(seeds, steps):
+    met = [0, 0, 0, 0]
+    policies = [p for seed in seeds if (p := random_policy(seed)) and len(p[0]) < 60 and ".resetWhen" not in p[0].replace(" ", "")]
+    for _, s in policies:
+        b, (least, most, longest, total) = bounds(s, steps), reached(s, steps)
+        met[0] += b["attempts"]["least"] == least
+        met[1] += (b["attempts"]["most"] or steps + 1) == most
+        met[2] += b["longest_wait"] == longest
+        met[3] += b["total_wait"] is None or b["total_wait"] == total
+    print(f"{len(policies)} policies: least met by {met[0]}, most by {met[1]}, longest wait by {met[2]}, total by {met[3]}")
+
+
+def main():
+    words = argparse.ArgumentParser(description=__doc__, formatter_class=argparse.RawDescriptionHelpFormatter)
+    words.add_argument("--seeds", help="A..B")
+    words.add_argument("--histories", type=int, default=3)
+    words.add_argument("--steps", type=int, default=40)
+    words.add_argument("--tight", help="A..B")
+    words.add_argument("--policy", nargs="+", default=[])
+    given = words.parse_args()
+    for text in given.policy:
+        print(json.dumps({"policy": text, **bounds(reference.read_schedule(text.encode()))}))
+    if given.tight:
+        tightness(range(*map(int, given.tight.split(".."))), 4)
+    if given.seeds:
+        sys.exit(compare(range(*map(int, given.seeds.split(".."))), given.histories, given.steps) != 0)
+
+
+if __name__ == "__main__":
+    main()
