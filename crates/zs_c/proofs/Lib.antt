@@ -1,2 +1,10 @@
 pub mod SeenPairs
 pub mod Rooms
+pub mod Nodes
+pub mod Codes
+pub mod OutputRooms
+pub mod StepLemmas
+pub mod ViewLemmas
+pub mod Uniqueness
+pub mod Listless
+pub mod TextBounds
