@@ -11,6 +11,6 @@ loop-word-preserved c =
     let more = fold_more check_more 0 c.args.words.now c.loop-word.word-index 0 lt in
     cc
 
-pub returns-clause-value : goal.returns-clause-value
+pub returns : goal.returns
 unfolding check_word
-returns-clause-value c = c.loop-word.invariant ∙ ap (fold check_more 0) (take_all c.loop-word.word-index c.args.words.now (omega arith))
+returns c = c.loop-word.invariant ∙ ap (fold check_more 0) (take_all c.loop-word.word-index c.args.words.now (omega arith))
