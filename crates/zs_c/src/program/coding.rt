@@ -1,6 +1,6 @@
 // Writes a term as a program.
 
-ghost use Rattle.std.specs.Prelude.{◌≡◌, ◌+◌, ◌*◌, ◌≤◌, [], ◌++◌, length, IfOk, OnOk};
+ghost use Rattle.std.specs.Prelude.{◌≡◌, ◌+◌, ◌*◌, ◌≤◌, [], ◌∷◌, ◌++◌, length, IfOk, OnOk};
 ghost use Rattle.zs_term.specs.Schedule.{schedule_of, weight};
 ghost use Rattle.zs_c.specs.Code.{code_of, held_of, held_size, cmp_word, pick_word, func_word, func_number};
 ghost use Rattle.zs_c.specs.Program.{program_of};
@@ -119,7 +119,10 @@ fn write_code(term: &Term, code: &mut Vec<u64>) -> Result<(), AllocError>
 
 // Writes the tag of an operator between two terms, the sizes of the first, and both.
 #[cycle(coding)]
-fn write_parts(tag: u64, a: &Term, b: &Term, code: &mut Vec<u64>) -> Result<(), AllocError> {
+fn write_parts(tag: u64, a: &Term, b: &Term, code: &mut Vec<u64>) -> Result<(), AllocError>
+    requires small { weight (schedule_of a.now) + weight (schedule_of b.now) ≤ 1000 }
+    ensures ok { OnOk result (code.new.items ≡ code.old.items ++ (tag ∷ (length (code_of (schedule_of a.now)) ∷ (held_size (schedule_of a.now) ∷ (code_of (schedule_of a.now) ++ code_of (schedule_of b.now)))))) }
+{
     code.extend_from_slice(&[tag, code_size(a), state_size(a)])?;
     write_code(a, code)?;
     write_code(b, code)

@@ -2,8 +2,9 @@
 
 ghost use Rattle.std.specs.Prelude.{◌≡◌, ℕ, ◌+◌, List, [], ◌∷◌, length, nat_eq, if◌then◌else◌, slice_set};
 ghost use Rattle.zs_term.specs.Saturating.{saturated};
+ghost use Rattle.zs_term.specs.Schedule.{fixed};
 ghost use Rattle.zs_step.specs.History.{History};
-ghost use Rattle.zs_step.specs.Answer.{leaf_answer, run_after, window_end};
+ghost use Rattle.zs_step.specs.Answer.{leaf_answer, next_run, run_after, window_end};
 ghost use Rattle.zs_step.specs.declared.decision.Decision.TheVariants.{Next};
 ghost use Rattle.zs_c.specs.Code.{leaf_held};
 ghost use Rattle.zs_c.specs.Node.{rule_leaf};
@@ -70,8 +71,11 @@ pub(crate) fn step_leaf(rule: Rule, words: &mut [u64], step: &Step) -> Decision
     }
 }
 
-// One step of `fixed`.
-fn step_fixed(period: u64, words: &mut [u64], now: u64) -> Decision {
+// One step of `fixed`, whatever its input.
+fn step_fixed(period: u64, words: &mut [u64], now: u64) -> Decision
+    ensures held { (h : History) (input : ℕ) → words.old ≡ leaf_held (fixed period) h → words.new ≡ leaf_held (fixed period) ((now, input) ∷ h) }
+    ensures decides { (h : History) (input : ℕ) → words.old ≡ leaf_held (fixed period) h → result ≡ Next (next_run period ((now, input) ∷ h)) }
+{
     let (before, first) = count_from(words, now);
     let run = if before == 0 {
         now.saturating_add(period)

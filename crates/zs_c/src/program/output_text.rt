@@ -16,8 +16,8 @@ use itoa::Buffer;
 // where it ends.
 #[cycle(texts)]
 pub(crate) fn put_output(place: Place<'_>, room: &mut [u8], at: usize) -> usize
-    ensures text { (o : Output) → PlaceTells place o → at + length (output_text o) < 2 ^ 64 → room.new ≡ written_at at (output_text o) room.old }
-    ensures end { (o : Output) → PlaceTells place o → at + length (output_text o) < 2 ^ 64 → result ≡ at + length (output_text o) }
+    ensures text { (o : Output) → PlaceTells place.entry o → at + length (output_text o) < 2 ^ 64 → room.new ≡ written_at at (output_text o) room.old }
+    ensures end { (o : Output) → PlaceTells place.entry o → at + length (output_text o) < 2 ^ 64 → result ≡ at + length (output_text o) }
 {
     match read_view(place) {
         View::Number(n) => put_number(n, room, at),
@@ -36,8 +36,8 @@ pub(crate) fn put_output(place: Place<'_>, room: &mut [u8], at: usize) -> usize
 // Writes the text of a side.
 #[cycle(texts)]
 fn put_side(side: &[u8], part: Place<'_>, room: &mut [u8], at: usize) -> usize
-    ensures text { (o : Output) → PlaceTells part o → at + length (side.now ++ (output_text o ++ codes ")")) < 2 ^ 64 → room.new ≡ written_at at (side.now ++ (output_text o ++ codes ")")) room.old }
-    ensures end { (o : Output) → PlaceTells part o → at + length (side.now ++ (output_text o ++ codes ")")) < 2 ^ 64 → result ≡ at + length (side.now ++ (output_text o ++ codes ")")) }
+    ensures text { (o : Output) → PlaceTells part.entry o → at + length (side.now ++ (output_text o ++ codes ")")) < 2 ^ 64 → room.new ≡ written_at at (side.now ++ (output_text o ++ codes ")")) room.old }
+    ensures end { (o : Output) → PlaceTells part.entry o → at + length (side.now ++ (output_text o ++ codes ")")) < 2 ^ 64 → result ≡ at + length (side.now ++ (output_text o ++ codes ")")) }
 {
     put_behind(room, at, side);
     let end = put_output(part, room, at.saturating_add(side.len()));

@@ -27,8 +27,8 @@ pub(crate) enum View<'a> {
 // The output of a node's last step.
 #[cycle(viewing)]
 pub(crate) fn read_view(place: Place<'_>) -> View<'_>
-    ensures shows { (o : Output) → PlaceTells place o → Shows result o }
-    ensures lower { IsLower result place.levels }
+    ensures shows { (o : Output) → PlaceTells place.entry o → Shows result o }
+    ensures lower { IsLower result place.entry.levels }
 {
     if place.levels == 0 {
         return View::Number(0);
@@ -52,8 +52,8 @@ pub(crate) fn read_view(place: Place<'_>) -> View<'_>
 // A function of a part's output.
 #[cycle(viewing)]
 fn read_mapped(func: Func, part: Place<'_>) -> View<'_>
-    ensures shows { (o : Output) → PlaceTells part o → Shows result (applied func o) }
-    ensures lower { IsLower result part.levels }
+    ensures shows { (o : Output) → PlaceTells part.entry o → Shows result (applied func o) }
+    ensures lower { IsLower result part.entry.levels }
 {
     match func {
         Func::First => match read_view(part) {
@@ -78,9 +78,9 @@ fn read_mapped(func: Func, part: Place<'_>) -> View<'_>
 // The part of an operator, whose code begins at a place.
 #[inline(always)]
 fn part(place: Place<'_>, at: usize) -> Place<'_>
-    ensures code { result.code.now ≡ drop at place.code.now }
-    ensures words { result.words.now ≡ place.words.now }
-    ensures levels { result.levels ≡ place.levels - 1 }
+    ensures code { result.code.now ≡ drop at place.entry.code.now }
+    ensures words { result.words.now ≡ place.entry.words.now }
+    ensures levels { result.levels ≡ place.entry.levels - 1 }
 {
     Place {
         code: behind(place.code, at),
@@ -92,12 +92,12 @@ fn part(place: Place<'_>, at: usize) -> Place<'_>
 // Both parts of an operator, whose words begin at a place.
 #[inline(always)]
 fn parts(place: Place<'_>, sizes: Sizes, at: usize) -> (Place<'_>, Place<'_>)
-    ensures first_code { result.0.code.now ≡ take sizes.code (drop 3 place.code.now) }
-    ensures second_code { result.1.code.now ≡ drop sizes.code (drop 3 place.code.now) }
-    ensures first_words { result.0.words.now ≡ take sizes.state (drop at place.words.now) }
-    ensures second_words { result.1.words.now ≡ drop sizes.state (drop at place.words.now) }
-    ensures first_levels { result.0.levels ≡ place.levels - 1 }
-    ensures second_levels { result.1.levels ≡ place.levels - 1 }
+    ensures first_code { result.0.code.now ≡ take sizes.code (drop 3 place.entry.code.now) }
+    ensures second_code { result.1.code.now ≡ drop sizes.code (drop 3 place.entry.code.now) }
+    ensures first_words { result.0.words.now ≡ take sizes.state (drop at place.entry.words.now) }
+    ensures second_words { result.1.words.now ≡ drop sizes.state (drop at place.entry.words.now) }
+    ensures first_levels { result.0.levels ≡ place.entry.levels - 1 }
+    ensures second_levels { result.1.levels ≡ place.entry.levels - 1 }
 {
     let (rest, words) = (behind(place.code, 3), behind(place.words, at));
     let (size, state) = (sizes.code as usize, sizes.state as usize);
@@ -117,7 +117,7 @@ fn parts(place: Place<'_>, sizes: Sizes, at: usize) -> (Place<'_>, Place<'_>)
 
 // The number, or 0 of another output.
 fn number_in(view: View<'_>) -> u64
-    ensures value { (o : Output) → Shows view o → result ≡ number_in o }
+    ensures value { (o : Output) → Shows view.entry o → result ≡ number_in o }
 {
     match view {
         View::Number(n) => n,
@@ -127,7 +127,7 @@ fn number_in(view: View<'_>) -> u64
 
 // The number that a test reads.
 pub(crate) fn read_number(pick: Pick, place: Place<'_>) -> u64
-    ensures value { (o : Output) → PlaceTells place o → result ≡ picked pick o }
+    ensures value { (o : Output) → PlaceTells place.entry o → result ≡ picked pick o }
 {
     let whole = read_view(place);
     match pick {

@@ -1,6 +1,6 @@
 // A program over the words of its state.
 
-ghost use Rattle.std.specs.Prelude.{◌≡◌, ◌≤◌, [], ◌∷◌, length, drop, slice_index_or, IfOk, IfErr};
+ghost use Rattle.std.specs.Prelude.{◌≡◌, ◌+◌, ◌≤◌, [], ◌∷◌, length, drop, slice_index_or, IfOk, IfErr};
 ghost use Rattle.zs_term.specs.Schedule.{Schedule};
 ghost use Rattle.zs_c.specs.Program.{IsProgram};
 ghost use Rattle.zs_c.specs.Opened.{Opens};
@@ -59,7 +59,7 @@ pub(crate) fn steppable<'a>(
 // Writes the state of a program before any step.
 pub(crate) fn begin(opened: Opened<'_>, state: &mut [u64])
     requires fits { opened.state + 2 ≤ length state.old }
-    ensures begun { (t : Schedule) → Opens opened t → IsProgramBegun t state.old state.new }
+    ensures begun { (t : Schedule) → Opens opened.entry t → IsProgramBegun t state.old state.new }
 {
     state[0] = opened.check;
     state[1] = 0;
@@ -77,7 +77,7 @@ pub(crate) fn run_step(
 ) -> u32
     requires fits { opened.state + 2 ≤ length state.old }
     ensures told { result ≤ 1 }
-    ensures stepped { (t : Schedule) → Opens opened t → IsProgramStepped t state.old state.new step.now.moment step.now.input result reply.new out.old out.new }
+    ensures stepped { (t : Schedule) → Opens opened.entry t → IsProgramStepped t state.old state.new step.now.moment step.now.input result reply.new out.old out.new }
 {
     let mut visits = 0;
     let words = &mut state[2..opened.state + 2];
