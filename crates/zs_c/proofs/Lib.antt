@@ -8,3 +8,4 @@ pub mod ViewLemmas
 pub mod Uniqueness
 pub mod Listless
 pub mod TextBounds
+pub mod LeafSteps
