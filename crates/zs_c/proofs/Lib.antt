@@ -9,3 +9,5 @@ pub mod Uniqueness
 pub mod Listless
 pub mod TextBounds
 pub mod LeafSteps
+pub mod Cleared
+pub mod Views
