@@ -1,9 +1,11 @@
 -- Words of a known number, once they are overwritten.
-use Rattle.std.proofs.Common.{◌≡◌, ℕ, ◌+◌, ◌*◌, ◌^◌, ◌<◌, ◌≤◌, List, [], ◌∷◌, ◌++◌, length, take, drop, refl, sym, ap, ◌∙◌, arith}
+use Rattle.std.proofs.Common.{◌≡◌, ℕ, ◌+◌, ◌*◌, ◌^◌, ◌<◌, ◌≤◌, List, [], ◌∷◌, ◌++◌, length, take, drop, refl, sym, ap, ◌∙◌, subst, arith}
 use Rattle.std.specs.Prelude.{slice_set}
-use Rattle.std.proofs.lemmas.List.{length-append, length-take, length-drop}
 use Rattle.zs_term.specs.Saturating.{saturated}
-use Rattle.zs_c.specs.Node.{word_at}
+use Rattle.zs_term.specs.Schedule.{linear, exponential, fibonacci}
+use Rattle.zs_c.specs.declared.program.node.Rule.{Rule}
+use Rattle.zs_c.specs.Code.{leaf_held}
+use Rattle.zs_c.specs.Node.{rule_leaf}
 
 -- one word
 pub cleared-one : (old new : List ℕ) (a : ℕ) → length old ≡ 1 → new ≡ slice_set old 0 a → new ≡ a ∷ []
@@ -42,8 +44,27 @@ cleared-four (x ∷ (y ∷ (z ∷ (u ∷ [])))) mid next new a b d e sized puts 
 cleared-four (x ∷ (y ∷ (z ∷ (u ∷ (v ∷ old))))) mid next new a b d e sized puts third fourth = absurd (omega (arith, sized))
 
 -- numbers of a leaf before any step
-pub no-times : (n : ℕ) → saturated (n * 0) ≡ 0
+no-times : (n : ℕ) → saturated (n * 0) ≡ 0
 no-times n = omega arith
 
-pub one-time : (n : ℕ) → n < 2 ^ 64 → saturated (n * 1) ≡ n
+one-time : (n : ℕ) → n < 2 ^ 64 → saturated (n * 1) ≡ n
 one-time n small = omega arith
+
+no-power : (b f : ℕ) → b < 2 ^ 64 → saturated (b * f ^ 0) ≡ b
+no-power b f small = let e : f ^ 0 ≡ 1 = refl in ap (λ k. saturated (b * k)) e ∙ one-time b small
+
+-- the words of `linear`, of `exponential` and of `fibonacci` before any step
+pub linear-new : (n : ℕ) → 0 ∷ (0 ∷ []) ≡ leaf_held (linear n) []
+linear-new n = sym (ap (λ k. k ∷ (k ∷ [])) (no-times n))
+
+pub exponential-new : (b f : ℕ) → b < 2 ^ 64 → b ∷ (b ∷ []) ≡ leaf_held (exponential b f) []
+exponential-new b f small = sym (ap (λ k. k ∷ (k ∷ [])) (no-power b f small))
+
+pub fibonacci-new : (n : ℕ) → n < 2 ^ 64 → 0 ∷ (0 ∷ (n ∷ [])) ≡ leaf_held (fibonacci n) []
+fibonacci-new n small = sym (ap (λ k. k ∷ (k ∷ (saturated (n * 1) ∷ []))) (no-times n) ∙ ap (λ k. 0 ∷ (0 ∷ (k ∷ []))) (one-time n small))
+
+-- a leaf that is read of a rule
+pub rule-clears : (r s : Rule) (old new : List ℕ) → r ≡ s → (length old ≡ length (leaf_held (rule_leaf s) []) → new ≡ leaf_held (rule_leaf s) []) →
+    length old ≡ length (leaf_held (rule_leaf r) []) → new ≡ leaf_held (rule_leaf r) []
+rule-clears r s old new is clears sized =
+    subst (λ (x : Rule). new ≡ leaf_held (rule_leaf x) []) (sym is) (clears (sized ∙ ap (λ (x : Rule). length (leaf_held (rule_leaf x) [])) is))

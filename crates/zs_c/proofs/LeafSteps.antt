@@ -1,17 +1,18 @@
 -- What a step of a leaf makes of the words that it is held in.
-use Rattle.std.proofs.Common.{◌≡◌, ℕ, suc, ◌+◌, ◌-◌, ◌*◌, ◌^◌, ◌<◌, min, Bool, true, false, List, [], ◌∷◌, length, refl, sym, ap, ◌∙◌, arith}
+use Rattle.std.proofs.Common.{◌≡◌, ℕ, suc, ◌+◌, ◌-◌, ◌*◌, ◌^◌, ◌<◌, min, Bool, true, false, List, [], ◌∷◌, length, refl, sym, ap, ◌∙◌, subst, arith}
 use Rattle.std.specs.Prelude.{nat_eq, nat_lt, if◌then◌else◌, slice_set}
 use Rattle.std.proofs.lemmas.Bool.{ne_eqb}
 use Rattle.std.proofs.lemmas.Bool.Decides.{nat_tests}
 use Rattle.zs_term.specs.Saturating.{saturated}
 use Rattle.zs_term.specs.Schedule.{Leaf, forever, identity, elapsed, recurs, spaced, fixed, exponential, fibonacci, linear, windowed}
 use Rattle.zs_step.specs.declared.decision.Decision.{Decision}
-use Rattle.zs_step.specs.declared.decision.Decision.TheVariants.{Stop, Next}
+use Rattle.zs_step.specs.declared.decision.Decision.TheVariants.{Next}
 use Rattle.zs_step.specs.History.{History, first_moment, last_moment, earlier}
 use Rattle.zs_step.specs.Answer.{leaf_answer, only_if, fibonacci_number, next_run, run_after, window_end}
 use Rattle.zs_step.proofs.Sats.{power-turn, fibonacci_number-turn}
+use Rattle.zs_c.specs.declared.program.node.Rule.{Rule}
 use Rattle.zs_c.specs.Code.{leaf_held}
-use Rattle.zs_c.specs.Node.{word_at}
+use Rattle.zs_c.specs.Node.{rule_leaf, word_at}
 
 -- one more step is counted
 count-turn : (n : ℕ) → saturated (saturated n + 1) ≡ saturated (suc n)
@@ -46,27 +47,41 @@ from-held h o now input rest old new held counts =
     ∙ ap (λ k. saturated (length h) ∷ (k ∷ ((if nat_eq (saturated (length h)) 0 then now else first_moment h) ∷ rest))) (count-turn (length h))
     ∙ ap (λ m. saturated (length h) ∷ (saturated (suc (length h)) ∷ (m ∷ rest))) (first-turn h (now, input))
 
--- whether `recurs` goes on
-pub recurs-decides : (n k now : ℕ) → k < 2 ^ 64 → only_if (nat_lt (saturated n) k) (Next now) ≡ only_if (nat_lt n k) (Next now)
-recurs-decides n k now small =
-    let same : nat_lt (saturated n) k ≡ nat_lt n k = grind (arith, nat_tests) in
-    ap (λ (b : Bool). only_if b (Next now)) same
+-- the first moment of a leaf that is begun by this step, and of one that was begun
+pub first-new : (now n m r : ℕ) → r ≡ now → n ≡ 0 → r ≡ (if nat_eq n 0 then now else m)
+first-new now n m r is none = is ∙ sym (ap (λ k. if nat_eq k 0 then now else m) none)
 
--- one more unit
-pub linear-turn : (n l x r : ℕ) → x ≡ saturated (n * l) → r ≡ min (x + n) (2 ^ 64 - 1) → r ≡ saturated (n * suc l)
-linear-turn n l x r before is = let e : n * suc l ≡ n * l + n = omega arith in omega (arith, before, is, e)
-
--- one more Fibonacci number, the sum written the other way round
-pub fibonacci-turn : (o n x y r : ℕ) → x ≡ saturated (o * fibonacci_number n) → y ≡ saturated (o * fibonacci_number (suc n)) → r ≡ min (y + x) (2 ^ 64 - 1) →
-    r ≡ saturated (o * fibonacci_number (suc (suc n)))
-fibonacci-turn o n x y r first second is =
-    let turned : r ≡ min (x + y) (2 ^ 64 - 1) = omega (arith, is) in
-    fibonacci_number-turn o n x y r first second turned
+pub first-kept : (now n m r : ℕ) → r ≡ m → (n ≡ 0 → ⊥) → r ≡ (if nat_eq n 0 then now else m)
+first-kept now n m r is some = is ∙ sym (ap (λ (b : Bool). if b then now else m) (ne_eqb n 0 some))
 
 -- the run of `fixed` at its first step, and at a later one
-pub fixed-run : (period now input : ℕ) (h : History) (before first last run : ℕ) → before ≡ saturated (length h) → first ≡ first_moment ((now, input) ∷ h) →
-    last ≡ next_run period h → (before ≡ 0 → run ≡ min (now + period) (2 ^ 64 - 1)) → ((before ≡ 0 → ⊥) → run ≡ run_after period first last now) →
-    run ≡ next_run period ((now, input) ∷ h)
-fixed-run period now input [] before first last run counted begun kept new later = new (counted)
-fixed-run period now input (q ∷ h) before first last run counted begun kept new later =
-    later (λ none. absurd (omega (arith, counted, none))) ∙ ap (λ f. run_after period f last now) begun ∙ ap (λ l. run_after period (first_moment (q ∷ h)) l now) kept
+pub fixed-first : (period now input run : ℕ) (h : History) → saturated (length h) ≡ 0 → run ≡ saturated (now + period) → run ≡ next_run period ((now, input) ∷ h)
+fixed-first period now input run [] none is = is
+fixed-first period now input run (q ∷ h) none is = absurd (omega (arith, none))
+
+pub fixed-later : (period now input first last run : ℕ) (h : History) → (saturated (length h) ≡ 0 → ⊥) → first ≡ first_moment ((now, input) ∷ h) →
+    last ≡ next_run period h → run ≡ run_after period first last now → run ≡ next_run period ((now, input) ∷ h)
+fixed-later period now input first last run [] some begun kept is = absurd (some refl)
+fixed-later period now input first last run (q ∷ h) some begun kept is =
+    is ∙ ap (λ f. run_after period f last now) begun ∙ ap (λ l. run_after period (first_moment (q ∷ h)) l now) kept
+
+-- the words of `elapsed`
+pub elapsed-held : (h : History) (o now input first r : ℕ) (old mid new : List ℕ) → old ≡ o ∷ (saturated (length h) ∷ (first_moment h ∷ [])) → CountsFrom now old mid →
+    new ≡ slice_set mid 0 r → r ≡ now - first → first ≡ first_moment ((now, input) ∷ h) → new ≡ leaf_held elapsed ((now, input) ∷ h)
+elapsed-held h o now input first r old mid new held counts is since begun =
+    is ∙ ap (λ w. slice_set w 0 r) (from-held h o now input [] old mid held counts)
+    ∙ ap (λ k. k ∷ (saturated (suc (length h)) ∷ (first_moment ((now, input) ∷ h) ∷ []))) (since ∙ ap (λ f. now - f) begun)
+
+-- the words of a leaf that is read of a rule
+pub rule-held : (r s : Rule) (old new : List ℕ) (h g : History) → r ≡ s → (old ≡ leaf_held (rule_leaf s) h → new ≡ leaf_held (rule_leaf s) g) →
+    old ≡ leaf_held (rule_leaf r) h → new ≡ leaf_held (rule_leaf r) g
+rule-held r s old new h g is step held =
+    subst (λ (x : Rule). new ≡ leaf_held (rule_leaf x) g) (sym is) (step (held ∙ ap (λ (x : Rule). leaf_held (rule_leaf x) h) is))
+
+-- the words of `exponential`
+pub exponential-held : (b f x y : ℕ) (h : History) (p : ℕ × ℕ) (old new : List ℕ) → old ≡ leaf_held (exponential b f) h → x ≡ word_at old 1 →
+    y ≡ min (x * f) (2 ^ 64 - 1) → ((o z : ℕ) (rest : List ℕ) → old ≡ o ∷ (z ∷ rest) → new ≡ x ∷ (y ∷ rest)) → new ≡ leaf_held (exponential b f) (p ∷ h)
+exponential-held b f x y h p old new held first is put =
+    let before : x ≡ saturated (b * f ^ length h) = first ∙ ap (λ w. word_at w 1) held in
+    put (saturated (b * f ^ length (earlier h))) (saturated (b * f ^ length h)) [] held
+    ∙ ap (λ k. k ∷ (y ∷ [])) before ∙ ap (λ k. saturated (b * f ^ length h) ∷ (k ∷ [])) (power-turn b f (length h) x y before is)
