@@ -1,5 +1,6 @@
 -- Words of a known number, once they are overwritten.
 use Rattle.std.proofs.Common.{◌≡◌, ℕ, ◌+◌, ◌*◌, ◌^◌, ◌<◌, ◌≤◌, List, [], ◌∷◌, ◌++◌, length, take, drop, refl, sym, ap, ◌∙◌, subst, arith}
+use Rattle.std.proofs.Math.Nat.{pow-zero}
 use Rattle.std.specs.Prelude.{slice_set}
 use Rattle.zs_term.specs.Saturating.{saturated}
 use Rattle.zs_term.specs.Schedule.{linear, exponential, fibonacci}
@@ -51,7 +52,7 @@ one-time : (n : ℕ) → n < 2 ^ 64 → saturated (n * 1) ≡ n
 one-time n small = omega arith
 
 no-power : (b f : ℕ) → b < 2 ^ 64 → saturated (b * f ^ 0) ≡ b
-no-power b f small = let e : f ^ 0 ≡ 1 = refl in ap (λ k. saturated (b * k)) e ∙ one-time b small
+no-power b f small = let e : f ^ 0 ≡ 1 = pow-zero f in ap (λ k. saturated (b * k)) e ∙ one-time b small
 
 -- the words of `linear`, of `exponential` and of `fibonacci` before any step
 pub linear-new : (n : ℕ) → 0 ∷ (0 ∷ []) ≡ leaf_held (linear n) []

@@ -10,4 +10,6 @@ pub mod Listless
 pub mod TextBounds
 pub mod LeafSteps
 pub mod Cleared
+pub mod Pieces
 pub mod Views
+pub mod NodeSteps

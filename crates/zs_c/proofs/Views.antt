@@ -66,8 +66,8 @@ pub leaf-shows : (r : Rule) (code words : List ℕ) (levels w : ℕ) (o : Output
 leaf-shows r code words levels w o n read is first t =
     let u = told-as code words levels o t (leaf (rule_leaf r)) (told-node code words levels o n (NodeLeaf r) read is t) in
     let h = t.history in
-    let same : word_at words 0 ≡ number_in (leaf_answer (rule_leaf r) h).output = ap (λ x. word_at x 0) u.1.0 in
-    u.1.1 ∙ leaf-number (rule_leaf r) h ∙ ap number (sym (first ∙ same))
+    let same : word_at words 0 ≡ number_in (leaf_answer (rule_leaf r) h).output = ap (λ x. word_at x 0) u.1 in
+    u.2 ∙ leaf-number (rule_leaf r) h ∙ ap number (sym (first ∙ same))
 
 -- two places that are the parts of one, whose words begin at a place
 pub record ArePartsOf (s : Sizes) (p a b : Place) (at : ℕ) : Type 0 where
@@ -88,8 +88,8 @@ parts-told s p a b x y are t =
 pub both-shows : (s : Sizes) (p a b : Place) (o : Output) (n : Node) → n ≡ node_at p.code.now → n ≡ Both s → ArePartsOf s p a b 0 → PlaceTells p o → Shows (Pair a b) o
 both-shows s p a b o n read is are t =
     let node = told-node p.code.now p.words.now p.levels o n (Both s) read is t in
-    let u = told-as p.code.now p.words.now p.levels o t (two both node.0 node.1) node.2.0 in
-    let w = both-tells node.0 node.1 t.history p.code.now p.words.now p.levels s o u.0 node.2.1 u.1.0 u.1.1 in
+    let u = told-as p.code.now p.words.now p.levels o t (two both node.0 node.1) node.2 in
+    let w = both-tells node.0 node.1 t.history p.code.now p.words.now p.levels s o u.0 node.3 u.1 u.2 in
     let x = (answer_of node.0 t.history).output in
     let y = (answer_of node.1 t.history).output in
     (x, y, w.0, parts-told s p a b x y are w.1)
@@ -98,8 +98,8 @@ both-shows s p a b o n read is are t =
 pub either-shows : (s : Sizes) (p a b : Place) (o : Output) (n : Node) → n ≡ node_at p.code.now → n ≡ Either s → ArePartsOf s p a b 0 → PlaceTells p o → Shows (Pair a b) o
 either-shows s p a b o n read is are t =
     let node = told-node p.code.now p.words.now p.levels o n (Either s) read is t in
-    let u = told-as p.code.now p.words.now p.levels o t (two either node.0 node.1) node.2.0 in
-    let w = either-tells node.0 node.1 t.history p.code.now p.words.now p.levels s o u.0 node.2.1 u.1.0 u.1.1 in
+    let u = told-as p.code.now p.words.now p.levels o t (two either node.0 node.1) node.2 in
+    let w = either-tells node.0 node.1 t.history p.code.now p.words.now p.levels s o u.0 node.3 u.1 u.2 in
     let x = (answer_of node.0 t.history).output in
     let y = (answer_of node.1 t.history).output in
     (x, y, w.0, parts-told s p a b x y are w.1)
@@ -109,8 +109,8 @@ pub left-shows : (s : Sizes) (p a b : Place) (o : Output) (n : Node) → n ≡ n
     PlaceTells p o → Shows (Left a) o
 left-shows s p a b o n read is are zeroed t =
     let node = told-node p.code.now p.words.now p.levels o n (AndThen s) read is t in
-    let u = told-as p.code.now p.words.now p.levels o t (two and_then node.0 node.1) node.2.0 in
-    let w = left-tells node.0 node.1 t.history p.code.now p.words.now p.levels s o u.0 node.2.1 u.1.0 u.1.1 zeroed in
+    let u = told-as p.code.now p.words.now p.levels o t (two and_then node.0 node.1) node.2 in
+    let w = left-tells node.0 node.1 t.history p.code.now p.words.now p.levels s o u.0 node.3 u.1 u.2 zeroed in
     let x = (answer_of node.0 t.history).output in
     (x, w.0, tells-at a.code.now (take s.code (drop 3 p.code.now)) a.words.now (take s.state (drop 1 p.words.now)) a.levels (p.levels - 1) x
         are.first_code are.first_words are.first_levels w.1)
@@ -120,10 +120,10 @@ pub right-shows : (s : Sizes) (p a b : Place) (o : Output) (n : Node) → n ≡ 
     PlaceTells p o → Shows (Right b) o
 right-shows s p a b o n read is are other t =
     let node = told-node p.code.now p.words.now p.levels o n (AndThen s) read is t in
-    let u = told-as p.code.now p.words.now p.levels o t (two and_then node.0 node.1) node.2.0 in
-    let w = right-tells node.0 node.1 t.history p.code.now p.words.now p.levels s o u.0 node.2.1 u.1.0 u.1.1 other in
-    (w.0, w.1.0, tells-at b.code.now (drop s.code (drop 3 p.code.now)) b.words.now (drop s.state (drop 1 p.words.now)) b.levels (p.levels - 1) w.0
-        are.second_code are.second_words are.second_levels w.1.1)
+    let u = told-as p.code.now p.words.now p.levels o t (two and_then node.0 node.1) node.2 in
+    let w = right-tells node.0 node.1 t.history p.code.now p.words.now p.levels s o u.0 node.3 u.1 u.2 other in
+    (w.0, w.1, tells-at b.code.now (drop s.code (drop 3 p.code.now)) b.words.now (drop s.state (drop 1 p.words.now)) b.levels (p.levels - 1) w.0
+        are.second_code are.second_words are.second_levels w.2)
 
 -- a place that is the part of one
 pub record IsPartOf (p a : Place) (at : ℕ) : Type 0 where
@@ -137,21 +137,21 @@ while_input-part x p a o n read is part t =
     let node = told-node p.code.now p.words.now p.levels o n (WhileInput x) read is t in
     let u = told-as p.code.now p.words.now p.levels o t (over node.0 (while_input x)) node.1 in
     tells-at a.code.now (drop 3 p.code.now) a.words.now p.words.now a.levels (p.levels - 1) o part.code part.words part.levels
-    (while_input-tells node.0 x t.history p.code.now p.words.now p.levels o u.0 u.1.0 u.1.1)
+    (while_input-tells node.0 x t.history p.code.now p.words.now p.levels o u.0 u.1 u.2)
 
 pub while_output-part : (k : Pick) (x : Test) (p a : Place) (o : Output) (n : Node) → n ≡ node_at p.code.now → n ≡ WhileOutput k x → IsPartOf p a 4 → PlaceTells p o → PlaceTells a o
 while_output-part k x p a o n read is part t =
     let node = told-node p.code.now p.words.now p.levels o n (WhileOutput k x) read is t in
     let u = told-as p.code.now p.words.now p.levels o t (over node.0 (while_output k x)) node.1 in
     tells-at a.code.now (drop 4 p.code.now) a.words.now p.words.now a.levels (p.levels - 1) o part.code part.words part.levels
-    (while_output-tells node.0 k x t.history p.code.now p.words.now p.levels o u.0 u.1.0 u.1.1)
+    (while_output-tells node.0 k x t.history p.code.now p.words.now p.levels o u.0 u.1 u.2)
 
 pub reset_when-part : (k : Pick) (x : Test) (p a : Place) (o : Output) (n : Node) → n ≡ node_at p.code.now → n ≡ ResetWhen k x → IsPartOf p a 4 → PlaceTells p o → PlaceTells a o
 reset_when-part k x p a o n read is part t =
     let node = told-node p.code.now p.words.now p.levels o n (ResetWhen k x) read is t in
     let u = told-as p.code.now p.words.now p.levels o t (over node.0 (reset_when k x)) node.1 in
     tells-at a.code.now (drop 4 p.code.now) a.words.now p.words.now a.levels (p.levels - 1) o part.code part.words part.levels
-    (reset_when-tells node.0 k x t.history p.code.now p.words.now p.levels o u.0 u.1.0 u.1.1)
+    (reset_when-tells node.0 k x t.history p.code.now p.words.now p.levels o u.0 u.1 u.2)
 
 -- the part of `.map`, and what is made of its output
 pub mapped-part : (f : Func) (p a : Place) (o : Output) (n : Node) → n ≡ node_at p.code.now → n ≡ Map f → IsPartOf p a 3 → PlaceTells p o →
@@ -159,7 +159,7 @@ pub mapped-part : (f : Func) (p a : Place) (o : Output) (n : Node) → n ≡ nod
 mapped-part f p a o n read is part t =
     let node = told-node p.code.now p.words.now p.levels o n (Map f) read is t in
     let u = told-as p.code.now p.words.now p.levels o t (over node.0 (mapped f)) node.1 in
-    let w = mapped-tells node.0 f t.history p.code.now p.words.now p.levels o u.0 u.1.0 u.1.1 in
+    let w = mapped-tells node.0 f t.history p.code.now p.words.now p.levels o u.0 u.1 u.2 in
     let x = (answer_of node.0 t.history).output in
     (x, w.0, tells-at a.code.now (drop 3 p.code.now) a.words.now p.words.now a.levels (p.levels - 1) x part.code part.words part.levels w.1)
 

@@ -1,29 +1,42 @@
-use Rattle.std.proofs.Common.{rules, ◌≡◌, ℕ, ◌+◌, List, [], ◌∷◌, ◌++◌, length, ◌-◌, ◌*◌, ◌<◌, ◌≤◌, ◌/◌, ◌%◌, Bool, true, false, nat_eq, nat_lt, slice_index_or, slice_set, bit_and, bit_or, Fits, w8, w32, w64, Bor, MutBor}
-use Rattle.zs_term.specs.Schedule.{Schedule}
-use Rattle.zs_c.specs.Code.{IsCode, leaf_held, held_of, held_size}
-use Rattle.zs_c.specs.Node.{rule_leaf, IsParts}
+use Rattle.std.proofs.Common.{◌≡◌, ◌∷◌, arith}
+use Rattle.zs_c.proofs.Pieces.{put-behind-first, length-behind-first}
+use Rattle.zs_c.proofs.NodeSteps.{code-deep, together-clears, then-clears, three-clears, four-clears, leaf-clears}
 use Rattle.zs_c.proofs.program.clearing.+clearing.Goals as goal
 
--- src/program/clearing.rt:17:9
 pub clear-returns-then-levels-eq0 : goal.clear-returns-then-levels-eq0
-clear-returns-then-levels-eq0 t c = ?
+clear-returns-then-levels-eq0 t c = record { clears = λ u coded sized. absurd (code-deep u c.args.code.now c.args.levels coded c.if-levels-eq0.true) }
 
--- src/program/clearing.rt:12:1
 pub clear-returns-in-Leaf : goal.clear-returns-in-Leaf
-clear-returns-in-Leaf t c = ?
+clear-returns-in-Leaf t c = record {
+  clears = λ u coded. leaf-clears u c.args.code.now c.args.words.now c.clear_leaf.new.words c.args.levels c.read_node.result c.in-Leaf.rule coded
+      c.read_node.ensures.value c.in-Leaf.is c.clear_leaf.ensures.clears;
+}
 
--- src/program/clearing.rt:12:1
 pub clear-returns-then-not-is_empty : goal.clear-returns-then-not-is_empty
-clear-returns-then-not-is_empty t c = ?
+clear-returns-then-not-is_empty t c =
+    let old = c.args.words.now in
+    let rest = c.clear_parts.new.words in
+    record {
+      clears = λ u coded. then-clears u c.args.code.now old _ rest c.args.levels c.read_node.result c.in-AndThen.sizes coded
+          c.read_node.ensures.value c.in-AndThen.is
+          (λ a b parts sized. c.clear_parts.ensures.clears a b parts (length-behind-first old 0 _ sized))
+          (put-behind-first old rest 0);
+    }
 
--- src/program/clearing.rt:12:1
 pub clear-returns-in-WhileInput : goal.clear-returns-in-WhileInput
-clear-returns-in-WhileInput t c = ?
+clear-returns-in-WhileInput t c = record {
+  clears = λ u coded. three-clears u c.args.code.now c.behind.result.now c.args.words.now c.clear.new.words c.args.levels c.read_node.result coded
+      c.read_node.ensures.value c.behind.ensures.value c.in-WhileInput.is c.clear.ensures.clears;
+}
 
--- src/program/clearing.rt:12:1
 pub clear-returns-in-WhileOutput : goal.clear-returns-in-WhileOutput
-clear-returns-in-WhileOutput t c = ?
+clear-returns-in-WhileOutput t c = record {
+  clears = λ u coded. four-clears u c.args.code.now c.behind-in-WhileOutput.result.now c.args.words.now c.clear-in-WhileOutput.new.words c.args.levels
+      c.read_node.result coded c.read_node.ensures.value c.behind-in-WhileOutput.ensures.value c.in-WhileOutput.is c.clear-in-WhileOutput.ensures.clears;
+}
 
--- src/program/clearing.rt:12:1
 pub clear-returns-in-Both : goal.clear-returns-in-Both
-clear-returns-in-Both t c = ?
+clear-returns-in-Both t c = record {
+  clears = λ u coded. together-clears u c.args.code.now c.args.words.now c.clear_parts-in-Both.new.words c.args.levels c.read_node.result c.in-Both.sizes coded
+      c.read_node.ensures.value c.in-Both.is c.clear_parts-in-Both.ensures.clears;
+}

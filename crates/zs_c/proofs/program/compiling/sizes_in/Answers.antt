@@ -1,8 +1,16 @@
-use Rattle.std.proofs.Common.{rules, ◌≡◌, ◌≤◌, length, IfOk, IfErr, ℕ, ◌+◌, ◌-◌, ◌*◌, ◌<◌, ◌/◌, ◌%◌, Bool, true, false, nat_eq, nat_lt, List, [], ◌∷◌, ◌++◌, slice_index_or, slice_set, bit_and, bit_or, Fits, w8, w32, w64, Bor, MutBor}
-use Rattle.zs_c.specs.States.{IsSizeRefusal}
-use Rattle.zs_c.specs.Programs.{IsNewProgram, IsProgramSized, IsCompileRefusal}
+use Rattle.std.proofs.Common.{◌+◌, [], length, sym, ap, ◌∙◌, arith}
+use Rattle.zs_term.specs.Schedule.{schedule_of}
+use Rattle.zs_c.specs.Code.{held_of}
+use Rattle.zs_c.proofs.Codes.{held-length}
 use Rattle.zs_c.proofs.program.compiling.sizes_in.Goals as goal
 
--- src/program/compiling.rt:13:1
+-- a program has the words of its schedule, and its state as many at any step
 pub returns-clause-ok : goal.returns-clause-ok
-returns-clause-ok c = ?
+returns-clause-ok c =
+    let t = schedule_of c.in_ok-checked.checked in
+    record {
+      term = t;
+      spelled = c.in_ok-checked.ensures.ok;
+      sized = c.len.ensures ∙ c.in_ok-program.program.ok.0 ∙ ap length c.in_ok-program.ensures.ok;
+      state_sized = λ h. let size = c.state_size.ensures.value in let same = held-length t [] h in ?;
+    }

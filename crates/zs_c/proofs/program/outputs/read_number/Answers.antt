@@ -1,8 +1,9 @@
-use Rattle.std.proofs.Common.{rules, ◌≡◌, ◌-◌, take, drop, ℕ, ◌+◌, ◌*◌, ◌<◌, ◌≤◌, length, ◌/◌, ◌%◌, Bool, true, false, nat_eq, nat_lt, List, [], ◌∷◌, ◌++◌, slice_index_or, slice_set, bit_and, bit_or, Fits, w8, w32, w64, Bor, MutBor}
-use Rattle.zs_term.specs.Output.{Output, number_in, picked, applied}
-use Rattle.zs_c.specs.View.{Shows, PlaceTells, IsLower}
+use Rattle.std.proofs.Common.{sym, ap, ◌∙◌}
+use Rattle.zs_term.specs.Output.{picked}
+use Rattle.zs_c.proofs.Views.{told-size}
 use Rattle.zs_c.proofs.program.outputs.read_number.Goals as goal
 
--- src/program/outputs.rt:129:1
 pub returns-in-Size : goal.returns-in-Size
-returns-in-Size c = ?
+returns-in-Size c =
+    let p = c.args.place in
+    record { value = λ o tells. sym (ap (λ k. picked k o) c.in-Size.is ∙ told-size p.code.now p.words.now p.levels o tells) }
