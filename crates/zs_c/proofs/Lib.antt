@@ -13,3 +13,4 @@ pub mod Cleared
 pub mod Pieces
 pub mod Views
 pub mod NodeSteps
+pub mod PartSteps
