@@ -37,6 +37,9 @@ pub digits-few : (n : ℕ) → n < 2 ^ 64 → length (decimal n) ≤ 20
 digits-few n small = length-decimal-le 20 n (omega arith) (omega arith) small
 
 -- a pair
+pub pair-length : (a b : Output) → length (output_text (pair a b)) ≡ 3 + length (output_text a) + length (output_text b)
+pair-length a b = simp length-append (omega arith)
+
 pub pair-text : (a b : Output) (x y : ℕ) → length (output_text a) ≤ x → length (output_text b) ≤ y → length (output_text (pair a b)) ≤ 3 + x + y
 pair-text a b x y first second = simp length-append (omega (arith, first, second))
 

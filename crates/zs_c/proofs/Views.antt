@@ -92,7 +92,8 @@ both-shows s p a b o n read is are t =
     let w = both-tells node.0 node.1 t.history p.code.now p.words.now p.levels s o u.0 node.3 u.1 u.2 in
     let x = (answer_of node.0 t.history).output in
     let y = (answer_of node.1 t.history).output in
-    (x, y, w.0, parts-told s p a b x y are w.1)
+    let told = parts-told s p a b x y are w.1 in
+    (x, y, w.0, told.0, told.1)
 
 -- the parts of `||`
 pub either-shows : (s : Sizes) (p a b : Place) (o : Output) (n : Node) → n ≡ node_at p.code.now → n ≡ Either s → ArePartsOf s p a b 0 → PlaceTells p o → Shows (Pair a b) o
@@ -102,7 +103,8 @@ either-shows s p a b o n read is are t =
     let w = either-tells node.0 node.1 t.history p.code.now p.words.now p.levels s o u.0 node.3 u.1 u.2 in
     let x = (answer_of node.0 t.history).output in
     let y = (answer_of node.1 t.history).output in
-    (x, y, w.0, parts-told s p a b x y are w.1)
+    let told = parts-told s p a b x y are w.1 in
+    (x, y, w.0, told.0, told.1)
 
 -- the first part of `andThenEither`, while it is on
 pub left-shows : (s : Sizes) (p a b : Place) (o : Output) (n : Node) → n ≡ node_at p.code.now → n ≡ AndThen s → ArePartsOf s p a b 1 → word_at p.words.now 0 ≡ 0 →
