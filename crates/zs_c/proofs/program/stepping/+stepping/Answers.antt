@@ -1,11 +1,12 @@
 use Rattle.std.proofs.Common.{◌≡◌, ◌≤◌, ◌+◌, true, false, refl, take, drop, ap, ◌∙◌, arith}
 use Rattle.zs_step.specs.declared.decision.Decision.TheVariants.{Stop}
+use Rattle.zs_step.specs.Answer.{is_next}
 use Rattle.zs_c.specs.declared.program.stepping.TheConstants.{MAX_VISITS}
 use Rattle.zs_c.specs.declared.program.node.Sizes.{Sizes}
 use Rattle.zs_c.proofs.NodeSteps.{code-at, code-deep, code-heavy, leaf-node, both-node, either-node, then-node, while_input-node, mapped-node, while_output-node, reset-stays-node, reset-begins-node, kept-if, stopped-if}
-use Rattle.zs_c.proofs.PartSteps.{parts-fit, then-fit, parts-steps}
+use Rattle.zs_c.proofs.PartSteps.{parts-fit, then-fit, parts-steps, stops, then-goes, then-done, then-on}
 use Rattle.zs_c.proofs.program.stepping.+stepping.Goals as goal
-use Rattle.zs_c.proofs.program.stepping.+stepping.Goals.{step_code-then-levels-eq0-via-then-levels-eq0, step_code-then-levels-eq0-via-else-levels-eq0+then-visits-ge-MAX_VISITS}
+use Rattle.zs_c.proofs.program.stepping.+stepping.Goals.{step_and_then-then-words-eq0+in_default, step_and_then-else-words-eq0, step_code-then-levels-eq0-via-then-levels-eq0, step_code-then-levels-eq0-via-else-levels-eq0+then-visits-ge-MAX_VISITS}
 
 pub step_and_then-returns-then-words-state : goal.step_and_then-returns-then-words-state
 step_and_then-returns-then-words-state t c = record {
@@ -13,10 +14,37 @@ step_and_then-returns-then-words-state t c = record {
 }
 
 pub step_and_then-returns-in-Next : goal.step_and_then-returns-in-Next
-step_and_then-returns-in-Next t c = ?
+step_and_then-returns-in-Next t c = record {
+  steps = λ a b h parts room held.
+      let x = c.step_code-x in
+      let n = c.args.sizes.state in
+      let size = c.args.sizes.code in
+      let front = code-at a c.front-first.result.now _ c.args.levels (c.front-first.ensures.value ∙ ap (λ z. take size z) c.behind-rest.ensures.value) parts.first in
+      then-goes a b h c.args.words.now x.new.words c.args.step.now.moment c.args.step.now.input n x.result c.args.visits.now x.new.visits MAX_VISITS
+      (ap (λ (z : Sizes). z.state) parts.sizes) held room c.if-words-eq0.true (λ e r. x.ensures.steps a h front r e) (ap is_next c.in-Next.is);
+}
 
 pub step_and_then-returns : goal.step_and_then-returns
-step_and_then-returns t c = ?
+step_and_then-returns t c = record {
+  steps = λ a b h parts room held.
+      let y = c.step_code in
+      let n = c.args.sizes.state in
+      let size = c.args.sizes.code in
+      let sized = ap (λ (z : Sizes). z.state) parts.sizes in
+      let rest = c.behind-rest.ensures.value in
+      let behind = code-at b c.behind.result.now _ c.args.levels (c.behind.ensures.value ∙ ap (λ z. drop size z) rest) parts.second in
+      elim c.if-words-eq0.branch [
+        | step_and_then-then-words-eq0+in_default w ↦
+            let x = w.step_code-x in
+            let front = code-at a w.front-first.result.now _ c.args.levels (w.front-first.ensures.value ∙ ap (λ z. take size z) rest) parts.first in
+            then-done a b h c.args.words.now x.new.words w.clear.new.words c.if-words-eq0.words y.new.words c.args.step.now.moment c.args.step.now.input n x.result y.result
+            c.args.visits.now x.new.visits c.if-words-eq0.visits y.new.visits MAX_VISITS sized held room w.if-words-eq0.true (λ e r. x.ensures.steps a h front r e)
+            (stops x.result (λ m e. w.in_default.not-Next m e)) (w.clear.ensures.clears a front) w.words-is w.visits-is (λ g e r. y.ensures.steps b g behind r e)
+        | step_and_then-else-words-eq0 w ↦
+            then-on a b h c.args.words.now c.if-words-eq0.words y.new.words c.args.step.now.moment c.args.step.now.input n y.result
+            c.args.visits.now c.if-words-eq0.visits y.new.visits MAX_VISITS sized held room w.if-words-eq0.false w.words-is w.visits-is (λ g e r. y.ensures.steps b g behind r e)
+      ];
+}
 
 pub step_code-returns-then-levels-eq0 : goal.step_code-returns-then-levels-eq0
 step_code-returns-then-levels-eq0 t c = record {
