@@ -14,3 +14,4 @@ pub mod Pieces
 pub mod Views
 pub mod NodeSteps
 pub mod PartSteps
+pub mod Running
