@@ -802,6 +802,13 @@ class Busy:
 class Examples(unittest.TestCase):
     """The example of each binding, which really waits, and the program that makes the library."""
 
+    def test_the_example_in_c_waits_for_its_server(self):
+        source = BINDINGS / "c" / "example.c"
+        for standard in ["c99", "gnu17"]:
+            ran(["cc", f"-std={standard}", "-Wall", "-Wextra", "-Werror", "-pedantic", "-I", TOP / "include", "-o", path("example"),
+                 source, folder / "libzsched.a", "-lpthread"], TOP)
+            self.assertEqual(ran([path("example")], TOP), "ready after 4 attempts\n")
+
     def test_the_example_in_python_waits_for_its_server(self):
         said = ran([sys.executable, "-B", "example.py"], BINDINGS / "python")
         self.assertIn("ready after 4 attempts\n", said)
