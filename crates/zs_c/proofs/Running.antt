@@ -1,7 +1,8 @@
 -- A step of a program over the words of its state.
-use Rattle.std.proofs.Common.{◌≡◌, ℕ, zero, suc, ◌+◌, ◌-◌, ◌*◌, ◌^◌, ◌<◌, ◌≤◌, Bool, true, false, ◌&&◌, List, [], ◌∷◌, ◌++◌, length, take, drop, get_or, refl, sym, ap, ◌∙◌, subst, arith, Fits, w64}
+use Rattle.std.proofs.Common.{◌≡◌, ℕ, zero, suc, ◌+◌, ◌-◌, ◌*◌, ◌^◌, ◌<◌, ◌≤◌, Bool, true, false, ◌&&◌, List, [], ◌∷◌, ◌++◌, length, take, drop, get_or, length-drop, refl, sym, ap, ◌∙◌, subst, arith, Fits, w64}
 use Rattle.std.specs.Prelude.{slice_set, nat_le}
 use Rattle.std.proofs.lemmas.Bool.Decides.{nat_tests}
+use Rattle.std.proofs.lemmas.List.{length-take}
 use Rattle.std.proofs.Math.Seq.{take-append_seam, drop-append_seam}
 use borrow.Rule.Slice.PartMut.{put_mid}
 use Rattle.zs_term.specs.Output.{Output}
@@ -10,7 +11,6 @@ use Rattle.zs_term.specs.Schedule.{Schedule, depth, weight, is_within_limits}
 use Rattle.zs_step.specs.declared.decision.Decision.{Decision}
 use Rattle.zs_step.specs.History.{History, last_moment}
 use Rattle.zs_step.specs.Answer.{answer_of}
-use Rattle.zs_step.specs.Words.{KeepsNoList}
 use Rattle.zs_c.specs.declared.reply.Reply.{Reply}
 use Rattle.zs_c.specs.declared.program.opening.Opened.{Opened}
 use Rattle.zs_c.specs.Numbers.{decision_number, next_moment}
@@ -20,7 +20,6 @@ use Rattle.zs_c.specs.Program.{program_check, program_state, KeepsProgramState}
 use Rattle.zs_c.specs.Programs.{IsProgramStepped}
 use Rattle.zs_c.specs.Steps.{StepsCode}
 use Rattle.zs_c.specs.Told.{written, TellsAnswer}
-use Rattle.zs_c.specs.View.{Tells}
 use Rattle.zs_c.proofs.Codes.{held-length}
 use Rattle.zs_c.proofs.TextBounds.{AllFit, text-bound}
 
@@ -49,14 +48,20 @@ pub opened-code : (o : Opened) (t : Schedule) → Opens o t → IsCode t o.code.
 opened-code o t opens = record { is = opens.code; flat = opens.flat; deep = depth-within t opens.within }
 
 -- words that fit 64 bits, each by its place
-pub all-fit : (ws : List ℕ) → ((i : ℕ) → get_or ws i 0 < 2 ^ 64) → AllFit ws
+abbrev pub EachFits : List ℕ → Type 0
+EachFits ws = (i : ℕ) → Fits w64 (get_or ws i 0)
+
+all-fit : (ws : List ℕ) → EachFits ws → AllFit ws
 all-fit [] each = tt
-all-fit (w ∷ ws) each = (each 0, all-fit ws (λ i. each (suc i)))
+all-fit (w ∷ ws) each = (omega (arith, each 0), all-fit ws (λ i. each (suc i)))
 
 -- the text of an output is short
-pub short-text : (t : Schedule) (h : History) → KeepsNoList t → is_within_limits t ≡ true → AllFit (code_of t) → AllFit (held_of t h) →
+pub short-text : (t : Schedule) (h : History) (code words : List ℕ) → IsCode t code 64 → weight t ≤ 1000 → words ≡ held_of t h → EachFits code → EachFits words →
     0 + length (output_text (answer_of t h).output) < 2 ^ 64
-short-text t h flat within coded held = omega (arith, text-bound t h flat coded held, weight-within t within)
+short-text t h code words coded light held code_fits words_fit =
+    let first : AllFit (code_of t) = subst AllFit coded.is (all-fit code code_fits) in
+    let second : AllFit (held_of t h) = subst AllFit held (all-fit words words_fit) in
+    omega (arith, text-bound t h coded.flat first second, light)
 
 -- the words of a state, behind its check word and its last moment
 state-arg : (old xs more : List ℕ) (a b n : ℕ) → old ≡ a ∷ (b ∷ (xs ++ more)) → n ≡ length xs → take (n + 2 - 2) (drop 2 old) ≡ xs
@@ -84,27 +89,23 @@ state-behind n now old ys fits sized =
     let e : n + 2 - 2 ≡ n = omega arith in
     ap (λ k. drop (suc (suc n)) (slice_set (put_mid 2 k old ys) 1 now)) e ∙ behind-rest n now old ys fits sized
 
--- what is written of an output that words tell
-pub record WritesOutput (t : Schedule) (h : History) (size : ℕ) (room out : List ℕ) : Type 0 where
-  pub text : out ≡ written (output_text (answer_of t h).output) room
-  pub size : size ≡ length (output_text (answer_of t h).output)
-
 -- a step of the words of a state, and what is told of it
 pub program-stepped : (t : Schedule) (old ys room out : List ℕ) (now input n number next size visits : ℕ) (d : Decision) →
     n ≡ held_size t → n + 2 ≤ length old → length ys ≡ n →
     ((h : History) → take (n + 2 - 2) (drop 2 old) ≡ held_of t h → StepsCode t h ys now input d 0 visits) →
-    ((h : History) → StepsCode t h ys now input d 0 visits → WritesOutput t ((now, input) ∷ h) size room out) →
+    ((g : History) → ys ≡ held_of t g → out ≡ written (output_text (answer_of t g).output) room) →
+    ((g : History) → ys ≡ held_of t g → size ≡ length (output_text (answer_of t g).output)) →
     number ≡ decision_number d → next ≡ next_moment d →
     IsProgramStepped t old (slice_set (put_mid 2 (n + 2 - 2) old ys) 1 now) now input number (record { next = next; size = size; visits = visits; at = 0 }) room out
-program-stepped t old ys room out now input n number next size visits d sized fits kept step writes numbered goes =
+program-stepped t old ys room out now input n number next size visits d sized fits kept step text ends numbered goes =
     let argued : (h : History) → KeepsProgramState t h old → StepsCode t h ys now input d 0 visits =
         λ h k. step h (state-arg old (held_of t h) k.0 (program_check t) (last_moment h) n k.1 (sized ∙ held-length t [] h)) in
     record {
-      answer = λ h k. let s = argued h k in let w = writes h s in record {
+      answer = λ h k. let s = argued h k in record {
         decision = numbered ∙ ap decision_number s.decides;
         next = goes ∙ ap next_moment s.decides;
-        text = w.text;
-        size = w.size;
+        text = text ((now, input) ∷ h) s.held;
+        size = ends ((now, input) ∷ h) s.held;
         visited = omega (arith, s.visited);
         at = refl;
       };
@@ -113,3 +114,35 @@ program-stepped t old ys room out now input n number next size visits d sized fi
       behind = ap (λ k. drop (suc (suc k)) (slice_set (put_mid 2 (n + 2 - 2) old ys) 1 now)) (sym sized) ∙ state-behind n now old ys fits kept
           ∙ ap (λ k. drop (suc (suc k)) old) sized;
     }
+
+-- the words of a state, as many as a program's state has, and those that were written over them
+arg-length : (n : ℕ) (old : List ℕ) → n + 2 ≤ length old → length (take (n + 2 - 2) (drop 2 old)) ≡ n
+arg-length n old fits = omega (arith, fits, length-take (n + 2 - 2) (drop 2 old), length-drop 2 old)
+
+written-words : (n : ℕ) (old ys : List ℕ) → n + 2 ≤ length old → length ys ≡ n → take (n + 2 - 2) (drop 2 (put_mid 2 (n + 2 - 2) old ys)) ≡ ys
+written-words n [] ys fits sized = absurd (omega (arith, fits))
+written-words n (a ∷ []) ys fits sized = absurd (omega (arith, fits))
+written-words n (a ∷ (b ∷ rest)) ys fits sized =
+    let e : n + 2 - 2 ≡ length ys = omega (arith, sized) in
+    ap (λ k. take k (ys ++ drop (n + 2 - 2) rest)) e ∙ take-append_seam ys (drop (n + 2 - 2) rest)
+
+-- a step of an opened program
+pub opened-stepped : (o : Opened) (t : Schedule) → Opens o t → (old ys room out : List ℕ) (now input number next size visits : ℕ) (d : Decision) →
+    o.state + 2 ≤ length old → length ys ≡ length (take (o.state + 2 - 2) (drop 2 old)) →
+    ((u : Schedule) (h : History) → IsCode u o.code.now 64 → 0 + weight u ≤ 1000 → take (o.state + 2 - 2) (drop 2 old) ≡ held_of u h → StepsCode u h ys now input d 0 visits) →
+    ((u : Schedule) (g : History) → IsCode u o.code.now 64 → weight u ≤ 1000 → take (o.state + 2 - 2) (drop 2 (put_mid 2 (o.state + 2 - 2) old ys)) ≡ held_of u g →
+        out ≡ written (output_text (answer_of u g).output) room) →
+    ((u : Schedule) (g : History) → IsCode u o.code.now 64 → weight u ≤ 1000 → take (o.state + 2 - 2) (drop 2 (put_mid 2 (o.state + 2 - 2) old ys)) ≡ held_of u g →
+        size ≡ length (output_text (answer_of u g).output)) →
+    number ≡ decision_number d → next ≡ next_moment d →
+    IsProgramStepped t old (slice_set (put_mid 2 (o.state + 2 - 2) old ys) 1 now) now input number (record { next = next; size = size; visits = visits; at = 0 }) room out
+opened-stepped o t opens old ys room out now input number next size visits d fits kept step text ends numbered goes =
+    let n = o.state in
+    let code = opened-code o t opens in
+    let light = weight-within t opens.within in
+    let sized : length ys ≡ n = kept ∙ arg-length n old fits in
+    program-stepped t old ys room out now input n number next size visits d opens.state fits sized
+    (λ h arg. step t h code (omega (arith, light)) arg)
+    (λ g held. text t g code light (written-words n old ys fits sized ∙ held))
+    (λ g held. ends t g code light (written-words n old ys fits sized ∙ held))
+    numbered goes

@@ -1,7 +1,12 @@
 // A program over the words of its state.
 
 ghost use Rattle.std.specs.Prelude.{◌≡◌, ◌+◌, ◌≤◌, [], ◌∷◌, length, drop, slice_index_or, IfOk, IfErr};
-ghost use Rattle.zs_term.specs.Schedule.{Schedule};
+ghost use Rattle.zs_term.specs.OutputText.{output_text};
+ghost use Rattle.zs_term.specs.Schedule.{Schedule, weight};
+ghost use Rattle.zs_step.specs.History.{History};
+ghost use Rattle.zs_step.specs.Answer.{answer_of};
+ghost use Rattle.zs_c.specs.Code.{IsCode, held_of};
+ghost use Rattle.zs_c.specs.Told.{written};
 ghost use Rattle.zs_c.specs.Program.{IsProgram};
 ghost use Rattle.zs_c.specs.Opened.{Opens};
 ghost use Rattle.zs_c.specs.Programs.{IsUnfit, IsDenied, IsProgramBegun, IsProgramStepped};
@@ -82,12 +87,7 @@ pub(crate) fn run_step(
     let mut visits = 0;
     let words = &mut state[2..opened.state + 2];
     let decision = step_code(opened.code, words, MAX_DEPTH, step, &mut visits);
-    let place = Place {
-        code: opened.code,
-        words,
-        levels: MAX_DEPTH,
-    };
-    let size = put_output(place, out, 0) as u64;
+    let size = put_text(opened.code, &state[2..opened.state + 2], out);
     state[1] = step.moment;
     let (number, next) = match decision {
         Decision::Next(next) => (0, next),
@@ -100,4 +100,19 @@ pub(crate) fn run_step(
         at: 0,
     };
     number
+}
+
+// Writes the text of the output of a state's last step over the front of a room, as far as it fits, and answers how many
+// bytes it has.
+#[inline(always)]
+fn put_text(code: &[u64], words: &[u64], out: &mut [u8]) -> u64
+    ensures text { (t : Schedule) (h : History) → IsCode t code.now 64 → weight t ≤ 1000 → words.now ≡ held_of t h → out.new ≡ written (output_text (answer_of t h).output) out.old }
+    ensures size { (t : Schedule) (h : History) → IsCode t code.now 64 → weight t ≤ 1000 → words.now ≡ held_of t h → result ≡ length (output_text (answer_of t h).output) }
+{
+    let place = Place {
+        code,
+        words,
+        levels: MAX_DEPTH,
+    };
+    put_output(place, out, 0) as u64
 }
