@@ -78,7 +78,7 @@ then-clears t code old new rest levels n s coded read is parts whole =
     let c = subst (λ x. IsCode x code levels) m.2 coded in
     clears-as t (two and_then m.0 m.1) old new m.2
     (λ z. whole (omega (arith, z)) ∙ ap (λ (w : List ℕ). 0 ∷ w)
-        (parts m.0 m.1 (parts-of and_then m.0 m.1 code levels s c m.3) (then-size m.0 m.1 (length old) z)))
+    (parts m.0 m.1 (parts-of and_then m.0 m.1 code levels s c m.3) (then-size m.0 m.1 (length old) z)))
 
 -- the part of a code that is read as an operator over it
 pub three-clears : (t : Schedule) (code other old new : List ℕ) (levels : ℕ) (n : Node) → IsCode t code levels → n ≡ node_at code → other ≡ drop 3 code →
@@ -151,7 +151,7 @@ both-node t h code old new levels now input x y d before after most n s coded re
     let fits : before + weight (two both m.0 m.1) ≤ most = subst (λ z. before + weight z ≤ most) m.2 room in
     steps-as t (two both m.0 m.1) h new now input d before after m.2
     (both-steps m.0 m.1 h new now input x y d before after
-        (parts m.0 m.1 h (parts-of both m.0 m.1 code levels s c m.3) (omega (arith, fits)) (held ∙ ap (λ z. held_of z h) m.2)) later)
+    (parts m.0 m.1 h (parts-of both m.0 m.1 code levels s c m.3) (omega (arith, fits)) (held ∙ ap (λ z. held_of z h) m.2)) later)
 
 -- a step of `||`
 pub either-node : (t : Schedule) (h : History) (code old new : List ℕ) (levels now input : ℕ) (x y d : Decision) (before after most : ℕ) (n : Node) (s : Sizes) →
@@ -163,20 +163,20 @@ either-node t h code old new levels now input x y d before after most n s coded 
     let fits : before + weight (two either m.0 m.1) ≤ most = subst (λ z. before + weight z ≤ most) m.2 room in
     steps-as t (two either m.0 m.1) h new now input d before after m.2
     (either-steps m.0 m.1 h new now input x y d before after
-        (parts m.0 m.1 h (parts-of either m.0 m.1 code levels s c m.3) (omega (arith, fits)) (held ∙ ap (λ z. held_of z h) m.2)) earlier)
+    (parts m.0 m.1 h (parts-of either m.0 m.1 code levels s c m.3) (omega (arith, fits)) (held ∙ ap (λ z. held_of z h) m.2)) earlier)
 
 -- a step of `andThenEither`
 pub then-node : (t : Schedule) (h : History) (code old new : List ℕ) (levels now input : ℕ) (d : Decision) (before after most : ℕ) (n : Node) (s : Sizes) →
     IsCode t code levels → n ≡ node_at code → n ≡ AndThen s → before + weight t ≤ most → old ≡ held_of t h →
     ((a b : Schedule) (g : History) → IsParts a b s code (levels - 1) → before + 1 + weight a + weight b ≤ most → old ≡ held_of (two and_then a b) g →
-        StepsThen a b g new now input d (before + 1) after) → StepsCode t h new now input d before after
+    StepsThen a b g new now input d (before + 1) after) → StepsCode t h new now input d before after
 then-node t h code old new levels now input d before after most n s coded read is room held parts =
     let m = coded-node t code levels n (AndThen s) coded read is in
     let c = subst (λ z. IsCode z code levels) m.2 coded in
     let fits : before + weight (two and_then m.0 m.1) ≤ most = subst (λ z. before + weight z ≤ most) m.2 room in
     steps-as t (two and_then m.0 m.1) h new now input d before after m.2
     (then-steps m.0 m.1 h new now input d before after
-        (parts m.0 m.1 h (parts-of and_then m.0 m.1 code levels s c m.3) (omega (arith, fits)) (held ∙ ap (λ z. held_of z h) m.2)))
+    (parts m.0 m.1 h (parts-of and_then m.0 m.1 code levels s c m.3) (omega (arith, fits)) (held ∙ ap (λ z. held_of z h) m.2)))
 
 -- what a step of a part is, by its code
 abbrev pub PartSteps : List ℕ → ℕ → ℕ → List ℕ → List ℕ → ℕ → ℕ → Decision → ℕ → ℕ → Type 0
@@ -200,7 +200,7 @@ while_input-node t h code other old new levels now input x d before after most n
     let c = subst (λ z. IsCode z code levels) m.1 coded in
     let fits : before + weight (over m.0 (while_input q)) ≤ most = subst (λ z. before + weight z ≤ most) m.1 room in
     let p = part m.0 h (code-at m.0 other (drop 3 code) (levels - 1) at (part-code (while_input q) m.0 code levels 3 c refl)) (omega (arith, fits))
-        (held ∙ ap (λ z. held_of z h) m.1) in
+    (held ∙ ap (λ z. held_of z h) m.1) in
     steps-as t (over m.0 (while_input q)) h new now input d before after m.1
     (while_input-steps m.0 q h new now input x d before after p (kept ∙ ap (λ (z : Bool). only_if z x) tested))
 
@@ -213,7 +213,7 @@ mapped-node t h code other old new levels now input d before after most n f code
     let c = subst (λ z. IsCode z code levels) m.1 coded in
     let fits : before + weight (over m.0 (mapped f)) ≤ most = subst (λ z. before + weight z ≤ most) m.1 room in
     let p = part m.0 h (code-at m.0 other (drop 3 code) (levels - 1) at (part-code (mapped f) m.0 code levels 3 c refl)) (omega (arith, fits))
-        (held ∙ ap (λ z. held_of z h) m.1) in
+    (held ∙ ap (λ z. held_of z h) m.1) in
     steps-as t (over m.0 (mapped f)) h new now input d before after m.1 (mapped-steps m.0 f h new now input d before after p)
 
 -- whether the output of a part's step passes a test

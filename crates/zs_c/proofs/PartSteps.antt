@@ -42,7 +42,7 @@ parts-steps a b h ws xn yn now input n x y before between after most sized held 
     let p = first (first-held a b h h ws n held sized) (omega (arith, room)) in
     let kept = stepped-size a h xn now input n x before between sized p in
     let q = second (parts-second-all ws (held_of a h) (held_of b h) xn n held (sized ∙ held-length a [] h) kept)
-        (omega (arith, room, p.visited, visits-le a ((now, input) ∷ h))) in
+    (omega (arith, room, p.visited, visits-le a ((now, input) ∷ h))) in
     record {
       held = parts-new ws xn yn n kept ∙ ap (λ z. z ++ yn) p.held ∙ ap (λ z. held_of a ((now, input) ∷ h) ++ z) q.held;
       first = p.decides;

@@ -74,7 +74,7 @@ then-first-new words xs ys zs w n is sized =
 pub then-second-arg : (words xs ys : List ℕ) (w n : ℕ) → words ≡ w ∷ (xs ++ ys) → n ≡ length xs → take (length words - (n + 1)) (drop (n + 1) words) ≡ ys
 then-second-arg words xs ys w n is sized =
     let rest : drop (n + 1) words ≡ ys = ap (λ (v : List ℕ). drop (n + 1) v) is ∙ ap (λ k. drop k (w ∷ (xs ++ ys))) (add-one n)
-        ∙ ap (λ k. drop k (xs ++ ys)) sized ∙ drop-append_seam xs ys in
+    ∙ ap (λ k. drop k (xs ++ ys)) sized ∙ drop-append_seam xs ys in
     let fits : length (drop (n + 1) words) ≤ length words - (n + 1) = omega (arith, length-drop (n + 1) words) in
     take-whole (length words - (n + 1)) (drop (n + 1) words) fits ∙ rest
 

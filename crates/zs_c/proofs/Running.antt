@@ -99,7 +99,7 @@ pub program-stepped : (t : Schedule) (old ys room out : List ℕ) (now input n n
     IsProgramStepped t old (slice_set (put_mid 2 (n + 2 - 2) old ys) 1 now) now input number (record { next = next; size = size; visits = visits; at = 0 }) room out
 program-stepped t old ys room out now input n number next size visits d sized fits kept step text ends numbered goes =
     let argued : (h : History) → KeepsProgramState t h old → StepsCode t h ys now input d 0 visits =
-        λ h k. step h (state-arg old (held_of t h) k.0 (program_check t) (last_moment h) n k.1 (sized ∙ held-length t [] h)) in
+    λ h k. step h (state-arg old (held_of t h) k.0 (program_check t) (last_moment h) n k.1 (sized ∙ held-length t [] h)) in
     record {
       answer = λ h k. let s = argued h k in record {
         decision = numbered ∙ ap decision_number s.decides;
@@ -109,8 +109,11 @@ program-stepped t old ys room out now input n number next size visits d sized fi
         visited = omega (arith, s.visited);
         at = refl;
       };
-      state = λ h k. (k.0, state-new old (held_of t h) k.0 ys (program_check t) (last_moment h) n now k.1 (sized ∙ held-length t [] h)
-          ∙ ap (λ (z : List ℕ). program_check t ∷ (now ∷ (z ++ k.0))) (argued h k).held);
+      state = λ h k. (
+        k.0,
+        state-new old (held_of t h) k.0 ys (program_check t) (last_moment h) n now k.1 (sized ∙ held-length t [] h)
+            ∙ ap (λ (z : List ℕ). program_check t ∷ (now ∷ (z ++ k.0))) (argued h k).held,
+      );
       behind = ap (λ k. drop (suc (suc k)) (slice_set (put_mid 2 (n + 2 - 2) old ys) 1 now)) (sym sized) ∙ state-behind n now old ys fits kept
           ∙ ap (λ k. drop (suc (suc k)) old) sized;
     }
@@ -131,9 +134,9 @@ pub opened-stepped : (o : Opened) (t : Schedule) → Opens o t → (old ys room 
     o.state + 2 ≤ length old → length ys ≡ length (take (o.state + 2 - 2) (drop 2 old)) →
     ((u : Schedule) (h : History) → IsCode u o.code.now 64 → 0 + weight u ≤ 1000 → take (o.state + 2 - 2) (drop 2 old) ≡ held_of u h → StepsCode u h ys now input d 0 visits) →
     ((u : Schedule) (g : History) → IsCode u o.code.now 64 → weight u ≤ 1000 → take (o.state + 2 - 2) (drop 2 (put_mid 2 (o.state + 2 - 2) old ys)) ≡ held_of u g →
-        out ≡ written (output_text (answer_of u g).output) room) →
+    out ≡ written (output_text (answer_of u g).output) room) →
     ((u : Schedule) (g : History) → IsCode u o.code.now 64 → weight u ≤ 1000 → take (o.state + 2 - 2) (drop 2 (put_mid 2 (o.state + 2 - 2) old ys)) ≡ held_of u g →
-        size ≡ length (output_text (answer_of u g).output)) →
+    size ≡ length (output_text (answer_of u g).output)) →
     number ≡ decision_number d → next ≡ next_moment d →
     IsProgramStepped t old (slice_set (put_mid 2 (o.state + 2 - 2) old ys) 1 now) now input number (record { next = next; size = size; visits = visits; at = 0 }) room out
 opened-stepped o t opens old ys room out now input number next size visits d fits kept step text ends numbered goes =

@@ -162,7 +162,7 @@ then-turns a b h first second words now input x d before between after none p st
     let pair : ℕ × ℕ = (now, input) in
     let begins : from_done (answer_of a) (pair ∷ h) ≡ Some (pair ∷ []) = from_done-next a h pair None x false none p.decides stops in
     let counted : sequel_visits (from_done (answer_of a) h) (from_done (answer_of a) (pair ∷ h)) (visits a (pair ∷ h)) (visits b) ≡
-        visits a (pair ∷ h) + visits b (pair ∷ []) =
+    visits a (pair ∷ h) + visits b (pair ∷ []) =
     ap (λ o. sequel_visits o (from_done (answer_of a) (pair ∷ h)) (visits a (pair ∷ h)) (visits b)) none
     ∙ ap (λ o. sequel_visits None o (visits a (pair ∷ h)) (visits b)) begins in
     record {

@@ -110,11 +110,14 @@ text-bound (two either a b) h flat coded held =
     omega (arith, pair-text (answer_of a h).output (answer_of b h).output (32 * weight a) (32 * weight b) first second)
 text-bound (two and_then a b) h flat coded held =
     let codes = coded.1.1.1 in
-    omega (arith, sequel-text (from_done (answer_of a) h) (answer_of a h) (answer_of b) (32 * weight a) (32 * weight b)
-    (λ none. text-bound a h flat.0 (fit-first (code_of a) (code_of b) codes)
-        (fit-first (held_of a h) (held_of b []) (subst (λ o. AllFit (sequel_words o (held_of a) (held_of b) h)) none held).1))
-    (λ g some. text-bound b g flat.1 (fit-second (code_of a) (code_of b) codes)
-        (fit-second (held_of a []) (held_of b g) (subst (λ o. AllFit (sequel_words o (held_of a) (held_of b) h)) some held).1)))
+    omega (
+      arith,
+      sequel-text (from_done (answer_of a) h) (answer_of a h) (answer_of b) (32 * weight a) (32 * weight b)
+          (λ none. text-bound a h flat.0 (fit-first (code_of a) (code_of b) codes)
+          (fit-first (held_of a h) (held_of b []) (subst (λ o. AllFit (sequel_words o (held_of a) (held_of b) h)) none held).1))
+          (λ g some. text-bound b g flat.1 (fit-second (code_of a) (code_of b) codes)
+          (fit-second (held_of a []) (held_of b g) (subst (λ o. AllFit (sequel_words o (held_of a) (held_of b) h)) some held).1)),
+    )
 text-bound (over s (while_input t)) h flat coded held = omega (arith, text-bound s h flat.1 coded.1.1.1 held)
 text-bound (over s (while_output k t)) h flat coded held = omega (arith, text-bound s h flat.1 coded.1.1.1.1 held)
 text-bound (over s (mapped f)) h flat coded held =

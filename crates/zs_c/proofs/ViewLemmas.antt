@@ -60,15 +60,16 @@ pub left-tells : (a b : Schedule) (h : History) (code words : List ℕ) (levels 
 left-tells a b h code words levels n o coded sized held is zeroed =
     let on = first-is-on (from_done (answer_of a) h) (held_of a) (held_of b) h words held zeroed in
     let size : n.code ≡ (sizes_of a).code = ap (λ (z : Sizes). z.code) sized in
-    let state : n.state ≡ held_size a = ap (λ (z : Sizes). z.state) sized in
-    (is ∙ ap (λ k. (sequel_of k (answer_of a h) (answer_of b)).output) on.0,
-     record {
-       term = a;
-       history = h;
-       coded = first-code and_then a b code levels n.code coded size;
-       held = first-held a b h [] (drop 1 words) n.state (tail-of 0 words (held_of a h ++ held_of b []) on.1) state;
-       output = refl;
-     })
+    let state : n.state ≡ held_size a = ap (λ (z : Sizes). z.state) sized in (
+      is ∙ ap (λ k. (sequel_of k (answer_of a h) (answer_of b)).output) on.0,
+      record {
+        term = a;
+        history = h;
+        coded = first-code and_then a b code levels n.code coded size;
+        held = first-held a b h [] (drop 1 words) n.state (tail-of 0 words (held_of a h ++ held_of b []) on.1) state;
+        output = refl;
+      },
+    )
 
 -- and from then on
 pub right-tells : (a b : Schedule) (h : History) (code words : List ℕ) (levels : ℕ) (n : Sizes) (o : Output) → IsCode (two and_then a b) code levels →
@@ -78,16 +79,17 @@ right-tells a b h code words levels n o coded sized held is other =
     let on = second-is-on (from_done (answer_of a) h) (held_of a) (held_of b) h words held other in
     let g = on.0 in
     let size : n.code ≡ (sizes_of a).code = ap (λ (z : Sizes). z.code) sized in
-    let state : n.state ≡ held_size a = ap (λ (z : Sizes). z.state) sized in
-    ((answer_of b g).output,
-     is ∙ ap (λ k. (sequel_of k (answer_of a h) (answer_of b)).output) on.1,
-     record {
-       term = b;
-       history = g;
-       coded = second-code and_then a b code levels n.code coded size;
-       held = second-held a b [] g (drop 1 words) n.state (tail-of 1 words (held_of a [] ++ held_of b g) on.2) state;
-       output = refl;
-     })
+    let state : n.state ≡ held_size a = ap (λ (z : Sizes). z.state) sized in (
+      (answer_of b g).output,
+      is ∙ ap (λ k. (sequel_of k (answer_of a h) (answer_of b)).output) on.1,
+      record {
+        term = b;
+        history = g;
+        coded = second-code and_then a b code levels n.code coded size;
+        held = second-held a b [] g (drop 1 words) n.state (tail-of 1 words (held_of a [] ++ held_of b g) on.2) state;
+        output = refl;
+      },
+    )
 
 -- the words of a part under an operator that answers as its part does, or a function of it
 pub while_input-tells : (s : Schedule) (x : Test) (h : History) (code words : List ℕ) (levels : ℕ) (o : Output) → IsCode (over s (while_input x)) code levels →

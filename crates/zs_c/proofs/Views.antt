@@ -80,9 +80,10 @@ pub record ArePartsOf (s : Sizes) (p a b : Place) (at : ℕ) : Type 0 where
 
 -- both places tell outputs
 parts-told : (s : Sizes) (p a b : Place) (x y : Output) → ArePartsOf s p a b 0 → TellsParts s p.code.now p.words.now p.levels x y → PlaceTells a x × PlaceTells b y
-parts-told s p a b x y are t =
-    (tells-at a.code.now (take s.code (drop 3 p.code.now)) a.words.now (take s.state p.words.now) a.levels (p.levels - 1) x are.first_code are.first_words are.first_levels t.first,
-     tells-at b.code.now (drop s.code (drop 3 p.code.now)) b.words.now (drop s.state p.words.now) b.levels (p.levels - 1) y are.second_code are.second_words are.second_levels t.second)
+parts-told s p a b x y are t = (
+  tells-at a.code.now (take s.code (drop 3 p.code.now)) a.words.now (take s.state p.words.now) a.levels (p.levels - 1) x are.first_code are.first_words are.first_levels t.first,
+  tells-at b.code.now (drop s.code (drop 3 p.code.now)) b.words.now (drop s.state p.words.now) b.levels (p.levels - 1) y are.second_code are.second_words are.second_levels t.second,
+)
 
 -- the parts of `&&`
 pub both-shows : (s : Sizes) (p a b : Place) (o : Output) (n : Node) → n ≡ node_at p.code.now → n ≡ Both s → ArePartsOf s p a b 0 → PlaceTells p o → Shows (Pair a b) o
@@ -113,9 +114,12 @@ left-shows s p a b o n read is are zeroed t =
     let node = told-node p.code.now p.words.now p.levels o n (AndThen s) read is t in
     let u = told-as p.code.now p.words.now p.levels o t (two and_then node.0 node.1) node.2 in
     let w = left-tells node.0 node.1 t.history p.code.now p.words.now p.levels s o u.0 node.3 u.1 u.2 zeroed in
-    let x = (answer_of node.0 t.history).output in
-    (x, w.0, tells-at a.code.now (take s.code (drop 3 p.code.now)) a.words.now (take s.state (drop 1 p.words.now)) a.levels (p.levels - 1) x
-        are.first_code are.first_words are.first_levels w.1)
+    let x = (answer_of node.0 t.history).output in (
+      x,
+      w.0,
+      tells-at a.code.now (take s.code (drop 3 p.code.now)) a.words.now (take s.state (drop 1 p.words.now)) a.levels (p.levels - 1) x
+          are.first_code are.first_words are.first_levels w.1,
+    )
 
 -- and the second from then on
 pub right-shows : (s : Sizes) (p a b : Place) (o : Output) (n : Node) → n ≡ node_at p.code.now → n ≡ AndThen s → ArePartsOf s p a b 1 → (word_at p.words.now 0 ≡ 0 → ⊥) →
@@ -123,9 +127,12 @@ pub right-shows : (s : Sizes) (p a b : Place) (o : Output) (n : Node) → n ≡ 
 right-shows s p a b o n read is are other t =
     let node = told-node p.code.now p.words.now p.levels o n (AndThen s) read is t in
     let u = told-as p.code.now p.words.now p.levels o t (two and_then node.0 node.1) node.2 in
-    let w = right-tells node.0 node.1 t.history p.code.now p.words.now p.levels s o u.0 node.3 u.1 u.2 other in
-    (w.0, w.1, tells-at b.code.now (drop s.code (drop 3 p.code.now)) b.words.now (drop s.state (drop 1 p.words.now)) b.levels (p.levels - 1) w.0
-        are.second_code are.second_words are.second_levels w.2)
+    let w = right-tells node.0 node.1 t.history p.code.now p.words.now p.levels s o u.0 node.3 u.1 u.2 other in (
+      w.0,
+      w.1,
+      tells-at b.code.now (drop s.code (drop 3 p.code.now)) b.words.now (drop s.state (drop 1 p.words.now)) b.levels (p.levels - 1) w.0
+          are.second_code are.second_words are.second_levels w.2,
+    )
 
 -- a place that is the part of one
 pub record IsPartOf (p a : Place) (at : ℕ) : Type 0 where

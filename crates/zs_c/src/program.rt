@@ -4,6 +4,8 @@ mod clearing;
 mod coding;
 mod compiling;
 mod denial;
+pub(crate) mod exports;
+pub(crate) mod laws;
 mod leaf;
 mod node;
 mod opening;
@@ -11,6 +13,3 @@ mod output_text;
 mod outputs;
 mod running;
 mod stepping;
-
-pub(crate) mod exports;
-pub(crate) mod laws;

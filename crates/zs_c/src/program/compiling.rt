@@ -20,11 +20,7 @@ pub(crate) fn sizes_in(alloc: Global, text: &[u8]) -> Result<(u64, u64), Refusal
 }
 
 // The program of a text's schedule, where a room holds it.
-pub(crate) fn fitting_program(
-    alloc: Global,
-    text: &[u8],
-    room: &[u64],
-) -> Result<Vec<u64>, Refusal>
+pub(crate) fn fitting_program(alloc: Global, text: &[u8], room: &[u64]) -> Result<Vec<u64>, Refusal>
     ensures ok { IfOk result (λ v. IsNewProgram text.now v.items) }
     ensures fits { IfOk result (λ v. length v.items ≤ length room.now) }
     ensures err { IfErr result (IsCompileRefusal text.now (length room.now)) }

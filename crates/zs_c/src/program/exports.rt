@@ -41,12 +41,7 @@ pub extern "C" fn zs_program_size(
 /// Writes the program of a text's schedule over the front of words: 0, or the number of the reason why not, and the byte at
 /// which that shows.
 #[unsafe(no_mangle)]
-pub extern "C" fn zs_compile(
-    alloc: Global,
-    text: &[u8],
-    program: &mut [u64],
-    at: &mut u64,
-) -> u32
+pub extern "C" fn zs_compile(alloc: Global, text: &[u8], program: &mut [u64], at: &mut u64) -> u32
     ensures compiled { result ≡ 0 → IsCompiled text.now program.old program.new }
     ensures nowhere { result ≡ 0 → at.new ≡ 0 }
     ensures refused { 0 < result → IsRefusedFor (IsCompileRefusal text.now (length program.old)) result at.new }

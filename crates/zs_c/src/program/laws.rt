@@ -7,5 +7,4 @@ ghost use Rattle.zs_c.specs.Program.{IsProgram};
 /// Words are the program of one schedule at most.
 pub fn one_schedule()
     ensures { (program : List ℕ) (t u : Schedule) → IsProgram program t → IsProgram program u → t ≡ u }
-{
-}
+{}

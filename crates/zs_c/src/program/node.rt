@@ -51,9 +51,15 @@ pub(crate) fn read_node(code: &[u64]) -> Node
         12 => Node::Either(read_sizes(code)),
         13 => Node::AndThen(read_sizes(code)),
         14 => Node::WhileInput(read_test(word(code, 1), word(code, 2))),
-        15 => Node::WhileOutput(read_pick(word(code, 1)), read_test(word(code, 2), word(code, 3))),
+        15 => Node::WhileOutput(
+            read_pick(word(code, 1)),
+            read_test(word(code, 2), word(code, 3)),
+        ),
         16 => Node::Map(read_func(word(code, 1), word(code, 2))),
-        17 => Node::ResetWhen(read_pick(word(code, 1)), read_test(word(code, 2), word(code, 3))),
+        17 => Node::ResetWhen(
+            read_pick(word(code, 1)),
+            read_test(word(code, 2), word(code, 3)),
+        ),
         _ => Node::Leaf(read_rule(code)),
     }
 }
@@ -99,7 +105,11 @@ pub(crate) fn behind(words: &[u64], at: usize) -> &[u64]
 pub(crate) fn front(words: &[u64], size: usize) -> &[u64]
     ensures value { result.now ≡ take size words.now }
 {
-    if size <= words.len() { &words[..size] } else { words }
+    if size <= words.len() {
+        &words[..size]
+    } else {
+        words
+    }
 }
 
 // The sizes behind an operator's tag.

@@ -1,6 +1,5 @@
 // The text of an output, straight from the words that tell it.
 
-use crate::program::node::{Node, read_node, word};
 ghost use Rattle.std.specs.Prelude.{◌≡◌, ◌+◌, ◌^◌, ◌<◌, [], ◌∷◌, ◌++◌, codes, length};
 ghost use Rattle.std.specs.Fmt.{decimal};
 ghost use Rattle.zs_term.specs.Output.{Output};
@@ -8,6 +7,7 @@ ghost use Rattle.zs_term.specs.OutputText.{output_text};
 ghost use Rattle.zs_c.specs.Rooms.{written_at};
 ghost use Rattle.zs_c.specs.View.{PlaceTells};
 
+use crate::program::node::{Node, read_node, word};
 use crate::program::outputs::{Place, View, read_view};
 use crate::room::put_behind;
 use itoa::Buffer;

@@ -41,7 +41,11 @@ pub(crate) fn read_view(place: Place<'_>) -> View<'_>
         }
         Node::AndThen(sizes) => {
             let (a, b) = parts(place, sizes, 1);
-            if word(place.words, 0) == 0 { View::Left(a) } else { View::Right(b) }
+            if word(place.words, 0) == 0 {
+                View::Left(a)
+            } else {
+                View::Right(b)
+            }
         }
         Node::WhileInput(_) => read_view(part(place, 3)),
         Node::WhileOutput(_, _) | Node::ResetWhen(_, _) => read_view(part(place, 4)),

@@ -48,12 +48,20 @@ pub(crate) fn step_code(
         Node::AndThen(sizes) => step_and_then(code, words, sizes, levels - 1, step, visits),
         Node::WhileInput(test) => {
             let decision = step_code(behind(code, 3), words, levels - 1, step, visits);
-            if test.passes(step.input) { decision } else { Decision::Stop }
+            if test.passes(step.input) {
+                decision
+            } else {
+                Decision::Stop
+            }
         }
         Node::WhileOutput(pick, test) => {
             let part = behind(code, 4);
             let decision = step_code(part, words, levels - 1, step, visits);
-            if has_passed(part, words, levels - 1, pick, test) { decision } else { Decision::Stop }
+            if has_passed(part, words, levels - 1, pick, test) {
+                decision
+            } else {
+                Decision::Stop
+            }
         }
         Node::Map(_) => step_code(behind(code, 3), words, levels - 1, step, visits),
         Node::ResetWhen(pick, test) => {
@@ -97,7 +105,13 @@ fn step_parts(
         return (Decision::Stop, Decision::Stop);
     }
     let x = step_code(front(rest, size), &mut words[..state], levels, step, visits);
-    let y = step_code(behind(rest, size), &mut words[state..], levels, step, visits);
+    let y = step_code(
+        behind(rest, size),
+        &mut words[state..],
+        levels,
+        step,
+        visits,
+    );
     (x, y)
 }
 
@@ -127,7 +141,13 @@ fn step_and_then(
         words[0] = 1;
         clear(first, &mut words[1..second], levels);
     }
-    step_code(behind(rest, size), &mut words[second..], levels, step, visits)
+    step_code(
+        behind(rest, size),
+        &mut words[second..],
+        levels,
+        step,
+        visits,
+    )
 }
 
 // Goes on where both do, at the later moment.

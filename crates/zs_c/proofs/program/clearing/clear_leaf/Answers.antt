@@ -12,12 +12,12 @@ returns-in-Forever c =
       clears = elim c.in-Forever.is [
         | inl e ↦ rule-clears r Forever old new e (λ z. cleared-two old new 0 0 z c.put_two.ensures.puts)
         | inr d ↦ elim d [
-            | inl e ↦ rule-clears r (Recurs e.0) old new e.1 (λ z. cleared-two old new 0 0 z c.put_two.ensures.puts)
-            | inr f ↦ elim f [
-                | inl e ↦ rule-clears r (Spaced e.0) old new e.1 (λ z. cleared-two old new 0 0 z c.put_two.ensures.puts)
-                | inr e ↦ rule-clears r (Linear e.0) old new e.1 (λ z. cleared-two old new 0 0 z c.put_two.ensures.puts ∙ linear-new e.0)
-              ]
+          | inl e ↦ rule-clears r (Recurs e.0) old new e.1 (λ z. cleared-two old new 0 0 z c.put_two.ensures.puts)
+          | inr f ↦ elim f [
+            | inl e ↦ rule-clears r (Spaced e.0) old new e.1 (λ z. cleared-two old new 0 0 z c.put_two.ensures.puts)
+            | inr e ↦ rule-clears r (Linear e.0) old new e.1 (λ z. cleared-two old new 0 0 z c.put_two.ensures.puts ∙ linear-new e.0)
           ]
+        ]
       ];
     }
 

@@ -21,11 +21,11 @@ returns-clause-held c h input held =
     let begun = from.ensures.first o n (first_moment h) kept held ∙ first-turn h (now, input) in
     let counted = from-held h o now input kept c.args.words.now from.new.words held from.ensures.counted in
     let run : c.if-before-eq0.run ≡ next_run period ((now, input) ∷ h) =
-        elim c.if-before-eq0.branch [
-          | then-before-eq0 w ↦ fixed-first period now input c.if-before-eq0.run h (sym before ∙ w.if-before-eq0.true) (w.run-is ∙ w.saturating_add-run.ensures)
-          | else-before-eq0 w ↦ fixed-later period now input from.result.1 w.word.result c.if-before-eq0.run h (λ e. w.if-before-eq0.false (before ∙ e)) begun
-              (w.word.ensures.value ∙ ap (λ x. word_at x 3) counted) (w.run-is ∙ w.run_after-run.ensures.value)
-        ] in
+    elim c.if-before-eq0.branch [
+      | then-before-eq0 w ↦ fixed-first period now input c.if-before-eq0.run h (sym before ∙ w.if-before-eq0.true) (w.run-is ∙ w.saturating_add-run.ensures)
+      | else-before-eq0 w ↦ fixed-later period now input from.result.1 w.word.result c.if-before-eq0.run h (λ e. w.if-before-eq0.false (before ∙ e)) begun
+          (w.word.ensures.value ∙ ap (λ x. word_at x 3) counted) (w.run-is ∙ w.run_after-run.ensures.value)
+    ] in
     c.set_word.ensures.value ∙ ap (λ x. slice_set x 3 c.if-before-eq0.run) counted
     ∙ ap (λ r. n ∷ (saturated (length ((now, input) ∷ h)) ∷ (first_moment ((now, input) ∷ h) ∷ (r ∷ [])))) run
 
@@ -41,9 +41,9 @@ returns-clause-decides c h input held =
     let begun = from.ensures.first o n (first_moment h) kept held ∙ first-turn h (now, input) in
     let counted = from-held h o now input kept c.args.words.now from.new.words held from.ensures.counted in
     let run : c.if-before-eq0.run ≡ next_run period ((now, input) ∷ h) =
-        elim c.if-before-eq0.branch [
-          | then-before-eq0 w ↦ fixed-first period now input c.if-before-eq0.run h (sym before ∙ w.if-before-eq0.true) (w.run-is ∙ w.saturating_add-run.ensures)
-          | else-before-eq0 w ↦ fixed-later period now input from.result.1 w.word.result c.if-before-eq0.run h (λ e. w.if-before-eq0.false (before ∙ e)) begun
-              (w.word.ensures.value ∙ ap (λ x. word_at x 3) counted) (w.run-is ∙ w.run_after-run.ensures.value)
-        ] in
+    elim c.if-before-eq0.branch [
+      | then-before-eq0 w ↦ fixed-first period now input c.if-before-eq0.run h (sym before ∙ w.if-before-eq0.true) (w.run-is ∙ w.saturating_add-run.ensures)
+      | else-before-eq0 w ↦ fixed-later period now input from.result.1 w.word.result c.if-before-eq0.run h (λ e. w.if-before-eq0.false (before ∙ e)) begun
+          (w.word.ensures.value ∙ ap (λ x. word_at x 3) counted) (w.run-is ∙ w.run_after-run.ensures.value)
+    ] in
     ap (λ r. Next r) run

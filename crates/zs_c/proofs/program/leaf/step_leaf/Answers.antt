@@ -25,8 +25,8 @@ returns-in-Elapsed-clause-held c h =
     let n = saturated (length h) in
     rule-held c.args.rule Elapsed c.args.words.now c.set_word-in-Elapsed.new.words h (p ∷ h) c.in-Elapsed.is
     (λ held. elapsed-held h o now c.args.step.now.input from.result.1 c.saturating_sub.result c.args.words.now from.new.words c.set_word-in-Elapsed.new.words
-        held from.ensures.counted c.set_word-in-Elapsed.ensures.value c.saturating_sub.ensures
-        (from.ensures.first o n (first_moment h) [] held ∙ first-turn h p))
+    held from.ensures.counted c.set_word-in-Elapsed.ensures.value c.saturating_sub.ensures
+    (from.ensures.first o n (first_moment h) [] held ∙ first-turn h p))
 
 pub returns-then-count-limit-clause-held : goal.returns-then-count-limit-clause-held
 returns-then-count-limit-clause-held c h =
@@ -61,7 +61,7 @@ returns-in-Windowed-clause-decides c h held =
     let period = c.in-Windowed.period in
     let from = c.count_from-before-in-Windowed in
     let first = from.ensures.first (saturated (length (earlier h))) (saturated (length h)) (first_moment h) []
-        (held ∙ ap (λ (r : Rule). leaf_held (rule_leaf r) h) c.in-Windowed.is) ∙ first-turn h p in
+    (held ∙ ap (λ (r : Rule). leaf_held (rule_leaf r) h) c.in-Windowed.is) ∙ first-turn h p in
     subst (λ (r : Rule). Next c.window_end.result ≡ (leaf_answer (rule_leaf r) (p ∷ h)).decision) (sym c.in-Windowed.is)
     (ap (λ x. Next x) (c.window_end.ensures.value ∙ ap (λ f. window_end period f now) first))
 
@@ -74,4 +74,4 @@ returns-in-Exponential-clause-held c h =
     let p : ℕ × ℕ = (c.args.step.now.moment, c.args.step.now.input) in
     rule-held c.args.rule (Exponential base factor) old new h (p ∷ h) c.in-Exponential.is
     (λ held. exponential-held base factor c.word-delay.result c.saturating_mul.result h p old new held c.word-delay.ensures.value c.saturating_mul.ensures
-        c.wait-in-Exponential.ensures.put)
+    c.wait-in-Exponential.ensures.put)

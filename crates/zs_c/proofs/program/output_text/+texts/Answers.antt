@@ -85,7 +85,7 @@ put_side-returns-clause-text t c o tells small =
     let side = c.args.side.now in
     let text = output_text o in
     let size : length (side ++ (text ++ codes ")")) ≡ length side + (length text + 1) =
-        length-append side (text ++ codes ")") ∙ ap (λ n. length side + n) (length-append text (codes ")")) in
+    length-append side (text ++ codes ")") ∙ ap (λ n. length side + n) (length-append text (codes ")")) in
     let start : c.saturating_add.result ≡ at + length side = omega (arith, small, size, c.saturating_add.ensures) in
     let end = c.put_output-end.ensures.end o tells (omega (arith, small, size, start)) in
     three-written at c.saturating_add.result c.put_output-end.result side text (codes ")") c.args.room.now c.put_behind.new.room c.put_output-end.new.room c.put_byte.new.room

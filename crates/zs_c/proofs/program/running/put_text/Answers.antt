@@ -10,5 +10,5 @@ returns-clause-text c t h coded light held =
 pub returns-clause-size : goal.returns-clause-size
 returns-clause-size c t h coded light held =
     let end = c.put_output.ensures.end _ (record { term = t; history = h; coded = coded; held = held; output = refl })
-        (short-text t h c.args.code.now c.args.words.now coded light held c.type_inv.code c.type_inv.words) in
+    (short-text t h c.args.code.now c.args.words.now coded light held c.type_inv.code c.type_inv.words) in
     omega (arith, end)
