@@ -1,14 +1,14 @@
 -- The parts of a code, and the lengths of states.
-use Rattle.std.proofs.Common.{◌≡◌, ℕ, suc, ◌+◌, ◌-◌, ◌≤◌, Option, Some, None, List, [], ◌∷◌, ◌++◌, length, take, drop, refl, sym, ap, ◌∙◌, arith}
+use Rattle.std.proofs.Common.{◌≡◌, ℕ, suc, ◌-◌, Option, Some, None, List, [], ◌++◌, length, take, drop, refl, ap, ◌∙◌, arith}
 use Rattle.std.proofs.lemmas.List.{length-append}
 use Rattle.std.proofs.Math.Seq.{take-append_seam, drop-append_seam}
-use Rattle.zs_term.specs.Schedule.{Schedule, Pairing, Modifier, depth, leaf, two, over, plain, counted, exponential, both, either, and_then, while_input, while_output, collect_all, mapped, reset_when}
+use Rattle.zs_term.specs.Schedule.{Schedule, Pairing, Modifier, leaf, two, over, plain, counted, exponential, both, either, and_then, while_input, while_output, collect_all, mapped, reset_when}
 use Rattle.zs_term.specs.declared.forms.Plain.TheVariants.{Forever, Identity, Elapsed}
 use Rattle.zs_term.specs.declared.forms.Counted.TheVariants.{Recurs, Spaced, Fixed, Fibonacci, Linear, Windowed}
 use Rattle.zs_step.specs.History.{History}
 use Rattle.zs_step.specs.Words.{sequel_words}
 use Rattle.zs_step.specs.Answer.{answer_of, from_done, since_reset}
-use Rattle.zs_c.specs.Code.{code_of, modifier_code, held_of, held_size, IsCode}
+use Rattle.zs_c.specs.Code.{code_of, modifier_code, held_of, IsCode}
 
 -- the code of an operator's first part
 pub first-code : (p : Pairing) (a b : Schedule) (code : List ℕ) (levels size : ℕ) → IsCode (two p a b) code levels → size ≡ length (code_of a) →

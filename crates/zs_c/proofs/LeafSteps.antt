@@ -1,15 +1,12 @@
 -- What a step of a leaf makes of the words that it is held in.
-use Rattle.std.proofs.Common.{◌≡◌, ℕ, suc, ◌+◌, ◌-◌, ◌*◌, ◌^◌, ◌<◌, min, Bool, true, false, List, [], ◌∷◌, length, refl, sym, ap, ◌∙◌, subst, arith}
-use Rattle.std.specs.Prelude.{nat_eq, nat_lt, if◌then◌else◌, slice_set}
+use Rattle.std.proofs.Common.{◌≡◌, ℕ, suc, ◌+◌, ◌-◌, ◌*◌, ◌^◌, min, Bool, false, List, [], ◌∷◌, length, refl, sym, ap, ◌∙◌, subst, arith}
+use Rattle.std.specs.Prelude.{nat_eq, if◌then◌else◌, slice_set}
 use Rattle.std.proofs.lemmas.Bool.{ne_eqb}
-use Rattle.std.proofs.lemmas.Bool.Decides.{nat_tests}
 use Rattle.zs_term.specs.Saturating.{saturated}
-use Rattle.zs_term.specs.Schedule.{Leaf, forever, identity, elapsed, recurs, spaced, fixed, exponential, fibonacci, linear, windowed}
-use Rattle.zs_step.specs.declared.decision.Decision.{Decision}
-use Rattle.zs_step.specs.declared.decision.Decision.TheVariants.{Next}
-use Rattle.zs_step.specs.History.{History, first_moment, last_moment, earlier}
-use Rattle.zs_step.specs.Answer.{leaf_answer, only_if, fibonacci_number, next_run, run_after, window_end}
-use Rattle.zs_step.proofs.Sats.{power-turn, fibonacci_number-turn}
+use Rattle.zs_term.specs.Schedule.{elapsed, exponential}
+use Rattle.zs_step.specs.History.{History, first_moment, earlier}
+use Rattle.zs_step.specs.Answer.{next_run, run_after}
+use Rattle.zs_step.proofs.Sats.{power-turn}
 use Rattle.zs_c.specs.declared.program.node.Rule.{Rule}
 use Rattle.zs_c.specs.Code.{leaf_held}
 use Rattle.zs_c.specs.Node.{rule_leaf, word_at}

@@ -1,5 +1,5 @@
 -- A schedule that keeps no list answers none: no output has a list in it.
-use Rattle.std.proofs.Common.{◌≡◌, ℕ, Option, Some, None, List, [], ◌∷◌, refl, ap, ◌∙◌}
+use Rattle.std.proofs.Common.{◌≡◌, Option, Some, None, refl}
 use Rattle.zs_term.specs.Output.{Output, number, pair, left, right, listed, size_in, applied}
 use Rattle.zs_term.specs.Schedule.{Schedule, leaf, two, over, plain, counted, exponential, both, either, and_then, while_input, while_output, collect_all, mapped, reset_when}
 use Rattle.zs_term.specs.declared.forms.Plain.TheVariants.{Forever, Identity, Elapsed}

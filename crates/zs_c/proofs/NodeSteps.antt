@@ -1,8 +1,8 @@
 -- What a node does by what its parts do: before any step, and at one.
-use Rattle.std.proofs.Common.{◌≡◌, ℕ, suc, ◌+◌, ◌-◌, ◌*◌, ◌≤◌, Bool, true, false, ◌⊎◌, inl, inr, List, [], ◌∷◌, ◌++◌, length, take, drop, refl, sym, ap, ◌∙◌, subst, arith}
+use Rattle.std.proofs.Common.{◌≡◌, ℕ, suc, ◌+◌, ◌-◌, ◌≤◌, Bool, true, false, ◌⊎◌, inl, inr, List, [], ◌∷◌, ◌++◌, length, drop, refl, sym, ap, ◌∙◌, subst, arith}
 use Rattle.std.proofs.lemmas.List.{length-append}
 use Rattle.zs_term.specs.Output.{Output, passes, picked}
-use Rattle.zs_term.specs.Schedule.{Schedule, Pairing, leaf, two, over, both, either, and_then, while_input, while_output, mapped, reset_when, depth, weight}
+use Rattle.zs_term.specs.Schedule.{Schedule, Pairing, leaf, two, over, both, either, and_then, while_input, while_output, mapped, reset_when, weight}
 use Rattle.zs_term.specs.declared.term.Test.{Test}
 use Rattle.zs_term.specs.declared.term.Pick.{Pick}
 use Rattle.zs_term.specs.declared.term.Func.{Func}

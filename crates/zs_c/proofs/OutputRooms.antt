@@ -1,5 +1,5 @@
 -- Texts one behind the other in a room, from any place on.
-use Rattle.std.proofs.Common.{◌≡◌, ℕ, zero, suc, List, [], ◌∷◌, ◌++◌, ◌+◌, length, take, drop, refl, sym, ap, ◌∙◌, append_assoc, length-append, arith}
+use Rattle.std.proofs.Common.{◌≡◌, ℕ, zero, suc, List, [], ◌∷◌, ◌++◌, ◌+◌, length, refl, sym, ap, ◌∙◌, append_assoc, length-append, arith}
 use Rattle.zs_c.specs.Told.{written}
 use Rattle.zs_c.specs.Rooms.{written_at}
 use Rattle.zs_c.proofs.Rooms.{written_behind}

@@ -1,25 +1,23 @@
 -- A step of a program over the words of its state.
-use Rattle.std.proofs.Common.{◌≡◌, ℕ, zero, suc, ◌+◌, ◌-◌, ◌*◌, ◌^◌, ◌<◌, ◌≤◌, Bool, true, false, ◌&&◌, List, [], ◌∷◌, ◌++◌, length, take, drop, get_or, length-drop, refl, sym, ap, ◌∙◌, subst, arith, Fits, w64}
+use Rattle.std.proofs.Common.{◌≡◌, ℕ, suc, ◌+◌, ◌-◌, ◌^◌, ◌<◌, ◌≤◌, Bool, true, false, ◌&&◌, List, [], ◌∷◌, ◌++◌, length, take, drop, get_or, length-drop, refl, sym, ap, ◌∙◌, subst, arith, Fits, w64}
 use Rattle.std.specs.Prelude.{slice_set, nat_le}
 use Rattle.std.proofs.lemmas.Bool.Decides.{nat_tests}
 use Rattle.std.proofs.lemmas.List.{length-take}
 use Rattle.std.proofs.Math.Seq.{take-append_seam, drop-append_seam}
 use borrow.Rule.Slice.PartMut.{put_mid}
-use Rattle.zs_term.specs.Output.{Output}
 use Rattle.zs_term.specs.OutputText.{output_text}
 use Rattle.zs_term.specs.Schedule.{Schedule, depth, weight, is_within_limits}
 use Rattle.zs_step.specs.declared.decision.Decision.{Decision}
 use Rattle.zs_step.specs.History.{History, last_moment}
 use Rattle.zs_step.specs.Answer.{answer_of}
-use Rattle.zs_c.specs.declared.reply.Reply.{Reply}
 use Rattle.zs_c.specs.declared.program.opening.Opened.{Opened}
 use Rattle.zs_c.specs.Numbers.{decision_number, next_moment}
 use Rattle.zs_c.specs.Code.{IsCode, code_of, held_of, held_size}
 use Rattle.zs_c.specs.Opened.{Opens}
-use Rattle.zs_c.specs.Program.{program_check, program_state, KeepsProgramState}
+use Rattle.zs_c.specs.Program.{program_check, KeepsProgramState}
 use Rattle.zs_c.specs.Programs.{IsProgramStepped}
 use Rattle.zs_c.specs.Steps.{StepsCode}
-use Rattle.zs_c.specs.Told.{written, TellsAnswer}
+use Rattle.zs_c.specs.Told.{written}
 use Rattle.zs_c.proofs.Codes.{held-length}
 use Rattle.zs_c.proofs.TextBounds.{AllFit, text-bound}
 

@@ -1,17 +1,16 @@
 -- What the words of a node tell of its output.
-use Rattle.std.proofs.Common.{◌≡◌, ℕ, suc, ◌+◌, ◌-◌, ◌<◌, ◌≤◌, Option, Some, None, List, [], ◌∷◌, ◌++◌, length, take, drop, refl, sym, ap, ◌∙◌, subst, arith}
-use Rattle.zs_term.specs.Output.{Output, number, pair, left, right, number_in, picked, applied}
-use Rattle.zs_term.specs.Schedule.{Schedule, Leaf, leaf, two, over, both, either, and_then, Modifier, while_input, while_output, mapped, reset_when}
+use Rattle.std.proofs.Common.{◌≡◌, ℕ, ◌-◌, ◌≤◌, List, [], ◌∷◌, ◌++◌, take, drop, refl, ap, ◌∙◌, arith}
+use Rattle.zs_term.specs.Output.{Output, pair, left, right, applied}
+use Rattle.zs_term.specs.Schedule.{Schedule, two, over, both, either, and_then, while_input, while_output, mapped, reset_when}
 use Rattle.zs_term.specs.declared.term.Test.{Test}
 use Rattle.zs_term.specs.declared.term.Pick.{Pick}
 use Rattle.zs_term.specs.declared.term.Func.{Func}
 use Rattle.zs_step.specs.History.{History}
-use Rattle.zs_step.specs.Answer.{answer_of, leaf_answer, from_done, since_reset, sequel_of}
-use Rattle.zs_step.specs.Words.{sequel_words}
+use Rattle.zs_step.specs.Answer.{answer_of, from_done, since_reset, sequel_of}
 use Rattle.zs_c.specs.declared.program.node.Sizes.{Sizes}
 use Rattle.zs_c.specs.declared.program.outputs.View.{View}
 use Rattle.zs_c.specs.declared.program.outputs.View.TheVariants.{Number, Pair, Left, Right}
-use Rattle.zs_c.specs.Code.{held_of, held_size, leaf_held, IsCode}
+use Rattle.zs_c.specs.Code.{held_of, held_size, IsCode}
 use Rattle.zs_c.specs.Node.{word_at, sizes_of}
 use Rattle.zs_c.specs.View.{Tells, IsLower}
 use Rattle.zs_c.proofs.Codes.{first-code, second-code, part-code}

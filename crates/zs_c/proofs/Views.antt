@@ -1,7 +1,7 @@
 -- A view shows the output that the words of a place tell, by the node of its code.
-use Rattle.std.proofs.Common.{◌≡◌, ℕ, ◌+◌, ◌-◌, ◌≤◌, ◌⊎◌, inl, inr, List, [], ◌∷◌, ◌++◌, length, take, drop, refl, sym, ap, ◌∙◌, subst, arith}
-use Rattle.zs_term.specs.Output.{Output, number, pair, left, right, number_in, picked, applied, size_in}
-use Rattle.zs_term.specs.Schedule.{Schedule, Leaf, leaf, two, over, plain, counted, exponential, both, either, and_then, while_input, while_output, mapped, reset_when, depth}
+use Rattle.std.proofs.Common.{◌≡◌, ℕ, ◌-◌, List, take, drop, refl, sym, ap, ◌∙◌, subst, arith}
+use Rattle.zs_term.specs.Output.{Output, number, number_in, applied, size_in}
+use Rattle.zs_term.specs.Schedule.{Schedule, Leaf, leaf, two, over, plain, counted, exponential, both, either, and_then, while_input, while_output, mapped, reset_when}
 use Rattle.zs_term.specs.declared.forms.Plain.TheVariants.{Forever as PlainForever, Identity as PlainIdentity, Elapsed as PlainElapsed}
 use Rattle.zs_term.specs.declared.forms.Counted.TheVariants.{Recurs as CountedRecurs, Spaced as CountedSpaced, Fixed as CountedFixed, Fibonacci as CountedFibonacci, Linear as CountedLinear, Windowed as CountedWindowed}
 use Rattle.zs_term.specs.declared.term.Test.{Test}
@@ -15,9 +15,9 @@ use Rattle.zs_c.specs.declared.program.node.Rule.{Rule}
 use Rattle.zs_c.specs.declared.program.node.Node.{Node}
 use Rattle.zs_c.specs.declared.program.node.Node.TheVariants.{Leaf as NodeLeaf, Both, Either, AndThen, WhileInput, WhileOutput, Map, ResetWhen}
 use Rattle.zs_c.specs.declared.program.outputs.Place.{Place}
-use Rattle.zs_c.specs.declared.program.outputs.View.TheVariants.{Number, Pair, Left, Right}
-use Rattle.zs_c.specs.Code.{IsCode, held_of, leaf_held}
-use Rattle.zs_c.specs.Node.{word_at, node_at, rule_leaf, sizes_of, IsNode}
+use Rattle.zs_c.specs.declared.program.outputs.View.TheVariants.{Pair, Left, Right}
+use Rattle.zs_c.specs.Code.{IsCode, held_of}
+use Rattle.zs_c.specs.Node.{word_at, node_at, rule_leaf, IsNode}
 use Rattle.zs_c.specs.View.{Tells, PlaceTells, Shows}
 use Rattle.zs_c.proofs.Nodes.{read-node}
 use Rattle.zs_c.proofs.Listless.{answer-free, no-items}

@@ -1,7 +1,7 @@
 -- A schedule as words: each node before its parts, as a tag and its numbers. An operator between two schedules has the sizes of
 -- the first behind its tag: the words of its code, and those of its state. `one_schedule` of `src/program/laws.rt` says that
 -- words are the program of one schedule at most.
-use Rattle.std.specs.Prelude.{◌≡◌, ℕ, ◌≤◌, Option, Some, None, List, [], ◌∷◌, ◌++◌, length}
+use Rattle.std.specs.Prelude.{◌≡◌, ℕ, ◌≤◌, List, [], ◌∷◌, ◌++◌, length}
 use Rattle.zs_term.specs.Output.{number_in}
 use Rattle.zs_term.specs.Schedule.{Schedule, leaf, two, over, Leaf, plain, counted, exponential, Pairing, both, either, and_then, Modifier, while_input, while_output, collect_all, mapped, reset_when, depth}
 use Rattle.zs_term.specs.declared.forms.Plain.TheVariants.{Forever, Identity, Elapsed}

@@ -1,9 +1,7 @@
 -- How words are read as a node: by their tag, whatever is behind it. `proofs/Nodes.antt` shows that the code of a schedule is read
 -- as its node.
-use Rattle.std.specs.Prelude.{◌≡◌, ℕ, ◌==◌, if◌then◌else◌, List, [], length, take, drop, slice_index_or}
-use Rattle.zs_term.specs.Schedule.{Schedule, leaf, two, over, Leaf as LeafRule, plain, counted, exponential, forever, identity, elapsed, recurs, spaced, fixed, fibonacci, linear, windowed, both, either, and_then, while_input, while_output, collect_all, mapped, reset_when}
-use Rattle.zs_term.specs.declared.forms.Plain.TheVariants.{Forever as PlainForever, Identity as PlainIdentity, Elapsed as PlainElapsed}
-use Rattle.zs_term.specs.declared.forms.Counted.TheVariants.{Recurs as CountedRecurs, Spaced as CountedSpaced, Fixed as CountedFixed, Fibonacci as CountedFibonacci, Linear as CountedLinear, Windowed as CountedWindowed}
+use Rattle.std.specs.Prelude.{◌≡◌, ℕ, ◌==◌, if◌then◌else◌, List, length, take, drop, slice_index_or}
+use Rattle.zs_term.specs.Schedule.{Schedule, leaf, two, over, Leaf as LeafRule, exponential, forever, identity, elapsed, recurs, spaced, fixed, fibonacci, linear, windowed, both, either, and_then, while_input, while_output, mapped, reset_when}
 use Rattle.zs_term.specs.declared.term.Cmp.{Cmp}
 use Rattle.zs_term.specs.declared.term.Cmp.TheVariants.{Lt, Le, Eq, Ne, Gt, Ge}
 use Rattle.zs_term.specs.declared.term.Test.{Test}

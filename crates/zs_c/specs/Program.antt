@@ -1,5 +1,5 @@
 -- A schedule as a program: a version, a check word over what is behind it, the sizes of its code and of its state, and its code.
-use Rattle.std.specs.Prelude.{◌≡◌, ℕ, ◌+◌, ◌*◌, ◌%◌, ◌^◌, true, List, [], ◌∷◌, ◌++◌, length, fold}
+use Rattle.std.specs.Prelude.{◌≡◌, ℕ, ◌+◌, ◌*◌, ◌%◌, ◌^◌, true, List, ◌∷◌, ◌++◌, length, fold}
 use Rattle.zs_term.specs.Schedule.{Schedule, is_within_limits}
 use Rattle.zs_step.specs.History.{History, last_moment}
 use Rattle.zs_step.specs.Words.{KeepsNoList}

@@ -1,4 +1,3 @@
-use Rattle.std.proofs.Common.{◌≡◌, ◌∷◌, arith}
 use Rattle.zs_c.proofs.Pieces.{put-behind-first, length-behind-first}
 use Rattle.zs_c.proofs.NodeSteps.{code-deep, together-clears, then-clears, three-clears, four-clears, leaf-clears}
 use Rattle.zs_c.proofs.program.clearing.+clearing.Goals as goal

@@ -1,4 +1,4 @@
-use Rattle.std.proofs.Common.{◌≡◌, ◌<◌, ◌^◌, inl, inr, ◌∷◌, [], ◌∙◌, arith}
+use Rattle.std.proofs.Common.{◌<◌, ◌^◌, inl, inr, ◌∙◌, arith}
 use Rattle.zs_c.specs.declared.program.node.Rule.TheVariants.{Forever, Elapsed, Recurs, Spaced, Fixed, Fibonacci, Linear, Windowed, Exponential}
 use Rattle.zs_c.proofs.Cleared.{cleared-two, cleared-three, cleared-four, linear-new, exponential-new, fibonacci-new, rule-clears}
 use Rattle.zs_c.proofs.program.clearing.clear_leaf.Goals as goal

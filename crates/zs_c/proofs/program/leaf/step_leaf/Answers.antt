@@ -1,7 +1,7 @@
 use Rattle.std.proofs.Common.{◌≡◌, ℕ, ◌-◌, ◌∷◌, [], length, sym, ap, ◌∙◌, subst}
 use Rattle.zs_term.specs.Saturating.{saturated}
 use Rattle.zs_step.specs.declared.decision.Decision.TheVariants.{Next}
-use Rattle.zs_step.specs.History.{History, first_moment, last_moment, earlier}
+use Rattle.zs_step.specs.History.{first_moment, last_moment, earlier}
 use Rattle.zs_step.specs.Answer.{leaf_answer, window_end}
 use Rattle.zs_c.specs.declared.program.node.Rule.{Rule}
 use Rattle.zs_c.specs.declared.program.node.Rule.TheVariants.{Forever, Elapsed, Recurs, Spaced, Windowed, Exponential}

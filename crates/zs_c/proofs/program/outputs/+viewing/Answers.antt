@@ -1,4 +1,4 @@
-use Rattle.std.proofs.Common.{◌≡◌, inl, inr, sym, ap, ◌∙◌, subst}
+use Rattle.std.proofs.Common.{inl, inr, sym, ap, ◌∙◌, subst}
 use Rattle.zs_term.specs.Output.{number, applied}
 use Rattle.zs_c.specs.View.{Shows}
 use Rattle.zs_c.proofs.Views.{ArePartsOf, no-levels, leaf-shows, both-shows, either-shows, left-shows, right-shows, while_input-part, while_output-part, reset_when-part, mapped-part, told-size}

@@ -1,4 +1,4 @@
-use Rattle.std.proofs.Common.{refl, ◌∙◌, arith}
+use Rattle.std.proofs.Common.{refl, arith}
 use Rattle.zs_c.proofs.Running.{short-text}
 use Rattle.zs_c.proofs.program.running.put_text.Goals as goal
 

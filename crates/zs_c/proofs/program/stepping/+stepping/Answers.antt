@@ -1,4 +1,4 @@
-use Rattle.std.proofs.Common.{◌≡◌, ◌≤◌, ◌+◌, true, false, refl, take, drop, ap, ◌∙◌, arith}
+use Rattle.std.proofs.Common.{◌+◌, refl, take, drop, ap, ◌∙◌}
 use Rattle.zs_step.specs.declared.decision.Decision.TheVariants.{Stop}
 use Rattle.zs_step.specs.Answer.{is_next}
 use Rattle.zs_c.specs.declared.program.stepping.TheConstants.{MAX_VISITS}
