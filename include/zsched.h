@@ -11,9 +11,9 @@
  *
  * What a caller has to keep, since no call can test it:
  *   - each pointer leads to as much memory as the number beside it says; zs_seen, zs_reply and words are aligned as C
- *     aligns them. Where the number is 0 the pointer may be NULL. `reply`, `at` and `size` are never NULL;
- *   - `reply`, `at`, `size`, `state` and `out` overlap nothing else that the call is given, and nobody else writes to any
- *     of it meanwhile;
+ *     aligns them. Where the number is 0 the pointer may be NULL. `reply`, `at`, `size` and `state_size` are never NULL;
+ *   - `reply`, `at`, `size`, `state_size`, `state`, `out` and the words that zs_compile writes to overlap nothing else that
+ *     the call is given, and nobody else writes to any of it meanwhile;
  *   - no call is made from a signal handler, nor in a forked child of a process with threads, and 64 KiB of stack are free
  *     (the deepest schedule took 44).
  *
@@ -46,7 +46,10 @@ enum zs_number {
     ZS_NOT_UTF8 = 4,    /* the text isn't UTF-8 from the byte `at` on */
     ZS_NO_MEMORY = 5,   /* a request for memory was refused; nothing is leaked, and the call may be made again */
     ZS_KEEPS_LIST = 6,  /* the calls over a state: collectAll is in the schedule, so its state grows with the steps */
-    ZS_NO_ROOM = 7,     /* zs_begin, zs_step: state_len is below what zs_state_size tells */
+    ZS_NO_ROOM = 7,     /* zs_begin, zs_step: state_len is below what zs_state_size tells; the calls over a program: a length
+                         * is below what zs_program_size tells */
+    ZS_NO_PROGRAM = 8,  /* zs_program_begin, zs_program_step: the words are no program of this version, or were changed */
+    ZS_OTHER_STATE = 9, /* zs_program_step: the words are the state of another program, or of none */
     ZS_NO_TERM = 11,    /* the text spells no schedule, which shows at the byte `at` */
     ZS_TOO_BIG = 12,    /* the schedule is deeper than 64 or weighs more than 1000 */
     ZS_BAD_NUMBER = 13, /* the number that begins at the byte `at` is above 18446744073709551615 */
@@ -107,6 +110,31 @@ uint32_t zs_begin(const uint8_t *text, size_t text_len, uint64_t *state, size_t 
  * promised but that the call returns, and reads and writes nothing beside what it is given; words behind the state stay. */
 uint32_t zs_step(const uint8_t *text, size_t text_len, uint64_t *state, size_t state_len, uint64_t moment,
                  uint64_t input, zs_reply *reply, uint8_t *out, size_t out_len);
+
+/* Steps over a program: a schedule that is written into the caller's words once, so that no step reads its text again.
+ *
+ * A program is words whose number depends on the schedule alone: at most 4 for each of its nodes, and four more. It carries a
+ * version and a check word over itself, which each state of it carries too. So older words, changed ones and another program's
+ * state are refused. Program and state may be copied, and stored as bytes for machines of the same byte order.
+ *
+ * How many words the program of a text's schedule has, and how many its state: ZS_NEXT (0). Else what zs_state_size answers,
+ * with its place; both are then 0. */
+uint32_t zs_program_size(const uint8_t *text, size_t text_len, uint64_t *size, uint64_t *state_size, uint64_t *at);
+
+/* Writes the program of a text's schedule over the first of the words: ZS_NEXT (0). Else ZS_NO_ROOM, or what zs_program_size
+ * answers, with its place, and no word is written. program_len counts words; those behind the program stay. */
+uint32_t zs_compile(const uint8_t *text, size_t text_len, uint64_t *program, size_t program_len, uint64_t *at);
+
+/* Writes the state of a program before any step over the first of the words: ZS_NEXT (0). Else ZS_NO_PROGRAM, or else
+ * ZS_NO_ROOM, and no word is written. Neither this call nor the next asks for memory. */
+uint32_t zs_program_begin(const uint64_t *program, size_t program_len, uint64_t *state, size_t state_len);
+
+/* One more step of a program, over a state that zs_program_begin wrote and zs_program_step went on with: ZS_NEXT or ZS_DONE,
+ * and all that zs_step tells; the words are then the state behind this step. Else the first that holds of ZS_NO_PROGRAM,
+ * ZS_NO_ROOM, ZS_OTHER_STATE and ZS_FALLS; words and room then stay, and `at` is 0. A step of a program that is changed on
+ * purpose, with a check word that fits, returns too, and reads and writes nothing beside what it is given. */
+uint32_t zs_program_step(const uint64_t *program, size_t program_len, uint64_t *state, size_t state_len, uint64_t moment,
+                         uint64_t input, zs_reply *reply, uint8_t *out, size_t out_len);
 
 /* The text of a number that a call answered, and of the place beside it, in English ("no term at byte 23"; ASCII, with no 0
  * behind it): how many bytes it has, 0 where the number is no fault. It is written over the front of `out`, all of it where

@@ -5,7 +5,8 @@
  *                  ZS_NO_MEMORY, write nothing to the room and give back all that it took
  * library threads  does them all on four threads at once, some times over: each has to print what one thread prints
  *
- * A second word 'state' has each zs_answer done by zs_state_size, zs_begin and a zs_step for each pair, and prints the same.
+ * A second word 'state' has each zs_answer done by zs_state_size, zs_begin and a zs_step for each pair, and prints the same;
+ * 'program' has it done by zs_program_size, zs_compile, zs_program_begin and a zs_program_step for each pair.
  *
  * A request is a line of words: the text in hexadecimal digits behind a '.', the room in bytes, and the moment and the input
  * of each pair in turn. A room of '-' asks for zs_check. A line of an answer has the number, next, size, visits, at and the
@@ -38,7 +39,7 @@ typedef struct request {
 static request *requests;
 static size_t request_count;
 static char **answers;
-static int is_stepping;
+static int is_stepping, is_compiling;
 
 void *__real_malloc(size_t size);
 void *__real_realloc(void *place, size_t size);
@@ -46,6 +47,8 @@ void __real_free(void *place);
 
 static atomic_long asked, held;
 static atomic_long refused_at = -1;
+/* Whether one thread alone calls. */
+static int is_alone = 1;
 
 static int is_refused(void)
 {
@@ -161,6 +164,116 @@ static uint32_t stepped(const request *it, zs_reply *reply, uint8_t *out)
     return number;
 }
 
+/* A program and a state of it, each in a block of its own, and copies of both. */
+typedef struct compiled {
+    uint64_t size, state_size;
+    uint64_t *program, *state, *before;
+} compiled;
+
+/* Whether fewer words than a program or its state has are refused, and stay. */
+static int is_cramped(const request *it, const compiled *made)
+{
+    uint64_t at, *words = block(made->size * sizeof *words);
+    zs_reply reply;
+    memset(words, UNTOUCHED, made->size * sizeof *words);
+    int is_well = zs_compile(it->text, it->text_len, words, made->size - 1, &at) == ZS_NO_ROOM && at == 0;
+    for (size_t i = 0; i < made->size; i++)
+        is_well &= words[i] == UINT64_MAX / 0xFF * UNTOUCHED;
+    is_well &= zs_program_begin(made->program, made->size, made->state, made->state_size - 1) == ZS_NO_ROOM;
+    is_well &= zs_program_step(made->program, made->size, made->state, made->state_size - 1, UINT64_MAX, 0, &reply, NULL, 0) ==
+               ZS_NO_ROOM;
+    __real_free(words);
+    return is_well && memcmp(made->state, made->before, made->state_size * sizeof *made->state) == 0;
+}
+
+/* Whether a program that was changed in one word, one that is cut, and another program's state are refused, and the state
+ * stays. */
+static int is_guarded(const compiled *made)
+{
+    zs_reply reply;
+    int is_well = 1;
+    for (size_t i = 0; i < made->size; i++)
+        for (uint64_t change = 1; change; change <<= 21) {
+            made->program[i] ^= change;
+            is_well &= zs_program_begin(made->program, made->size, made->state, made->state_size) == ZS_NO_PROGRAM;
+            is_well &= zs_program_step(made->program, made->size, made->state, made->state_size, UINT64_MAX, 0, &reply, NULL, 0) ==
+                       ZS_NO_PROGRAM;
+            made->program[i] ^= change;
+        }
+    for (size_t size = 0; size < made->size; size += 1 + size / 4)
+        is_well &= zs_program_step(made->program, size, made->state, made->state_size, UINT64_MAX, 0, &reply, NULL, 0) ==
+                   ZS_NO_PROGRAM;
+    made->state[0] ^= 1;
+    is_well &= zs_program_step(made->program, made->size, made->state, made->state_size, UINT64_MAX, 0, &reply, NULL, 0) ==
+               ZS_OTHER_STATE;
+    made->state[0] ^= 1;
+    return is_well && memcmp(made->state, made->before, made->state_size * sizeof *made->state) == 0;
+}
+
+/* Whether a step over words that are no state of the program, behind its check word, is answered, and leaves those behind. */
+static int is_kept(const compiled *made)
+{
+    static const uint64_t kinds[] = {0, 1, 2, 1ull << 63, UINT64_MAX};
+    uint64_t *words = block((made->state_size + 2) * sizeof *words);
+    int is_well = 1;
+    for (size_t kind = 0; kind < 5; kind++) {
+        zs_reply reply;
+        for (size_t i = 0; i < made->state_size + 2; i++)
+            words[i] = kind == 2 ? i * 0x9E3779B97F4A7C15 : kinds[kind];
+        uint64_t behind[2] = {words[made->state_size], words[made->state_size + 1]};
+        words[0] = made->state[0];
+        uint32_t number = zs_program_step(made->program, made->size, words, made->state_size + 2, UINT64_MAX, UINT64_MAX, &reply,
+                                          NULL, 0);
+        is_well &= number <= ZS_DONE && reply.size > 0 && memcmp(words + made->state_size, behind, sizeof behind) == 0;
+    }
+    __real_free(words);
+    return is_well;
+}
+
+/* Writes the program of a request's text, and its state before any step; the number that the calls answered. */
+static uint32_t compile(const request *it, compiled *made, zs_reply *reply)
+{
+    uint32_t number = zs_program_size(it->text, it->text_len, &made->size, &made->state_size, &reply->at);
+    if (number)
+        return number;
+    made->program = block(made->size * sizeof *made->program);
+    number = zs_compile(it->text, it->text_len, made->program, made->size, &reply->at);
+    if (number)
+        return number;
+    made->state = block(made->state_size * sizeof *made->state);
+    made->before = block(made->state_size * sizeof *made->state);
+    number = zs_program_begin(made->program, made->size, made->state, made->state_size);
+    memcpy(made->before, made->state, made->state_size * sizeof *made->state);
+    return number;
+}
+
+/* What zs_answer answers, by a program that is stepped. Its steps ask for no memory. */
+static uint32_t run(const request *it, zs_reply *reply, uint8_t *out)
+{
+    compiled made = {0};
+    memset(reply, 0, sizeof *reply);
+    uint32_t number = compile(it, &made, reply);
+    if (number == ZS_NEXT && atomic_load(&refused_at) < 0 && !(is_cramped(it, &made) && is_guarded(&made) && is_kept(&made)))
+        fail("a program or a state that is none was answered", (size_t)(it - requests));
+    long before = atomic_load(&asked);
+    for (size_t i = 0; i < it->seen_len && number <= ZS_DONE; i++) {
+        int is_last = i + 1 == it->seen_len;
+        number = zs_program_step(made.program, made.size, made.state, made.state_size, it->seen[i].moment, it->seen[i].input,
+                                 reply, is_last ? out : NULL, is_last ? it->room : 0);
+        if (number > ZS_DONE && memcmp(made.state, made.before, made.state_size * sizeof *made.state))
+            fail("a refused step changed the state", (size_t)(it - requests));
+        if (number == ZS_FALLS)
+            reply->at = i;
+        memcpy(made.before, made.state, made.state_size * sizeof *made.state);
+    }
+    if (is_alone && atomic_load(&asked) != before)
+        fail("a step of a program asked for memory", (size_t)(it - requests));
+    __real_free(made.program);
+    __real_free(made.state);
+    __real_free(made.before);
+    return number;
+}
+
 /* Whether the text of a number and a place is there, and is cut where its room ends. */
 static int is_told(uint32_t number, uint64_t at)
 {
@@ -194,8 +307,12 @@ static char *done(const request *it, uint32_t *number)
     if (out)
         memset(out, UNTOUCHED, it->room);
     memset(reply, UNTOUCHED, sizeof *reply);
-    *number = is_stepping ? stepped(it, reply, out)
-                          : zs_answer(it->text, it->text_len, it->seen, it->seen_len, reply, out, it->room);
+    if (is_compiling)
+        *number = run(it, reply, out);
+    else if (is_stepping)
+        *number = stepped(it, reply, out);
+    else
+        *number = zs_answer(it->text, it->text_len, it->seen, it->seen_len, reply, out, it->room);
     if (!is_told(*number, reply->at))
         fail("a number has no text", (size_t)(it - requests));
     end += sprintf(end, "%u %llu %llu %llu %llu ", *number, (unsigned long long)reply->next,
@@ -265,6 +382,7 @@ static void do_at_once(void)
     pthread_attr_t attributes;
     pthread_attr_init(&attributes);
     pthread_attr_setstacksize(&attributes, STACK);
+    is_alone = 0;
     for (int i = 0; i < THREADS; i++)
         if (pthread_create(&threads[i], &attributes, thread, NULL))
             exit(2);
@@ -336,7 +454,8 @@ int main(int count, char **words)
 {
     const char *mode = count > 1 ? words[1] : "";
     is_stepping = count == 3 && strcmp(words[2], "state") == 0;
-    if (count != 2 && !is_stepping)
+    is_compiling = count == 3 && strcmp(words[2], "program") == 0;
+    if (count != 2 && !is_stepping && !is_compiling)
         return 2;
     read_requests();
     if (strcmp(mode, "refuse") == 0) {

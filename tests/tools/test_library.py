@@ -297,14 +297,15 @@ class FromC(unittest.TestCase):
         self.judge_steps([path("watched"), "answer"])
 
     def judge_steps(self, words):
-        """Compares what steps over a state answer with what is wanted of the list of pairs."""
+        """Compares what steps over a state and over a program answer with what is wanted of the list of pairs."""
         chosen = [(request, wanted) for request, wanted in zip(self.requests, self.wanted)
                   if request.pairs and b"collectAll" not in request.text]
         self.assertGreater(len(chosen), REQUESTS // 3)
-        lines = called([*words, "state"], [request for request, _ in chosen])
-        self.assertEqual(len(lines), len(chosen))
-        for line, (request, (wanted, weight)) in zip(lines, chosen):
-            self.compare(line, wanted, weight, request)
+        for way in ["state", "program"]:
+            lines = called([*words, way], [request for request, _ in chosen])
+            self.assertEqual(len(lines), len(chosen))
+            for line, (request, (wanted, weight)) in zip(lines, chosen):
+                self.compare(line, wanted, weight, request)
 
     def test_steps_over_a_state_answer_as_the_list_of_pairs_does(self):
         # It prints what one thread answers, once four answered the same.
@@ -312,13 +313,31 @@ class FromC(unittest.TestCase):
 
     def test_each_request_for_memory_of_a_step_may_be_refused(self):
         requests = [it for it in self.requests if it.pairs and b"collectAll" not in it.text][:REFUSED_STEPS]
-        found = [int(line) for line in called([path("caller"), "refuse", "state"], requests)]
-        self.assertEqual(len(found), REFUSED_STEPS)
-        self.assertGreater(sum(found), 2 * REFUSED_STEPS)
+        for way in ["state", "program"]:
+            found = [int(line) for line in called([path("caller"), "refuse", way], requests)]
+            self.assertEqual(len(found), REFUSED_STEPS)
+            self.assertGreater(sum(found), 2 * REFUSED_STEPS)
 
     def test_a_schedule_that_keeps_a_list_has_no_state(self):
         requests = [Request(text, 5, [(1, 0)]) for text in [b"forever.collectAll", b"(recurs(1) && elapsed.collectAll).map(_1)"]]
-        self.assertEqual(called([path("caller"), "answer", "state"], requests), [f"6 0 0 0 0 .{UNTOUCHED * 5}"] * 2)
+        for way in ["state", "program"]:
+            self.assertEqual(called([path("caller"), "answer", way], requests), [f"6 0 0 0 0 .{UNTOUCHED * 5}"] * 2)
+
+    def test_a_program_is_the_words_that_its_definition_says(self):
+        # crates/zs_c/specs/Program.antt and Code.antt, worked out by hand for the policy of LIBRARY.md.
+        text = b"((exponential(100) || spaced(5000)) && recurs(8)).whileInput(>= 500)"
+        code = [14, 5, 500, 11, 8, 4, 12, 3, 2, 10, 100, 2, 5, 5000, 4, 8]
+        body, check = [len(code), 6, *code], 0
+        for word in body:
+            check = (check * 0x9e3779b97f4a7c15 + word) % 2 ** 64
+        library, at = ctypes.CDLL(str(folder / "libzsched.so")), ctypes.c_uint64()
+        words = (ctypes.c_uint64 * (len(body) + 3))(*[7] * (len(body) + 3))
+        number = library.zs_compile(text, ctypes.c_size_t(len(text)), words, ctypes.c_size_t(len(words)), ctypes.byref(at))
+        self.assertEqual((number, at.value, list(words)), (0, 0, [0x7a73636865640001, check, *body, 7]))
+        state = (ctypes.c_uint64 * 9)(*[7] * 9)
+        sizes = [ctypes.c_size_t(len(it)) for it in (words, state)]
+        self.assertEqual(library.zs_program_begin(words, sizes[0], state, sizes[1]), 0)
+        self.assertEqual(list(state), [check, 0, 100, 100, 0, 0, 0, 0, 7])
 
     def test_valgrind_finds_no_error_and_no_lost_memory(self):
         if not shutil.which("valgrind"):
@@ -337,8 +356,9 @@ class FromC(unittest.TestCase):
         for request, line in zip(requests, called([path("caller"), "threads"], requests), strict=True):
             self.compare(line, *request.wanted(), request)
         flat = [request for request in requests if b"collectAll" not in request.text]
-        for request, line in zip(flat, called([path("caller"), "threads", "state"], flat), strict=True):
-            self.compare(line, *request.wanted(), request)
+        for way in ["state", "program"]:
+            for request, line in zip(flat, called([path("caller"), "threads", way], flat), strict=True):
+                self.compare(line, *request.wanted(), request)
 
     def test_each_request_for_memory_may_be_refused(self):
         found = [int(line) for line in called([path("caller"), "refuse"], self.requests[:REFUSED])]
@@ -350,7 +370,7 @@ class FromC(unittest.TestCase):
         requests = [Request(b"recurs(" + b" " * 100_000 + b"3)", 2, [(5, 7)]),
                     Request(b"recurs(9000)", 5, [(number, 0) for number in range(5000)]),
                     Request(many_words, 40, [(1, 0), (9, 0)])]
-        for words in [[], ["state"]]:
+        for words in [[], ["state"], ["program"]]:
             lines = called([path("caller"), "answer", *words], requests)
             for request, line in zip(requests, lines, strict=True):
                 self.compare(line, *request.wanted(), str(request)[:60])
@@ -447,22 +467,23 @@ class FromPython(unittest.TestCase):
 
     def test_a_step_over_a_state_that_is_refused_leaves_it(self):
         stepper = self.zsched.Stepper("recurs(1)")
-        self.assertEqual(stepper.state, [0, 0])
+        self.assertEqual(stepper.state[1:], [0, 0, 0])
         self.assertEqual(stepper.after(5, 7), (5, "0", 1))
         for error, moment, value in [(ValueError, 4, 7), (OverflowError, -1, 7), (OverflowError, 5, 2 ** 64), (TypeError, 5.0, 7)]:
             with self.assertRaises(error):
                 stepper.after(moment, value)
-        self.assertEqual(stepper.state, [5, 1])
+        self.assertEqual(stepper.state[1:], [5, 0, 1])
         self.assertEqual(stepper.after(5, 2 ** 64 - 1), (None, "1", 1))
 
     def test_a_saved_state_goes_on(self):
         stepper = self.zsched.Stepper("(exponential(10) && recurs(3))")
         stepper.after(1, 2)
         again = self.zsched.Stepper.load(stepper.save())
-        self.assertEqual((again.text, again.state), (stepper.text, [1, 20, 1]))
+        self.assertEqual((again.text, again.state[1:]), (stepper.text, [1, 10, 20, 0, 1]))
         self.assertEqual(again.after(12, 2), stepper.after(12, 2))
         for saved in ["", "{}", "[]", '{"schedule":"recurs(","state":[]}', '{"schedule":"recurs(1)","state":[1]}',
-                      '{"schedule":"recurs(1)","state":[1,-1]}', '{"schedule":"forever.collectAll","state":[1,1]}']:
+                      '{"schedule":"recurs(1)","state":[1,-1]}', '{"schedule":"forever.collectAll","state":[1,1]}',
+                      stepper.save().replace("recurs(3)", "recurs(4)")]:
             with self.assertRaises(ValueError, msg=saved):
                 self.zsched.Stepper.load(saved)
 
@@ -489,7 +510,7 @@ class FromPython(unittest.TestCase):
         self.assertEqual([text for text in texts if not text or len(text) > 80], [])
         self.assertEqual([text for text in texts if "23" in text],
                          ["not UTF-8 at byte 23", "no term at byte 23", "number too large at byte 23"])
-        self.assertEqual([fault_text(number) for number in [0, 1, 8, 2 ** 32 - 1]], [""] * 4)
+        self.assertEqual([fault_text(number) for number in [0, 1, 10, 2 ** 32 - 1]], [""] * 4)
         self.assertEqual(fault_text(11, 2 ** 64 - 1), "no term at byte 18446744073709551615")
 
     def test_a_text_is_cut_where_its_room_ends(self):
@@ -780,6 +801,13 @@ class Busy:
 
 class Examples(unittest.TestCase):
     """The example of each binding, which really waits, and the program that makes the library."""
+
+    def test_the_example_in_c_waits_for_its_server(self):
+        source = BINDINGS / "c" / "example.c"
+        for standard in ["c99", "gnu17"]:
+            ran(["cc", f"-std={standard}", "-Wall", "-Wextra", "-Werror", "-pedantic", "-I", TOP / "include", "-o", path("example"),
+                 source, folder / "libzsched.a", "-lpthread"], TOP)
+            self.assertEqual(ran([path("example")], TOP), "ready after 4 attempts\n")
 
     def test_the_example_in_python_waits_for_its_server(self):
         said = ran([sys.executable, "-B", "example.py"], BINDINGS / "python")

@@ -37,6 +37,10 @@ def library() -> ctypes.CDLL:
         "zs_state_size": [*text, place, place],
         "zs_begin": [*text, *words, place],
         "zs_step": [*text, *words, number, number, reply, *text],
+        "zs_program_size": [*text, place, place, place],
+        "zs_compile": [*text, *words, place],
+        "zs_program_begin": [*words, *words],
+        "zs_program_step": [*words, *words, number, number, reply, *text],
         "zs_fault_text": [ctypes.c_uint32, number, *text],
         "zs_version": [],
     }

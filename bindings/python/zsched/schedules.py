@@ -97,22 +97,24 @@ class Schedule:
 
 class Stepper:
     """A schedule with a state of fixed size in place of its steps, so a step takes no longer after many of them than after
-    one. `save` gives the state as a text, `load` goes on from there. Two threads may not step one at the same time."""
+    one. Its text is read once. `save` gives the state as a text, `load` goes on from there. Two threads may not step one at
+    the same time."""
 
     text: str
 
     def __init__(self, text: str) -> None:
         """The schedule of a text, before its first step. Raises ScheduleFault, and Fault where it has collectAll, whose list
         has no fixed size."""
-        data, size, at = text.encode(), ctypes.c_uint64(), ctypes.c_uint64()
-        refuse(text, library().zs_state_size(data, len(data), size, at), at.value)
-        state = array.array("Q", bytes(8 * size.value))
-        refuse(text, library().zs_begin(data, len(data), *state.buffer_info(), at), at.value)
-        self.text, self._state = text, state
+        data, size, state_size, at = text.encode(), ctypes.c_uint64(), ctypes.c_uint64(), ctypes.c_uint64()
+        refuse(text, library().zs_program_size(data, len(data), size, state_size, at), at.value)
+        program, state = array.array("Q", bytes(8 * size.value)), array.array("Q", bytes(8 * state_size.value))
+        refuse(text, library().zs_compile(data, len(data), *program.buffer_info(), at), at.value)
+        refuse(text, library().zs_program_begin(*program.buffer_info(), *state.buffer_info()), 0)
+        self.text, self._program, self._state = text, program, state
 
     @property
     def state(self) -> list[int]:
-        """The words of the state, whose number depends on the text alone."""
+        """The words of the state, whose number depends on the text alone. The first tells of which schedule they are."""
         return list(self._state)
 
     def after(self, moment: int, input: int = 0) -> Answer:
@@ -129,8 +131,8 @@ class Stepper:
 
     def _step(self, step: "array.array[int]", room: int) -> tuple[int, Reply, typing.Any, "array.array[int]"]:
         """What the library answers where it has so much room for the output, and the state behind the step."""
-        data, reply, out, state = self.text.encode(), Reply(), ctypes.create_string_buffer(room), self._state[:]
-        number = library().zs_step(data, len(data), *state.buffer_info(), step[0], step[1], reply, out, room)
+        reply, out, state = Reply(), ctypes.create_string_buffer(room), self._state[:]
+        number = library().zs_program_step(*self._program.buffer_info(), *state.buffer_info(), step[0], step[1], reply, out, room)
         return number, reply, out, state
 
     def save(self) -> str:
@@ -139,8 +141,8 @@ class Stepper:
 
     @classmethod
     def load(cls, saved: str | bytes) -> "Stepper":
-        """The schedule and the state that `save` gave. Raises ValueError where the text can't be from there; words that were
-        changed aren't found."""
+        """The schedule and the state that `save` gave. Raises ValueError where the text can't be from there: another
+        schedule's state, say. Of changed words behind the first nothing is said."""
         try:
             found = json.loads(saved)
             stepper, words = cls(found["schedule"]), array.array("Q", found["state"])
@@ -148,6 +150,8 @@ class Stepper:
             raise ValueError(f"not a saved schedule: {fault!r}") from None
         if len(words) != len(stepper._state):
             raise ValueError(f"not a saved schedule: {len(words)} words in place of {len(stepper._state)}")
+        if words[0] != stepper._state[0]:
+            raise ValueError("not a saved schedule: the state of another schedule")
         stepper._state = words
         return stepper
 

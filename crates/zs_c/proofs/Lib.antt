@@ -1,2 +1,17 @@
 pub mod SeenPairs
 pub mod Rooms
+pub mod Nodes
+pub mod Codes
+pub mod OutputRooms
+pub mod StepLemmas
+pub mod ViewLemmas
+pub mod Uniqueness
+pub mod Listless
+pub mod TextBounds
+pub mod LeafSteps
+pub mod Cleared
+pub mod Pieces
+pub mod Views
+pub mod NodeSteps
+pub mod PartSteps
+pub mod Running

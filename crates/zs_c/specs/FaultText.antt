@@ -11,6 +11,8 @@ fault_words n =
     else if nat_eq n 5 then codes "out of memory"
     else if nat_eq n 6 then codes "a schedule with collectAll has no state of fixed size"
     else if nat_eq n 7 then codes "the words are fewer than the state has"
+    else if nat_eq n 8 then codes "no program of this version, or one that was changed"
+    else if nat_eq n 9 then codes "the state of another program"
     else if nat_eq n 11 then codes "no term"
     else if nat_eq n 12 then codes "too big"
     else if nat_eq n 13 then codes "number too large"

@@ -5,3 +5,12 @@ pub mod Refusals
 pub mod Told
 pub mod States
 pub mod FaultText
+pub mod Code
+pub mod Program
+pub mod Programs
+-- What the bodies keep: private contracts alone name these.
+pub mod Node
+pub mod Opened
+pub mod Rooms
+pub mod Steps
+pub mod View

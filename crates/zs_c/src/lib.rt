@@ -9,6 +9,7 @@
 mod answering;
 mod exports;
 mod following;
+mod program;
 mod refusal;
 mod reply;
 mod room;
@@ -19,5 +20,7 @@ mod texts;
 pub use exports::{
     zs_answer, zs_begin, zs_check, zs_fault_text, zs_state_size, zs_step, zs_version,
 };
+pub use program::exports::{zs_compile, zs_program_begin, zs_program_size, zs_program_step};
+pub use program::laws::one_schedule;
 pub use reply::Reply;
 pub use seen::Seen;

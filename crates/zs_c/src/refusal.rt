@@ -4,6 +4,7 @@ ghost use Rattle.std.specs.Prelude.{◌≡◌};
 ghost use Rattle.zs_c.specs.Numbers.{fault_number, fault_place, refusal_number, refusal_place};
 ghost use Rattle.zs_c.specs.declared.refusal.Refusal.TheVariants.{Memory};
 
+use std::alloc::AllocError;
 use zs_step::StepFault;
 use zs_term::TermFault;
 
@@ -87,6 +88,14 @@ impl From<StepFault> for Refusal {
     ghost from_gives = { λ _ r. r ≡ Memory };
 
     fn from(_refused: StepFault) -> Refusal {
+        Refusal::Memory
+    }
+}
+
+impl From<AllocError> for Refusal {
+    ghost from_gives = { λ _ r. r ≡ Memory };
+
+    fn from(_refused: AllocError) -> Refusal {
         Refusal::Memory
     }
 }

@@ -11,7 +11,7 @@ use zs_step::{Stepped, keeps_no_list, step_words};
 use zs_term::Checked;
 
 // The schedule of a text, which keeps no list.
-fn flat_schedule_in(alloc: Global, text: &[u8]) -> Result<Checked, Refusal>
+pub(crate) fn flat_schedule_in(alloc: Global, text: &[u8]) -> Result<Checked, Refusal>
     ensures ok { IfOk result (λ checked. SpellsFlat text.now (schedule_of checked)) }
     ensures err { IfErr result (IsSizeRefusal text.now) }
 {

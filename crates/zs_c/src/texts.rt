@@ -14,6 +14,8 @@ pub(crate) fn fault_words(number: u32) -> &'static str
         5 => "out of memory",
         6 => "a schedule with collectAll has no state of fixed size",
         7 => "the words are fewer than the state has",
+        8 => "no program of this version, or one that was changed",
+        9 => "the state of another program",
         11 => "no term",
         12 => "too big",
         13 => "number too large",

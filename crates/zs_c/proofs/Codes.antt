@@ -1,0 +1,72 @@
+-- The parts of a code, and the lengths of states.
+use Rattle.std.proofs.Common.{◌≡◌, ℕ, suc, ◌-◌, Option, Some, None, List, [], ◌++◌, length, take, drop, refl, ap, ◌∙◌, arith}
+use Rattle.std.proofs.lemmas.List.{length-append}
+use Rattle.std.proofs.Math.Seq.{take-append_seam, drop-append_seam}
+use Rattle.zs_term.specs.Schedule.{Schedule, Pairing, Modifier, leaf, two, over, plain, counted, exponential, both, either, and_then, while_input, while_output, collect_all, mapped, reset_when}
+use Rattle.zs_term.specs.declared.forms.Plain.TheVariants.{Forever, Identity, Elapsed}
+use Rattle.zs_term.specs.declared.forms.Counted.TheVariants.{Recurs, Spaced, Fixed, Fibonacci, Linear, Windowed}
+use Rattle.zs_step.specs.History.{History}
+use Rattle.zs_step.specs.Words.{sequel_words}
+use Rattle.zs_step.specs.Answer.{answer_of, from_done, since_reset}
+use Rattle.zs_c.specs.Code.{code_of, modifier_code, held_of, IsCode}
+
+-- the code of an operator's first part
+pub first-code : (p : Pairing) (a b : Schedule) (code : List ℕ) (levels size : ℕ) → IsCode (two p a b) code levels → size ≡ length (code_of a) →
+    IsCode a (take size (drop 3 code)) (levels - 1)
+first-code p a b code levels size whole sized = record {
+  is = ap (λ n. take n (drop 3 code)) sized ∙ ap (λ c. take (length (code_of a)) (drop 3 c)) whole.is ∙ take-append_seam (code_of a) (code_of b);
+  flat = whole.flat.0;
+  deep = omega (arith, whole.deep);
+}
+
+-- the code of an operator's second part
+pub second-code : (p : Pairing) (a b : Schedule) (code : List ℕ) (levels size : ℕ) → IsCode (two p a b) code levels → size ≡ length (code_of a) →
+    IsCode b (drop size (drop 3 code)) (levels - 1)
+second-code p a b code levels size whole sized = record {
+  is = ap (λ n. drop n (drop 3 code)) sized ∙ ap (λ c. drop (length (code_of a)) (drop 3 c)) whole.is ∙ drop-append_seam (code_of a) (code_of b);
+  flat = whole.flat.1;
+  deep = omega (arith, whole.deep);
+}
+
+-- the code of a part under an operator
+pub part-code : (m : Modifier) (s : Schedule) (code : List ℕ) (levels k : ℕ) → IsCode (over s m) code levels → k ≡ length (modifier_code m) →
+    IsCode s (drop k code) (levels - 1)
+part-code m s code levels k whole sized = record {
+  is = ap (λ n. drop n code) sized ∙ ap (drop (length (modifier_code m))) whole.is ∙ drop-append_seam (modifier_code m) (code_of s);
+  flat = whole.flat.1;
+  deep = omega (arith, whole.deep);
+}
+
+-- two lists behind one another
+both-lengths : (xs ys us vs : List ℕ) → length xs ≡ length us → length ys ≡ length vs → length (xs ++ ys) ≡ length (us ++ vs)
+both-lengths xs ys us vs first second = omega (arith, length-append xs ys, length-append us vs, first, second)
+
+-- whichever part is on
+sequel-lengths : (o p : Option History) (x y : History → List ℕ) (h g : History) → ((k l : History) → length (x k) ≡ length (x l)) →
+    ((k l : History) → length (y k) ≡ length (y l)) → length (sequel_words o x y h) ≡ length (sequel_words p x y g)
+sequel-lengths None None x y h g first second = ap (λ n. suc n) (both-lengths (x h) (y []) (x g) (y []) (first h g) refl)
+sequel-lengths None (Some l) x y h g first second = ap (λ n. suc n) (both-lengths (x h) (y []) (x []) (y l) (first h []) (second [] l))
+sequel-lengths (Some k) None x y h g first second = ap (λ n. suc n) (both-lengths (x []) (y k) (x g) (y []) (first [] g) (second k []))
+sequel-lengths (Some k) (Some l) x y h g first second = ap (λ n. suc n) (both-lengths (x []) (y k) (x []) (y l) refl (second k l))
+
+-- a state has as many words behind any steps
+pub held-length : (t : Schedule) (h g : History) → length (held_of t h) ≡ length (held_of t g)
+held-length (leaf (plain Forever)) h g = refl
+held-length (leaf (counted Recurs k)) h g = refl
+held-length (leaf (counted Spaced d)) h g = refl
+held-length (leaf (counted Fixed p)) h g = refl
+held-length (leaf (exponential b f)) h g = refl
+held-length (leaf (counted Fibonacci o)) h g = refl
+held-length (leaf (plain Identity)) h g = refl
+held-length (leaf (plain Elapsed)) h g = refl
+held-length (leaf (counted Linear n)) h g = refl
+held-length (leaf (counted Windowed n)) h g = refl
+held-length (two both a b) h g = both-lengths (held_of a h) (held_of b h) (held_of a g) (held_of b g) (held-length a h g) (held-length b h g)
+held-length (two either a b) h g = both-lengths (held_of a h) (held_of b h) (held_of a g) (held_of b g) (held-length a h g) (held-length b h g)
+held-length (two and_then a b) h g =
+    sequel-lengths (from_done (answer_of a) h) (from_done (answer_of a) g) (held_of a) (held_of b) h g (held-length a) (held-length b)
+held-length (over s (while_input t)) h g = held-length s h g
+held-length (over s (while_output k t)) h g = held-length s h g
+held-length (over s collect_all) h g = held-length s h g
+held-length (over s (mapped f)) h g = held-length s h g
+held-length (over s (reset_when k t)) h g = held-length s (since_reset (answer_of s) k t h) (since_reset (answer_of s) k t g)

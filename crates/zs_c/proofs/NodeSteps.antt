@@ -1,0 +1,275 @@
+-- What a node does by what its parts do: before any step, and at one.
+use Rattle.std.proofs.Common.{◌≡◌, ℕ, suc, ◌+◌, ◌-◌, ◌≤◌, Bool, true, false, ◌⊎◌, inl, inr, List, [], ◌∷◌, ◌++◌, length, drop, refl, sym, ap, ◌∙◌, subst, arith}
+use Rattle.std.proofs.lemmas.List.{length-append}
+use Rattle.zs_term.specs.Output.{Output, passes, picked}
+use Rattle.zs_term.specs.Schedule.{Schedule, Pairing, leaf, two, over, both, either, and_then, while_input, while_output, mapped, reset_when, weight}
+use Rattle.zs_term.specs.declared.term.Test.{Test}
+use Rattle.zs_term.specs.declared.term.Pick.{Pick}
+use Rattle.zs_term.specs.declared.term.Func.{Func}
+use Rattle.zs_term.proofs.Sizes.{depth-positive, weight-positive}
+use Rattle.zs_step.specs.declared.decision.Decision.{Decision}
+use Rattle.zs_step.specs.declared.decision.Decision.TheVariants.{Stop}
+use Rattle.zs_step.specs.History.{History}
+use Rattle.zs_step.specs.Answer.{answer_of, leaf_answer, since_reset, later_of, earlier_of, only_if}
+use Rattle.zs_c.specs.declared.program.node.Sizes.{Sizes}
+use Rattle.zs_c.specs.declared.program.node.Rule.{Rule}
+use Rattle.zs_c.specs.declared.program.node.Node.{Node}
+use Rattle.zs_c.specs.declared.program.node.Node.TheVariants.{Leaf, Both, Either, AndThen, WhileInput, WhileOutput, Map, ResetWhen}
+use Rattle.zs_c.specs.Code.{IsCode, held_of, held_size, leaf_held}
+use Rattle.zs_c.specs.Node.{node_at, rule_leaf, sizes_of, IsNode, IsParts}
+use Rattle.zs_c.specs.Steps.{StepsCode, StepsBoth, StepsThen}
+use Rattle.zs_c.specs.View.{Tells}
+use Rattle.zs_c.proofs.Codes.{first-code, second-code, part-code, held-length}
+use Rattle.zs_c.proofs.Nodes.{read-node}
+use Rattle.zs_c.proofs.StepLemmas.{both-steps, either-steps, then-steps, while_input-steps, while_output-steps, mapped-steps, reset-stays, reset-begins, reset-room}
+
+-- a code that is read as a node is that of a schedule which is made of it
+pub coded-node : (t : Schedule) (code : List ℕ) (levels : ℕ) (n m : Node) → IsCode t code levels → n ≡ node_at code → n ≡ m → IsNode m t
+coded-node t code levels n m coded read is = subst (λ x. IsNode x t) is (read-node t code n read coded.is coded.flat)
+
+-- the same code elsewhere
+pub code-at : (t : Schedule) (code other : List ℕ) (levels : ℕ) → code ≡ other → IsCode t other levels → IsCode t code levels
+code-at t code other levels is coded = record { is = is ∙ coded.is; flat = coded.flat; deep = coded.deep }
+
+-- a schedule has some level
+pub code-deep : (t : Schedule) (code : List ℕ) (levels : ℕ) → IsCode t code levels → levels ≡ 0 → ⊥
+code-deep t code levels coded none = omega (arith, coded.deep, none, depth-positive t)
+
+-- the parts of an operator between two schedules
+pub parts-of : (p : Pairing) (a b : Schedule) (code : List ℕ) (levels : ℕ) (n : Sizes) → IsCode (two p a b) code levels → n ≡ sizes_of a → IsParts a b n code (levels - 1)
+parts-of p a b code levels n coded sized =
+    let size : n.code ≡ (sizes_of a).code = ap (λ (z : Sizes). z.code) sized in
+    record { sizes = sized; first = first-code p a b code levels n.code coded size; second = second-code p a b code levels n.code coded size }
+
+-- what clearing the words of a code does
+abbrev pub Clears : Schedule → List ℕ → List ℕ → Type 0
+Clears t old new = length old ≡ held_size t → new ≡ held_of t []
+
+-- the same of a schedule that is another one
+pub clears-as : (t u : Schedule) (old new : List ℕ) → t ≡ u → Clears u old new → Clears t old new
+clears-as t u old new is clears = subst (λ x. Clears x old new) (sym is) clears
+
+-- two parts
+pub both-size : (a b : Schedule) (old : List ℕ) → length old ≡ length (held_of a [] ++ held_of b []) → length old ≡ held_size a + held_size b
+both-size a b old sized = sized ∙ length-append (held_of a []) (held_of b [])
+
+-- the parts of a code that is read as `&&` or `||`
+pub together-clears : (t : Schedule) (code old new : List ℕ) (levels : ℕ) (n : Node) (s : Sizes) → IsCode t code levels → n ≡ node_at code → (n ≡ Both s) ⊎ (n ≡ Either s) →
+    ((a b : Schedule) → IsParts a b s code (levels - 1) → length old ≡ held_size a + held_size b → new ≡ held_of a [] ++ held_of b []) → Clears t old new
+together-clears t code old new levels n s coded read is parts =
+    elim is [
+      | inl e ↦ let m = coded-node t code levels n (Both s) coded read e in
+          let c = subst (λ x. IsCode x code levels) m.2 coded in
+          clears-as t (two both m.0 m.1) old new m.2 (λ z. parts m.0 m.1 (parts-of both m.0 m.1 code levels s c m.3) (both-size m.0 m.1 old z))
+      | inr e ↦ let m = coded-node t code levels n (Either s) coded read e in
+          let c = subst (λ x. IsCode x code levels) m.2 coded in
+          clears-as t (two either m.0 m.1) old new m.2 (λ z. parts m.0 m.1 (parts-of either m.0 m.1 code levels s c m.3) (both-size m.0 m.1 old z))
+    ]
+
+-- the parts of a code that is read as `andThenEither`, behind their first word
+then-size : (a b : Schedule) (n : ℕ) → n ≡ suc (length (held_of a [] ++ held_of b [])) → n ≡ suc (held_size a + held_size b)
+then-size a b n sized = omega (arith, sized, length-append (held_of a []) (held_of b []))
+
+pub then-clears : (t : Schedule) (code old new rest : List ℕ) (levels : ℕ) (n : Node) (s : Sizes) → IsCode t code levels → n ≡ node_at code → n ≡ AndThen s →
+    ((a b : Schedule) → IsParts a b s code (levels - 1) → length old ≡ suc (held_size a + held_size b) → rest ≡ held_of a [] ++ held_of b []) →
+    (1 ≤ length old → new ≡ 0 ∷ rest) → Clears t old new
+then-clears t code old new rest levels n s coded read is parts whole =
+    let m = coded-node t code levels n (AndThen s) coded read is in
+    let c = subst (λ x. IsCode x code levels) m.2 coded in
+    clears-as t (two and_then m.0 m.1) old new m.2
+    (λ z. whole (omega (arith, z)) ∙ ap (λ (w : List ℕ). 0 ∷ w)
+    (parts m.0 m.1 (parts-of and_then m.0 m.1 code levels s c m.3) (then-size m.0 m.1 (length old) z)))
+
+-- the part of a code that is read as an operator over it
+pub three-clears : (t : Schedule) (code other old new : List ℕ) (levels : ℕ) (n : Node) → IsCode t code levels → n ≡ node_at code → other ≡ drop 3 code →
+    ((x : Test) × (n ≡ WhileInput x)) ⊎ ((f : Func) × (n ≡ Map f)) → ((s : Schedule) → IsCode s other (levels - 1) → Clears s old new) → Clears t old new
+three-clears t code other old new levels n coded read at is part =
+    elim is [
+      | inl e ↦ let m = coded-node t code levels n (WhileInput e.0) coded read e.1 in
+          let c = subst (λ x. IsCode x code levels) m.1 coded in
+          clears-as t (over m.0 (while_input e.0)) old new m.1
+          (part m.0 (code-at m.0 other (drop 3 code) (levels - 1) at (part-code (while_input e.0) m.0 code levels 3 c refl)))
+      | inr e ↦ let m = coded-node t code levels n (Map e.0) coded read e.1 in
+          let c = subst (λ x. IsCode x code levels) m.1 coded in
+          clears-as t (over m.0 (mapped e.0)) old new m.1
+          (part m.0 (code-at m.0 other (drop 3 code) (levels - 1) at (part-code (mapped e.0) m.0 code levels 3 c refl)))
+    ]
+
+pub four-clears : (t : Schedule) (code other old new : List ℕ) (levels : ℕ) (n : Node) → IsCode t code levels → n ≡ node_at code → other ≡ drop 4 code →
+    ((k : Pick) × (x : Test) × (n ≡ WhileOutput k x)) ⊎ ((k : Pick) × (x : Test) × (n ≡ ResetWhen k x)) →
+    ((s : Schedule) → IsCode s other (levels - 1) → Clears s old new) → Clears t old new
+four-clears t code other old new levels n coded read at is part =
+    elim is [
+      | inl e ↦ let m = coded-node t code levels n (WhileOutput e.0 e.1) coded read e.2 in
+          let c = subst (λ x. IsCode x code levels) m.1 coded in
+          clears-as t (over m.0 (while_output e.0 e.1)) old new m.1
+          (part m.0 (code-at m.0 other (drop 4 code) (levels - 1) at (part-code (while_output e.0 e.1) m.0 code levels 4 c refl)))
+      | inr e ↦ let m = coded-node t code levels n (ResetWhen e.0 e.1) coded read e.2 in
+          let c = subst (λ x. IsCode x code levels) m.1 coded in
+          clears-as t (over m.0 (reset_when e.0 e.1)) old new m.1
+          (part m.0 (code-at m.0 other (drop 4 code) (levels - 1) at (part-code (reset_when e.0 e.1) m.0 code levels 4 c refl)))
+    ]
+
+-- what clearing a leaf does
+pub leaf-clears : (t : Schedule) (code old new : List ℕ) (levels : ℕ) (n : Node) (r : Rule) → IsCode t code levels → n ≡ node_at code → n ≡ Leaf r →
+    (length old ≡ length (leaf_held (rule_leaf r) []) → new ≡ leaf_held (rule_leaf r) []) → Clears t old new
+leaf-clears t code old new levels n r coded read is clears = clears-as t (leaf (rule_leaf r)) old new (coded-node t code levels n (Leaf r) coded read is) clears
+
+-- a step of a schedule that is another one
+steps-as : (t u : Schedule) (h : History) (words : List ℕ) (now input : ℕ) (d : Decision) (before after : ℕ) → t ≡ u →
+    StepsCode u h words now input d before after → StepsCode t h words now input d before after
+steps-as t u h words now input d before after is steps = subst (λ x. StepsCode x h words now input d before after) (sym is) steps
+
+-- a schedule has some weight
+pub code-heavy : (t : Schedule) (before most : ℕ) → before + weight t ≤ most → most ≤ before → ⊥
+code-heavy t before most room full = omega (arith, room, full, weight-positive t)
+
+-- a step of a leaf
+pub leaf-node : (t : Schedule) (h : History) (code old new : List ℕ) (levels now input : ℕ) (d : Decision) (before after : ℕ) (n : Node) (r : Rule) →
+    IsCode t code levels → n ≡ node_at code → n ≡ Leaf r → old ≡ held_of t h →
+    ((g : History) → old ≡ leaf_held (rule_leaf r) g → new ≡ leaf_held (rule_leaf r) ((now, input) ∷ g)) →
+    ((g : History) → old ≡ leaf_held (rule_leaf r) g → d ≡ (leaf_answer (rule_leaf r) ((now, input) ∷ g)).decision) →
+    after ≡ before + 1 → StepsCode t h new now input d before after
+leaf-node t h code old new levels now input d before after n r coded read is held steps decides counted =
+    let m = coded-node t code levels n (Leaf r) coded read is in
+    let first : old ≡ leaf_held (rule_leaf r) h = held ∙ ap (λ x. held_of x h) m in
+    steps-as t (leaf (rule_leaf r)) h new now input d before after m (record { held = steps h first; decides = decides h first; visited = counted })
+
+-- what a step of both parts is, by their code
+abbrev pub PartsStep : Sizes → List ℕ → ℕ → ℕ → List ℕ → List ℕ → ℕ → ℕ → Decision → Decision → ℕ → ℕ → Type 0
+PartsStep s code levels most old new now input x y before after =
+    (a b : Schedule) (g : History) → IsParts a b s code levels → before + weight a + weight b ≤ most → old ≡ held_of a g ++ held_of b g →
+    StepsBoth a b g new now input x y before after
+
+-- a step of `&&`
+pub both-node : (t : Schedule) (h : History) (code old new : List ℕ) (levels now input : ℕ) (x y d : Decision) (before after most : ℕ) (n : Node) (s : Sizes) →
+    IsCode t code levels → n ≡ node_at code → n ≡ Both s → before + weight t ≤ most → old ≡ held_of t h →
+    PartsStep s code (levels - 1) most old new now input x y (before + 1) after → d ≡ later_of x y → StepsCode t h new now input d before after
+both-node t h code old new levels now input x y d before after most n s coded read is room held parts later =
+    let m = coded-node t code levels n (Both s) coded read is in
+    let c = subst (λ z. IsCode z code levels) m.2 coded in
+    let fits : before + weight (two both m.0 m.1) ≤ most = subst (λ z. before + weight z ≤ most) m.2 room in
+    steps-as t (two both m.0 m.1) h new now input d before after m.2
+    (both-steps m.0 m.1 h new now input x y d before after
+    (parts m.0 m.1 h (parts-of both m.0 m.1 code levels s c m.3) (omega (arith, fits)) (held ∙ ap (λ z. held_of z h) m.2)) later)
+
+-- a step of `||`
+pub either-node : (t : Schedule) (h : History) (code old new : List ℕ) (levels now input : ℕ) (x y d : Decision) (before after most : ℕ) (n : Node) (s : Sizes) →
+    IsCode t code levels → n ≡ node_at code → n ≡ Either s → before + weight t ≤ most → old ≡ held_of t h →
+    PartsStep s code (levels - 1) most old new now input x y (before + 1) after → d ≡ earlier_of x y → StepsCode t h new now input d before after
+either-node t h code old new levels now input x y d before after most n s coded read is room held parts earlier =
+    let m = coded-node t code levels n (Either s) coded read is in
+    let c = subst (λ z. IsCode z code levels) m.2 coded in
+    let fits : before + weight (two either m.0 m.1) ≤ most = subst (λ z. before + weight z ≤ most) m.2 room in
+    steps-as t (two either m.0 m.1) h new now input d before after m.2
+    (either-steps m.0 m.1 h new now input x y d before after
+    (parts m.0 m.1 h (parts-of either m.0 m.1 code levels s c m.3) (omega (arith, fits)) (held ∙ ap (λ z. held_of z h) m.2)) earlier)
+
+-- a step of `andThenEither`
+pub then-node : (t : Schedule) (h : History) (code old new : List ℕ) (levels now input : ℕ) (d : Decision) (before after most : ℕ) (n : Node) (s : Sizes) →
+    IsCode t code levels → n ≡ node_at code → n ≡ AndThen s → before + weight t ≤ most → old ≡ held_of t h →
+    ((a b : Schedule) (g : History) → IsParts a b s code (levels - 1) → before + 1 + weight a + weight b ≤ most → old ≡ held_of (two and_then a b) g →
+    StepsThen a b g new now input d (before + 1) after) → StepsCode t h new now input d before after
+then-node t h code old new levels now input d before after most n s coded read is room held parts =
+    let m = coded-node t code levels n (AndThen s) coded read is in
+    let c = subst (λ z. IsCode z code levels) m.2 coded in
+    let fits : before + weight (two and_then m.0 m.1) ≤ most = subst (λ z. before + weight z ≤ most) m.2 room in
+    steps-as t (two and_then m.0 m.1) h new now input d before after m.2
+    (then-steps m.0 m.1 h new now input d before after
+    (parts m.0 m.1 h (parts-of and_then m.0 m.1 code levels s c m.3) (omega (arith, fits)) (held ∙ ap (λ z. held_of z h) m.2)))
+
+-- what a step of a part is, by its code
+abbrev pub PartSteps : List ℕ → ℕ → ℕ → List ℕ → List ℕ → ℕ → ℕ → Decision → ℕ → ℕ → Type 0
+PartSteps code levels most old new now input d before after =
+    (s : Schedule) (g : History) → IsCode s code levels → before + weight s ≤ most → old ≡ held_of s g → StepsCode s g new now input d before after
+
+-- a decision that a test passes, or not
+pub kept-if : (b : Bool) (d : Decision) → b ≡ true → d ≡ only_if b d
+kept-if b d e = sym (ap (λ (z : Bool). only_if z d) e)
+
+pub stopped-if : (b : Bool) (d : Decision) → b ≡ false → Stop ≡ only_if b d
+stopped-if b d e = sym (ap (λ (z : Bool). only_if z d) e)
+
+-- a step of `.whileInput`
+pub while_input-node : (t : Schedule) (h : History) (code other old new : List ℕ) (levels now input : ℕ) (x d : Decision) (before after most : ℕ) (n : Node) (q : Test) (passed : Bool) →
+    IsCode t code levels → n ≡ node_at code → n ≡ WhileInput q → other ≡ drop 3 code → before + weight t ≤ most → old ≡ held_of t h →
+    PartSteps other (levels - 1) most old new now input x (before + 1) after → passed ≡ passes q input → d ≡ only_if passed x →
+    StepsCode t h new now input d before after
+while_input-node t h code other old new levels now input x d before after most n q passed coded read is at room held part tested kept =
+    let m = coded-node t code levels n (WhileInput q) coded read is in
+    let c = subst (λ z. IsCode z code levels) m.1 coded in
+    let fits : before + weight (over m.0 (while_input q)) ≤ most = subst (λ z. before + weight z ≤ most) m.1 room in
+    let p = part m.0 h (code-at m.0 other (drop 3 code) (levels - 1) at (part-code (while_input q) m.0 code levels 3 c refl)) (omega (arith, fits))
+    (held ∙ ap (λ z. held_of z h) m.1) in
+    steps-as t (over m.0 (while_input q)) h new now input d before after m.1
+    (while_input-steps m.0 q h new now input x d before after p (kept ∙ ap (λ (z : Bool). only_if z x) tested))
+
+-- a step of `.map`
+pub mapped-node : (t : Schedule) (h : History) (code other old new : List ℕ) (levels now input : ℕ) (d : Decision) (before after most : ℕ) (n : Node) (f : Func) →
+    IsCode t code levels → n ≡ node_at code → n ≡ Map f → other ≡ drop 3 code → before + weight t ≤ most → old ≡ held_of t h →
+    PartSteps other (levels - 1) most old new now input d (before + 1) after → StepsCode t h new now input d before after
+mapped-node t h code other old new levels now input d before after most n f coded read is at room held part =
+    let m = coded-node t code levels n (Map f) coded read is in
+    let c = subst (λ z. IsCode z code levels) m.1 coded in
+    let fits : before + weight (over m.0 (mapped f)) ≤ most = subst (λ z. before + weight z ≤ most) m.1 room in
+    let p = part m.0 h (code-at m.0 other (drop 3 code) (levels - 1) at (part-code (mapped f) m.0 code levels 3 c refl)) (omega (arith, fits))
+    (held ∙ ap (λ z. held_of z h) m.1) in
+    steps-as t (over m.0 (mapped f)) h new now input d before after m.1 (mapped-steps m.0 f h new now input d before after p)
+
+-- whether the output of a part's step passes a test
+abbrev pub IsPassed : Bool → Pick → Test → List ℕ → List ℕ → ℕ → Type 0
+IsPassed passed k q code words levels = (o : Output) → Tells code words levels o → passed ≡ passes q (picked k o)
+
+-- a step of `.whileOutput`
+pub while_output-node : (t : Schedule) (h : History) (code other old new : List ℕ) (levels now input : ℕ) (x d : Decision) (before after most : ℕ) (n : Node) (k : Pick) (q : Test) (passed : Bool) →
+    IsCode t code levels → n ≡ node_at code → n ≡ WhileOutput k q → other ≡ drop 4 code → before + weight t ≤ most → old ≡ held_of t h →
+    PartSteps other (levels - 1) most old new now input x (before + 1) after → IsPassed passed k q other new (levels - 1) → d ≡ only_if passed x →
+    StepsCode t h new now input d before after
+while_output-node t h code other old new levels now input x d before after most n k q passed coded read is at room held part tested kept =
+    let m = coded-node t code levels n (WhileOutput k q) coded read is in
+    let c = subst (λ z. IsCode z code levels) m.1 coded in
+    let fits : before + weight (over m.0 (while_output k q)) ≤ most = subst (λ z. before + weight z ≤ most) m.1 room in
+    let there = code-at m.0 other (drop 4 code) (levels - 1) at (part-code (while_output k q) m.0 code levels 4 c refl) in
+    let p = part m.0 h there (omega (arith, fits)) (held ∙ ap (λ z. held_of z h) m.1) in
+    let o = (answer_of m.0 ((now, input) ∷ h)).output in
+    let passes_so = tested o (record { term = m.0; history = (now, input) ∷ h; coded = there; held = p.held; output = refl }) in
+    steps-as t (over m.0 (while_output k q)) h new now input d before after m.1
+    (while_output-steps m.0 k q h new now input x d before after p (kept ∙ ap (λ (z : Bool). only_if z x) passes_so))
+
+-- a step of `.resetWhen` that doesn't reset
+pub reset-stays-node : (t : Schedule) (h : History) (code other old new : List ℕ) (levels now input : ℕ) (d : Decision) (before after most : ℕ) (n : Node) (k : Pick) (q : Test) (passed : Bool) →
+    IsCode t code levels → n ≡ node_at code → n ≡ ResetWhen k q → other ≡ drop 4 code → before + weight t ≤ most → old ≡ held_of t h →
+    PartSteps other (levels - 1) most old new now input d (before + 1) after → IsPassed passed k q other new (levels - 1) → passed ≡ false →
+    StepsCode t h new now input d before after
+reset-stays-node t h code other old new levels now input d before after most n k q passed coded read is at room held part tested stays =
+    let m = coded-node t code levels n (ResetWhen k q) coded read is in
+    let c = subst (λ z. IsCode z code levels) m.1 coded in
+    let fits : before + weight (over m.0 (reset_when k q)) ≤ most = subst (λ z. before + weight z ≤ most) m.1 room in
+    let there = code-at m.0 other (drop 4 code) (levels - 1) at (part-code (reset_when k q) m.0 code levels 4 c refl) in
+    let g = since_reset (answer_of m.0) k q h in
+    let p = part m.0 g there (omega (arith, fits)) (held ∙ ap (λ z. held_of z h) m.1) in
+    let o = (answer_of m.0 ((now, input) ∷ g)).output in
+    let passes_so = tested o (record { term = m.0; history = (now, input) ∷ g; coded = there; held = p.held; output = refl }) in
+    steps-as t (over m.0 (reset_when k q)) h new now input d before after m.1
+    (reset-stays m.0 k q h new now input d before after p (sym passes_so ∙ stays))
+
+-- a step of `.resetWhen` that resets
+pub reset-begins-node : (t : Schedule) (h : History) (code other old first mid new : List ℕ) (levels now input : ℕ) (x d : Decision) (before between after most : ℕ) (n : Node) (k : Pick) (q : Test) (passed : Bool) →
+    IsCode t code levels → n ≡ node_at code → n ≡ ResetWhen k q → other ≡ drop 4 code → before + weight t ≤ most → old ≡ held_of t h →
+    PartSteps other (levels - 1) most old first now input x (before + 1) between → IsPassed passed k q other first (levels - 1) → passed ≡ true →
+    ((s : Schedule) → IsCode s other (levels - 1) → Clears s first mid) → PartSteps other (levels - 1) most mid new now input d between after →
+    StepsCode t h new now input d before after
+reset-begins-node t h code other old first mid new levels now input x d before between after most n k q passed coded read is at room held part tested resets clears again =
+    let m = coded-node t code levels n (ResetWhen k q) coded read is in
+    let c = subst (λ z. IsCode z code levels) m.1 coded in
+    let fits : before + weight (over m.0 (reset_when k q)) ≤ most = subst (λ z. before + weight z ≤ most) m.1 room in
+    let there = code-at m.0 other (drop 4 code) (levels - 1) at (part-code (reset_when k q) m.0 code levels 4 c refl) in
+    let g = since_reset (answer_of m.0) k q h in
+    let p = part m.0 g there (omega (arith, fits)) (held ∙ ap (λ z. held_of z h) m.1) in
+    let o = (answer_of m.0 ((now, input) ∷ g)).output in
+    let passes_so = tested o (record { term = m.0; history = (now, input) ∷ g; coded = there; held = p.held; output = refl }) in
+    let sized = ap length p.held ∙ held-length m.0 ((now, input) ∷ g) [] in
+    let left = reset-room m.0 g first now input x before between most p (omega (arith, fits)) in
+    let second = again m.0 [] there left (clears m.0 there sized) in
+    steps-as t (over m.0 (reset_when k q)) h new now input d before after m.1
+    (reset-begins m.0 k q h first new now input x d before between after p (sym passes_so ∙ resets) second)

@@ -1,0 +1,177 @@
+-- A view shows the output that the words of a place tell, by the node of its code.
+use Rattle.std.proofs.Common.{◌≡◌, ℕ, ◌-◌, List, take, drop, refl, sym, ap, ◌∙◌, subst, arith}
+use Rattle.zs_term.specs.Output.{Output, number, number_in, applied, size_in}
+use Rattle.zs_term.specs.Schedule.{Schedule, Leaf, leaf, two, over, plain, counted, exponential, both, either, and_then, while_input, while_output, mapped, reset_when}
+use Rattle.zs_term.specs.declared.forms.Plain.TheVariants.{Forever as PlainForever, Identity as PlainIdentity, Elapsed as PlainElapsed}
+use Rattle.zs_term.specs.declared.forms.Counted.TheVariants.{Recurs as CountedRecurs, Spaced as CountedSpaced, Fixed as CountedFixed, Fibonacci as CountedFibonacci, Linear as CountedLinear, Windowed as CountedWindowed}
+use Rattle.zs_term.specs.declared.term.Test.{Test}
+use Rattle.zs_term.specs.declared.term.Pick.{Pick}
+use Rattle.zs_term.specs.declared.term.Func.{Func}
+use Rattle.zs_term.proofs.Sizes.{depth-positive}
+use Rattle.zs_step.specs.History.{History}
+use Rattle.zs_step.specs.Answer.{answer_of, leaf_answer}
+use Rattle.zs_c.specs.declared.program.node.Sizes.{Sizes}
+use Rattle.zs_c.specs.declared.program.node.Rule.{Rule}
+use Rattle.zs_c.specs.declared.program.node.Node.{Node}
+use Rattle.zs_c.specs.declared.program.node.Node.TheVariants.{Leaf as NodeLeaf, Both, Either, AndThen, WhileInput, WhileOutput, Map, ResetWhen}
+use Rattle.zs_c.specs.declared.program.outputs.Place.{Place}
+use Rattle.zs_c.specs.declared.program.outputs.View.TheVariants.{Pair, Left, Right}
+use Rattle.zs_c.specs.Code.{IsCode, held_of}
+use Rattle.zs_c.specs.Node.{word_at, node_at, rule_leaf, IsNode}
+use Rattle.zs_c.specs.View.{Tells, PlaceTells, Shows}
+use Rattle.zs_c.proofs.Nodes.{read-node}
+use Rattle.zs_c.proofs.Listless.{answer-free, no-items}
+use Rattle.zs_c.proofs.ViewLemmas.{TellsParts, both-tells, either-tells, left-tells, right-tells, while_input-tells, while_output-tells, reset_when-tells, mapped-tells}
+
+-- the same of equal words
+pub tells-at : (code other words others : List ℕ) (n m : ℕ) (o : Output) → code ≡ other → words ≡ others → n ≡ m → Tells other others m o → Tells code words n o
+tells-at code other words others n m o coded worded same t = record {
+  term = t.term;
+  history = t.history;
+  coded = record { is = coded ∙ t.coded.is; flat = t.coded.flat; deep = omega (arith, t.coded.deep, same) };
+  held = worded ∙ t.held;
+  output = t.output;
+}
+
+-- a schedule has some level
+pub no-levels : (code words : List ℕ) (levels : ℕ) (o : Output) → levels ≡ 0 → Tells code words levels o → ⊥
+no-levels code words levels o none t = omega (arith, t.coded.deep, none, depth-positive t.term)
+
+-- the node of a code is what the schedule is made of
+pub told-node : (code words : List ℕ) (levels : ℕ) (o : Output) (n m : Node) → n ≡ node_at code → n ≡ m → (t : Tells code words levels o) → IsNode m t.term
+told-node code words levels o n m read is t = subst (λ x. IsNode x t.term) is (read-node t.term code n read t.coded.is t.coded.flat)
+
+-- the same, of the schedule that it then is
+pub told-as : (code words : List ℕ) (levels : ℕ) (o : Output) (t : Tells code words levels o) (u : Schedule) → t.term ≡ u →
+    IsCode u code levels × (words ≡ held_of u t.history) × (o ≡ (answer_of u t.history).output)
+told-as code words levels o t u is =
+    (subst (λ x. IsCode x code levels) is t.coded, t.held ∙ ap (λ x. held_of x t.history) is, t.output ∙ ap (λ x. (answer_of x t.history).output) is)
+
+-- a leaf answers a number
+leaf-number : (l : Leaf) (h : History) → (leaf_answer l h).output ≡ number (number_in (leaf_answer l h).output)
+leaf-number (plain PlainForever) h = refl
+leaf-number (plain PlainIdentity) h = refl
+leaf-number (plain PlainElapsed) h = refl
+leaf-number (counted CountedRecurs n) h = refl
+leaf-number (counted CountedSpaced n) h = refl
+leaf-number (counted CountedFixed n) h = refl
+leaf-number (counted CountedFibonacci n) h = refl
+leaf-number (counted CountedLinear n) h = refl
+leaf-number (counted CountedWindowed n) h = refl
+leaf-number (exponential b f) h = refl
+
+-- a leaf's output is its first word
+pub leaf-shows : (r : Rule) (code words : List ℕ) (levels w : ℕ) (o : Output) (n : Node) → n ≡ node_at code → n ≡ NodeLeaf r → w ≡ word_at words 0 →
+    Tells code words levels o → o ≡ number w
+leaf-shows r code words levels w o n read is first t =
+    let u = told-as code words levels o t (leaf (rule_leaf r)) (told-node code words levels o n (NodeLeaf r) read is t) in
+    let h = t.history in
+    let same : word_at words 0 ≡ number_in (leaf_answer (rule_leaf r) h).output = ap (λ x. word_at x 0) u.1 in
+    u.2 ∙ leaf-number (rule_leaf r) h ∙ ap number (sym (first ∙ same))
+
+-- two places that are the parts of one, whose words begin at a place
+pub record ArePartsOf (s : Sizes) (p a b : Place) (at : ℕ) : Type 0 where
+  pub first_code : a.code.now ≡ take s.code (drop 3 p.code.now)
+  pub second_code : b.code.now ≡ drop s.code (drop 3 p.code.now)
+  pub first_words : a.words.now ≡ take s.state (drop at p.words.now)
+  pub second_words : b.words.now ≡ drop s.state (drop at p.words.now)
+  pub first_levels : a.levels ≡ p.levels - 1
+  pub second_levels : b.levels ≡ p.levels - 1
+
+-- both places tell outputs
+parts-told : (s : Sizes) (p a b : Place) (x y : Output) → ArePartsOf s p a b 0 → TellsParts s p.code.now p.words.now p.levels x y → PlaceTells a x × PlaceTells b y
+parts-told s p a b x y are t = (
+  tells-at a.code.now (take s.code (drop 3 p.code.now)) a.words.now (take s.state p.words.now) a.levels (p.levels - 1) x are.first_code are.first_words are.first_levels t.first,
+  tells-at b.code.now (drop s.code (drop 3 p.code.now)) b.words.now (drop s.state p.words.now) b.levels (p.levels - 1) y are.second_code are.second_words are.second_levels t.second,
+)
+
+-- the parts of `&&`
+pub both-shows : (s : Sizes) (p a b : Place) (o : Output) (n : Node) → n ≡ node_at p.code.now → n ≡ Both s → ArePartsOf s p a b 0 → PlaceTells p o → Shows (Pair a b) o
+both-shows s p a b o n read is are t =
+    let node = told-node p.code.now p.words.now p.levels o n (Both s) read is t in
+    let u = told-as p.code.now p.words.now p.levels o t (two both node.0 node.1) node.2 in
+    let w = both-tells node.0 node.1 t.history p.code.now p.words.now p.levels s o u.0 node.3 u.1 u.2 in
+    let x = (answer_of node.0 t.history).output in
+    let y = (answer_of node.1 t.history).output in
+    let told = parts-told s p a b x y are w.1 in
+    (x, y, w.0, told.0, told.1)
+
+-- the parts of `||`
+pub either-shows : (s : Sizes) (p a b : Place) (o : Output) (n : Node) → n ≡ node_at p.code.now → n ≡ Either s → ArePartsOf s p a b 0 → PlaceTells p o → Shows (Pair a b) o
+either-shows s p a b o n read is are t =
+    let node = told-node p.code.now p.words.now p.levels o n (Either s) read is t in
+    let u = told-as p.code.now p.words.now p.levels o t (two either node.0 node.1) node.2 in
+    let w = either-tells node.0 node.1 t.history p.code.now p.words.now p.levels s o u.0 node.3 u.1 u.2 in
+    let x = (answer_of node.0 t.history).output in
+    let y = (answer_of node.1 t.history).output in
+    let told = parts-told s p a b x y are w.1 in
+    (x, y, w.0, told.0, told.1)
+
+-- the first part of `andThenEither`, while it is on
+pub left-shows : (s : Sizes) (p a b : Place) (o : Output) (n : Node) → n ≡ node_at p.code.now → n ≡ AndThen s → ArePartsOf s p a b 1 → word_at p.words.now 0 ≡ 0 →
+    PlaceTells p o → Shows (Left a) o
+left-shows s p a b o n read is are zeroed t =
+    let node = told-node p.code.now p.words.now p.levels o n (AndThen s) read is t in
+    let u = told-as p.code.now p.words.now p.levels o t (two and_then node.0 node.1) node.2 in
+    let w = left-tells node.0 node.1 t.history p.code.now p.words.now p.levels s o u.0 node.3 u.1 u.2 zeroed in
+    let x = (answer_of node.0 t.history).output in (
+      x,
+      w.0,
+      tells-at a.code.now (take s.code (drop 3 p.code.now)) a.words.now (take s.state (drop 1 p.words.now)) a.levels (p.levels - 1) x
+          are.first_code are.first_words are.first_levels w.1,
+    )
+
+-- and the second from then on
+pub right-shows : (s : Sizes) (p a b : Place) (o : Output) (n : Node) → n ≡ node_at p.code.now → n ≡ AndThen s → ArePartsOf s p a b 1 → (word_at p.words.now 0 ≡ 0 → ⊥) →
+    PlaceTells p o → Shows (Right b) o
+right-shows s p a b o n read is are other t =
+    let node = told-node p.code.now p.words.now p.levels o n (AndThen s) read is t in
+    let u = told-as p.code.now p.words.now p.levels o t (two and_then node.0 node.1) node.2 in
+    let w = right-tells node.0 node.1 t.history p.code.now p.words.now p.levels s o u.0 node.3 u.1 u.2 other in (
+      w.0,
+      w.1,
+      tells-at b.code.now (drop s.code (drop 3 p.code.now)) b.words.now (drop s.state (drop 1 p.words.now)) b.levels (p.levels - 1) w.0
+          are.second_code are.second_words are.second_levels w.2,
+    )
+
+-- a place that is the part of one
+pub record IsPartOf (p a : Place) (at : ℕ) : Type 0 where
+  pub code : a.code.now ≡ drop at p.code.now
+  pub words : a.words.now ≡ p.words.now
+  pub levels : a.levels ≡ p.levels - 1
+
+-- the part of an operator that answers as its part does
+pub while_input-part : (x : Test) (p a : Place) (o : Output) (n : Node) → n ≡ node_at p.code.now → n ≡ WhileInput x → IsPartOf p a 3 → PlaceTells p o → PlaceTells a o
+while_input-part x p a o n read is part t =
+    let node = told-node p.code.now p.words.now p.levels o n (WhileInput x) read is t in
+    let u = told-as p.code.now p.words.now p.levels o t (over node.0 (while_input x)) node.1 in
+    tells-at a.code.now (drop 3 p.code.now) a.words.now p.words.now a.levels (p.levels - 1) o part.code part.words part.levels
+    (while_input-tells node.0 x t.history p.code.now p.words.now p.levels o u.0 u.1 u.2)
+
+pub while_output-part : (k : Pick) (x : Test) (p a : Place) (o : Output) (n : Node) → n ≡ node_at p.code.now → n ≡ WhileOutput k x → IsPartOf p a 4 → PlaceTells p o → PlaceTells a o
+while_output-part k x p a o n read is part t =
+    let node = told-node p.code.now p.words.now p.levels o n (WhileOutput k x) read is t in
+    let u = told-as p.code.now p.words.now p.levels o t (over node.0 (while_output k x)) node.1 in
+    tells-at a.code.now (drop 4 p.code.now) a.words.now p.words.now a.levels (p.levels - 1) o part.code part.words part.levels
+    (while_output-tells node.0 k x t.history p.code.now p.words.now p.levels o u.0 u.1 u.2)
+
+pub reset_when-part : (k : Pick) (x : Test) (p a : Place) (o : Output) (n : Node) → n ≡ node_at p.code.now → n ≡ ResetWhen k x → IsPartOf p a 4 → PlaceTells p o → PlaceTells a o
+reset_when-part k x p a o n read is part t =
+    let node = told-node p.code.now p.words.now p.levels o n (ResetWhen k x) read is t in
+    let u = told-as p.code.now p.words.now p.levels o t (over node.0 (reset_when k x)) node.1 in
+    tells-at a.code.now (drop 4 p.code.now) a.words.now p.words.now a.levels (p.levels - 1) o part.code part.words part.levels
+    (reset_when-tells node.0 k x t.history p.code.now p.words.now p.levels o u.0 u.1 u.2)
+
+-- the part of `.map`, and what is made of its output
+pub mapped-part : (f : Func) (p a : Place) (o : Output) (n : Node) → n ≡ node_at p.code.now → n ≡ Map f → IsPartOf p a 3 → PlaceTells p o →
+    (x : Output) × (o ≡ applied f x) × PlaceTells a x
+mapped-part f p a o n read is part t =
+    let node = told-node p.code.now p.words.now p.levels o n (Map f) read is t in
+    let u = told-as p.code.now p.words.now p.levels o t (over node.0 (mapped f)) node.1 in
+    let w = mapped-tells node.0 f t.history p.code.now p.words.now p.levels o u.0 u.1 u.2 in
+    let x = (answer_of node.0 t.history).output in
+    (x, w.0, tells-at a.code.now (drop 3 p.code.now) a.words.now p.words.now a.levels (p.levels - 1) x part.code part.words part.levels w.1)
+
+-- no output that words tell has items
+pub told-size : (code words : List ℕ) (levels : ℕ) (o : Output) → Tells code words levels o → size_in o ≡ 0
+told-size code words levels o t = ap size_in t.output ∙ no-items (answer_of t.term t.history).output (answer-free t.term t.history t.coded.flat)

@@ -1,0 +1,20 @@
+use Rattle.std.proofs.Common.{sym, ap}
+use Rattle.zs_c.specs.Numbers.{decision_number, next_moment}
+use Rattle.zs_c.proofs.Running.{opened-stepped}
+use Rattle.zs_c.proofs.program.running.run_step.Goals as goal
+
+pub returns-in-Next-clause-stepped : goal.returns-in-Next-clause-stepped
+returns-in-Next-clause-stepped c t opens =
+    let s = c.step_code-decision in
+    let put = c.put_text-size in
+    opened-stepped c.args.opened t opens c.args.state.now s.new.words c.args.out.now put.new.out c.args.step.now.moment c.args.step.now.input
+    0 c.in-Next.next put.result s.new.visits s.result c.requires.fits s.auto.words s.ensures.steps put.ensures.text put.ensures.size
+    (sym (ap decision_number c.in-Next.is)) (sym (ap next_moment c.in-Next.is))
+
+pub returns-in-Stop-clause-stepped : goal.returns-in-Stop-clause-stepped
+returns-in-Stop-clause-stepped c t opens =
+    let s = c.step_code-decision in
+    let put = c.put_text-size in
+    opened-stepped c.args.opened t opens c.args.state.now s.new.words c.args.out.now put.new.out c.args.step.now.moment c.args.step.now.input
+    1 0 put.result s.new.visits s.result c.requires.fits s.auto.words s.ensures.steps put.ensures.text put.ensures.size
+    (sym (ap decision_number c.in-Stop.is)) (sym (ap next_moment c.in-Stop.is))

@@ -1,0 +1,96 @@
+-- How words are read as a node: by their tag, whatever is behind it. `proofs/Nodes.antt` shows that the code of a schedule is read
+-- as its node.
+use Rattle.std.specs.Prelude.{◌≡◌, ℕ, ◌==◌, if◌then◌else◌, List, length, take, drop, slice_index_or}
+use Rattle.zs_term.specs.Schedule.{Schedule, leaf, two, over, Leaf as LeafRule, exponential, forever, identity, elapsed, recurs, spaced, fixed, fibonacci, linear, windowed, both, either, and_then, while_input, while_output, mapped, reset_when}
+use Rattle.zs_term.specs.declared.term.Cmp.{Cmp}
+use Rattle.zs_term.specs.declared.term.Cmp.TheVariants.{Lt, Le, Eq, Ne, Gt, Ge}
+use Rattle.zs_term.specs.declared.term.Test.{Test}
+use Rattle.zs_term.specs.declared.term.Pick.{Pick}
+use Rattle.zs_term.specs.declared.term.Pick.TheVariants.{Whole, First as PickFirst, Second as PickSecond, Size as PickSize}
+use Rattle.zs_term.specs.declared.term.Func.{Func}
+use Rattle.zs_term.specs.declared.term.Func.TheVariants.{First, Second, Size, Merge, Const, Add, Mul}
+use Rattle.zs_c.specs.declared.program.node.Sizes.{Sizes}
+use Rattle.zs_c.specs.declared.program.node.Rule.{Rule}
+use Rattle.zs_c.specs.declared.program.node.Rule.TheVariants.{Forever, Identity, Elapsed, Recurs, Spaced, Fixed, Fibonacci, Linear, Windowed, Exponential}
+use Rattle.zs_c.specs.declared.program.node.Node.{Node}
+use Rattle.zs_c.specs.declared.program.node.Node.TheVariants.{Leaf, Both, Either, AndThen, WhileInput, WhileOutput, Map, ResetWhen}
+use Rattle.zs_c.specs.Code.{code_of, held_size, IsCode}
+
+-- a word, or 0 past the end
+abbrev pub word_at : List ℕ → ℕ → ℕ
+word_at words at = slice_index_or words at 0
+
+-- the comparison of a word
+abbrev pub cmp_of : ℕ → Cmp
+cmp_of w = if w == 0 then Lt else (if w == 1 then Le else (if w == 2 then Eq else (if w == 3 then Ne else (if w == 4 then Gt else Ge))))
+
+-- a comparison with a number
+abbrev pub test_of : ℕ → ℕ → Test
+test_of w than = record { cmp = cmp_of w; than = than }
+
+-- what a test reads, by its word
+abbrev pub pick_of : ℕ → Pick
+pick_of w = if w == 0 then Whole else (if w == 1 then PickFirst else (if w == 2 then PickSecond else PickSize))
+
+-- the function of a word and a number
+abbrev pub func_of : ℕ → ℕ → Func
+func_of w n =
+    if w == 0 then First else (if w == 1 then Second else (if w == 2 then Size else (if w == 3 then Merge else
+    (if w == 4 then Const n else (if w == 5 then Add n else Mul n)))))
+
+-- the sizes behind an operator's tag
+abbrev pub sizes_at : List ℕ → Sizes
+sizes_at code = record { code = word_at code 1; state = word_at code 2 }
+
+-- the leaf of a tag and the words from it on
+unfoldable pub rule_at : List ℕ → Rule
+rule_at code =
+    let w = word_at code 0 in
+    if w == 2 then Identity else (if w == 3 then Elapsed else (if w == 4 then Recurs (word_at code 1) else
+    (if w == 5 then Spaced (word_at code 1) else (if w == 6 then Fixed (word_at code 1) else
+    (if w == 7 then Fibonacci (word_at code 1) else (if w == 8 then Linear (word_at code 1) else
+    (if w == 9 then Windowed (word_at code 1) else (if w == 10 then Exponential (word_at code 1) (word_at code 2) else Forever))))))))
+
+-- the node of a tag and the words from it on
+unfoldable pub node_at : List ℕ → Node
+node_at code =
+    let w = word_at code 0 in
+    if w == 11 then Both (sizes_at code) else (if w == 12 then Either (sizes_at code) else
+    (if w == 13 then AndThen (sizes_at code) else (if w == 14 then WhileInput (test_of (word_at code 1) (word_at code 2)) else
+    (if w == 15 then WhileOutput (pick_of (word_at code 1)) (test_of (word_at code 2) (word_at code 3)) else
+    (if w == 16 then Map (func_of (word_at code 1) (word_at code 2)) else
+    (if w == 17 then ResetWhen (pick_of (word_at code 1)) (test_of (word_at code 2) (word_at code 3)) else Leaf (rule_at code)))))))
+
+-- the sizes of an operator's first part
+abbrev pub sizes_of : Schedule → Sizes
+sizes_of a = record { code = length (code_of a); state = held_size a }
+
+-- the leaf that a rule is read of
+abbrev pub rule_leaf : Rule → LeafRule
+rule_leaf Forever = forever
+rule_leaf Identity = identity
+rule_leaf Elapsed = elapsed
+rule_leaf (Recurs n) = recurs n
+rule_leaf (Spaced n) = spaced n
+rule_leaf (Fixed n) = fixed n
+rule_leaf (Fibonacci n) = fibonacci n
+rule_leaf (Linear n) = linear n
+rule_leaf (Windowed n) = windowed n
+rule_leaf (Exponential b f) = exponential b f
+
+-- what a node's schedule is made of
+abbrev pub IsNode : Node → Schedule → Type 0
+IsNode (Leaf r) t = t ≡ leaf (rule_leaf r)
+IsNode (Both n) t = (a : Schedule) × (b : Schedule) × (t ≡ two both a b) × (n ≡ sizes_of a)
+IsNode (Either n) t = (a : Schedule) × (b : Schedule) × (t ≡ two either a b) × (n ≡ sizes_of a)
+IsNode (AndThen n) t = (a : Schedule) × (b : Schedule) × (t ≡ two and_then a b) × (n ≡ sizes_of a)
+IsNode (WhileInput x) t = (s : Schedule) × (t ≡ over s (while_input x))
+IsNode (WhileOutput k x) t = (s : Schedule) × (t ≡ over s (while_output k x))
+IsNode (Map f) t = (s : Schedule) × (t ≡ over s (mapped f))
+IsNode (ResetWhen k x) t = (s : Schedule) × (t ≡ over s (reset_when k x))
+
+-- the sizes and the code of an operator are those of two schedules, which are no deeper than so many levels
+pub record IsParts (a b : Schedule) (n : Sizes) (code : List ℕ) (levels : ℕ) : Type 0 where
+  pub sizes : n ≡ sizes_of a
+  pub first : IsCode a (take n.code (drop 3 code)) levels
+  pub second : IsCode b (drop n.code (drop 3 code)) levels

@@ -1,0 +1,15 @@
+-- What an opened program is that of: for private contracts alone.
+use Rattle.std.specs.Prelude.{◌≡◌, true}
+use Rattle.zs_term.specs.Schedule.{Schedule, is_within_limits}
+use Rattle.zs_step.specs.Words.{KeepsNoList}
+use Rattle.zs_c.specs.declared.program.opening.Opened.{Opened}
+use Rattle.zs_c.specs.Code.{code_of, held_size}
+use Rattle.zs_c.specs.Program.{program_check}
+
+-- an opened program is that of a schedule
+pub record Opens (o : Opened) (t : Schedule) : Type 0 where
+  pub check : o.check ≡ program_check t
+  pub state : o.state ≡ held_size t
+  pub code : o.code.now ≡ code_of t
+  pub flat : KeepsNoList t
+  pub within : is_within_limits t ≡ true

@@ -1,0 +1,34 @@
+// The program of a text's schedule.
+
+ghost use Rattle.std.specs.Prelude.{◌≡◌, ◌≤◌, length, IfOk, IfErr};
+ghost use Rattle.zs_c.specs.States.{IsSizeRefusal};
+ghost use Rattle.zs_c.specs.Programs.{IsNewProgram, IsProgramSized, IsCompileRefusal};
+
+use crate::program::coding::{new_program, state_size};
+use crate::refusal::Refusal;
+use crate::states::flat_schedule_in;
+use std::alloc::Global;
+
+// How many words the program of a text's schedule has, and how many its state.
+pub(crate) fn sizes_in(alloc: Global, text: &[u8]) -> Result<(u64, u64), Refusal>
+    ensures ok { IfOk result (λ r. IsProgramSized text.now r.0 r.1) }
+    ensures err { IfErr result (IsSizeRefusal text.now) }
+{
+    let checked = flat_schedule_in(alloc, text)?;
+    let program = new_program(alloc, &checked)?;
+    Ok((program.len() as u64, state_size(checked.term()) + 2))
+}
+
+// The program of a text's schedule, where a room holds it.
+pub(crate) fn fitting_program(alloc: Global, text: &[u8], room: &[u64]) -> Result<Vec<u64>, Refusal>
+    ensures ok { IfOk result (λ v. IsNewProgram text.now v.items) }
+    ensures fits { IfOk result (λ v. length v.items ≤ length room.now) }
+    ensures err { IfErr result (IsCompileRefusal text.now (length room.now)) }
+{
+    let checked = flat_schedule_in(alloc, text)?;
+    let program = new_program(alloc, &checked)?;
+    if room.len() < program.len() {
+        return Err(Refusal::NoRoom);
+    }
+    Ok(program)
+}

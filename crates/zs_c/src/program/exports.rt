@@ -1,0 +1,109 @@
+// The functions over programs that C calls.
+
+ghost use Rattle.std.specs.Prelude.{◌≡◌, ◌<◌, ◌≤◌, length};
+ghost use Rattle.zs_term.specs.Schedule.{Schedule};
+ghost use Rattle.zs_c.specs.Program.{IsProgram};
+ghost use Rattle.zs_c.specs.Programs.{IsProgramSized, IsCompiled, IsCompileRefusal, IsUnfit, IsDenied, IsDeniedFor, IsProgramBegun, IsProgramStepped};
+ghost use Rattle.zs_c.specs.States.{IsSizeRefusal, IsRefusedFor};
+
+use crate::program::compiling::{fitting_program, sizes_in};
+use crate::program::leaf::Step;
+use crate::program::running::{begin, fitting, run_step, steppable};
+use crate::reply::Reply;
+use crate::room::put_words;
+use std::alloc::Global;
+
+/// How many words the program of a text's schedule has, and how many its state: 0, or the number of the reason why it has
+/// none, and the byte at which that shows.
+#[unsafe(no_mangle)]
+pub extern "C" fn zs_program_size(
+    alloc: Global,
+    text: &[u8],
+    size: &mut u64,
+    state_size: &mut u64,
+    at: &mut u64,
+) -> u32
+    ensures sized { result ≡ 0 → IsProgramSized text.now size.new state_size.new }
+    ensures nowhere { result ≡ 0 → at.new ≡ 0 }
+    ensures refused { 0 < result → IsRefusedFor (IsSizeRefusal text.now) result at.new }
+    ensures nothing { 0 < result → (size.new ≡ 0) × (state_size.new ≡ 0) }
+{
+    let (number, sizes, place) = match sizes_in(alloc, text) {
+        Ok(sizes) => (0, sizes, 0),
+        Err(why) => (why.number(), (0, 0), why.place()),
+    };
+    *size = sizes.0;
+    *state_size = sizes.1;
+    *at = place;
+    number
+}
+
+/// Writes the program of a text's schedule over the front of words: 0, or the number of the reason why not, and the byte at
+/// which that shows.
+#[unsafe(no_mangle)]
+pub extern "C" fn zs_compile(alloc: Global, text: &[u8], program: &mut [u64], at: &mut u64) -> u32
+    ensures compiled { result ≡ 0 → IsCompiled text.now program.old program.new }
+    ensures nowhere { result ≡ 0 → at.new ≡ 0 }
+    ensures refused { 0 < result → IsRefusedFor (IsCompileRefusal text.now (length program.old)) result at.new }
+    ensures kept { 0 < result → program.new ≡ program.old }
+{
+    match fitting_program(alloc, text, program) {
+        Ok(words) => {
+            put_words(program, &words);
+            *at = 0;
+            0
+        }
+        Err(why) => {
+            *at = why.place();
+            why.number()
+        }
+    }
+}
+
+/// Writes the state of a program before any step over the front of words: 0, or the number of the reason why not. It takes
+/// no memory.
+#[unsafe(no_mangle)]
+pub extern "C" fn zs_program_begin(program: &[u64], state: &mut [u64]) -> u32
+    ensures begun { result ≡ 0 → (t : Schedule) → IsProgram program.now t → IsProgramBegun t state.old state.new }
+    ensures refused { 0 < result → IsDeniedFor (IsUnfit program.now state.old) result }
+    ensures kept { 0 < result → state.new ≡ state.old }
+{
+    match fitting(program, state) {
+        Ok(opened) => {
+            begin(opened, state);
+            0
+        }
+        Err(why) => why.number(),
+    }
+}
+
+/// The answer of a program at one more step, whose state words tell: 0 where it goes on, 1 where it is done, or the number
+/// of the reason why there is no answer. The words then tell the state behind that step. It takes no memory.
+#[unsafe(no_mangle)]
+pub extern "C" fn zs_program_step(
+    program: &[u64],
+    state: &mut [u64],
+    moment: u64,
+    input: u64,
+    reply: &mut Reply,
+    out: &mut [u8],
+) -> u32
+    ensures stepped { result ≤ 1 → (t : Schedule) → IsProgram program.now t → IsProgramStepped t state.old state.new moment input result reply.new out.old out.new }
+    ensures refused { 1 < result → IsDeniedFor (IsDenied program.now state.old moment) result }
+    ensures nothing { 1 < result → reply.new ≡ record { next = 0; size = 0; visits = 0; at = 0 } }
+    ensures stays { 1 < result → state.new ≡ state.old }
+    ensures kept { 1 < result → out.new ≡ out.old }
+{
+    match steppable(program, state, moment) {
+        Ok(opened) => run_step(opened, state, &Step { moment, input }, reply, out),
+        Err(why) => {
+            *reply = Reply {
+                next: 0,
+                size: 0,
+                visits: 0,
+                at: 0,
+            };
+            why.number()
+        }
+    }
+}

@@ -1,0 +1,179 @@
+// The nodes of a program: what the words of a code begin with.
+
+ghost use Rattle.std.specs.Prelude.{◌≡◌, take, drop};
+ghost use Rattle.zs_c.specs.Node.{word_at, sizes_at, cmp_of, test_of, pick_of, func_of, rule_at, node_at};
+
+use zs_term::{Cmp, Func, Pick, Test};
+
+// The sizes of an operator's first part: the words of its code, and those of its state.
+#[derive(Clone, Copy)]
+pub(crate) struct Sizes {
+    pub(crate) code: u64,
+    pub(crate) state: u64,
+}
+
+// A leaf with its numbers.
+#[derive(Clone, Copy)]
+pub(crate) enum Rule {
+    Forever,
+    Identity,
+    Elapsed,
+    Recurs(u64),
+    Spaced(u64),
+    Fixed(u64),
+    Fibonacci(u64),
+    Linear(u64),
+    Windowed(u64),
+    Exponential(u64, u64),
+}
+
+// A leaf, or an operator with what its parts don't tell.
+#[derive(Clone, Copy)]
+pub(crate) enum Node {
+    Leaf(Rule),
+    Both(Sizes),
+    Either(Sizes),
+    AndThen(Sizes),
+    WhileInput(Test),
+    WhileOutput(Pick, Test),
+    Map(Func),
+    ResetWhen(Pick, Test),
+}
+
+// The node that a code begins with. Words that are no code are read as some node.
+#[inline(always)]
+#[tactic(auto, unfolding(crate::specs::Node::node_at))]
+pub(crate) fn read_node(code: &[u64]) -> Node
+    ensures value { result ≡ node_at code.now }
+{
+    match word(code, 0) {
+        11 => Node::Both(read_sizes(code)),
+        12 => Node::Either(read_sizes(code)),
+        13 => Node::AndThen(read_sizes(code)),
+        14 => Node::WhileInput(read_test(word(code, 1), word(code, 2))),
+        15 => Node::WhileOutput(
+            read_pick(word(code, 1)),
+            read_test(word(code, 2), word(code, 3)),
+        ),
+        16 => Node::Map(read_func(word(code, 1), word(code, 2))),
+        17 => Node::ResetWhen(
+            read_pick(word(code, 1)),
+            read_test(word(code, 2), word(code, 3)),
+        ),
+        _ => Node::Leaf(read_rule(code)),
+    }
+}
+
+// The leaf that a code is.
+#[inline(always)]
+#[tactic(auto, unfolding(crate::specs::Node::rule_at))]
+fn read_rule(code: &[u64]) -> Rule
+    ensures value { result ≡ rule_at code.now }
+{
+    match word(code, 0) {
+        2 => Rule::Identity,
+        3 => Rule::Elapsed,
+        4 => Rule::Recurs(word(code, 1)),
+        5 => Rule::Spaced(word(code, 1)),
+        6 => Rule::Fixed(word(code, 1)),
+        7 => Rule::Fibonacci(word(code, 1)),
+        8 => Rule::Linear(word(code, 1)),
+        9 => Rule::Windowed(word(code, 1)),
+        10 => Rule::Exponential(word(code, 1), word(code, 2)),
+        _ => Rule::Forever,
+    }
+}
+
+// A word, or 0 past the end.
+#[inline(always)]
+pub(crate) fn word(words: &[u64], at: usize) -> u64
+    ensures value { result ≡ word_at words.now at }
+{
+    if at < words.len() { words[at] } else { 0 }
+}
+
+// The words from a place on.
+#[inline(always)]
+pub(crate) fn behind(words: &[u64], at: usize) -> &[u64]
+    ensures value { result.now ≡ drop at words.now }
+{
+    if at <= words.len() { &words[at..] } else { &[] }
+}
+
+// The first words.
+#[inline(always)]
+pub(crate) fn front(words: &[u64], size: usize) -> &[u64]
+    ensures value { result.now ≡ take size words.now }
+{
+    if size <= words.len() {
+        &words[..size]
+    } else {
+        words
+    }
+}
+
+// The sizes behind an operator's tag.
+#[inline(always)]
+fn read_sizes(code: &[u64]) -> Sizes
+    ensures value { result ≡ sizes_at code.now }
+{
+    Sizes {
+        code: word(code, 1),
+        state: word(code, 2),
+    }
+}
+
+// A comparison with a number.
+#[inline(always)]
+fn read_test(word: u64, than: u64) -> Test
+    ensures value { result ≡ test_of word than }
+{
+    Test {
+        cmp: read_cmp(word),
+        than,
+    }
+}
+
+// A comparison.
+#[inline(always)]
+fn read_cmp(word: u64) -> Cmp
+    ensures value { result ≡ cmp_of word }
+{
+    match word {
+        0 => Cmp::Lt,
+        1 => Cmp::Le,
+        2 => Cmp::Eq,
+        3 => Cmp::Ne,
+        4 => Cmp::Gt,
+        _ => Cmp::Ge,
+    }
+}
+
+// What a test reads.
+#[inline(always)]
+fn read_pick(word: u64) -> Pick
+    ensures value { result ≡ pick_of word }
+{
+    match word {
+        0 => Pick::Whole,
+        1 => Pick::First,
+        2 => Pick::Second,
+        _ => Pick::Size,
+    }
+}
+
+// A function, whose number is 0 where it has none.
+#[inline(always)]
+fn read_func(word: u64, n: u64) -> Func
+    ensures value { result ≡ func_of word n }
+{
+    match word {
+        0 => Func::First,
+        1 => Func::Second,
+        2 => Func::Size,
+        3 => Func::Merge,
+        4 => Func::Const(n),
+        5 => Func::Add(n),
+        _ => Func::Mul(n),
+    }
+}

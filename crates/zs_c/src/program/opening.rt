@@ -1,0 +1,51 @@
+// Whether words are a program.
+
+ghost use Rattle.std.specs.Prelude.{◌≡◌, IfSome, IfNone};
+ghost use Rattle.zs_term.specs.Schedule.{Schedule};
+ghost use Rattle.zs_c.specs.Program.{check_word, IsProgram};
+ghost use Rattle.zs_c.specs.Opened.{Opens};
+
+/// The first word of each program: the version of its form.
+pub(crate) const PROGRAM_VERSION: u64 = 0x7a73_6368_6564_0001;
+
+/// By what a check word is multiplied before each word. It is odd.
+pub(crate) const CHECK_FACTOR: u64 = 0x9e37_79b9_7f4a_7c15;
+
+// A program's check word, how many words its state has behind the last moment, and its code.
+#[derive(Clone, Copy)]
+pub(crate) struct Opened<'a> {
+    pub(crate) check: u64,
+    pub(crate) state: usize,
+    pub(crate) code: &'a [u64],
+}
+
+// The program that words begin with.
+#[inline(always)]
+pub(crate) fn open(program: &[u64]) -> Option<Opened<'_>>
+    ensures some { IfSome result (λ o. (t : Schedule) → IsProgram program.now t → Opens o t) }
+    ensures none { IfNone result ((t : Schedule) → IsProgram program.now t → ⊥) }
+{
+    if program.len() < 4 || program[0] != PROGRAM_VERSION {
+        return None;
+    }
+    let size = program[2] as usize;
+    if program.len() - 4 < size || check_word(&program[2..size + 4]) != program[1] {
+        return None;
+    }
+    Some(Opened {
+        check: program[1],
+        state: program[3] as usize,
+        code: &program[4..size + 4],
+    })
+}
+
+// The check word over some words.
+pub(crate) fn check_word(words: &[u64]) -> u64
+    ensures value { result ≡ check_word words.now }
+{
+    let mut check: u64 = 0;
+    for word in words {
+        check = check.wrapping_mul(CHECK_FACTOR).wrapping_add(*word);
+    }
+    check
+}

@@ -1,0 +1,68 @@
+// The text of an output, straight from the words that tell it.
+
+ghost use Rattle.std.specs.Prelude.{◌≡◌, ◌+◌, ◌^◌, ◌<◌, [], ◌∷◌, ◌++◌, codes, length};
+ghost use Rattle.std.specs.Fmt.{decimal};
+ghost use Rattle.zs_term.specs.Output.{Output};
+ghost use Rattle.zs_term.specs.OutputText.{output_text};
+ghost use Rattle.zs_c.specs.Rooms.{written_at};
+ghost use Rattle.zs_c.specs.View.{PlaceTells};
+
+use crate::program::node::{Node, read_node, word};
+use crate::program::outputs::{Place, View, read_view};
+use crate::room::put_behind;
+use itoa::Buffer;
+
+// Writes the text of the output of a node's last step behind the first bytes of a room, as far as it fits, and answers
+// where it ends.
+#[cycle(texts)]
+pub(crate) fn put_output(place: Place<'_>, room: &mut [u8], at: usize) -> usize
+    ensures text { (o : Output) → PlaceTells place.entry o → at + length (output_text o) < 2 ^ 64 → room.new ≡ written_at at (output_text o) room.old }
+    ensures end { (o : Output) → PlaceTells place.entry o → at + length (output_text o) < 2 ^ 64 → result ≡ at + length (output_text o) }
+{
+    match read_view(place) {
+        View::Number(n) => put_number(n, room, at),
+        View::Pair(a, b) => {
+            let end = put_byte(b'(', room, at);
+            let end = put_output(a, room, end);
+            let end = put_byte(b',', room, end);
+            let end = put_output(b, room, end);
+            put_byte(b')', room, end)
+        }
+        View::Left(a) => put_side(b"Left(", a, room, at),
+        View::Right(b) => put_side(b"Right(", b, room, at),
+    }
+}
+
+// Writes the text of a side.
+#[cycle(texts)]
+fn put_side(side: &[u8], part: Place<'_>, room: &mut [u8], at: usize) -> usize
+    ensures text { (o : Output) → PlaceTells part.entry o → at + length (side.now ++ (output_text o ++ codes ")")) < 2 ^ 64 → room.new ≡ written_at at (side.now ++ (output_text o ++ codes ")")) room.old }
+    ensures end { (o : Output) → PlaceTells part.entry o → at + length (side.now ++ (output_text o ++ codes ")")) < 2 ^ 64 → result ≡ at + length (side.now ++ (output_text o ++ codes ")")) }
+{
+    put_behind(room, at, side);
+    let end = put_output(part, room, at.saturating_add(side.len()));
+    put_byte(b')', room, end)
+}
+
+// Writes a byte.
+#[inline(always)]
+fn put_byte(byte: u8, room: &mut [u8], at: usize) -> usize
+    ensures text { room.new ≡ written_at at (byte ∷ []) room.old }
+    ensures end { at + 1 < 2 ^ 64 → result ≡ at + 1 }
+{
+    if at < room.len() {
+        room[at] = byte;
+    }
+    at.saturating_add(1)
+}
+
+// Writes the digits of a number.
+fn put_number(n: u64, room: &mut [u8], at: usize) -> usize
+    ensures text { room.new ≡ written_at at (decimal n) room.old }
+    ensures end { at + length (decimal n) < 2 ^ 64 → result ≡ at + length (decimal n) }
+{
+    let mut buffer = Buffer::new();
+    let digits = buffer.format(n).as_bytes();
+    put_behind(room, at, digits);
+    at.saturating_add(digits.len())
+}

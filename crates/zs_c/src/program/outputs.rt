@@ -1,0 +1,149 @@
+// The output of a node's last step, which the words of its state tell.
+
+ghost use Rattle.std.specs.Prelude.{◌≡◌, ◌-◌, take, drop};
+ghost use Rattle.zs_term.specs.Output.{Output, number_in, picked, applied};
+ghost use Rattle.zs_c.specs.View.{Shows, PlaceTells, IsLower};
+
+use crate::program::node::{Node, Sizes, behind, front, read_node, word};
+use zs_term::{Func, Pick};
+
+// A node's code and the words of its state.
+#[derive(Clone, Copy)]
+pub(crate) struct Place<'a> {
+    pub(crate) code: &'a [u64],
+    pub(crate) words: &'a [u64],
+    pub(crate) levels: u64,
+}
+
+// An output: a number, or what it is made of.
+#[derive(Clone, Copy)]
+pub(crate) enum View<'a> {
+    Number(u64),
+    Pair(Place<'a>, Place<'a>),
+    Left(Place<'a>),
+    Right(Place<'a>),
+}
+
+// The output of a node's last step.
+#[cycle(viewing)]
+pub(crate) fn read_view(place: Place<'_>) -> View<'_>
+    ensures shows { (o : Output) → PlaceTells place.entry o → Shows result o }
+    ensures lower { IsLower result place.entry.levels }
+{
+    if place.levels == 0 {
+        return View::Number(0);
+    }
+    match read_node(place.code) {
+        Node::Leaf(_) => View::Number(word(place.words, 0)),
+        Node::Both(sizes) | Node::Either(sizes) => {
+            let (a, b) = parts(place, sizes, 0);
+            View::Pair(a, b)
+        }
+        Node::AndThen(sizes) => {
+            let (a, b) = parts(place, sizes, 1);
+            if word(place.words, 0) == 0 {
+                View::Left(a)
+            } else {
+                View::Right(b)
+            }
+        }
+        Node::WhileInput(_) => read_view(part(place, 3)),
+        Node::WhileOutput(_, _) | Node::ResetWhen(_, _) => read_view(part(place, 4)),
+        Node::Map(func) => read_mapped(func, part(place, 3)),
+    }
+}
+
+// A function of a part's output.
+#[cycle(viewing)]
+fn read_mapped(func: Func, part: Place<'_>) -> View<'_>
+    ensures shows { (o : Output) → PlaceTells part.entry o → Shows result (applied func o) }
+    ensures lower { IsLower result part.entry.levels }
+{
+    match func {
+        Func::First => match read_view(part) {
+            View::Pair(a, _) => read_view(a),
+            other => other,
+        },
+        Func::Second => match read_view(part) {
+            View::Pair(_, b) => read_view(b),
+            other => other,
+        },
+        Func::Merge => match read_view(part) {
+            View::Left(a) | View::Right(a) => read_view(a),
+            other => other,
+        },
+        Func::Size => View::Number(0),
+        Func::Const(n) => View::Number(n),
+        Func::Add(n) => View::Number(number_in(read_view(part)).saturating_add(n)),
+        Func::Mul(n) => View::Number(number_in(read_view(part)).saturating_mul(n)),
+    }
+}
+
+// The part of an operator, whose code begins at a place.
+#[inline(always)]
+fn part(place: Place<'_>, at: usize) -> Place<'_>
+    ensures code { result.code.now ≡ drop at place.entry.code.now }
+    ensures words { result.words.now ≡ place.entry.words.now }
+    ensures levels { result.levels ≡ place.entry.levels - 1 }
+{
+    Place {
+        code: behind(place.code, at),
+        words: place.words,
+        levels: place.levels.saturating_sub(1),
+    }
+}
+
+// Both parts of an operator, whose words begin at a place.
+#[inline(always)]
+fn parts(place: Place<'_>, sizes: Sizes, at: usize) -> (Place<'_>, Place<'_>)
+    ensures first_code { result.0.code.now ≡ take sizes.code (drop 3 place.entry.code.now) }
+    ensures second_code { result.1.code.now ≡ drop sizes.code (drop 3 place.entry.code.now) }
+    ensures first_words { result.0.words.now ≡ take sizes.state (drop at place.entry.words.now) }
+    ensures second_words { result.1.words.now ≡ drop sizes.state (drop at place.entry.words.now) }
+    ensures first_levels { result.0.levels ≡ place.entry.levels - 1 }
+    ensures second_levels { result.1.levels ≡ place.entry.levels - 1 }
+{
+    let (rest, words) = (behind(place.code, 3), behind(place.words, at));
+    let (size, state) = (sizes.code as usize, sizes.state as usize);
+    let levels = place.levels.saturating_sub(1);
+    let first = Place {
+        code: front(rest, size),
+        words: front(words, state),
+        levels,
+    };
+    let second = Place {
+        code: behind(rest, size),
+        words: behind(words, state),
+        levels,
+    };
+    (first, second)
+}
+
+// The number, or 0 of another output.
+fn number_in(view: View<'_>) -> u64
+    ensures value { (o : Output) → Shows view.entry o → result ≡ number_in o }
+{
+    match view {
+        View::Number(n) => n,
+        View::Pair(_, _) | View::Left(_) | View::Right(_) => 0,
+    }
+}
+
+// The number that a test reads.
+pub(crate) fn read_number(pick: Pick, place: Place<'_>) -> u64
+    ensures value { (o : Output) → PlaceTells place.entry o → result ≡ picked pick o }
+{
+    let whole = read_view(place);
+    match pick {
+        Pick::Whole => number_in(whole),
+        Pick::First => match whole {
+            View::Pair(a, _) => number_in(read_view(a)),
+            other => number_in(other),
+        },
+        Pick::Second => match whole {
+            View::Pair(_, b) => number_in(read_view(b)),
+            other => number_in(other),
+        },
+        Pick::Size => 0,
+    }
+}

@@ -1,0 +1,118 @@
+// A program over the words of its state.
+
+ghost use Rattle.std.specs.Prelude.{◌≡◌, ◌+◌, ◌≤◌, [], ◌∷◌, length, drop, slice_index_or, IfOk, IfErr};
+ghost use Rattle.zs_term.specs.OutputText.{output_text};
+ghost use Rattle.zs_term.specs.Schedule.{Schedule, weight};
+ghost use Rattle.zs_step.specs.History.{History};
+ghost use Rattle.zs_step.specs.Answer.{answer_of};
+ghost use Rattle.zs_c.specs.Code.{IsCode, held_of};
+ghost use Rattle.zs_c.specs.Told.{written};
+ghost use Rattle.zs_c.specs.Program.{IsProgram};
+ghost use Rattle.zs_c.specs.Opened.{Opens};
+ghost use Rattle.zs_c.specs.Programs.{IsUnfit, IsDenied, IsProgramBegun, IsProgramStepped};
+
+use crate::program::clearing::clear;
+use crate::program::denial::Denial;
+use crate::program::leaf::Step;
+use crate::program::opening::{Opened, open};
+use crate::program::output_text::put_output;
+use crate::program::outputs::Place;
+use crate::program::stepping::step_code;
+use crate::reply::Reply;
+use zs_step::Decision;
+
+/// The greatest depth of a schedule.
+const MAX_DEPTH: u64 = 64;
+
+// A program, and that the words are no fewer than its state has.
+#[inline(always)]
+pub(crate) fn fitting<'a>(program: &'a [u64], state: &[u64]) -> Result<Opened<'a>, Denial>
+    ensures ok { IfOk result (λ o. (t : Schedule) → IsProgram program.now t → Opens o t) }
+    ensures fits { IfOk result (λ o. o.state + 2 ≤ length state.now) }
+    ensures err { IfErr result (IsUnfit program.now state.now) }
+{
+    let Some(opened) = open(program) else {
+        return Err(Denial::NoProgram);
+    };
+    if state.len() < 2 || state.len() - 2 < opened.state {
+        return Err(Denial::NoRoom);
+    }
+    Ok(opened)
+}
+
+// The same, and that the words are a state of the program, whose last moment isn't later than this one.
+#[inline(always)]
+pub(crate) fn steppable<'a>(
+    program: &'a [u64],
+    state: &[u64],
+    moment: u64,
+) -> Result<Opened<'a>, Denial>
+    ensures ok { IfOk result (λ o. (t : Schedule) → IsProgram program.now t → Opens o t) }
+    ensures fits { IfOk result (λ o. o.state + 2 ≤ length state.now) }
+    ensures err { IfErr result (IsDenied program.now state.now moment) }
+{
+    let opened = fitting(program, state)?;
+    if state[0] != opened.check {
+        return Err(Denial::OtherState);
+    }
+    if moment < state[1] {
+        return Err(Denial::Falls);
+    }
+    Ok(opened)
+}
+
+// Writes the state of a program before any step.
+pub(crate) fn begin(opened: Opened<'_>, state: &mut [u64])
+    requires fits { opened.state + 2 ≤ length state.old }
+    ensures begun { (t : Schedule) → Opens opened.entry t → IsProgramBegun t state.old state.new }
+{
+    state[0] = opened.check;
+    state[1] = 0;
+    clear(opened.code, &mut state[2..opened.state + 2], MAX_DEPTH);
+}
+
+// One step of a program: the number of its decision. The text of its output goes into the room, as far as it fits.
+#[inline(always)]
+pub(crate) fn run_step(
+    opened: Opened<'_>,
+    state: &mut [u64],
+    step: &Step,
+    reply: &mut Reply,
+    out: &mut [u8],
+) -> u32
+    requires fits { opened.state + 2 ≤ length state.old }
+    ensures told { result ≤ 1 }
+    ensures stepped { (t : Schedule) → Opens opened.entry t → IsProgramStepped t state.old state.new step.now.moment step.now.input result reply.new out.old out.new }
+{
+    let mut visits = 0;
+    let words = &mut state[2..opened.state + 2];
+    let decision = step_code(opened.code, words, MAX_DEPTH, step, &mut visits);
+    let size = put_text(opened.code, &state[2..opened.state + 2], out);
+    state[1] = step.moment;
+    let (number, next) = match decision {
+        Decision::Next(next) => (0, next),
+        Decision::Stop => (1, 0),
+    };
+    *reply = Reply {
+        next,
+        size,
+        visits,
+        at: 0,
+    };
+    number
+}
+
+// Writes the text of the output of a state's last step over the front of a room, as far as it fits, and answers how many
+// bytes it has.
+#[inline(always)]
+fn put_text(code: &[u64], words: &[u64], out: &mut [u8]) -> u64
+    ensures text { (t : Schedule) (h : History) → IsCode t code.now 64 → weight t ≤ 1000 → words.now ≡ held_of t h → out.new ≡ written (output_text (answer_of t h).output) out.old }
+    ensures size { (t : Schedule) (h : History) → IsCode t code.now 64 → weight t ≤ 1000 → words.now ≡ held_of t h → result ≡ length (output_text (answer_of t h).output) }
+{
+    let place = Place {
+        code,
+        words,
+        levels: MAX_DEPTH,
+    };
+    put_output(place, out, 0) as u64
+}
