@@ -400,6 +400,11 @@ class Use(unittest.TestCase):
         status, output, errors = self.run_command("many.json")
         self.assertEqual((status, output), (2, ""))
         self.assertIn("zsched: job 0: out of range\n", errors)
+        jobs = [job(name, schedule, script='"script":[{"ms":5,"err":7}]')
+                for name, schedule in [("a", "forever"), ("b", "forevr"), ("c", "forevar")]]
+        (self.folder / "many.json").write_bytes(plan(jobs, '"horizon":999999999999999'))
+        status, output, errors = self.run_command("--all", "many.json")
+        self.assertEqual((status, output, errors.splitlines()[-1]), (2, "", "2 faults"))
         self.assertEqual(self.run_command("good.json")[2], "")
 
 

@@ -68,6 +68,9 @@ CARETS = [
     ("(spaced(10) & recurs(3))", "&", "write &&"),
     ("forever.whileOutptu(< 5)", "whileOutptu", "did you mean whileOutput?"),
     ("recurs(x)", "x", "whole number"),
+    ("exponential(100, cap=5000)", "cap", "write (exponential(100) || spaced(5000))"),
+    ("recurs(n = 5)", "n", "write 5 alone"),
+    ("spaced(${PAUSE})", "$", "this template isn't filled in"),
     ("recurs(3).map(_1)", "map(_1)", "a number"),
     ("(windowed(1) && windowed(0))", "windowed(0)", "1 or more"),
     ("exponential(10, 0)", "exponential(10, 0)", "factor"),
@@ -262,6 +265,8 @@ class Fields(unittest.TestCase):
                  "(spaced(rand(5, 9)) && recurs(2))"),
                 ("recur(3)", 0, 5, "did you mean rekurs?", None), ("(recurs(1))", 10, 1, "write recurs(1)", None),
                 ("recurs(1) && recurs(2)", 10, 2, "write (recurs(1) && B)", None),
+                ("exponential(9, cap=5)", 15, 3, "a cap is another schedule: write (exponential(9) || spaced(5))", None),
+                ("recurs(n=5)", 7, 1, "write 5 alone", None),
                 ("recurs(", 7, 1, "a ) is missing", None)]
         faults = [{"line": line, "at": at, "size": size, "help": help} for line, at, size, help, _ in rows]
         self.assertEqual(called(*[["asking.mended", fault] for fault in faults]), [wanted for *_, wanted in rows])

@@ -97,10 +97,14 @@ def _explain(name, taken):
 
 
 def _tell_all(name, zsched, data, most, paint):
-    """Writes all faults of a plan. Returns the status."""
+    """Writes all faults of a plan, of which the program runs no more than one moment. Returns the status."""
     from zsched_tools import all_faults, explanation
+
+    def ended(text):
+        """How the program ends on a plan with the faults of this one."""
+        return outcome(zsched, plan_size.with_one_tick(text))
     count = 0
-    for line, found in all_faults.all_faults(lambda text: outcome(zsched, text), data, most + 1):
+    for line, found in all_faults.all_faults(ended, data, most + 1):
         count += 1
         if count <= most:
             sys.stderr.write(f"{paint('bad', line.strip())}\n{explanation.fault_lines(name, found, paint)}")
