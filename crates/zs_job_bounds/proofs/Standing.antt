@@ -26,6 +26,10 @@ input-fits beats k script inputs =
     let index : min k (length beats) - 1 < length beats = omega (arith, script.some) in
     inputs (min k (length beats) - 1) no_entry index
 
+not-empty : (xs ys : List AttemptedValue) (a : AttemptedValue) → xs ++ a ∷ ys ≡ [] → ⊥
+not-empty [] ys a is = cc
+not-empty (x ∷ xs) ys a is = cc
+
 -- ---- an attempt that is due at a moment after some history
 
 -- a decision to continue at this moment or before
@@ -47,7 +51,7 @@ driven-step : (job : JobRecord) (h : History) (x : ℕ) (p : ℕ × ℕ) → IsD
 driven-step job [] x p due step late = step
 driven-step job (q ∷ h) x p due step late = (step, lets-end (answer_of job.schedule (q ∷ h)).decision x p.0 due.1 late, due.0)
 
-next-due : (job : JobRecord) (h : History) (p : ℕ × ℕ) (y x : ℕ) → IsDriven job.schedule (p ∷ h) → (answer_of job.schedule (p ∷ h)).decision ≡ Next y → y ≤ x
+pub next-due : (job : JobRecord) (h : History) (p : ℕ × ℕ) (y x : ℕ) → IsDriven job.schedule (p ∷ h) → (answer_of job.schedule (p ∷ h)).decision ≡ Next y → y ≤ x
     → IsDueAfter job (p ∷ h) x
 next-due job h p y x driven is le = (driven, subst (λ d. LetsBegin d x) (sym is) le)
 
@@ -133,10 +137,6 @@ module _ (job : JobRecord) (script : IsScript job.script) (inputs : HasInputs jo
           due_after = next-due job h (pair_of g.end) g.by.y (max g.by.y g.end.at) (driven-end h x a.begun g.end begins follows.0 g.at g.own) g.by.next (omega arith);
           follows = g.by.follows;
         }
-
-    not-empty : (xs ys : List AttemptedValue) (a : AttemptedValue) → xs ++ a ∷ ys ≡ [] → ⊥
-    not-empty [] ys a = cc
-    not-empty (x ∷ xs) ys a = cc
 
     pub stands : (earlier later : List AttemptedValue) (a : AttemptedValue) (h : History) (x : ℕ) → IsDueAfter job h x
         → Follows job ticks (earlier ++ a ∷ later) due ending h x → Stands h earlier later a
