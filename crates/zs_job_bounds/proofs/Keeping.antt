@@ -143,8 +143,8 @@ module _ (job : JobRecord) (b : Bounds) (promises : Promises job.schedule b) whe
         let ending = (timeline_of job ticks).ending in
         let all = whole job script inputs ticks clock in
         record {
-          most = λ k is. attempts-fit script inputs ticks clock due ending k is attempts [] job.start tt all;
+          most = λ k is. let fit = attempts-fit script inputs ticks clock due ending k is attempts [] job.start tt all in omega (arith, fit);
           least = least-step;
           longest = longest-step;
-          total = λ t is. all-waits-fit script inputs ticks clock due ending t is attempts [] job.start tt all;
+          total = λ t is. let fit = all-waits-fit script inputs ticks clock due ending t is attempts [] job.start tt all in omega (arith, fit);
         }

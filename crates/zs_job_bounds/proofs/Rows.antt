@@ -1,0 +1,82 @@
+-- Worked jobs, each worked out by hand from docs/SEMANTICS.md, and the bounds of their schedule. Each holds by computing alone.
+use Rattle.std.proofs.Common.{◌≡◌, ℕ, List, [], ◌∷◌, length, Option, refl}
+use Rattle.std.specs.Prelude.{Some, None}
+use Rattle.zs_effect.specs.declared.script.Beat.{Beat}
+use Rattle.zs_effect.specs.declared.script.Outcome.TheVariants.{Good, Bad}
+use Rattle.zs_term.specs.Output.{number, pair}
+use Rattle.zs_term.specs.Schedule.{Schedule, leaf, two, recurs, exponential, both}
+use Rattle.zs_step.specs.declared.decision.Decision.{Decision}
+use Rattle.zs_step.specs.declared.decision.Decision.TheVariants.{Stop, Next}
+use Rattle.zs_step.specs.Answer.{answer}
+use Rattle.zs_drive.specs.declared.job.Mode.TheVariants.{Retry}
+use Rattle.zs_drive.specs.declared.record.Ending.TheVariants.{Succeeded, Failed}
+use Rattle.zs_drive.specs.Clocks.{first_tick_from}
+use Rattle.zs_drive.specs.Values.{JobRecord, AttemptedValue}
+use Rattle.zs_drive.specs.Timeline.{Timeline, ended_attempt, timeline_of, from, from_begin, from_wait, by_outcome, by_answer}
+use Rattle.zs_bounds.specs.BoundsOf.{bounds_of}
+use Rattle.zs_job_bounds.specs.Histories.{IsHistoryOf}
+use Rattle.zs_job_bounds.specs.JobBounds.{all_waits}
+
+-- waits of 100 and 200 ms, and no third wait
+abbrev backoff : Schedule
+backoff = two both (leaf (exponential 100 2)) (leaf (recurs 2))
+
+-- so at least and at most 3 attempts, no wait over 200 ms, and 300 ms in all
+three_attempts : bounds_of backoff 20 ≡ record { seen = 3; least = 3; most = Some 3; longest = 200; total = Some 300 }
+three_attempts = refl
+
+abbrev retry : List Beat → JobRecord
+retry script = record { name = []; mode = Retry; schedule = backoff; start = 0; script = script }
+
+-- each attempt fails after 5 ms
+abbrev failing : JobRecord
+failing = retry (record { ms = 5; outcome = Bad 500 } ∷ [])
+
+-- an attempt that failed, the two outputs, and the decision
+abbrev failed : ℕ → ℕ → ℕ → ℕ → Decision → AttemptedValue
+failed s e delay count decision = ended_attempt s e (Bad 500) (Some (answer (pair (number delay) (number count)) decision))
+
+-- a clock with a tick whenever something happens: each bound is reached
+abbrev busy : List ℕ
+busy = 0 ∷ 5 ∷ 105 ∷ 110 ∷ 310 ∷ 315 ∷ []
+
+fails_thrice : timeline_of failing busy ≡ record {
+  attempts = failed 0 5 100 0 (Next 105) ∷ failed 105 110 200 1 (Next 310) ∷ failed 310 315 400 2 Stop ∷ [];
+  due = None;
+  ending = Some (Failed 500);
+}
+unfolding timeline_of from from_begin from_wait by_outcome by_answer first_tick_from
+fails_thrice = refl
+
+fails_thrice-attempts : length (timeline_of failing busy).attempts ≡ 3
+unfolding timeline_of from from_begin from_wait by_outcome by_answer first_tick_from
+fails_thrice-attempts = refl
+
+fails_thrice-waits : all_waits (timeline_of failing busy).attempts ≡ 300
+unfolding timeline_of from from_begin from_wait by_outcome by_answer first_tick_from
+fails_thrice-waits = refl
+
+-- the history at the last end: newest first
+fails_thrice-history : IsHistoryOf failing busy ((315, 500) ∷ (110, 500) ∷ (5, 500) ∷ [])
+unfolding timeline_of from from_begin from_wait by_outcome by_answer first_tick_from
+fails_thrice-history = record {
+  earlier = failed 0 5 100 0 (Next 105) ∷ failed 105 110 200 1 (Next 310) ∷ [];
+  end = record { at = 315; outcome = Bad 500; step = Some (answer (pair (number 400) (number 2)) Stop) };
+  ends = record { begun = 310; later = []; split = refl };
+  is = refl;
+}
+
+-- on a clock with few ticks attempts begin and end late, and the third one has no tick
+abbrev sparse : List ℕ
+sparse = 7 ∷ 20 ∷ 400 ∷ 1000 ∷ []
+
+begins_late : timeline_of failing sparse
+    ≡ record { attempts = failed 7 20 100 0 (Next 120) ∷ failed 400 1000 200 1 (Next 1200) ∷ []; due = Some 1200; ending = None }
+unfolding timeline_of from from_begin from_wait by_outcome by_answer first_tick_from
+begins_late = refl
+
+-- a success ends a retry before `least`, which is about the schedule alone
+succeeds_at_once : timeline_of (retry (record { ms = 5; outcome = Good 1 } ∷ [])) busy
+    ≡ record { attempts = ended_attempt 0 5 (Good 1) None ∷ []; due = None; ending = Some (Succeeded 1) }
+unfolding timeline_of from from_begin from_wait by_outcome by_answer first_tick_from
+succeeds_at_once = refl
