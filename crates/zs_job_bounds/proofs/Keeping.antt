@@ -1,12 +1,12 @@
 -- A job's attempts are within the bounds that hold for its schedule.
-use Rattle.std.proofs.Common.{◌≡◌, ℕ, suc, ◌+◌, ◌-◌, ◌≤◌, ◌<◌, max, List, [], ◌∷◌, ◌++◌, length, nat_lt, true, false, Bool, Option, refl, sym, ◌∙◌, ap, subst, arith}
+use Rattle.std.proofs.Common.{◌≡◌, ℕ, ◌+◌, ◌≤◌, max, List, [], ◌∷◌, length, true, Option, refl, sym, ap, subst, arith}
 use Rattle.std.specs.Prelude.{Some, None}
-use Rattle.zs_term.specs.Saturating.{saturated, max_moment}
+use Rattle.zs_term.specs.Saturating.{saturated}
 use Rattle.zs_term.specs.Output.{Output}
 use Rattle.zs_effect.specs.Scripts.{IsScript}
 use Rattle.zs_step.specs.declared.decision.Decision.{Decision}
 use Rattle.zs_step.specs.declared.decision.Decision.TheVariants.{Stop, Next}
-use Rattle.zs_step.specs.History.{History, last_moment}
+use Rattle.zs_step.specs.History.{History}
 use Rattle.zs_step.specs.Answer.{Answer, answer, answer_of, is_next}
 use Rattle.zs_drive.specs.declared.record.Ending.{Ending}
 use Rattle.zs_drive.specs.Clocks.{first_tick_from, AreTicks}
@@ -16,11 +16,11 @@ use Rattle.zs_drive.specs.DriverRules.{pair_of}
 use Rattle.zs_drive.proofs.Follows.{GoesOn, IsAsked, EndsAt, Follows}
 use Rattle.zs_drive.proofs.Ticks.{lt_cases}
 use Rattle.zs_bounds.specs.declared.told.Bounds.{Bounds}
-use Rattle.zs_bounds.specs.Driven.{IsStep, IsDriven}
+use Rattle.zs_bounds.specs.Driven.{IsDriven}
 use Rattle.zs_bounds.specs.Bounds.{wait_of, last_wait, total_wait, Promises}
 use Rattle.zs_job_bounds.specs.Histories.{HasInputs, IsEndAfter, history_at}
 use Rattle.zs_job_bounds.specs.JobBounds.{step_wait, end_wait, all_waits, IsWithin}
-use Rattle.zs_job_bounds.proofs.Standing.{LetsBegin, IsDueAfter, Comes, comes, driven-end, whole, next-due, known-end}
+use Rattle.zs_job_bounds.proofs.Standing.{LetsBegin, IsDueAfter, comes, driven-end, whole, next-due, known-end}
 
 stop-lets : (d : Decision) (x : ℕ) → d ≡ Stop → LetsBegin d x → ⊥
 stop-lets d x is lets = subst (λ e. LetsBegin e x) is lets

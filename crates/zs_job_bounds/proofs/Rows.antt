@@ -1,5 +1,5 @@
 -- Worked jobs, each worked out by hand from docs/SEMANTICS.md, and the bounds of their schedule. Each holds by computing alone.
-use Rattle.std.proofs.Common.{◌≡◌, ℕ, List, [], ◌∷◌, length, Option, refl}
+use Rattle.std.proofs.Common.{◌≡◌, ℕ, List, [], ◌∷◌, length, refl}
 use Rattle.std.specs.Prelude.{Some, None}
 use Rattle.zs_effect.specs.declared.script.Beat.{Beat}
 use Rattle.zs_effect.specs.declared.script.Outcome.TheVariants.{Good, Bad}
@@ -12,7 +12,7 @@ use Rattle.zs_drive.specs.declared.job.Mode.TheVariants.{Retry}
 use Rattle.zs_drive.specs.declared.record.Ending.TheVariants.{Succeeded, Failed}
 use Rattle.zs_drive.specs.Clocks.{first_tick_from}
 use Rattle.zs_drive.specs.Values.{JobRecord, AttemptedValue}
-use Rattle.zs_drive.specs.Timeline.{Timeline, ended_attempt, timeline_of, from, from_begin, from_wait, by_outcome, by_answer}
+use Rattle.zs_drive.specs.Timeline.{ended_attempt, timeline_of, from, from_begin, from_wait, by_outcome, by_answer}
 use Rattle.zs_bounds.specs.BoundsOf.{bounds_of}
 use Rattle.zs_job_bounds.specs.Histories.{IsHistoryOf}
 use Rattle.zs_job_bounds.specs.JobBounds.{all_waits}

@@ -1,5 +1,5 @@
 -- Each history of a job's timeline is one that a driver can make.
-use Rattle.std.proofs.Common.{◌≡◌, ℕ, suc, ◌+◌, ◌-◌, ◌≤◌, ◌<◌, max, min, List, [], ◌∷◌, ◌++◌, length, Option, refl, sym, ◌∙◌, ap, subst, arith}
+use Rattle.std.proofs.Common.{◌≡◌, ℕ, ◌+◌, ◌-◌, ◌≤◌, ◌<◌, max, min, List, [], ◌∷◌, ◌++◌, length, Option, refl, sym, ap, subst, arith}
 use Rattle.std.specs.Prelude.{Some, None}
 use Rattle.zs_term.specs.Saturating.{saturated, max_moment}
 use Rattle.zs_effect.specs.Scripts.{IsScript, entry_at, no_entry}
