@@ -1,6 +1,9 @@
--- Worked jobs, each worked out by hand from docs/SEMANTICS.md, and the bounds of their schedule. Each holds by computing alone.
-use Rattle.std.proofs.Common.{◌≡◌, ℕ, List, [], ◌∷◌, length, refl}
-use Rattle.std.specs.Prelude.{Some, None}
+-- Worked jobs, each worked out by hand from docs/SEMANTICS.md, and the bounds of their schedule. They hold by computing, but for the
+-- last one, which applies the laws: their premises can be met.
+use Rattle.std.proofs.Common.{◌≡◌, ℕ, zero, suc, ◌≤◌, ◌<◌, List, [], ◌∷◌, length, refl, arith}
+use Rattle.std.specs.Prelude.{Some, None, slice_index_or}
+use Rattle.zs_term.specs.Saturating.{max_moment}
+use Rattle.zs_effect.specs.Scripts.{IsScript}
 use Rattle.zs_effect.specs.declared.script.Beat.{Beat}
 use Rattle.zs_effect.specs.declared.script.Outcome.TheVariants.{Good, Bad}
 use Rattle.zs_term.specs.Output.{number, pair}
@@ -10,12 +13,14 @@ use Rattle.zs_step.specs.declared.decision.Decision.TheVariants.{Stop, Next}
 use Rattle.zs_step.specs.Answer.{answer}
 use Rattle.zs_drive.specs.declared.job.Mode.TheVariants.{Retry}
 use Rattle.zs_drive.specs.declared.record.Ending.TheVariants.{Succeeded, Failed}
-use Rattle.zs_drive.specs.Clocks.{first_tick_from}
+use Rattle.zs_drive.specs.Clocks.{first_tick_from, RisesFrom, AllBefore, AreTicks}
 use Rattle.zs_drive.specs.Values.{JobRecord, AttemptedValue}
-use Rattle.zs_drive.specs.Timeline.{ended_attempt, timeline_of, from, from_begin, from_wait, by_outcome, by_answer}
+use Rattle.zs_drive.specs.Timeline.{number_of, ended_attempt, timeline_of, from, from_begin, from_wait, by_outcome, by_answer}
 use Rattle.zs_bounds.specs.BoundsOf.{bounds_of}
+use Rattle.zs_bounds.proofs.Promising.{bounds_of-promises}
 use Rattle.zs_job_bounds.specs.Histories.{IsHistoryOf}
-use Rattle.zs_job_bounds.specs.JobBounds.{all_waits}
+use Rattle.zs_job_bounds.specs.JobBounds.{all_waits, IsWithin}
+use Rattle.zs_job_bounds.proofs.Keeping.{bounds-kept}
 
 -- waits of 100 and 200 ms, and no third wait
 abbrev backoff : Schedule
@@ -80,3 +85,26 @@ succeeds_at_once : timeline_of (retry (record { ms = 5; outcome = Good 1 } ∷ [
     ≡ record { attempts = ended_attempt 0 5 (Good 1) None ∷ []; due = None; ending = Some (Succeeded 1) }
 unfolding timeline_of from from_begin from_wait by_outcome by_answer first_tick_from
 succeeds_at_once = refl
+
+-- ---- the premises of the laws, and what they say of this job
+
+fails-takes : (k : ℕ) (d : Beat) → k < 1 → 1 ≤ (slice_index_or failing.script k d).ms
+fails-takes zero d lt = omega arith
+fails-takes (suc k) d lt = absurd (omega (arith, lt))
+
+fails-script : IsScript failing.script
+fails-script = record { some = omega arith; few = omega arith; timed = fails-takes }
+
+fails-inputs : (k : ℕ) (d : Beat) → k < 1 → number_of (slice_index_or failing.script k d).outcome ≤ max_moment
+fails-inputs zero d lt = omega arith
+fails-inputs (suc k) d lt = absurd (omega (arith, lt))
+
+busy-ticks : AreTicks busy
+unfolding RisesFrom AllBefore
+busy-ticks = record {
+  rises = (omega arith, (omega arith, (omega arith, (omega arith, (omega arith, (omega arith, tt))))));
+  bounded = (omega arith, (omega arith, (omega arith, (omega arith, (omega arith, (omega arith, tt))))));
+}
+
+fails_thrice-within : IsWithin (bounds_of backoff 20) (timeline_of failing busy).attempts
+fails_thrice-within = bounds-kept failing (bounds_of backoff 20) (bounds_of-promises backoff 20 refl) fails-script fails-inputs busy busy-ticks
