@@ -1,6 +1,6 @@
 -- Worked jobs, each worked out by hand from docs/SEMANTICS.md, and the bounds of their schedule. They hold by computing, but for the
 -- last one, which applies the laws: their premises can be met.
-use Rattle.std.proofs.Common.{◌≡◌, ℕ, zero, suc, ◌≤◌, ◌<◌, List, [], ◌∷◌, length, refl, arith}
+use Rattle.std.proofs.Common.{◌≡◌, ℕ, zero, suc, ◌≤◌, ◌<◌, List, [], ◌∷◌, length, refl, arith, ◌+◌}
 use Rattle.std.specs.Prelude.{Some, None, slice_index_or}
 use Rattle.zs_term.specs.Saturating.{max_moment}
 use Rattle.zs_effect.specs.Scripts.{IsScript}
@@ -16,6 +16,7 @@ use Rattle.zs_drive.specs.declared.record.Ending.TheVariants.{Succeeded, Failed}
 use Rattle.zs_drive.specs.Clocks.{first_tick_from, RisesFrom, AllBefore, AreTicks}
 use Rattle.zs_drive.specs.Values.{JobRecord, AttemptedValue}
 use Rattle.zs_drive.specs.Timeline.{number_of, ended_attempt, timeline_of, from, from_begin, from_wait, by_outcome, by_answer}
+use Rattle.zs_bounds.specs.declared.told.Bounds.{Bounds}
 use Rattle.zs_bounds.specs.BoundsOf.{bounds_of}
 use Rattle.zs_bounds.proofs.Promising.{bounds_of-promises}
 use Rattle.zs_job_bounds.specs.Histories.{IsHistoryOf}
@@ -108,3 +109,35 @@ busy-ticks = record {
 
 fails_thrice-within : IsWithin (bounds_of backoff 20) (timeline_of failing busy).attempts
 fails_thrice-within = bounds-kept failing (bounds_of backoff 20) (bounds_of-promises backoff 20 refl) fails-script fails-inputs busy busy-ticks
+
+-- ---- bounds that are too small are none
+
+-- the bounds of `backoff`, but for these
+abbrev but_for : ℕ → ℕ → ℕ → ℕ → Bounds
+but_for least most longest total = record { seen = 3; least = least; most = Some most; longest = longest; total = Some total }
+
+no_fewer_attempts : IsWithin (but_for 3 2 200 300) (timeline_of failing busy).attempts → ⊥
+unfolding timeline_of from from_begin from_wait by_outcome by_answer first_tick_from
+no_fewer_attempts within = let few : 3 ≤ 2 = within.most 2 refl in omega (arith, few)
+
+no_later_stop : IsWithin (but_for 4 3 200 300) (timeline_of failing busy).attempts → ⊥
+unfolding timeline_of from from_begin from_wait by_outcome by_answer first_tick_from
+no_later_stop within =
+    let late : 4 ≤ 3 =
+    within.least (failed 0 5 100 0 (Next 105) ∷ failed 105 110 200 1 (Next 310) ∷ [])
+    (record { at = 315; outcome = Bad 500; step = Some (answer (pair (number 400) (number 2)) Stop) }) (pair (number 400) (number 2))
+    (record { begun = 310; later = []; split = refl }) refl in
+    omega (arith, late)
+
+no_shorter_wait : IsWithin (but_for 3 3 199 300) (timeline_of failing busy).attempts → ⊥
+unfolding timeline_of from from_begin from_wait by_outcome by_answer first_tick_from
+no_shorter_wait within =
+    let soon : 310 ≤ 110 + 199 =
+    within.longest (failed 0 5 100 0 (Next 105) ∷ [])
+    (record { at = 110; outcome = Bad 500; step = Some (answer (pair (number 200) (number 1)) (Next 310)) }) (pair (number 200) (number 1)) 310
+    (record { begun = 105; later = failed 310 315 400 2 Stop ∷ []; split = refl }) refl (omega arith) in
+    omega (arith, soon)
+
+no_less_waiting : IsWithin (but_for 3 3 200 299) (timeline_of failing busy).attempts → ⊥
+unfolding timeline_of from from_begin from_wait by_outcome by_answer first_tick_from
+no_less_waiting within = let less : 300 ≤ 299 = within.total 299 refl in omega (arith, less)
