@@ -51,8 +51,8 @@ class Guarantees(unittest.TestCase):
 
     def test_the_tables_are_read(self):
         self.assertEqual(sorted(self.calls), [
-            "zs_agenda", "zs_bounds", "zs_c", "zs_drive", "zs_effect", "zs_engine", "zs_pool", "zs_population", "zs_run", "zs_step",
-            "zs_term"])
+            "zs_agenda", "zs_bounds", "zs_c", "zs_drive", "zs_effect", "zs_engine", "zs_job_bounds", "zs_pool", "zs_population",
+            "zs_run", "zs_step", "zs_term"])
         self.assertGreater(len(self.rows), 90)
         self.assertGreater(len(self.tests), 100)
         self.assertGreater(sum(map(len, self.edits.values())), 200)

@@ -8,12 +8,6 @@ use Rattle.zs_c.specs.declared.program.node.Rule.{Rule}
 use Rattle.zs_c.specs.Code.{leaf_held}
 use Rattle.zs_c.specs.Node.{rule_leaf}
 
--- one word
-pub cleared-one : (old new : List ℕ) (a : ℕ) → length old ≡ 1 → new ≡ slice_set old 0 a → new ≡ a ∷ []
-cleared-one [] new a sized e = absurd (omega (arith, sized))
-cleared-one (x ∷ []) new a sized e = e
-cleared-one (x ∷ (y ∷ old)) new a sized e = absurd (omega (arith, sized))
-
 -- what putting the first two words does
 abbrev pub Puts : List ℕ → List ℕ → ℕ → ℕ → Type 0
 Puts old new a b = (x y : ℕ) (rest : List ℕ) → old ≡ x ∷ (y ∷ rest) → new ≡ a ∷ (b ∷ rest)

@@ -1,5 +1,5 @@
 -- What the words of a node tell of its output.
-use Rattle.std.proofs.Common.{◌≡◌, ℕ, ◌-◌, ◌≤◌, List, [], ◌∷◌, ◌++◌, take, drop, refl, ap, ◌∙◌, arith}
+use Rattle.std.proofs.Common.{◌≡◌, ℕ, ◌-◌, List, [], ◌∷◌, ◌++◌, take, drop, refl, ap, ◌∙◌}
 use Rattle.zs_term.specs.Output.{Output, pair, left, right, applied}
 use Rattle.zs_term.specs.Schedule.{Schedule, two, over, both, either, and_then, while_input, while_output, mapped, reset_when}
 use Rattle.zs_term.specs.declared.term.Test.{Test}
@@ -8,11 +8,9 @@ use Rattle.zs_term.specs.declared.term.Func.{Func}
 use Rattle.zs_step.specs.History.{History}
 use Rattle.zs_step.specs.Answer.{answer_of, from_done, since_reset, sequel_of}
 use Rattle.zs_c.specs.declared.program.node.Sizes.{Sizes}
-use Rattle.zs_c.specs.declared.program.outputs.View.{View}
-use Rattle.zs_c.specs.declared.program.outputs.View.TheVariants.{Number, Pair, Left, Right}
 use Rattle.zs_c.specs.Code.{held_of, held_size, IsCode}
 use Rattle.zs_c.specs.Node.{word_at, sizes_of}
-use Rattle.zs_c.specs.View.{Tells, IsLower}
+use Rattle.zs_c.specs.View.{Tells}
 use Rattle.zs_c.proofs.Codes.{first-code, second-code, part-code}
 use Rattle.zs_c.proofs.StepLemmas.{first-held, second-held, first-is-on, second-is-on}
 
@@ -111,10 +109,3 @@ pub mapped-tells : (s : Schedule) (f : Func) (h : History) (code words : List �
     (o ≡ applied f (answer_of s h).output) × Tells (drop 3 code) words (levels - 1) (answer_of s h).output
 mapped-tells s f h code words levels o coded held is =
     (is, record { term = s; history = h; coded = part-code (mapped f) s code levels 3 coded refl; held = held; output = refl })
-
--- places that are low enough stay so under a higher limit
-pub lower-more : (v : View) (n m : ℕ) → n ≤ m → IsLower v n → IsLower v m
-lower-more (Number x) n m le low = low
-lower-more (Pair a b) n m le low = (omega (arith, low.0), omega (arith, low.1))
-lower-more (Left a) n m le low = omega (arith, low)
-lower-more (Right b) n m le low = omega (arith, low)

@@ -59,23 +59,24 @@ fn read_mapped(func: Func, part: Place<'_>) -> View<'_>
     ensures shows { (o : Output) → PlaceTells part.entry o → Shows result (applied func o) }
     ensures lower { IsLower result part.entry.levels }
 {
+    let whole = read_view(part);
     match func {
-        Func::First => match read_view(part) {
+        Func::First => match whole {
             View::Pair(a, _) => read_view(a),
-            other => other,
+            View::Number(_) | View::Left(_) | View::Right(_) => whole,
         },
-        Func::Second => match read_view(part) {
+        Func::Second => match whole {
             View::Pair(_, b) => read_view(b),
-            other => other,
+            View::Number(_) | View::Left(_) | View::Right(_) => whole,
         },
-        Func::Merge => match read_view(part) {
+        Func::Merge => match whole {
             View::Left(a) | View::Right(a) => read_view(a),
-            other => other,
+            View::Number(_) | View::Pair(_, _) => whole,
         },
         Func::Size => View::Number(0),
         Func::Const(n) => View::Number(n),
-        Func::Add(n) => View::Number(number_in(read_view(part)).saturating_add(n)),
-        Func::Mul(n) => View::Number(number_in(read_view(part)).saturating_mul(n)),
+        Func::Add(n) => View::Number(number_in(whole).saturating_add(n)),
+        Func::Mul(n) => View::Number(number_in(whole).saturating_mul(n)),
     }
 }
 

@@ -1,0 +1,143 @@
+-- Worked jobs, each worked out by hand from docs/SEMANTICS.md, and the bounds of their schedule. They hold by computing, but for the
+-- last one, which applies the laws: their premises can be met.
+use Rattle.std.proofs.Common.{◌≡◌, ℕ, zero, suc, ◌≤◌, ◌<◌, List, [], ◌∷◌, length, refl, arith, ◌+◌}
+use Rattle.std.specs.Prelude.{Some, None, slice_index_or}
+use Rattle.zs_term.specs.Saturating.{max_moment}
+use Rattle.zs_effect.specs.Scripts.{IsScript}
+use Rattle.zs_effect.specs.declared.script.Beat.{Beat}
+use Rattle.zs_effect.specs.declared.script.Outcome.TheVariants.{Good, Bad}
+use Rattle.zs_term.specs.Output.{number, pair}
+use Rattle.zs_term.specs.Schedule.{Schedule, leaf, two, recurs, exponential, both}
+use Rattle.zs_step.specs.declared.decision.Decision.{Decision}
+use Rattle.zs_step.specs.declared.decision.Decision.TheVariants.{Stop, Next}
+use Rattle.zs_step.specs.Answer.{answer}
+use Rattle.zs_drive.specs.declared.job.Mode.TheVariants.{Retry}
+use Rattle.zs_drive.specs.declared.record.Ending.TheVariants.{Succeeded, Failed}
+use Rattle.zs_drive.specs.Clocks.{first_tick_from, RisesFrom, AllBefore, AreTicks}
+use Rattle.zs_drive.specs.Values.{JobRecord, AttemptedValue}
+use Rattle.zs_drive.specs.Timeline.{number_of, ended_attempt, timeline_of, from, from_begin, from_wait, by_outcome, by_answer}
+use Rattle.zs_bounds.specs.declared.told.Bounds.{Bounds}
+use Rattle.zs_bounds.specs.BoundsOf.{bounds_of}
+use Rattle.zs_bounds.proofs.Promising.{bounds_of-promises}
+use Rattle.zs_job_bounds.specs.Histories.{IsHistoryOf}
+use Rattle.zs_job_bounds.specs.JobBounds.{all_waits, IsWithin}
+use Rattle.zs_job_bounds.proofs.Keeping.{bounds-kept}
+
+-- waits of 100 and 200 ms, and no third wait
+abbrev backoff : Schedule
+backoff = two both (leaf (exponential 100 2)) (leaf (recurs 2))
+
+-- so at least and at most 3 attempts, no wait over 200 ms, and 300 ms in all
+three_attempts : bounds_of backoff 20 ≡ record { seen = 3; least = 3; most = Some 3; longest = 200; total = Some 300 }
+three_attempts = refl
+
+abbrev retry : List Beat → JobRecord
+retry script = record { name = []; mode = Retry; schedule = backoff; start = 0; script = script }
+
+-- each attempt fails after 5 ms
+abbrev failing : JobRecord
+failing = retry (record { ms = 5; outcome = Bad 500 } ∷ [])
+
+-- an attempt that failed, the two outputs, and the decision
+abbrev failed : ℕ → ℕ → ℕ → ℕ → Decision → AttemptedValue
+failed s e delay count decision = ended_attempt s e (Bad 500) (Some (answer (pair (number delay) (number count)) decision))
+
+-- a clock with a tick whenever something happens: each bound is reached
+abbrev busy : List ℕ
+busy = 0 ∷ 5 ∷ 105 ∷ 110 ∷ 310 ∷ 315 ∷ []
+
+fails_thrice : timeline_of failing busy ≡ record {
+  attempts = failed 0 5 100 0 (Next 105) ∷ failed 105 110 200 1 (Next 310) ∷ failed 310 315 400 2 Stop ∷ [];
+  due = None;
+  ending = Some (Failed 500);
+}
+unfolding timeline_of from from_begin from_wait by_outcome by_answer first_tick_from
+fails_thrice = refl
+
+fails_thrice-attempts : length (timeline_of failing busy).attempts ≡ 3
+unfolding timeline_of from from_begin from_wait by_outcome by_answer first_tick_from
+fails_thrice-attempts = refl
+
+fails_thrice-waits : all_waits (timeline_of failing busy).attempts ≡ 300
+unfolding timeline_of from from_begin from_wait by_outcome by_answer first_tick_from
+fails_thrice-waits = refl
+
+-- the history at the last end: newest first
+fails_thrice-history : IsHistoryOf failing busy ((315, 500) ∷ (110, 500) ∷ (5, 500) ∷ [])
+unfolding timeline_of from from_begin from_wait by_outcome by_answer first_tick_from
+fails_thrice-history = record {
+  earlier = failed 0 5 100 0 (Next 105) ∷ failed 105 110 200 1 (Next 310) ∷ [];
+  end = record { at = 315; outcome = Bad 500; step = Some (answer (pair (number 400) (number 2)) Stop) };
+  ends = record { begun = 310; later = []; split = refl };
+  is = refl;
+}
+
+-- on a clock with few ticks attempts begin and end late, and the third one has no tick
+abbrev sparse : List ℕ
+sparse = 7 ∷ 20 ∷ 400 ∷ 1000 ∷ []
+
+begins_late : timeline_of failing sparse
+    ≡ record { attempts = failed 7 20 100 0 (Next 120) ∷ failed 400 1000 200 1 (Next 1200) ∷ []; due = Some 1200; ending = None }
+unfolding timeline_of from from_begin from_wait by_outcome by_answer first_tick_from
+begins_late = refl
+
+-- a success ends a retry before `least`, which is about the schedule alone
+succeeds_at_once : timeline_of (retry (record { ms = 5; outcome = Good 1 } ∷ [])) busy
+    ≡ record { attempts = ended_attempt 0 5 (Good 1) None ∷ []; due = None; ending = Some (Succeeded 1) }
+unfolding timeline_of from from_begin from_wait by_outcome by_answer first_tick_from
+succeeds_at_once = refl
+
+-- ---- the premises of the laws, and what they say of this job
+
+fails-takes : (k : ℕ) (d : Beat) → k < 1 → 1 ≤ (slice_index_or failing.script k d).ms
+fails-takes zero d lt = omega arith
+fails-takes (suc k) d lt = absurd (omega (arith, lt))
+
+fails-script : IsScript failing.script
+fails-script = record { some = omega arith; few = omega arith; timed = fails-takes }
+
+fails-inputs : (k : ℕ) (d : Beat) → k < 1 → number_of (slice_index_or failing.script k d).outcome ≤ max_moment
+fails-inputs zero d lt = omega arith
+fails-inputs (suc k) d lt = absurd (omega (arith, lt))
+
+busy-ticks : AreTicks busy
+unfolding RisesFrom AllBefore
+busy-ticks = record {
+  rises = (omega arith, (omega arith, (omega arith, (omega arith, (omega arith, (omega arith, tt))))));
+  bounded = (omega arith, (omega arith, (omega arith, (omega arith, (omega arith, (omega arith, tt))))));
+}
+
+fails_thrice-within : IsWithin (bounds_of backoff 20) (timeline_of failing busy).attempts
+fails_thrice-within = bounds-kept failing (bounds_of backoff 20) (bounds_of-promises backoff 20 refl) fails-script fails-inputs busy busy-ticks
+
+-- ---- bounds that are too small are none
+
+-- the bounds of `backoff`, but for these
+abbrev but_for : ℕ → ℕ → ℕ → ℕ → Bounds
+but_for least most longest total = record { seen = 3; least = least; most = Some most; longest = longest; total = Some total }
+
+no_fewer_attempts : IsWithin (but_for 3 2 200 300) (timeline_of failing busy).attempts → ⊥
+unfolding timeline_of from from_begin from_wait by_outcome by_answer first_tick_from
+no_fewer_attempts within = let few : 3 ≤ 2 = within.most 2 refl in omega (arith, few)
+
+no_later_stop : IsWithin (but_for 4 3 200 300) (timeline_of failing busy).attempts → ⊥
+unfolding timeline_of from from_begin from_wait by_outcome by_answer first_tick_from
+no_later_stop within =
+    let late : 4 ≤ 3 =
+    within.least (failed 0 5 100 0 (Next 105) ∷ failed 105 110 200 1 (Next 310) ∷ [])
+    (record { at = 315; outcome = Bad 500; step = Some (answer (pair (number 400) (number 2)) Stop) }) (pair (number 400) (number 2))
+    (record { begun = 310; later = []; split = refl }) refl in
+    omega (arith, late)
+
+no_shorter_wait : IsWithin (but_for 3 3 199 300) (timeline_of failing busy).attempts → ⊥
+unfolding timeline_of from from_begin from_wait by_outcome by_answer first_tick_from
+no_shorter_wait within =
+    let soon : 310 ≤ 110 + 199 =
+    within.longest (failed 0 5 100 0 (Next 105) ∷ [])
+    (record { at = 110; outcome = Bad 500; step = Some (answer (pair (number 200) (number 1)) (Next 310)) }) (pair (number 200) (number 1)) 310
+    (record { begun = 105; later = failed 310 315 400 2 Stop ∷ []; split = refl }) refl (omega arith) in
+    omega (arith, soon)
+
+no_less_waiting : IsWithin (but_for 3 3 200 299) (timeline_of failing busy).attempts → ⊥
+unfolding timeline_of from from_begin from_wait by_outcome by_answer first_tick_from
+no_less_waiting within = let less : 300 ≤ 299 = within.total 299 refl in omega (arith, less)

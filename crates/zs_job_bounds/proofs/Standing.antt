@@ -1,0 +1,189 @@
+-- Each history of a job's timeline is one that a driver can make.
+use Rattle.std.proofs.Common.{◌≡◌, ℕ, ◌+◌, ◌-◌, ◌≤◌, ◌<◌, max, min, List, [], ◌∷◌, ◌++◌, length, Option, refl, sym, ap, subst, arith}
+use Rattle.std.specs.Prelude.{Some, None}
+use Rattle.zs_term.specs.Saturating.{saturated, max_moment}
+use Rattle.zs_effect.specs.Scripts.{IsScript, entry_at, no_entry}
+use Rattle.zs_effect.specs.declared.script.Beat.{Beat}
+use Rattle.zs_step.specs.declared.decision.Decision.{Decision}
+use Rattle.zs_step.specs.declared.decision.Decision.TheVariants.{Stop, Next}
+use Rattle.zs_step.specs.History.{History}
+use Rattle.zs_step.specs.Answer.{Answer, answer_of}
+use Rattle.zs_drive.specs.declared.record.Ending.{Ending}
+use Rattle.zs_drive.specs.Clocks.{first_tick_from, AreTicks, max_tick}
+use Rattle.zs_drive.specs.Values.{JobRecord, AttemptedValue, EndedValue}
+use Rattle.zs_drive.specs.Timeline.{timeline_of, beat_after, number_of, ending_by_outcome}
+use Rattle.zs_drive.specs.DriverRules.{pair_of, history_from}
+use Rattle.zs_drive.proofs.Follows.{GoesOn, IsAsked, EndsAt, Follows}
+use Rattle.zs_drive.proofs.Ticks.{first_tick_from-from, first_tick_from-before}
+use Rattle.zs_drive.proofs.Extending.{beat-takes, saturated-after}
+use Rattle.zs_drive.proofs.Following.{timeline_of-keeps}
+use Rattle.zs_bounds.specs.Driven.{IsStep, LetsEndAt, IsDriven}
+use Rattle.zs_job_bounds.specs.Histories.{HasInputs, IsEndAfter, history_at, IsHistoryOf}
+
+-- an entry's input has 64 bits
+input-fits : (beats : List Beat) (k : ℕ) → IsScript beats → HasInputs beats → number_of (entry_at beats k).outcome ≤ max_moment
+input-fits beats k script inputs =
+    let index : min k (length beats) - 1 < length beats = omega (arith, script.some) in
+    inputs (min k (length beats) - 1) no_entry index
+
+not-empty : (xs ys : List AttemptedValue) (a : AttemptedValue) → xs ++ a ∷ ys ≡ [] → ⊥
+not-empty [] ys a is = cc
+not-empty (x ∷ xs) ys a is = cc
+
+-- ---- an attempt that is due at a moment after some history
+
+-- a decision to continue at this moment or before
+abbrev pub LetsBegin : Decision → ℕ → Type 0
+LetsBegin Stop x = ⊥
+LetsBegin (Next y) x = y ≤ x
+
+-- the first attempt, or one that a step lets begin, after a history that a driver can make
+abbrev pub IsDueAfter : JobRecord → History → ℕ → Type 0
+IsDueAfter job [] x = Unit {0}
+IsDueAfter job (q ∷ h) x = IsDriven job.schedule (q ∷ h) × LetsBegin (answer_of job.schedule (q ∷ h)).decision x
+
+lets-end : (d : Decision) (x m : ℕ) → LetsBegin d x → x < m → LetsEndAt d m
+lets-end Stop x m lets late = lets
+lets-end (Next y) x m lets late = omega (arith, lets, late)
+
+-- a step after the attempt that is due makes a longer history
+driven-step : (job : JobRecord) (h : History) (x : ℕ) (p : ℕ × ℕ) → IsDueAfter job h x → IsStep p → x < p.0 → IsDriven job.schedule (p ∷ h)
+driven-step job [] x p due step late = step
+driven-step job (q ∷ h) x p due step late = (step, lets-end (answer_of job.schedule (q ∷ h)).decision x p.0 due.1 late, due.0)
+
+pub next-due : (job : JobRecord) (h : History) (p : ℕ × ℕ) (y x : ℕ) → IsDriven job.schedule (p ∷ h) → (answer_of job.schedule (p ∷ h)).decision ≡ Next y → y ≤ x
+    → IsDueAfter job (p ∷ h) x
+next-due job h p y x driven is le = (driven, subst (λ d. LetsBegin d x) (sym is) le)
+
+module _ (job : JobRecord) (ticks : List ℕ) (due : Option ℕ) (ending : Option Ending) where
+  -- what follows an attempt's end, by the schedule's decision
+  record GoesBy (later : List AttemptedValue) (h : History) (end : EndedValue) : Type 0 where
+    pub y : ℕ
+    pub next : (answer_of job.schedule (pair_of end ∷ h)).decision ≡ Next y
+    pub follows : Follows job ticks later due ending (pair_of end ∷ h) (max y end.at)
+
+  goes-by : (later : List AttemptedValue) (h : History) (end : EndedValue) (d : Decision) → (later ≡ [] → ⊥)
+      → (answer_of job.schedule (pair_of end ∷ h)).decision ≡ d
+      → GoesOn job ticks (Follows job ticks later due ending) h later due ending end d → GoesBy later h end
+  goes-by later h end Stop some is goes = absurd (some goes.0)
+  goes-by later h end (Next y) some is goes = record { y = y; next = is; follows = goes }
+
+  goes-asked : (later : List AttemptedValue) (h : History) (end : EndedValue) (by : Option Ending) → (later ≡ [] → ⊥)
+      → IsAsked job ticks (Follows job ticks later due ending) h later due ending end by → GoesBy later h end
+  goes-asked later h end (Some x) some asked = absurd (some asked.1)
+  goes-asked later h end None some asked = goes-by later h end (answer_of job.schedule (pair_of end ∷ h)).decision some refl asked.1
+
+  -- how an attempt that others follow has ended
+  record Goes (later : List AttemptedValue) (h : History) (w : ℕ) (ended : Option EndedValue) : Type 0 where
+    pub end : EndedValue
+    pub is : ended ≡ Some end
+    pub at : first_tick_from ticks w ≡ Some end.at
+    pub own : end.outcome ≡ (beat_after job h).outcome
+    pub by : GoesBy later h end
+
+  goes : (later : List AttemptedValue) (h : History) (w : ℕ) (ended : Option EndedValue) → (later ≡ [] → ⊥)
+      → EndsAt job ticks (Follows job ticks later due ending) h later due ending w ended → Goes later h w ended
+  goes later h w None some ends = absurd (some ends.1)
+  goes later h w (Some end) some ends = record {
+    end = end;
+    is = refl;
+    at = ends.0;
+    own = ends.1;
+    by = goes-asked later h end (ending_by_outcome job.mode end.outcome) some ends.2;
+  }
+
+module _ (job : JobRecord) (script : IsScript job.script) (inputs : HasInputs job.script) (ticks : List ℕ) (clock : AreTicks ticks) where
+  -- the end of an attempt that is due at x makes a history that a driver can make
+  pub driven-end : (h : History) (x s : ℕ) (end : EndedValue) → IsDueAfter job h x → first_tick_from ticks x ≡ Some s
+      → first_tick_from ticks (saturated (s + (beat_after job h).ms)) ≡ Some end.at → end.outcome ≡ (beat_after job h).outcome
+      → IsDriven job.schedule (pair_of end ∷ h)
+  driven-end h x s end due begun ended own =
+      let w : ℕ = saturated (s + (beat_after job h).ms) in
+      let from : x ≤ s = first_tick_from-from ticks x s begun in
+      let small : s < max_tick + 1 = first_tick_from-before ticks (max_tick + 1) x s clock.bounded begun in
+      let takes : 1 ≤ (beat_after job h).ms = beat-takes job.script (length h + 1) script in
+      let later : s < w = saturated-after s max_tick (beat_after job h).ms (omega (arith, small)) (omega arith) takes in
+      let at : w ≤ end.at = first_tick_from-from ticks w end.at ended in
+      let tick : end.at < max_tick + 1 = first_tick_from-before ticks (max_tick + 1) w end.at clock.bounded ended in
+      let input : number_of (beat_after job h).outcome ≤ max_moment = input-fits job.script (length h + 1) script inputs in
+      let same : number_of end.outcome ≡ number_of (beat_after job h).outcome = ap number_of own in
+      driven-step job h x (pair_of end) due (record { tick = omega (arith, tick); input = omega (arith, input, same) }) (omega (arith, from, later, at))
+
+  module _ (due : Option ℕ) (ending : Option Ending) where
+    -- an attempt that follows others after history h: when it is due, after which history
+    pub record Stands (h : History) (earlier later : List AttemptedValue) (a : AttemptedValue) : Type 0 where
+      pub x : ℕ
+      pub due_after : IsDueAfter job (history_from h earlier) x
+      pub count : length (history_from h earlier) ≡ length h + length earlier
+      pub follows : Follows job ticks (a ∷ later) due ending (history_from h earlier) x
+
+    -- an attempt that others follow: the next one is due after a longer history
+    pub record Comes (later : List AttemptedValue) (h : History) (ended : Option EndedValue) : Type 0 where
+      pub end : EndedValue
+      pub y : ℕ
+      pub is : ended ≡ Some end
+      pub due_after : IsDueAfter job (pair_of end ∷ h) y
+      pub follows : Follows job ticks later due ending (pair_of end ∷ h) y
+
+    pub comes : (later : List AttemptedValue) (a : AttemptedValue) (h : History) (x : ℕ) → (later ≡ [] → ⊥) → IsDueAfter job h x
+        → Follows job ticks (a ∷ later) due ending h x → Comes later h a.ended
+    unfolding Follows
+    comes later a h x some begins follows =
+        let g = goes job ticks due ending later h (saturated (a.begun + (beat_after job h).ms)) a.ended some follows.1 in
+        record {
+          end = g.end;
+          y = max g.by.y g.end.at;
+          is = g.is;
+          due_after = next-due job h (pair_of g.end) g.by.y (max g.by.y g.end.at) (driven-end h x a.begun g.end begins follows.0 g.at g.own) g.by.next (omega arith);
+          follows = g.by.follows;
+        }
+
+    pub stands : (earlier later : List AttemptedValue) (a : AttemptedValue) (h : History) (x : ℕ) → IsDueAfter job h x
+        → Follows job ticks (earlier ++ a ∷ later) due ending h x → Stands h earlier later a
+    stands [] later a h x begins follows = record { x = x; due_after = begins; count = omega arith; follows = follows }
+    stands (b ∷ earlier) later a h x begins follows =
+        let n : Comes (earlier ++ a ∷ later) h b.ended = comes (earlier ++ a ∷ later) b h x (not-empty earlier later a) begins follows in
+        let r : Stands (pair_of n.end ∷ h) earlier later a = stands earlier later a (pair_of n.end ∷ h) n.y n.due_after n.follows in
+        rw n.is (record { x = r.x; due_after = r.due_after; count = omega (arith, r.count); follows = r.follows })
+
+  -- ---- the ends of the timeline
+
+  abbrev attempts : List AttemptedValue
+  attempts = (timeline_of job ticks).attempts
+
+  -- the attempts of the timeline follow from the start on
+  pub whole : Follows job ticks attempts (timeline_of job ticks).due (timeline_of job ticks).ending [] job.start
+  whole = timeline_of-keeps job ticks script (max_tick + 1) (omega arith) clock.bounded
+
+  -- what is known of an end: its history, and the step there
+  pub record KnownEnd (earlier : List AttemptedValue) (end : EndedValue) : Type 0 where
+    pub driven : IsDriven job.schedule (history_at earlier end)
+    pub count : length (history_at earlier end) ≡ length earlier + 1
+    pub stepped : (step : Answer) → end.step ≡ Some step → step ≡ answer_of job.schedule (history_at earlier end)
+
+  stepped-by : (later : List AttemptedValue) (h : History) (end : EndedValue) (due : Option ℕ) (ending : Option Ending) (by : Option Ending)
+      → IsAsked job ticks (Follows job ticks later due ending) h later due ending end by
+      → (step : Answer) → end.step ≡ Some step → step ≡ answer_of job.schedule (pair_of end ∷ h)
+  stepped-by later h end due ending (Some x) asked step is = let none = asked.0 in absurd cc
+  stepped-by later h end due ending None asked step is = let some = asked.0 in cc
+
+  pub known-end : (earlier : List AttemptedValue) (end : EndedValue) → IsEndAfter attempts earlier end → KnownEnd earlier end
+  unfolding Follows
+  known-end earlier end e =
+      let a : AttemptedValue = record { begun = e.begun; ended = Some end } in
+      let from : Follows job ticks (earlier ++ a ∷ e.later) (timeline_of job ticks).due (timeline_of job ticks).ending [] job.start =
+      subst (λ (xs : List AttemptedValue). Follows job ticks xs (timeline_of job ticks).due (timeline_of job ticks).ending [] job.start) e.split whole in
+      let r : Stands (timeline_of job ticks).due (timeline_of job ticks).ending [] earlier e.later a =
+      stands (timeline_of job ticks).due (timeline_of job ticks).ending earlier e.later a [] job.start tt from in
+      record {
+        driven = driven-end (history_from [] earlier) r.x e.begun end r.due_after r.follows.0 r.follows.1.0 r.follows.1.1;
+        count = omega (arith, r.count);
+        stepped = stepped-by e.later (history_from [] earlier) end (timeline_of job ticks).due (timeline_of job ticks).ending (ending_by_outcome job.mode end.outcome) r.follows.1.2;
+      }
+
+  pub steps-on-histories : (earlier : List AttemptedValue) (end : EndedValue) (step : Answer) → IsEndAfter attempts earlier end → end.step ≡ Some step
+      → step ≡ answer_of job.schedule (history_at earlier end)
+  steps-on-histories earlier end step e is = (known-end earlier end e).stepped step is
+
+  pub histories-driven : (h : History) → IsHistoryOf job ticks h → IsDriven job.schedule h
+  histories-driven h of = subst (IsDriven job.schedule) (sym of.is) (known-end of.earlier of.end of.ends).driven

@@ -1,0 +1,15 @@
+//! Laws that join the bounds of schedules to jobs, for every job and every clock.
+ghost use Rattle.zs_job_bounds.specs.JobBounds.{OnEachClock, StepsOnHistories, HistoriesAreDriven, BoundsHold};
+
+/// Each history of a job's timeline is one that a driver can make with the job's schedule.
+pub fn histories_are_driven()
+    // These are the histories on which the timeline evaluates the schedule.
+    ensures stepped { OnEachClock StepsOnHistories }
+    ensures driven { OnEachClock HistoriesAreDriven }
+{}
+
+/// A job keeps the bounds of its schedule, whatever its mode, its start, its script and its clock:
+/// the number of attempts, the longest wait and all waits together.
+pub fn jobs_keep_bounds()
+    ensures value { OnEachClock BoundsHold }
+{}

@@ -1,0 +1,12 @@
+//! What the bounds of a schedule say about the jobs that have this schedule.
+//!
+//! Every history of a job's timeline is one that a driver can make. So what `zs_bounds::bounds`
+//! promises holds for the job, on every clock and for every script. There is nothing to call: the
+//! functions are laws, and their contracts are what they say.
+//!
+//! Begin with `specs/JobBounds.antt`.
+#![tactic(auto)]
+
+mod laws;
+
+pub use laws::{histories_are_driven, jobs_keep_bounds};
