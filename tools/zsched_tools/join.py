@@ -19,7 +19,7 @@ from zsched_tools.report import Reader, as_text, text_lines
 
 PIECE = 2**20
 # As much as a processor holds near itself while it is hashed and looked through.
-SHORT_PIECE = 2**18
+SHORT_PIECE = 2**16
 LONGEST_LAST = 100
 _LAST_LINE = re.compile(rb"\npolls (0|[1-9][0-9]*)\n\Z")
 
