@@ -204,7 +204,7 @@ ROWS = [
     Row("jobs due together", jobs_of("recurs(5)"), 1000, Cost(76_000, 2220, 20.5)),
     # Most of what these cost is the reading of their schedules.
     Row("jobs of 100 nodes", jobs_of(f"(recurs(0) && {tree(50)})"), 100,
-        Cost(290_000, 17_300, 423)),
+        Cost(290_000, 17_300, 422)),
     Row("jobs of 100 attempts", jobs_of("recurs(99)"), 100, Cost(420_000, 11_500, 28.8)),
     Row("jobs at moments of their own", jobs_one_after_the_other, 1000, Cost(68_000, 2240, 22.6)),
     Row("jobs that come due in another order", jobs_that_end_together, 1000,
