@@ -1,6 +1,6 @@
 -- Powers and numbers of Fibonacci that are cut at the greatest number, and stay there.
 use Rattle.std.proofs.Common.{◌≡◌, ℕ, zero, suc, ◌+◌, ◌-◌, ◌*◌, ◌^◌, ◌<◌, ◌≤◌, ◌⊎◌, inl, inr, min, arith, sym, ap, ◌∙◌}
-use Rattle.std.proofs.Math.Nat.{pow-zero, pow-suc, mul_assoc}
+use Rattle.std.proofs.Math.Nat.{pow-zero, pow-suc, mul_assoc, pow-le-pow_left, pow-le-pow_right, mul-le-mul_right}
 use Rattle.std.proofs.lemmas.Nat.{pow-add}
 use Rattle.zs_term.specs.Saturating.{saturated}
 use Rattle.zs_step.specs.Answer.{fibonacci_number}
@@ -76,6 +76,14 @@ pub power_cut : (b f k n d : ℕ) → k ≤ n → 0 < f → d ≡ saturated (b *
 power_cut b f k n d le some is cut =
     let rises = power-rises b f some k n le in
     omega (arith, rises, is, cut)
+
+-- a factor of 2 or more passes the greatest number within 64 turns
+pub power_large : (b f n d : ℕ) → 0 < b → 1 < f → 63 < n → d ≡ 18446744073709551615 → d ≡ saturated (b * f ^ n)
+power_large b f n d some many long is =
+    let twos : 2 ^ 64 ≤ 2 ^ n = pow-le-pow_right {n = 2} (omega arith) {i = 64} {j = n} (omega arith) in
+    let powers : 2 ^ n ≤ f ^ n = pow-le-pow_left {n = 2} {m = f} (omega arith) n in
+    let whole : 1 * f ^ n ≤ b * f ^ n = mul-le-mul_right (f ^ n) (omega arith) in
+    omega (arith, is, twos, powers, whole)
 
 -- ---- numbers of Fibonacci
 

@@ -100,12 +100,16 @@ fn period_waits(period: u64, some: u64, steps: Span) -> Option<Span>
 }
 
 // A number times a power of a factor: it stays as it is from where it is 0 or cut on.
-#[tactic(auto, using(crate::proofs::Powers::power_none, crate::proofs::Powers::power_ones, crate::proofs::Powers::power_turn, crate::proofs::Powers::power_zero, crate::proofs::Powers::power_cut))]
+#[tactic(auto, using(crate::proofs::Powers::power_none, crate::proofs::Powers::power_ones, crate::proofs::Powers::power_turn, crate::proofs::Powers::power_zero, crate::proofs::Powers::power_cut, crate::proofs::Powers::power_large))]
 fn power(base: u64, factor: u64, exponent: u64) -> u64
     ensures value { result ≡ saturated (base * factor ^ exponent) }
 {
     if factor == 1 {
         return base;
+    }
+    // A factor of 2 or more passes the greatest number within 64 turns.
+    if base > 0 && factor > 1 && exponent > 63 {
+        return u64::MAX;
     }
     let mut product = base;
     for _ in 0..exponent {
