@@ -1,3 +1,3 @@
-pub mod Standing
-pub mod Keeping
+pub mod Histories
+pub mod Within
 pub mod Rows

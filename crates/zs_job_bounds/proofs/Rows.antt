@@ -1,5 +1,5 @@
 -- Worked jobs, each worked out by hand from docs/SEMANTICS.md, and the bounds of their schedule. They hold by computing, but for the
--- last one, which applies the laws: their premises can be met.
+-- one that applies the laws: a job can satisfy their premises.
 use Rattle.std.proofs.Common.{◌≡◌, ℕ, zero, suc, ◌≤◌, ◌<◌, List, [], ◌∷◌, length, refl, arith, ◌+◌}
 use Rattle.std.specs.Prelude.{Some, None, slice_index_or}
 use Rattle.zs_term.specs.Saturating.{max_moment}
@@ -21,7 +21,7 @@ use Rattle.zs_bounds.specs.BoundsOf.{bounds_of}
 use Rattle.zs_bounds.proofs.Promising.{bounds_of-promises}
 use Rattle.zs_job_bounds.specs.Histories.{IsHistoryOf}
 use Rattle.zs_job_bounds.specs.JobBounds.{all_waits, IsWithin}
-use Rattle.zs_job_bounds.proofs.Keeping.{bounds-kept}
+use Rattle.zs_job_bounds.proofs.Within.{within-bounds}
 
 -- waits of 100 and 200 ms, and no third wait
 abbrev backoff : Schedule
@@ -108,9 +108,9 @@ busy-ticks = record {
 }
 
 fails_thrice-within : IsWithin (bounds_of backoff 20) (timeline_of failing busy).attempts
-fails_thrice-within = bounds-kept failing (bounds_of backoff 20) (bounds_of-promises backoff 20 refl) fails-script fails-inputs busy busy-ticks
+fails_thrice-within = within-bounds failing (bounds_of backoff 20) (bounds_of-promises backoff 20 refl) fails-script fails-inputs busy busy-ticks
 
--- ---- bounds that are too small are none
+-- ---- smaller bounds don't hold
 
 -- the bounds of `backoff`, but for these
 abbrev but_for : ℕ → ℕ → ℕ → ℕ → Bounds

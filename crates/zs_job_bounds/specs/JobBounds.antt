@@ -1,7 +1,8 @@
 -- What the bounds of a schedule say about a job with this schedule, in words of its timeline.
-use Rattle.std.specs.Prelude.{◌≡◌, ℕ, ◌+◌, ◌≤◌, List, [], ◌∷◌, length, Option, Some, None}
+use Rattle.std.specs.Prelude.{◌≡◌, ℕ, ◌+◌, ◌≤◌, true, List, [], ◌∷◌, length, Option, Some, None}
 use Rattle.zs_effect.specs.Scripts.{IsScript}
 use Rattle.zs_term.specs.Output.{Output}
+use Rattle.zs_term.specs.Schedule.{has_factors}
 use Rattle.zs_step.specs.declared.decision.Decision.TheVariants.{Stop, Next}
 use Rattle.zs_step.specs.History.{History}
 use Rattle.zs_step.specs.Answer.{Answer, answer, answer_of}
@@ -11,6 +12,7 @@ use Rattle.zs_drive.specs.Timeline.{timeline_of}
 use Rattle.zs_bounds.specs.declared.told.Bounds.{Bounds}
 use Rattle.zs_bounds.specs.Driven.{IsDriven}
 use Rattle.zs_bounds.specs.Bounds.{wait_of, Promises}
+use Rattle.zs_bounds.specs.BoundsOf.{bounds_of}
 use Rattle.zs_job_bounds.specs.Histories.{HasInputs, IsEndAfter, history_at, IsHistoryOf}
 
 -- a law that is true of every job and every clock
@@ -55,5 +57,9 @@ pub record IsWithin (b : Bounds) (attempts : List AttemptedValue) : Type 0 where
   pub total : (t : ℕ) → b.total ≡ Some t → all_waits attempts ≤ t
 
 -- A job's attempts are within all bounds that hold for its schedule.
-abbrev pub BoundsHold : JobRecord → List ℕ → Type 0
-BoundsHold job ticks = (b : Bounds) → Promises job.schedule b → IsWithin b (timeline_of job ticks).attempts
+abbrev pub PromisedBoundsHold : JobRecord → List ℕ → Type 0
+PromisedBoundsHold job ticks = (b : Bounds) → Promises job.schedule b → IsWithin b (timeline_of job ticks).attempts
+
+-- They are within the bounds that `zs_bounds::bounds` computes for its schedule, from any number of steps.
+abbrev pub ComputedBoundsHold : JobRecord → List ℕ → Type 0
+ComputedBoundsHold job ticks = (steps : ℕ) → has_factors job.schedule ≡ true → IsWithin (bounds_of job.schedule steps) (timeline_of job ticks).attempts

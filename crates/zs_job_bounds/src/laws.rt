@@ -1,5 +1,5 @@
 //! Laws that join the bounds of schedules to jobs, for every job and every clock.
-ghost use Rattle.zs_job_bounds.specs.JobBounds.{OnEachClock, StepsOnHistories, HistoriesAreDriven, BoundsHold};
+ghost use Rattle.zs_job_bounds.specs.JobBounds.{OnEachClock, StepsOnHistories, HistoriesAreDriven, PromisedBoundsHold, ComputedBoundsHold};
 
 /// Each history of a job's timeline is one that a driver can make with the job's schedule.
 pub fn histories_are_driven()
@@ -8,8 +8,11 @@ pub fn histories_are_driven()
     ensures driven { OnEachClock HistoriesAreDriven }
 {}
 
-/// A job keeps the bounds of its schedule, whatever its mode, its start, its script and its clock:
-/// the number of attempts, the longest wait and all waits together.
-pub fn jobs_keep_bounds()
-    ensures value { OnEachClock BoundsHold }
+/// A job's attempts are within the bounds of its schedule, whatever its mode, its start, its script
+/// and its clock: the number of attempts, the longest wait, and all waits together.
+pub fn jobs_are_within_bounds()
+    // Any bounds that hold for the schedule.
+    ensures promised { OnEachClock PromisedBoundsHold }
+    // The bounds that `zs_bounds::bounds` returns.
+    ensures computed { OnEachClock ComputedBoundsHold }
 {}

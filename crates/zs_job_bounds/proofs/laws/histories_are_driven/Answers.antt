@@ -1,4 +1,4 @@
-use Rattle.zs_job_bounds.proofs.Standing.{steps-on-histories, histories-driven}
+use Rattle.zs_job_bounds.proofs.Histories.{steps-on-histories, histories-driven}
 use Rattle.zs_job_bounds.proofs.laws.histories_are_driven.Goals as goal
 
 pub returns-clause-stepped : goal.returns-clause-stepped

@@ -111,24 +111,24 @@ module _ (job : JobRecord) (script : IsScript job.script) (inputs : HasInputs jo
 
   module _ (due : Option ℕ) (ending : Option Ending) where
     -- an attempt that follows others after history h: when it is due, after which history
-    pub record Stands (h : History) (earlier later : List AttemptedValue) (a : AttemptedValue) : Type 0 where
+    pub record Place (h : History) (earlier later : List AttemptedValue) (a : AttemptedValue) : Type 0 where
       pub x : ℕ
       pub due_after : IsDueAfter job (history_from h earlier) x
       pub count : length (history_from h earlier) ≡ length h + length earlier
       pub follows : Follows job ticks (a ∷ later) due ending (history_from h earlier) x
 
     -- an attempt that others follow: the next one is due after a longer history
-    pub record Comes (later : List AttemptedValue) (h : History) (ended : Option EndedValue) : Type 0 where
+    pub record Continues (later : List AttemptedValue) (h : History) (ended : Option EndedValue) : Type 0 where
       pub end : EndedValue
       pub y : ℕ
       pub is : ended ≡ Some end
       pub due_after : IsDueAfter job (pair_of end ∷ h) y
       pub follows : Follows job ticks later due ending (pair_of end ∷ h) y
 
-    pub comes : (later : List AttemptedValue) (a : AttemptedValue) (h : History) (x : ℕ) → (later ≡ [] → ⊥) → IsDueAfter job h x
-        → Follows job ticks (a ∷ later) due ending h x → Comes later h a.ended
+    pub continues : (later : List AttemptedValue) (a : AttemptedValue) (h : History) (x : ℕ) → (later ≡ [] → ⊥) → IsDueAfter job h x
+        → Follows job ticks (a ∷ later) due ending h x → Continues later h a.ended
     unfolding Follows
-    comes later a h x some begins follows =
+    continues later a h x some begins follows =
         let g = goes job ticks due ending later h (saturated (a.begun + (beat_after job h).ms)) a.ended some follows.1 in
         record {
           end = g.end;
@@ -138,12 +138,12 @@ module _ (job : JobRecord) (script : IsScript job.script) (inputs : HasInputs jo
           follows = g.by.follows;
         }
 
-    pub stands : (earlier later : List AttemptedValue) (a : AttemptedValue) (h : History) (x : ℕ) → IsDueAfter job h x
-        → Follows job ticks (earlier ++ a ∷ later) due ending h x → Stands h earlier later a
-    stands [] later a h x begins follows = record { x = x; due_after = begins; count = omega arith; follows = follows }
-    stands (b ∷ earlier) later a h x begins follows =
-        let n : Comes (earlier ++ a ∷ later) h b.ended = comes (earlier ++ a ∷ later) b h x (not-empty earlier later a) begins follows in
-        let r : Stands (pair_of n.end ∷ h) earlier later a = stands earlier later a (pair_of n.end ∷ h) n.y n.due_after n.follows in
+    pub place : (earlier later : List AttemptedValue) (a : AttemptedValue) (h : History) (x : ℕ) → IsDueAfter job h x
+        → Follows job ticks (earlier ++ a ∷ later) due ending h x → Place h earlier later a
+    place [] later a h x begins follows = record { x = x; due_after = begins; count = omega arith; follows = follows }
+    place (b ∷ earlier) later a h x begins follows =
+        let n : Continues (earlier ++ a ∷ later) h b.ended = continues (earlier ++ a ∷ later) b h x (not-empty earlier later a) begins follows in
+        let r : Place (pair_of n.end ∷ h) earlier later a = place earlier later a (pair_of n.end ∷ h) n.y n.due_after n.follows in
         rw n.is (record { x = r.x; due_after = r.due_after; count = omega (arith, r.count); follows = r.follows })
 
   -- ---- the ends of the timeline
@@ -173,8 +173,8 @@ module _ (job : JobRecord) (script : IsScript job.script) (inputs : HasInputs jo
       let a : AttemptedValue = record { begun = e.begun; ended = Some end } in
       let from : Follows job ticks (earlier ++ a ∷ e.later) (timeline_of job ticks).due (timeline_of job ticks).ending [] job.start =
       subst (λ (xs : List AttemptedValue). Follows job ticks xs (timeline_of job ticks).due (timeline_of job ticks).ending [] job.start) e.split whole in
-      let r : Stands (timeline_of job ticks).due (timeline_of job ticks).ending [] earlier e.later a =
-      stands (timeline_of job ticks).due (timeline_of job ticks).ending earlier e.later a [] job.start tt from in
+      let r : Place (timeline_of job ticks).due (timeline_of job ticks).ending [] earlier e.later a =
+      place (timeline_of job ticks).due (timeline_of job ticks).ending earlier e.later a [] job.start tt from in
       record {
         driven = driven-end (history_from [] earlier) r.x e.begun end r.due_after r.follows.0 r.follows.1.0 r.follows.1.1;
         count = omega (arith, r.count);

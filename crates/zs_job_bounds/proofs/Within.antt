@@ -20,7 +20,7 @@ use Rattle.zs_bounds.specs.Driven.{IsDriven}
 use Rattle.zs_bounds.specs.Bounds.{wait_of, last_wait, total_wait, Promises}
 use Rattle.zs_job_bounds.specs.Histories.{HasInputs, IsEndAfter, history_at}
 use Rattle.zs_job_bounds.specs.JobBounds.{step_wait, end_wait, all_waits, IsWithin}
-use Rattle.zs_job_bounds.proofs.Standing.{LetsBegin, IsDueAfter, comes, driven-end, whole, next-due, known-end}
+use Rattle.zs_job_bounds.proofs.Histories.{LetsBegin, IsDueAfter, continues, driven-end, whole, next-due, known-end}
 
 stop-lets : (d : Decision) (x : ℕ) → d ≡ Stop → LetsBegin d x → ⊥
 stop-lets d x is lets = subst (λ e. LetsBegin e x) is lets
@@ -57,7 +57,7 @@ module _ (job : JobRecord) (b : Bounds) (promises : Promises job.schedule b) whe
     attempts-fit k is [] h x begins follows = let more = one-more k is h x begins in omega (arith, more)
     attempts-fit k is (a ∷ []) h x begins follows = let more = one-more k is h x begins in omega (arith, more)
     attempts-fit k is (a ∷ (c ∷ later)) h x begins follows =
-        let n = comes job script inputs ticks clock due ending (c ∷ later) a h x (λ e. cc) begins follows in
+        let n = continues job script inputs ticks clock due ending (c ∷ later) a h x (λ e. cc) begins follows in
         let rest = attempts-fit k is (c ∷ later) (pair_of n.end ∷ h) n.y n.due_after n.follows in omega (arith, rest)
 
     -- the waits of an attempt that ended, and of those after it, by the schedule's decision
@@ -137,8 +137,8 @@ module _ (job : JobRecord) (b : Bounds) (promises : Promises job.schedule b) whe
         wait-within end.at x b.longest (answer_of job.schedule (history_at earlier end)).decision next
         (promises.longest (history_at earlier end) known.driven (omega (arith, count, seen)))
 
-    pub bounds-kept : IsWithin b attempts
-    bounds-kept =
+    pub within-bounds : IsWithin b attempts
+    within-bounds =
         let due = (timeline_of job ticks).due in
         let ending = (timeline_of job ticks).ending in
         let all = whole job script inputs ticks clock in

@@ -1,0 +1,11 @@
+use Rattle.zs_bounds.specs.BoundsOf.{bounds_of}
+use Rattle.zs_bounds.proofs.Promising.{bounds_of-promises}
+use Rattle.zs_job_bounds.proofs.Within.{within-bounds}
+use Rattle.zs_job_bounds.proofs.laws.jobs_are_within_bounds.Goals as goal
+
+pub returns-clause-promised : goal.returns-clause-promised
+returns-clause-promised c job ticks script inputs clock b promises = within-bounds job b promises script inputs ticks clock
+
+pub returns-clause-computed : goal.returns-clause-computed
+returns-clause-computed c job ticks script inputs clock steps factors =
+    within-bounds job (bounds_of job.schedule steps) (bounds_of-promises job.schedule steps factors) script inputs ticks clock
