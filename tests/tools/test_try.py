@@ -178,11 +178,18 @@ class EveryInput(unittest.TestCase):
                 (bounds_line(1, 1, 0, 0, 1), "1 attempt, always; no waits"),
                 (bounds_line(2, 6, 400, 2000, 6), "2 to 6 attempts; waits of at most 400 ms, 2 s in all"),
                 (bounds_line(1, None, 1000, None, 20000),
-                 "1 or more attempts, no proved limit; waits of at most 1 s in the first 20000 steps"),
+                 "1 or more attempts, no proved limit; first 20000 waits of at most 1 s"),
                 (bounds_line(20001, None, 0, None, 20000),
-                 "20001 or more attempts, no proved limit; no waits in the first 20000 steps"),
+                 "20001 or more attempts, no proved limit; first 20000 waits of 0 ms"),
                 (bounds_line(4, None, 500, 900, 3),
                  "4 or more attempts, no proved limit; waits of at most 500 ms, 900 ms in all"),
+                # The first is over the last moment of a plan.
+                (bounds_line(3, 4, 10**15, 10**15, 4), "3 to 4 attempts; waits without a proved limit"),
+                (bounds_line(3, 4, 10**15 - 1, 10**15 - 1, 4),
+                 "3 to 4 attempts; waits of at most 11574075 d, 11574075 d in all"),
+                # 1,000 days, and a millisecond more of all waits.
+                (bounds_line(3, 4, 86399999999, 86400000001, 4),
+                 "3 to 4 attempts; waits of at most 999 d 23 h 59 min 59.999 s, 1001 d in all"),
                 (bounds_line(9, 20000, 7, None, 20000), "9 to 20000 attempts; waits of at most 7 ms")]:
             with self.subTest(line):
                 self.assertEqual(self.shown(line), (0, f"for every input: {words}\n", ""))
@@ -350,11 +357,12 @@ class Command(unittest.TestCase):
     def test_the_recipe_shows_runs_as_they_are(self):
         page = (TOP / "docs" / "RECIPES.md").read_text().split("### Try a policy from the command line\n")[1]
         shown = re.findall(r"```console\n\$ tools/zsched-try (.*?)\n(.*?)```", page, re.S)
-        self.assertEqual(len(shown), 3)
+        self.assertEqual(len(shown), 4)
         for words, lines in shown:
             self.assertRegex(lines, EVERY)
-            _, out, err = tool(*shlex.split(words), bounds=BOUNDS)
-            self.assertEqual(out + err, lines if BOUNDS else EVERY.sub("", lines))
+            if BOUNDS or "--require" not in words:
+                _, out, err = tool(*shlex.split(words), bounds=BOUNDS)
+                self.assertEqual(out + err, lines if BOUNDS else EVERY.sub("", lines))
 
     def test_version(self):
         self.assertEqual(tool("--version"), (0, f"zsched-try {(TOP / 'VERSION').read_text()}", ""))

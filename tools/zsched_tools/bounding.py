@@ -3,11 +3,18 @@ import json
 from dataclasses import dataclass
 
 from zsched_tools import program
-from zsched_tools.durations import duration
+from zsched_tools.durations import DAY, duration
 from zsched_tools.summary import plural
 
 # The program looks at this number of steps at most.
 MOST_STEPS = 20000
+# No plan has a later moment.
+LAST_MOMENT = 999_999_999_999_999
+
+
+def _rounded(ms):
+    """A duration in words, of 1,000 days and more in days, rounded up."""
+    return duration(ms) if ms < 1000 * DAY else f"{-(-ms // DAY)} d"
 
 
 @dataclass
@@ -29,13 +36,17 @@ class Bounds:
         return f"{self.least} to {self.most} attempts"
 
     def waits(self):
-        """The waits in words. Later steps than those that were looked at may have longer ones."""
-        cut = self.most is None and self.seen == MOST_STEPS
-        after = f" in the first {MOST_STEPS} steps" if cut else ""
+        """The waits in words. Later steps than those that were looked at may have longer ones. A limit over the last moment
+        of a plan limits nothing."""
+        if self.longest > LAST_MOMENT:
+            return "waits without a proved limit"
+        if self.most is None and self.seen == MOST_STEPS:
+            limit = f"at most {_rounded(self.longest)}" if self.longest else "0 ms"
+            return f"first {MOST_STEPS} waits of {limit}"
         if self.longest == 0:
-            return f"no waits{after}"
-        total = "" if self.total is None else f", {duration(self.total)} in all"
-        return f"waits of at most {duration(self.longest)}{total}{after}"
+            return "no waits"
+        total = "" if self.total is None else f", {_rounded(self.total)} in all"
+        return f"waits of at most {_rounded(self.longest)}{total}"
 
     def line(self):
         """All of it in one line."""
