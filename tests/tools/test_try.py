@@ -354,10 +354,11 @@ class Command(unittest.TestCase):
         self.assertRegex(every, EVERY)
         self.assertEqual(tool(policy, bounds=BOUNDS), (0, line + (every if BOUNDS else ""), ""))
 
-    def test_the_recipe_shows_runs_as_they_are(self):
+    def test_the_recipe_and_the_readme_show_runs_as_they_are(self):
         page = (TOP / "docs" / "RECIPES.md").read_text().split("### Try a policy from the command line\n")[1]
         shown = re.findall(r"```console\n\$ tools/zsched-try (.*?)\n(.*?)```", page, re.S)
-        self.assertEqual(len(shown), 4)
+        shown += re.findall(r"```console\n\$ tools/zsched-try (.*?)\n(.*?)```", (TOP / "README.md").read_text(), re.S)
+        self.assertEqual(len(shown), 5)
         for words, lines in shown:
             self.assertRegex(lines, EVERY)
             if BOUNDS or "--require" not in words:
