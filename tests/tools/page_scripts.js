@@ -9,7 +9,7 @@ const vm = require("vm");
 
 const MOST_ATTEMPTS = 2100;
 const page = fs.readFileSync(process.argv[2], "utf8");
-for (const name of ["evaluator", "drawing", "asking"])
+for (const name of ["evaluator", "drawing", "bounding", "asking"])
   vm.runInThisContext(new RegExp(`<script id="${name}">\n(.*?)</script>`, "s").exec(page)[1], { filename: name });
 
 // The next so many bytes of standard input, or null at its end.
