@@ -60,9 +60,9 @@ def bounds_of(line):
                   read["steps_seen"])
 
 
-def run(path, policies):
-    """What the program at this path says of each policy."""
-    status, printed, errors = program.run(path, "".join(f"{policy}\n" for policy in policies).encode())
+def run(path, policies, seconds=None):
+    """What the program at this path says of each policy. Past the seconds subprocess.TimeoutExpired is raised."""
+    status, printed, errors = program.run(path, "".join(f"{policy}\n" for policy in policies).encode(), seconds)
     if status:
         raise ChildProcessError(program.failure(status, errors, "zsched-bounds"))
     return [bounds_of(line) for line in printed.splitlines()]
