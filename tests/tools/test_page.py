@@ -211,15 +211,17 @@ class EveryInput(unittest.TestCase):
         self.assertEqual([wide["seen"], wide["least"], wide["isCut"]], [1980, 1981, True])
 
     def test_the_words_are_those_of_zsched_try(self):
-        for text in ["recurs(0)", "(exponential(100) && recurs(5))", "forever", "spaced(9)", "exponential(1)",
-                     "(spaced(400) && elapsed).whileOutput(_2 < 2000)", "spaced(18446744073709551615)",
-                     "(spaced(99999999999) && recurs(1))"]:
-            found, = called(["bounding.boundsOf", text])
-            wanted = bounding.Bounds(**{key: None if found[key] is None else int(found[key])
+        texts = ["recurs(0)", "(exponential(100) && recurs(5))", "forever", "spaced(9)", "exponential(1)",
+                 "(spaced(400) && elapsed).whileOutput(_2 < 2000)", "spaced(18446744073709551615)",
+                 "(spaced(99999999999) && recurs(1))"]
+        found = called(*[["bounding.boundsOf", text] for text in texts])
+        with started("words") as child:
+            said = child.communicate("".join(f"{text}\n" for text in texts).encode())[0].splitlines()
+        for text, numbers, line in zip(texts, found, said, strict=True):
+            wanted = bounding.Bounds(**{key: None if numbers[key] is None else int(numbers[key])
                                         for key in ("least", "most", "longest", "total", "seen")})
             with self.subTest(text):
-                self.assertEqual(subprocess.run([NODE, SCRIPTS, PAGE, "words"], input=f"{text}\n".encode(), check=True,
-                                                capture_output=True).stdout.decode(), f'"{wanted.line()}"\n')
+                self.assertEqual(json.loads(line), wanted.line())
 
 
 @unittest.skipIf(NODE is None, NO_NODE)
