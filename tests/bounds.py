@@ -1,26 +1,40 @@
 #!/usr/bin/env python3
-"""Compares what zsched-bounds tells of random policies with an interval run of its own, and with driven histories.
+"""Compares what zsched-bounds prints for random policies with driven histories, and with an interval run in Python.
 
-    python3 tests/bounds.py --seeds 0..2000             random policies: equal bounds, and no driven history outside them
-    python3 tests/bounds.py --policy 'POLICY' ..        the bounds of each policy, by this file alone
-    python3 tests/bounds.py --tight 0..300              small policies: the share of bounds that a history meets exactly
+    python3 tests/bounds.py --seeds 0..2000                        what the gate runs
+    python3 tests/bounds.py --seeds 0..100000 --long 1 --processes 3   by hand: the interval run of every policy
+    python3 tests/bounds.py --tight 0..500                         small policies: the share of bounds that are met exactly
+    python3 tests/bounds.py --policy 'POLICY' ..                   the bounds of each policy, by this file alone
 
-The interval run is written from docs/SEMANTICS.md: each number of a schedule's state is an interval. A driven history is one
-that a driver can make: moments up to LAST, an attempt takes at least 1 ms and begins no earlier than the schedule said. The
-program is run unproved, by `rt try`."""
+A driven history is one that a driver can make: moments up to LAST, an attempt takes at least 1 ms and begins no earlier than
+the schedule said; tests/reference.py evaluates it. No history may leave its bounds. The interval run is written from
+docs/SEMANTICS.md: each number of a schedule's state is an interval. It takes long for policies that go on for 1,000 steps, so
+only some of these are run. The program is the one that the gate built, or that ZSCHED_BOUNDS names. The last line is
+'N passed, M failed', of policies."""
 import argparse
+import functools
 import json
-import pathlib
+import multiprocessing
+import os
 import random
 import subprocess
 import sys
 
+sys.dont_write_bytecode = True
+
 import generator
 import reference
+from support import TOP
 
-TOP = pathlib.Path(__file__).resolve().parent.parent
+BUILT = TOP / "crates" / "zsched_bounds" / "out" / "zsched_bounds"
 MOST, LAST = 2 ** 64 - 1, 999999999999999
 STEPS = 20000
+# The interval run of a policy that goes on for as many steps takes long.
+LONG = 1000
+# How many seeds a process takes at a time.
+CHUNK = 100
+# How deep histories of small policies go at most, and how many there are.
+DEEP, MOST_HISTORIES = 7, 20000
 INPUTS = [0, 1, 2, 3, 4, 5, 7, 404, 503, MOST]
 ANY = ("num", 0, MOST)
 
@@ -241,42 +255,70 @@ def random_policy(seed):
         return None
 
 
-def program_lines(policies):
-    """What the program tells of policies."""
-    ran = subprocess.run(["rt", "try"], cwd=TOP / "crates" / "zsched_bounds", input="".join(p + "\n" for p in policies), text=True,
-                         capture_output=True, check=False)
-    lines = [line for line in ran.stdout.splitlines() if line.startswith("{")]
-    if len(lines) != len(policies):
-        sys.exit(f"{len(lines)} lines for {len(policies)} policies\n{ran.stdout[-2000:]}\n{ran.stderr[-2000:]}")
-    return [json.loads(line) for line in lines]
+def program_lines(program, texts):
+    """What the program prints for policies."""
+    ran = subprocess.run([program], input="".join(f"{text}\n" for text in texts), text=True, capture_output=True, check=False)
+    lines = [json.loads(line) for line in ran.stdout.splitlines()]
+    if ran.returncode or len(lines) != len(texts):
+        raise ValueError(f"status {ran.returncode}, {len(lines)} lines for {len(texts)} policies: {ran.stderr[-500:]}")
+    return lines
 
 
-def compare(seeds, histories, steps):
-    policies = [p for seed in seeds if (p := random_policy(seed))]
-    wrong = gone = 0
-    for at in range(0, len(policies), 500):
-        some = policies[at:at + 500]
-        for (text, s), line in zip(some, program_lines([text for text, _ in some])):
-            line.pop("policy")
-            if line != bounds(s):
-                wrong += 1
-                print(f"{text}\n    program {line}\n    here    {bounds(s)}")
-            for k in range(histories):
-                said, went_on = history_outside(random.Random(f"{text} {k}"), s, line, steps)
-                gone += went_on
-                if said:
-                    wrong += 1
-                    print(f"{text}\n    a driven history {said}, but the program says {line}")
-    print(f"{len(policies)} policies, {histories} histories each, {gone} steps that went on; {wrong} differences")
-    return wrong
+def differences(text, s, printed, given, is_long):
+    """What is wrong with a line of the program, and how many steps of its driven histories went on."""
+    line = {key: value for key, value in printed.items() if key != "policy"}
+    found, gone = [], 0
+    if reference.read_schedule(printed["policy"].encode()) != s:
+        found.append(f"the policy is printed as {printed['policy']}")
+    if (line["steps_seen"] < LONG or is_long) and line != bounds(s):
+        found.append(f"the program prints {line}, the interval run has {bounds(s)}")
+    for k in range(given.histories):
+        said, went_on = history_outside(random.Random(f"{text} {k}"), s, line, given.steps)
+        gone += went_on
+        if said:
+            found.append(f"a driven history {said}, but the program prints {line}")
+    return found, gone
+
+
+def compare_some(given, program, seeds):
+    """The numbers of policies, of those with no difference, of interval runs, and of steps that went on."""
+    some = [(seed, *policy) for seed in seeds if (policy := random_policy(seed))]
+    passed = runs = steps = 0
+    for (seed, text, s), printed in zip(some, program_lines(program, [text for _, text, _ in some])):
+        is_long = seed % given.long == 0
+        found, gone = differences(text, s, printed, given, is_long)
+        runs, steps, passed = runs + (printed["steps_seen"] < LONG or is_long), steps + gone, passed + (not found)
+        for what in found:
+            print(f"seed {seed}: {text}\n    {what}", flush=True)
+    return len(some), passed, runs, steps
+
+
+def compare(given, program):
+    """Compares the policies of all seeds; returns the exit status."""
+    seeds = range(*map(int, given.seeds.split("..")))
+    work = functools.partial(compare_some, given, program)
+    with multiprocessing.Pool(given.processes) as pool:
+        all_of, passed, runs, steps = map(sum, zip(*pool.imap(work, [seeds[at:at + CHUNK] for at in range(0, len(seeds), CHUNK)])))
+    print(f"{all_of} policies; {given.histories} driven histories of each, of which {steps} steps went on; {runs} interval runs")
+    print(f"{passed} passed, {all_of - passed} failed")
+    return int(passed < all_of or not passed)
 
 
 # ---- how tight bounds are
 
-def reached(s, steps):
-    """The least and most steps, the longest wait and the total that driven histories of inputs 0..3 and durations 1..3 reach."""
+def driven_steps(text):
+    """The inputs and durations that make a difference to a policy, and to how many steps up to DEEP all histories over them
+    are at most MOST_HISTORIES."""
+    inputs = range(4) if "nput" in text or "identity" in text else [0]
+    durations = [1, 2, 3] if any(word in text for word in ("fixed", "windowed", "elapsed")) else [1]
+    fits = [n for n in range(1, DEEP + 1) if len(inputs) * (len(inputs) * len(durations)) ** (n - 1) <= MOST_HISTORIES]
+    return inputs, durations, fits[-1]
+
+
+def reached(s, inputs, durations, steps):
+    """The least and most steps, the longest wait and the total that all driven histories of these inputs and durations reach."""
     least, most, longest, total = steps + 1, 0, 0, 0
-    open_histories = [([(0, i)], 0) for i in range(4)]
+    open_histories = [([(0, i)], 0) for i in inputs]
     while open_histories:
         pairs, waited = open_histories.pop()
         n = len(pairs)
@@ -288,38 +330,53 @@ def reached(s, steps):
         longest, total = max(longest, wait), max(total, waited + wait)
         if n == steps:
             most = steps + 1
-        elif x + 3 <= LAST:
-            open_histories += [(pairs + [(x + d, i)], waited + wait) for d in (1, 3) for i in range(4)]
+        else:
+            open_histories += [(pairs + [(x + d, i)], waited + wait) for d in durations if x + d <= LAST for i in inputs]
     return least, most, longest, total
 
 
-def tightness(seeds, steps):
-    met = [0, 0, 0, 0]
-    policies = [p for seed in seeds if (p := random_policy(seed)) and len(p[0]) < 60 and ".resetWhen" not in p[0].replace(" ", "")]
-    for _, s in policies:
-        b, (least, most, longest, total) = bounds(s, steps), reached(s, steps)
-        met[0] += b["attempts"]["least"] == least
+def tightness(seeds):
+    """Prints how many bounds of small policies without `resetWhen` are met exactly by a history, in as many steps."""
+    met, runs, depths = [0, 0, 0, 0], 0, []
+    for seed in seeds:
+        policy = random_policy(seed)
+        if policy is None or len(policy[0]) >= 60 or "resetWhen" in policy[0]:
+            continue
+        inputs, durations, steps = driven_steps(policy[0])
+        b, (least, most, longest, total) = bounds(policy[1], steps), reached(policy[1], inputs, durations, steps)
+        runs, depths = runs + 1, [*depths, steps]
+        met[0] += min(b["attempts"]["least"], steps + 1) == least
         met[1] += (b["attempts"]["most"] or steps + 1) == most
         met[2] += b["longest_wait"] == longest
         met[3] += b["total_wait"] is None or b["total_wait"] == total
-    print(f"{len(policies)} policies: least met by {met[0]}, most by {met[1]}, longest wait by {met[2]}, total by {met[3]}")
+    print(f"{runs} policies, {min(depths)} to {max(depths)} steps; met exactly: the least number of attempts by {met[0]}, the most "
+          f"by {met[1]}, the longest wait by {met[2]}, all waits by {met[3]}")
 
 
 def main():
+    """Does what the words ask for; returns the exit status."""
     words = argparse.ArgumentParser(description=__doc__, formatter_class=argparse.RawDescriptionHelpFormatter)
     words.add_argument("--seeds", help="A..B")
-    words.add_argument("--histories", type=int, default=3)
-    words.add_argument("--steps", type=int, default=40)
-    words.add_argument("--tight", help="A..B")
+    words.add_argument("--histories", type=int, default=3, help="driven histories of each policy")
+    words.add_argument("--steps", type=int, default=40, help="steps of a history")
+    words.add_argument("--long", type=int, default=100, metavar="N",
+                       help="each N-th seed has an interval run of its policy, however many steps that takes")
+    words.add_argument("--processes", type=int, default=2)
+    words.add_argument("--tight", metavar="A..B")
     words.add_argument("--policy", nargs="+", default=[])
     given = words.parse_args()
     for text in given.policy:
         print(json.dumps({"policy": text, **bounds(reference.read_schedule(text.encode()))}))
     if given.tight:
-        tightness(range(*map(int, given.tight.split(".."))), 4)
-    if given.seeds:
-        sys.exit(compare(range(*map(int, given.seeds.split(".."))), given.histories, given.steps) != 0)
+        tightness(range(*map(int, given.tight.split(".."))))
+    if not given.seeds:
+        return 0
+    program = os.environ.get("ZSCHED_BOUNDS", str(BUILT))
+    if not os.access(program, os.X_OK):
+        print(f"zsched-bounds isn't built: there is no program {program}\n0 passed, 1 failed")
+        return 2
+    return compare(given, program)
 
 
 if __name__ == "__main__":
-    main()
+    sys.exit(main())

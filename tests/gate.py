@@ -59,6 +59,7 @@ PARTS = {
     "tools": Part(python("tools.py"), 90, beside=True),
     "examples": Part(python("examples.py"), 15),
     "reference": Part(python("compare.py", "--seeds", "0..2000"), 20),
+    "bounds": Part(python("bounds.py", "--seeds", "0..2000"), 20),
     "large-plans": Part(python("large_plans.py"), 20),
     "threads": Part(python("threads.py"), 20),
     "growth": Part(python("growth.py"), 40),

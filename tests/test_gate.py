@@ -92,6 +92,7 @@ SABOTAGES = [
     ("a part has no floor", lambda top: write(top / "tests" / "floors.txt", "examples 26", "# none"), "examples", "no number"),
     ("the program is of older sources", lambda top: write(top / "crates.txt", "zs_term:", "# changed\nzs_term:"), "examples",
      "not built from these sources"),
+    ("zsched-bounds is not there", lambda top: None, "bounds", "zsched-bounds isn't built"),
     ("a crate is not listed", drop_crate, "proofs", "zs_refusals"),
 ]
 

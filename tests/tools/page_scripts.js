@@ -1,15 +1,16 @@
-// Runs the scripts of docs/play.html that need no browser: `node page_scripts.js play.html answers|calls`.
+// Runs the scripts of docs/play.html that need no browser: `node page_scripts.js play.html answers|calls|words`.
 //
 // With `answers` each plan on standard input is the number of its bytes, in decimal, a newline and the bytes; its answer
 // is a JSON line: the status, the report and the fault's line. With `calls` each line is a list in JSON, a function's
 // name and its arguments; the answer is what it returns, with whole numbers as texts, or {"fault": ..} for what it throws.
+// With `words` each line is a schedule; the answer is what the page says of it for every input.
 "use strict";
 const fs = require("fs");
 const vm = require("vm");
 
 const MOST_ATTEMPTS = 2100;
 const page = fs.readFileSync(process.argv[2], "utf8");
-for (const name of ["evaluator", "drawing", "asking"])
+for (const name of ["evaluator", "drawing", "bounding", "asking"])
   vm.runInThisContext(new RegExp(`<script id="${name}">\n(.*?)</script>`, "s").exec(page)[1], { filename: name });
 
 // The next so many bytes of standard input, or null at its end.
@@ -48,7 +49,12 @@ function called(text) {
   }
 }
 
-const work = { answers: answer, calls: called }[process.argv[3]];
+function everyInput(text) {
+  const { boundsOf, words } = vm.runInThisContext("bounding");
+  return words(boundsOf(text));
+}
+
+const work = { answers: answer, calls: called, words: everyInput }[process.argv[3]];
 for (let next = line(); next !== null; next = line()) {
   const text = JSON.stringify(work(next), (_, value) => typeof value === "bigint" ? String(value) : value);
   fs.writeSync(1, `${text}\n`);

@@ -12,13 +12,14 @@ import unittest
 import urllib.parse
 import xml.etree.ElementTree
 
+import bounds
 import faults
 import hostile_plans
 import reference
 from browser import CHROMIUM, inside, opened
 from generator import plan_of
 from support import TOP, plan
-from zsched_tools import durations, play_page
+from zsched_tools import bounding, durations, play_page
 
 PAGE = TOP / "docs" / "play.html"
 TEXT = PAGE.read_text()
@@ -170,6 +171,60 @@ class Evaluator(unittest.TestCase):
         call = call.replace("recurs(3)", "recurs(0)")
         said = subprocess.run([NODE, "-e", call], capture_output=True, check=True).stdout
         self.assertNotEqual(said, reference.answer(plan().replace(b"recurs(3)", b"recurs(0)"))[1])
+
+
+@unittest.skipIf(NODE is None, NO_NODE)
+class EveryInput(unittest.TestCase):
+    """What the page says of a schedule for every input, beside tests/bounds.py, which is held to the program."""
+
+    @staticmethod
+    def wanted(schedule, steps):
+        """What tests/bounds.py has, in the page's form."""
+        found = bounds.bounds(schedule, steps)
+        has_end = found["attempts"]["most"] is not None or found["steps_seen"] < steps
+        return {**found["attempts"], "longest": found["longest_wait"], "total": found["total_wait"],
+                "seen": found["steps_seen"]}, has_end
+
+    def hold(self, policies, steps):
+        """Holds the page to it on schedules, by so many steps."""
+        answers = called(*[["bounding.boundsOf", text, steps] for text, _ in policies])
+        self.assertEqual(len(answers), len(policies))
+        for (text, schedule), answer in zip(policies, answers):
+            wanted, has_end = self.wanted(schedule, steps)
+            found = {key: None if answer[key] is None else int(answer[key]) for key in wanted}
+            with self.subTest(text):
+                self.assertEqual(found, wanted)
+                self.assertTrue(has_end or answer["isCut"])
+
+    def test_on_schedules_made_at_random(self):
+        self.hold([policy for seed in range(400) if (policy := bounds.random_policy(seed))], 120)
+
+    def test_on_the_schedules_of_the_plans(self):
+        files = sorted([*TOP.glob("examples/*.json"), *TOP.glob("tests/plans/*.json")])
+        texts = {job["schedule"] for file in files for job in json.loads(file.read_bytes())["jobs"]}
+        short = sorted(text for text in texts if len(text) < 2000)
+        self.assertGreater(len(short), 60)
+        self.hold([(text, reference.read_schedule(text.encode())) for text in short], 120)
+
+    def test_many_steps(self):
+        # Each of the 20,000 steps is looked at, and of a schedule of 101 nodes only 1980.
+        many, wide = called(["bounding.boundsOf", "spaced(7)"],
+                            ["bounding.boundsOf", "(" * 50 + "forever" + " && forever)" * 50])
+        self.assertEqual([many["seen"], many["least"], many["isCut"]], [20000, 20001, True])
+        self.assertEqual([wide["seen"], wide["least"], wide["isCut"]], [1980, 1981, True])
+
+    def test_the_words_are_those_of_zsched_try(self):
+        texts = ["recurs(0)", "(exponential(100) && recurs(5))", "forever", "spaced(9)", "exponential(1)",
+                 "(spaced(400) && elapsed).whileOutput(_2 < 2000)", "spaced(18446744073709551615)",
+                 "(spaced(99999999999) && recurs(1))"]
+        found = called(*[["bounding.boundsOf", text] for text in texts])
+        with started("words") as child:
+            said = child.communicate("".join(f"{text}\n" for text in texts).encode())[0].splitlines()
+        for text, numbers, line in zip(texts, found, said, strict=True):
+            wanted = bounding.Bounds(**{key: None if numbers[key] is None else int(numbers[key])
+                                        for key in ("least", "most", "longest", "total", "seen")})
+            with self.subTest(text):
+                self.assertEqual(json.loads(line), wanted.line())
 
 
 @unittest.skipIf(NODE is None, NO_NODE)
@@ -388,6 +443,8 @@ class Browser(unittest.TestCase):
         self.assertEqual(re.findall('aria-pressed="true">(.*?)<', document), ["Backoff with a cap"])
         said = inside(document, "state").replace("\n", "")
         self.assertIn("A: gives up with 503 after 11 attempts, 13.54 s; longest wait 2 s", said)
+        # 100, 200, 400, 800, 1600, and 2000 five times.
+        self.assertIn("for every input (unproved): 11 attempts, always; waits of at most 2 s, 13.1 s in all", document)
         self.assertIn("end failed 503 at 13540 polls 22", inside(document, "report"))
         self.assertRegex(document, r'<div id="picture"[^>]*><svg ')
         self.assertNotIn('class="fault shown"', document)

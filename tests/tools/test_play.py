@@ -4,10 +4,12 @@ The browser is chromium, if it is installed. What the page does with what is typ
 import http.client
 import json
 import os
+import pathlib
 import re
 import signal
 import socket
 import subprocess
+import tempfile
 import threading
 import unittest
 import unittest.mock
@@ -108,7 +110,32 @@ class Answers(Served):
         for file in sorted(TOP.glob("examples/*.json"))[:8]:
             with self.subTest(file.name):
                 wanted = file.with_name(f"{file.name}.stdout").read_text()
-                self.assertEqual(self.asked(file.read_bytes()), {"report": wanted, "size": len(wanted)})
+                answer = self.asked(file.read_bytes())
+                del answer["bounds"]
+                self.assertEqual(answer, {"report": wanted, "size": len(wanted)})
+
+    def test_what_holds_for_every_input_is_that_of_zsched_bounds(self):
+        line = ('{"policy":"recurs(3)","attempts":{"least":4,"most":4},"longest_wait":0,"total_wait":0,'
+                '"steps_seen":4}')
+        three = json.loads(question())
+        three["jobs"] = [{**three["jobs"][0], "name": f"j{number}", "schedule": f"recurs({number})"} for number in range(3)]
+        with tempfile.TemporaryDirectory() as folder:
+            bounds = pathlib.Path(folder) / "zsched-bounds"
+            for ending, plan, wanted in [
+                    ("exit 0", question(), {"recurs(3)": "4 attempts, always; no waits"}),
+                    ("exit 4", question(), {}),
+                    ("exit 0", json.dumps(three).encode(), {})]:
+                bounds.write_text(f"#!/bin/sh\ncat > /dev/null\necho '{line}'\n{ending}\n")
+                bounds.chmod(0o700)
+                with self.subTest(ending, jobs=len(json.loads(plan)["jobs"])):
+                    self.assertEqual(play.answer(self.zsched, plan, 10, str(bounds))["bounds"], wanted)
+        self.assertEqual(play.answer(self.zsched, question(), 10)["bounds"], {})
+
+    @unittest.skipIf(program.find_bounds() is None, "zsched_bounds isn't built")
+    def test_the_program_itself_says_what_holds_for_every_input(self):
+        policy = "(exponential(100) && recurs(5))"
+        self.assertEqual(self.asked(question(policy))["bounds"],
+                         {policy: "6 attempts, always; waits of at most 1.6 s, 3.1 s in all"})
 
     def test_a_fault_of_a_schedule_has_its_place(self):
         for text, marked, word in CARETS:

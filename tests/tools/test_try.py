@@ -1,4 +1,4 @@
-"""zsched-try: a line a policy, worked out by hand; bounds; the plan and the picture; faults with their caret."""
+"""zsched-try: a line a policy, worked out by hand; bounds, also those of every input; the plan and the picture; faults with their caret."""
 import ast
 import io
 import json
@@ -24,11 +24,17 @@ from zsched_tools.report import Attempt, Ending, records
 TOOL = TOP / "tools" / "zsched-try"
 
 
-def tool(*words, program=None):
-    """Runs the command, in this process: status, standard output, standard error."""
+BOUNDS = zsched.find_bounds()
+# The line of a policy for every input.
+EVERY = re.compile(r"^ *for every input: .*\n", re.M)
+
+
+def tool(*words, program=None, bounds=None):
+    """Runs the command, in this process, with this zsched-bounds or with none: status, standard output, standard error."""
     words = ["zsched-try", *words, "--zsched", program or zsched.find()]
     out, err = io.StringIO(), io.StringIO()
-    with mock.patch.multiple(sys, argv=words, stdout=out, stderr=err):
+    with mock.patch.multiple(sys, argv=words, stdout=out, stderr=err), \
+            mock.patch.object(zsched, "find_bounds", lambda named: named or bounds):
         try:
             status = try_command.main()
         except SystemExit as ended:
@@ -140,6 +146,115 @@ class Bounds(unittest.TestCase):
         self.assertEqual(tool("spaced(1000)", "--until", "1h", "--max-wait", "1s")[0], 0)
 
 
+def printing(folder, lines, status=0):
+    """The path of a program that prints these lines, whatever it reads."""
+    script = pathlib.Path(folder) / "zsched-bounds"
+    script.write_text(f"#!/bin/sh\ncat > /dev/null\ncat << END\n{lines}\nEND\nexit {status}\n")
+    script.chmod(0o700)
+    return str(script)
+
+
+def bounds_line(least, most, longest, total, seen):
+    """A line as zsched-bounds prints it."""
+    return json.dumps({"policy": "p", "attempts": {"least": least, "most": most}, "longest_wait": longest,
+                       "total_wait": total, "steps_seen": seen})
+
+
+class EveryInput(unittest.TestCase):
+    """What is proved for every input, and bounds that have to be."""
+
+    RUN = "failed 503 after 2 attempts, 80 ms (waited 0 ms, longest wait 0 ms)\n"
+
+    def shown(self, line, *words):
+        """Status, the line for every input, and standard error if zsched-bounds prints this line."""
+        with tempfile.TemporaryDirectory() as folder:
+            status, out, err = tool("recurs(1)", *words, bounds=printing(folder, line))
+        self.assertTrue(out.startswith(self.RUN), out)
+        return status, out.removeprefix(self.RUN), err
+
+    def test_the_words(self):
+        for line, words in [
+                (bounds_line(6, 6, 1600, 3100, 6), "6 attempts, always; waits of at most 1.6 s, 3.1 s in all"),
+                (bounds_line(1, 1, 0, 0, 1), "1 attempt, always; no waits"),
+                (bounds_line(2, 6, 400, 2000, 6), "2 to 6 attempts; waits of at most 400 ms, 2 s in all"),
+                (bounds_line(1, None, 1000, None, 20000),
+                 "1 or more attempts, no proved limit; first 20000 waits of at most 1 s"),
+                (bounds_line(20001, None, 0, None, 20000),
+                 "20001 or more attempts, no proved limit; first 20000 waits of 0 ms"),
+                (bounds_line(4, None, 500, 900, 3),
+                 "4 or more attempts, no proved limit; waits of at most 500 ms, 900 ms in all"),
+                # The first is over the last moment of a plan.
+                (bounds_line(3, 4, 10**15, 10**15, 4), "3 to 4 attempts; waits without a proved limit"),
+                (bounds_line(3, 4, 10**15 - 1, 10**15 - 1, 4),
+                 "3 to 4 attempts; waits of at most 11574075 d, 11574075 d in all"),
+                # 1,000 days, and a millisecond more of all waits.
+                (bounds_line(3, 4, 86399999999, 86400000001, 4),
+                 "3 to 4 attempts; waits of at most 999 d 23 h 59 min 59.999 s, 1001 d in all"),
+                (bounds_line(9, 20000, 7, None, 20000), "9 to 20000 attempts; waits of at most 7 ms")]:
+            with self.subTest(line):
+                self.assertEqual(self.shown(line), (0, f"for every input: {words}\n", ""))
+
+    def test_each_required_bound_at_its_edge(self):
+        line, start = bounds_line(2, 6, 400, 2000, 6), "zsched-try: recurs(1): "
+        for option, enough, less, words in [
+                ("--require-most", "6", "5", "--require-most 5 is not proved: up to 6 attempts"),
+                ("--require-total", "2s", "1999",
+                 "--require-total 1.999 s is not proved: waits of up to 2 s in all")]:
+            with self.subTest(option):
+                self.assertEqual(self.shown(line, option, enough)[::2], (0, ""))
+                self.assertEqual(self.shown(line, option, less)[::2], (1, f"{start}{words}\n"))
+
+    def test_what_has_no_bound_is_never_proved(self):
+        status, _, err = self.shown(bounds_line(1, None, 9, None, 20000), "--require-most", str(2**64 - 1),
+                                    "--require-total", "999999999999999")
+        self.assertEqual((status, err.splitlines()), (1, [
+            f"zsched-try: recurs(1): --require-most {2**64 - 1} is not proved: no limit of attempts",
+            f"zsched-try: recurs(1): --require-total {duration(999999999999999)} is not proved: no limit of waits"]))
+
+    def test_each_policy_has_its_line_and_its_bounds(self):
+        with tempfile.TemporaryDirectory() as folder:
+            path = printing(folder, bounds_line(2, 2, 0, 0, 2) + "\n" + bounds_line(3, 3, 5, 10, 3))
+            words = ["recurs(1)", "(recurs(2) && spaced(5))", "--require-most", "2"]
+            status, out, err = tool(*words, bounds=path)
+            picture = tool(*words, "--svg", bounds=path)
+        self.assertEqual((status, err), (1, "zsched-try: (recurs(2) && spaced(5)): --require-most 2 is not proved: "
+                                            "up to 3 attempts\n"))
+        self.assertEqual([line[26:] for line in out.splitlines()[1::2]], [
+            "for every input: 2 attempts, always; no waits",
+            "for every input: 3 attempts, always; waits of at most 5 ms, 10 ms in all"])
+        self.assertEqual((picture[0], picture[2]), (1, err))
+        self.assertNotIn("for every input", picture[1])
+
+    def test_without_the_program(self):
+        self.assertEqual(tool("recurs(1)"), (0, self.RUN, ""))
+        for words in [["--require-most", "9"], ["--require-total", "9"]]:
+            status, out, err = tool("recurs(1)", *words)
+            self.assertEqual((status, out), (2, ""))
+            self.assertIn("need zsched-bounds, which is neither built nor installed", err)
+
+    def test_a_program_that_fails_or_is_not_there(self):
+        with tempfile.TemporaryDirectory() as folder:
+            status, out, err = tool("recurs(1)", bounds=printing(folder, "", 4))
+        self.assertEqual((status, out, err), (3, "", "zsched-try: zsched-bounds ended with status 4\n"))
+        ended = subprocess.run([sys.executable, TOOL, "recurs(1)", "--zsched", zsched.find(), "--bounds", "/nowhere"],
+                               capture_output=True, text=True, check=False)
+        self.assertEqual((ended.returncode, ended.stdout, ended.stderr), (2, "", "zsched-try: no program at /nowhere\n"))
+
+    @unittest.skipIf(BOUNDS is None, "zsched_bounds isn't built")
+    def test_the_program_itself(self):
+        # Delays of 100 ms and twice as much each time, up to 1.6 s, for five retries.
+        policy = "(exponential(100) && recurs(5))"
+        status, out, err = tool(policy, "--require-most", "6", "--require-total", "3100", bounds=BOUNDS)
+        self.assertEqual((status, err), (0, ""))
+        self.assertIn("for every input: 6 attempts, always; waits of at most 1.6 s, 3.1 s in all\n", out)
+        self.assertEqual(tool(policy, "--require-most", "5", bounds=BOUNDS)[0], 1)
+        self.assertEqual(tool(policy, "--require-total", "3099", bounds=BOUNDS)[0], 1)
+
+    def test_a_wrong_policy_has_the_same_fault(self):
+        with tempfile.TemporaryDirectory() as folder:
+            self.assertEqual(tool("x", "--require-most", "1", bounds=printing(folder, "", 2))[::2], tool("x")[::2])
+
+
 class Printed(unittest.TestCase):
     """The plan and the picture."""
 
@@ -235,16 +350,20 @@ class Command(unittest.TestCase):
     def test_help_shows_a_run_as_it_is(self):
         status, out, _ = tool("--help")
         self.assertEqual(status, 0)
-        shown = re.search(r"\$ zsched-try '(.+)'\n +(.+)\n", out)
-        self.assertEqual(tool(shown[1]), (0, shown[2] + "\n", ""))
+        policy, line, every = re.search(r"\$ zsched-try '(.+)'\n +(.+\n) +(.+\n)", out).groups()
+        self.assertRegex(every, EVERY)
+        self.assertEqual(tool(policy, bounds=BOUNDS), (0, line + (every if BOUNDS else ""), ""))
 
-    def test_the_recipe_shows_runs_as_they_are(self):
+    def test_the_recipe_and_the_readme_show_runs_as_they_are(self):
         page = (TOP / "docs" / "RECIPES.md").read_text().split("### Try a policy from the command line\n")[1]
         shown = re.findall(r"```console\n\$ tools/zsched-try (.*?)\n(.*?)```", page, re.S)
-        self.assertEqual(len(shown), 3)
+        shown += re.findall(r"```console\n\$ tools/zsched-try (.*?)\n(.*?)```", (TOP / "README.md").read_text(), re.S)
+        self.assertEqual(len(shown), 5)
         for words, lines in shown:
-            _, out, err = tool(*shlex.split(words))
-            self.assertEqual(out + err, lines)
+            self.assertRegex(lines, EVERY)
+            if BOUNDS or "--require" not in words:
+                _, out, err = tool(*shlex.split(words), bounds=BOUNDS)
+                self.assertEqual(out + err, lines if BOUNDS else EVERY.sub("", lines))
 
     def test_version(self):
         self.assertEqual(tool("--version"), (0, f"zsched-try {(TOP / 'VERSION').read_text()}", ""))

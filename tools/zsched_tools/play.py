@@ -13,7 +13,7 @@ import subprocess
 import sys
 import tempfile
 
-from zsched_tools import colors, command, faults, plan_size, play_page, program, release, starting
+from zsched_tools import bounding, colors, command, faults, plan_size, play_page, program, release, starting
 
 ADDRESS = "127.0.0.1"
 PORT = 8642
@@ -24,6 +24,8 @@ LONGEST_BODY = program.MAX_BYTES
 LONGEST_REPORT = 8_000_000
 LONGEST_SHOWN = 200_000
 PATIENCE = 30
+# A page has two policies.
+MOST_POLICIES = 2
 POLICY = ("default-src 'none'; script-src 'unsafe-inline'; style-src 'unsafe-inline'; img-src data:; "
           "connect-src 'self'; base-uri 'none'; form-action 'none'; frame-ancestors 'none'")
 PATHS = {"/": ["GET", "HEAD"], "/report": ["POST"]}
@@ -54,8 +56,21 @@ def run(zsched, plan, seconds):
         return child.returncode, report.read(LONGEST_REPORT + 1), size, errors
 
 
-def answer(zsched, plan, seconds):
-    """What the page shows for the bytes of a plan: the report, or the fault with its place."""
+def every_input(bounds, plan):
+    """What this zsched-bounds says of each schedule of a plan, if there are as few as the page has policies. It says nothing
+    if it fails: the report is shown all the same."""
+    schedules = list({job["schedule"] for job in json.loads(plan)["jobs"]})
+    if bounds is None or len(schedules) > MOST_POLICIES:
+        return {}
+    try:
+        return {schedule: found.line() for schedule, found in zip(schedules, bounding.run(bounds, schedules, SECONDS))}
+    except (OSError, subprocess.TimeoutExpired):
+        return {}
+
+
+def answer(zsched, plan, seconds, bounds=None):
+    """What the page shows for the bytes of a plan: the report, and what holds for every input; or the fault with its
+    place."""
     many = plan_size.warning(plan)
     if many:
         return {"fault": {"field": "until", "cause": many, "help": SMALLER}}
@@ -72,7 +87,7 @@ def answer(zsched, plan, seconds):
     if status:
         cause = f"{said or f'status {status} and no report'} ({MEMORY >> 20} MB are given to it)"
         return {"fault": {"field": "until", "cause": cause, "help": SMALLER}}
-    return shown(report, size)
+    return {**shown(report, size), "bounds": every_input(bounds, plan)}
 
 
 def placed(plan, said):
@@ -100,9 +115,9 @@ class Server(http.server.ThreadingHTTPServer):
     """Serves the page on this machine alone. A run that is under way ends before the server does."""
     daemon_threads = False
 
-    def __init__(self, port, zsched, seconds):
+    def __init__(self, port, zsched, seconds, bounds=None):
         super().__init__((ADDRESS, port), Handler)
-        self.zsched = zsched
+        self.zsched, self.bounds = zsched, bounds
         self.seconds = seconds
         names = [ADDRESS, "localhost"]
         self.hosts = [f"{name}:{self.server_port}" for name in names] + (names if self.server_port == 80 else [])
@@ -167,7 +182,7 @@ class Handler(http.server.BaseHTTPRequestHandler):
     def give_answer(self):
         """The answer to a plan."""
         plan = self.rfile.read(int(self.headers["Content-Length"]))
-        answered = json.dumps(answer(self.server.zsched, plan, self.server.seconds)).encode()
+        answered = json.dumps(answer(self.server.zsched, plan, self.server.seconds, self.server.bounds)).encode()
         self.give(200, "application/json", answered)
 
     def give(self, status, kind, body):
@@ -213,11 +228,11 @@ def stop(number, frame):
 def serve(given):
     """Serves the page until Ctrl-C."""
     try:
-        zsched = program.find(given.zsched)
+        zsched, bounds = program.find(given.zsched), program.find_bounds(given.bounds)
     except program.NoProgram as none:
         raise command.Refused(none) from none
     try:
-        server = Server(given.port, zsched, SECONDS)
+        server = Server(given.port, zsched, SECONDS, bounds)
     except OSError as fault:
         raise command.Refused(f"port {given.port}: {fault.strerror}") from fault
     with server:
@@ -237,6 +252,7 @@ def main():
         epilog="Ctrl-C ends it, with status 0. Status 2: wrong words, no program, or a port that can't be had.")
     words.add_argument("--port", type=port_of, default=PORT, help=f"the port ({PORT}); 0 picks one, and it is printed")
     words.add_argument("--zsched", metavar="PATH", help="the program (ZSCHED, or the one that is built or on PATH)")
+    words.add_argument("--bounds", metavar="PATH", help="zsched-bounds (ZSCHED_BOUNDS, or the one that is built or on PATH)")
     release.add_version(words)
     colors.add_color(words)
     given = starting.parsed(words)

@@ -62,7 +62,7 @@ def run(program, plan, seconds=None):
     return ended.returncode, ended.stdout, ended.stderr
 
 
-def failure(status, errors):
-    """What a run says that failed: the program's line on standard error, or how it ended where there is none."""
+def failure(status, errors, name="zsched"):
+    """What a run says that failed: the program's line on standard error, or how it ended if there is none."""
     line = errors.decode(errors="replace").strip()
-    return line or (f"zsched was ended by signal {-status}" if status < 0 else f"zsched ended with status {status}")
+    return line or (f"{name} was ended by signal {-status}" if status < 0 else f"{name} ended with status {status}")

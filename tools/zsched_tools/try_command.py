@@ -4,7 +4,7 @@ import io
 import re
 import sys
 
-from zsched_tools import command, program, schedule_rules, schedule_text, starting
+from zsched_tools import bounding, command, program, schedule_rules, schedule_text, starting
 from zsched_tools.cause import Cause
 from zsched_tools.colors import Paint, add_color
 from zsched_tools.command import REFUSED, Refused
@@ -13,6 +13,7 @@ from zsched_tools.durations import duration
 from zsched_tools.picture import draw, rows_of
 from zsched_tools.place import place_lines
 from zsched_tools.release import add_version
+from zsched_tools.summary import plural
 from zsched_tools.trying import MOST_AFTER, plan_of, tried_in
 
 TOOL = "zsched-try"
@@ -21,22 +22,26 @@ EXCEEDED = 1
 NO_MEMORY = 4
 LAST_MOMENT = 999_999_999_999_999
 DESCRIPTION = """Runs policies from the command line, all on the same attempts, and prints a line for each: how it ends,
-after how many attempts and when, and how long it waits.
+after how many attempts and when, and how long it waits. Below it, if zsched-bounds is there, a line says what the policy
+does for every input and every duration of attempts, until it gives up. That is proved.
 
   $ zsched-try '(exponential(100) && recurs(5))'
   failed 503 after 6 attempts, 3.34 s (waited 3.1 s, longest wait 1.6 s)
+  for every input: 6 attempts, always; waits of at most 1.6 s, 3.1 s in all
 
   zsched-try 'spaced(1000)' 'exponential(100)' --after 3
   zsched-try "$POLICY" --max-wait 30s --max-total 2min
+  zsched-try "$POLICY" --require-most 10 --require-total 30s
 
 Each attempt ends as --fails says. With --after N only the first N do, and the others end as --then says. A duration
 is a number of milliseconds, or has a unit: 40, 40ms, 1.5s, 2min, 1h30m, 1d. docs/RECIPES.md has policies for many
 tasks."""
 EPILOG = """A policy that is unfinished at --until has neither an end nor a last attempt, so it exceeds every --max-total
-and --max-attempts. Its waits count up to there.
+and --max-attempts. Its waits count up to there. --max-.. are limits of this run, --require-.. of every run.
 
-Exit status: 0; 1 if a policy exceeds a bound (it is named on standard error); 2 if a policy or a word is wrong, with a
-caret below its place; 3 if the program or writing fails."""
+Exit status: 0; 1 if a policy exceeds a bound, or if a required one isn't proved (it is named on standard error); 2 if a
+policy or a word is wrong, with a caret below its place, or if --require-.. finds no zsched-bounds; 3 if a program or
+writing fails."""
 
 
 def _time(least):
@@ -94,6 +99,31 @@ def _exceeded(given, found):
         yield f"{found.attempts} attempts{more}, over --max-attempts {given.max_attempts}"
 
 
+def _not_proved(given, bounds):
+    """The required bounds of a policy that aren't proved, in words."""
+    most, total = given.require_most, given.require_total
+    if most is not None and (bounds.most is None or bounds.most > most):
+        found = "no limit of attempts" if bounds.most is None else f"up to {plural(bounds.most, 'attempt')}"
+        yield f"--require-most {most} is not proved: {found}"
+    if total is not None and (bounds.total is None or bounds.total > total):
+        found = "no limit of waits" if bounds.total is None else f"waits of up to {duration(bounds.total)} in all"
+        yield f"--require-total {duration(total)} is not proved: {found}"
+
+
+def _bounds(given):
+    """What the policies do for every input, or nothing of each if the program for it isn't there and isn't required."""
+    try:
+        path = program.find_bounds(given.bounds)
+    except program.NoProgram as missing:
+        raise Refused(missing) from None
+    if path is not None:
+        return bounding.run(path, given.policies)
+    if given.require_most is not None or given.require_total is not None:
+        raise Refused("--require-most and --require-total need zsched-bounds, which is neither built nor installed; "
+                      "--bounds PATH or ZSCHED_BOUNDS names it")
+    return [None] * len(given.policies)
+
+
 def _wrong(given, line):
     """Shows the fault of a policy, of which the program wrote this line; returns the status."""
     place = re.fullmatch(r"zsched: job (\d+): schedule: (.+)", line)
@@ -110,19 +140,21 @@ def _wrong(given, line):
     return REFUSED
 
 
-def _print_all(given, report):
+def _print_all(given, report, all_bounds):
     """The lines of the policies, or the picture; and the bounds that they exceed. Returns the status."""
     if given.svg:
         for line in draw(rows_of(io.StringIO(report.decode()), []), given.title):
             print(line)
     paint, status = Paint(given.color, sys.stdout), 0
     widest = max(map(len, given.policies)) + 2 if len(given.policies) > 1 else 0
-    for policy, found in zip(given.policies, tried_in(report)):
+    for policy, found, bounds in zip(given.policies, tried_in(report), all_bounds):
         if not given.svg:
             style = "good" if found.how in ("succeeded", "finished") else "bad" if found.how == "failed" else "strong"
             ending, after, rest = found.line().partition(" after ")
             print((policy.ljust(widest) if widest else "") + paint(style, ending) + after + rest)
-        for words in _exceeded(given, found):
+            if bounds is not None:
+                print(" " * widest + f"for every input: {bounds.line()}")
+        for words in [*_exceeded(given, found), *(_not_proved(given, bounds) if bounds is not None else [])]:
             sys.stdout.flush()
             print(f"{TOOL}: {policy}: {words}", file=sys.stderr)
             status = EXCEEDED
@@ -150,7 +182,7 @@ def work(given):
     if status:
         more = "; shorten --until, or lengthen the waits" if status == NO_MEMORY or status < 0 else ""
         raise ChildProcessError(program.failure(status, errors) + more)
-    return _print_all(given, report)
+    return _print_all(given, report, _bounds(given))
 
 
 def arguments():
@@ -168,11 +200,14 @@ def arguments():
     parser.add_argument("--max-total", type=_time(0), metavar="TIME", help="the latest end")
     parser.add_argument("--max-wait", type=_time(0), metavar="TIME", help="the longest wait")
     parser.add_argument("--max-attempts", type=_count(2**64 - 1), metavar="N", help="the most attempts")
+    parser.add_argument("--require-most", type=_count(2**64 - 1), metavar="N", help="the most attempts for every input")
+    parser.add_argument("--require-total", type=_time(0), metavar="TIME", help="the most of all waits for every input")
     printed = parser.add_mutually_exclusive_group()
     printed.add_argument("--plan", action="store_true", help="print the plan, and run nothing")
     printed.add_argument("--svg", action="store_true", help="print the picture")
     parser.add_argument("--title", default="", help="words above the picture")
     parser.add_argument("--zsched", metavar="PATH", help="the program (ZSCHED, the built or the installed one)")
+    parser.add_argument("--bounds", metavar="PATH", help="zsched-bounds (ZSCHED_BOUNDS, the built or installed one)")
     add_color(parser)
     add_version(parser)
     return parser

@@ -1,0 +1,68 @@
+"""What a policy does for every input, as the program zsched-bounds prints it: lines of JSON, and each in one line of words."""
+import json
+from dataclasses import dataclass
+
+from zsched_tools import program
+from zsched_tools.durations import DAY, duration
+from zsched_tools.summary import plural
+
+# The program looks at this number of steps at most.
+MOST_STEPS = 20000
+# No plan has a later moment.
+LAST_MOMENT = 999_999_999_999_999
+
+
+def _rounded(ms):
+    """A duration in words, of 1,000 days and more in days, rounded up."""
+    return duration(ms) if ms < 1000 * DAY else f"{-(-ms // DAY)} d"
+
+
+@dataclass
+class Bounds:
+    """The least and the most attempts until a policy gives up, the longest wait and all waits together in milliseconds,
+    and the number of steps that were looked at. None is a number that isn't known."""
+    least: int
+    most: int | None
+    longest: int
+    total: int | None
+    seen: int
+
+    def attempts(self):
+        """The attempts in words."""
+        if self.most is None:
+            return f"{self.least} or more attempts, no proved limit"
+        if self.least == self.most:
+            return f"{plural(self.most, 'attempt')}, always"
+        return f"{self.least} to {self.most} attempts"
+
+    def waits(self):
+        """The waits in words. Later steps than those that were looked at may have longer ones. A limit over the last moment
+        of a plan limits nothing."""
+        if self.longest > LAST_MOMENT:
+            return "waits without a proved limit"
+        if self.most is None and self.seen == MOST_STEPS:
+            limit = f"at most {_rounded(self.longest)}" if self.longest else "0 ms"
+            return f"first {MOST_STEPS} waits of {limit}"
+        if self.longest == 0:
+            return "no waits"
+        total = "" if self.total is None else f", {_rounded(self.total)} in all"
+        return f"waits of at most {_rounded(self.longest)}{total}"
+
+    def line(self):
+        """All of it in one line."""
+        return f"{self.attempts()}; {self.waits()}"
+
+
+def bounds_of(line):
+    """What a line of the program says."""
+    read = json.loads(line)
+    return Bounds(read["attempts"]["least"], read["attempts"]["most"], read["longest_wait"], read["total_wait"],
+                  read["steps_seen"])
+
+
+def run(path, policies, seconds=None):
+    """What the program at this path says of each policy. Past the seconds subprocess.TimeoutExpired is raised."""
+    status, printed, errors = program.run(path, "".join(f"{policy}\n" for policy in policies).encode(), seconds)
+    if status:
+        raise ChildProcessError(program.failure(status, errors, "zsched-bounds"))
+    return [bounds_of(line) for line in printed.splitlines()]
