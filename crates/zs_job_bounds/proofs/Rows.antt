@@ -1,5 +1,5 @@
--- Worked jobs, each worked out by hand from docs/SEMANTICS.md, and the bounds of their schedule. They hold by computing, but for the
--- one that applies the laws: a job can satisfy their premises.
+-- Worked jobs, each worked out by hand from docs/SEMANTICS.md, and the bounds of their schedule.
+-- They hold by computing, but for the one that applies the laws: a job can satisfy their premises.
 use Rattle.std.proofs.Common.{◌≡◌, ℕ, zero, suc, ◌≤◌, ◌<◌, List, [], ◌∷◌, length, refl, arith, ◌+◌}
 use Rattle.std.specs.Prelude.{Some, None, slice_index_or}
 use Rattle.zs_term.specs.Saturating.{max_moment}

@@ -12,13 +12,14 @@ use Rattle.zs_drive.specs.DriverRules.{pair_of, history_after}
 abbrev pub HasInputs : List Beat → Type 0
 HasInputs beats = All (λ beat. number_of beat.outcome ≤ max_moment) beats
 
--- these attempts are followed by one with this end
+-- one of the attempts has this end, and these are the earlier ones
 pub record IsEndAfter (attempts earlier : List AttemptedValue) (end : EndedValue) : Type 0 where
   pub begun : ℕ
   pub later : List AttemptedValue
   pub split : attempts ≡ earlier ++ record { begun = begun; ended = Some end } ∷ later
 
--- the history on which the schedule is evaluated at this end, unless the outcome itself ends the job
+-- the history on which the schedule is evaluated at this end, unless the outcome itself ends the
+-- job
 abbrev pub history_at : List AttemptedValue → EndedValue → History
 history_at earlier end = pair_of end ∷ history_after earlier
 

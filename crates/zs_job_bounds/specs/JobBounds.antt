@@ -15,7 +15,7 @@ use Rattle.zs_bounds.specs.Bounds.{wait_of, Promises}
 use Rattle.zs_bounds.specs.BoundsOf.{bounds_of}
 use Rattle.zs_job_bounds.specs.Histories.{HasInputs, IsEndAfter, history_at, IsHistoryOf}
 
--- a law that is true of every job and every clock
+-- a law that is true of every job with a valid script, and of every clock
 abbrev pub OnEachClock : (JobRecord → List ℕ → Type 0) → Type 0
 OnEachClock Law = (job : JobRecord) (ticks : List ℕ) → IsScript job.script → HasInputs job.script → AreTicks ticks → Law job ticks
 
@@ -60,6 +60,7 @@ pub record IsWithin (b : Bounds) (attempts : List AttemptedValue) : Type 0 where
 abbrev pub PromisedBoundsHold : JobRecord → List ℕ → Type 0
 PromisedBoundsHold job ticks = (b : Bounds) → Promises job.schedule b → IsWithin b (timeline_of job ticks).attempts
 
--- They are within the bounds that `zs_bounds::bounds` computes for its schedule, from any number of steps.
+-- They are within the bounds that `zs_bounds::bounds` computes for its schedule, from any number of
+-- steps. The factors of a `Checked` schedule are at least 1.
 abbrev pub ComputedBoundsHold : JobRecord → List ℕ → Type 0
 ComputedBoundsHold job ticks = (steps : ℕ) → has_factors job.schedule ≡ true → IsWithin (bounds_of job.schedule steps) (timeline_of job ticks).attempts
