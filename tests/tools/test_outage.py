@@ -15,8 +15,9 @@ import unittest
 from unittest import mock
 
 import reference
+from browser import CHROMIUM, inside, opened
 from support import TOP
-from zsched_tools import certificate, curve, curve_picture, drawn, outage, outage_command, scenario, starting
+from zsched_tools import certificate, curve, curve_page, curve_picture, drawn, outage, outage_command, scenario, starting
 from zsched_tools import program as zsched
 from zsched_tools.cause import Cause
 from zsched_tools.duration_text import milliseconds
@@ -505,6 +506,30 @@ class Curves(unittest.TestCase):
         self.assertEqual([curve.share_of(hundred, percent) for percent in [50, 95, 99, 100]], [50, 95, 99, 100])
         self.assertEqual(curve.share_of([1, 2, 3, 4], 50), 2)
         self.assertIsNone(curve.share_of([], 50))
+
+
+@unittest.skipIf(CHROMIUM is None, "chromium isn't installed (Debian: chromium)")
+class Browser(unittest.TestCase):
+    """The page in a browser."""
+
+    def test_long_names_leave_all_figures_in_sight(self):
+        names = ["W" * 64, "a-policy-with-" + "long-" * 10]
+        given = changed(policies=dict.fromkeys(names, "spaced(400)"))
+        figures = {name: simulated(given, name)[-1] for name in names}
+        with tempfile.TemporaryDirectory() as folder:
+            (pathlib.Path(folder) / "page.html").write_text("".join(curve_page.curve_page(read(given), figures)))
+            frames = pathlib.Path(folder) / "frames.html"
+            widths = [360, 400, 1280]
+            frames.write_text("<!doctype html>" + "".join(
+                f'<iframe width="{width}" height="1500" src="page.html"></iframe>' for width in widths) + """
+<p id="found"></p><script>
+onload = () => { document.getElementById("found").textContent = [...document.querySelectorAll("iframe")].map(frame => {
+  const page = frame.contentDocument, table = page.querySelector(".table").getBoundingClientRect();
+  const cells = [...page.querySelectorAll("td")].map(it => it.getBoundingClientRect());
+  return `${frame.width} ${cells.length} ${cells.filter(it => it.right > table.right + 1).length}`;
+}).join(); };</script>""")
+            found = inside(opened(f"file://{frames}", 1700, ["--allow-file-access-from-files"]), "found")
+        self.assertEqual(found, ",".join(f"{width} 28 0" for width in widths))
 
 
 # A wrong scenario: what of the text is replaced by what, the piece in which ¦ is the place of the fault, its cause and

@@ -429,6 +429,29 @@ class Whole(unittest.TestCase):
         self.assertIn("color-scheme: light dark", play_page.piece("drawing-style"))
 
 
+def brightness(color):
+    """The relative luminance of #rrggbb or #rgb, as the guidelines for accessible pages (WCAG) define it."""
+    digits = color[1:] if len(color) == 7 else "".join(2 * digit for digit in color[1:])
+    parts = [int(digits[at:at + 2], 16) / 255 for at in (0, 2, 4)]
+    linear = [part / 12.92 if part <= 0.04045 else ((part + 0.055) / 1.055)**2.4 for part in parts]
+    return sum(share * part for share, part in zip([0.2126, 0.7152, 0.0722], linear))
+
+
+class Colors(unittest.TestCase):
+    """The colours of the page, by day and at night."""
+
+    def test_letters_are_readable_on_each_ground(self):
+        light, dark = [dict(re.findall(r"--(\w+): (#[0-9a-f]+);", block))
+                       for block in re.findall(r":root \{(.*?)\}", play_page.piece("drawing-style"), re.S)]
+        for colors in [light, dark]:
+            for ink in ["ink", "soft", "green", "red"]:
+                for ground in ["page", "band", "down"]:
+                    low, high = sorted([brightness(colors[ink]), brightness(colors[ground])])
+                    with self.subTest(ink=ink, ground=ground, colors=colors):
+                        self.assertGreaterEqual((high + 0.05) / (low + 0.05), 4.5)
+        self.assertIn("::placeholder { color: var(--soft); opacity: 1; }", TEXT)
+
+
 @unittest.skipIf(CHROMIUM is None, "chromium isn't installed (Debian: chromium)")
 class Browser(unittest.TestCase):
     """The file in a browser, without any server."""

@@ -25,6 +25,7 @@ svg{{display:block;width:100%;height:auto}}
 .table{{overflow-x:auto}}
 table{{border-collapse:collapse;margin:12px 0;font-variant-numeric:tabular-nums}}
 th,td{{padding:3px 0 3px 14px;border-bottom:1px solid var(--grid);text-align:right;white-space:nowrap}}
+tr:first-child>th+th{{white-space:normal;overflow-wrap:anywhere;min-width:8ch;vertical-align:bottom}}
 th:first-child{{padding-left:0;text-align:left;font-weight:normal;white-space:pre-wrap}}
 p{{color:var(--soft);max-width:70ch}}
 @media(max-width:500px){{table{{font-size:12px}}th,td{{padding-left:8px}}}}
