@@ -1,5 +1,5 @@
-"""What RECIPES and POLICIES say of schedules for every input: it is what zsched-bounds prints, and some of it was worked out by
-hand."""
+"""What the tables of RECIPES and POLICIES say of schedules for every input: it is what zsched-bounds prints, and some of it was
+worked out by hand."""
 import json
 import pathlib
 import re
@@ -8,7 +8,7 @@ import unittest
 from zsched_tools import bounding, program
 
 TOP = pathlib.Path(__file__).resolve().parents[2]
-SECTIONS = (TOP / "docs" / "RECIPES.md").read_text().split("\n### ")[1:]
+HEAD, *SECTIONS = (TOP / "docs" / "RECIPES.md").read_text().split("\n### ")
 POLICIES = (TOP / "docs" / "POLICIES.md").read_text()
 JOBS = json.loads((TOP / "examples" / "policies.json").read_text())["jobs"]
 BOUNDS = program.find_bounds()
@@ -32,14 +32,25 @@ BY_HAND = {
 }
 
 
+def cells(bounds):
+    """What a table says of bounds: attempts, the longest wait and all waits. A dash is a number without a proved limit."""
+    attempts = f"{bounds.least} or more" if bounds.most is None else f"{bounds.least} to {bounds.most}"
+    attempts = attempts if bounds.most != bounds.least else str(bounds.most)
+    is_beginning = bounds.most is None and bounds.seen == bounding.MOST_STEPS
+    longest = None if bounds.longest > bounding.LAST_MOMENT else bounds.longest
+    total = None if longest is None or is_beginning else bounds.total
+    return attempts, *("–" if wait is None else bounding.rounded(wait) for wait in (longest, total))
+
+
 def shown_in(section):
-    """The schedules of a recipe that its plan runs, and what is said of each."""
+    """The schedules of a recipe that its plan runs, and what the table says of each."""
     schedules = re.search(r"^- Schedules? \(.*?(?=^- Plan:)", section, re.M | re.S)[0]
     plan = re.search(r"^- Plan:\s+\[\w+\]\(\.\./(.*?)\)", section, re.M)[1]
     run = {job["schedule"] for job in json.loads((TOP / plan).read_text())["jobs"]}
-    said = re.search(r"^- For every input: (.*\n(?:  .*\n)*)", section, re.M)
-    lines = [] if said is None else re.split(r"\.\n(?:  The \w+: )?", said[1])[:-1]
-    return [it for it in re.findall(r"`([^`]+)`", schedules) if it in run], [" ".join(line.split()) for line in lines]
+    title = re.escape(section.partition("\n")[0])
+    columns = re.search(rf"^\| \[{title}\].* \| ([^|]*) \| ([^|]*) \| ([^|]*) \|$", HEAD, re.M).groups()
+    said = list(zip(*(column.split(", ") for column in columns), strict=True))
+    return [it for it in re.findall(r"`([^`]+)`", schedules) if it in run], said
 
 
 def shown():
@@ -47,35 +58,35 @@ def shown():
     for section in SECTIONS:
         if re.search("^- Schedules? ", section, re.M):
             yield from zip(*shown_in(section))
-    rows = re.findall(r"^\| \[.* \| ([^|]*) \|$", POLICIES, re.M)
+    rows = re.findall(r"^\| \[.* \| ([^|]*) \| ([^|]*) \| ([^|]*) \|$", POLICIES, re.M)
     yield from zip([job["schedule"] for job in JOBS], rows, strict=True)
 
 
 class EveryInput(unittest.TestCase):
     """Both pages."""
 
-    def test_each_recipe_with_a_schedule_has_a_line_for_each(self):
+    def test_each_recipe_with_a_schedule_has_cells_for_each(self):
         recipes = [section for section in SECTIONS if re.search("^- Schedules? ", section, re.M)]
         self.assertGreaterEqual(len(recipes), 27)
         for section in recipes:
             with self.subTest(section.partition("\n")[0]):
-                schedules, lines = shown_in(section)
+                schedules, said = shown_in(section)
                 self.assertGreaterEqual(len(schedules), 1)
-                self.assertEqual(len(lines), len(schedules), lines)
+                self.assertEqual(len(said), len(schedules), said)
 
     def test_what_was_worked_out_by_hand(self):
         said = dict(shown())
         for schedule, (least, most, longest, total) in BY_HAND.items():
             with self.subTest(schedule):
                 seen = bounding.MOST_STEPS if most is None else most
-                self.assertEqual(said[schedule], bounding.Bounds(least, most, longest, total, seen).line())
+                self.assertEqual(said[schedule], cells(bounding.Bounds(least, most, longest, total, seen)))
 
     @unittest.skipIf(BOUNDS is None, "zsched_bounds isn't built")
     def test_the_program_says_it(self):
         said = list(shown())
-        for (schedule, line), bounds in zip(said, bounding.run(BOUNDS, [schedule for schedule, _ in said]), strict=True):
+        for (schedule, row), bounds in zip(said, bounding.run(BOUNDS, [schedule for schedule, _ in said]), strict=True):
             with self.subTest(schedule):
-                self.assertEqual(line, bounds.line())
+                self.assertEqual(row, cells(bounds))
 
 
 if __name__ == "__main__":

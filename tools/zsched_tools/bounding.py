@@ -12,7 +12,7 @@ MOST_STEPS = 20000
 LAST_MOMENT = 999_999_999_999_999
 
 
-def _rounded(ms):
+def rounded(ms):
     """A duration in words, of 1,000 days and more in days, rounded up."""
     return duration(ms) if ms < 1000 * DAY else f"{-(-ms // DAY)} d"
 
@@ -41,12 +41,12 @@ class Bounds:
         if self.longest > LAST_MOMENT:
             return "waits without a proved limit"
         if self.most is None and self.seen == MOST_STEPS:
-            limit = f"at most {_rounded(self.longest)}" if self.longest else "0 ms"
+            limit = f"at most {rounded(self.longest)}" if self.longest else "0 ms"
             return f"first {MOST_STEPS} waits of {limit}"
         if self.longest == 0:
             return "no waits"
-        total = "" if self.total is None else f", {_rounded(self.total)} in all"
-        return f"waits of at most {_rounded(self.longest)}{total}"
+        total = "" if self.total is None else f", {rounded(self.total)} in all"
+        return f"waits of at most {rounded(self.longest)}{total}"
 
     def line(self):
         """All of it in one line."""
