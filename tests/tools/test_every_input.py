@@ -74,6 +74,9 @@ class EveryInput(unittest.TestCase):
                 self.assertGreaterEqual(len(schedules), 1)
                 self.assertEqual(len(said), len(schedules), said)
 
+    def test_the_page_says_how_many_waits_are_looked_at(self):
+        self.assertIn(f"the longest wait is that of the first {bounding.MOST_STEPS:,}.\n", HEAD)
+
     def test_what_was_worked_out_by_hand(self):
         said = dict(shown())
         for schedule, (least, most, longest, total) in BY_HAND.items():
