@@ -500,6 +500,11 @@ onload = () => setTimeout(() => {{
         wanted = [[width, True, number < 2, []] for width in ["360", "400", "1280", "1600"] for number in range(3)]
         self.assertEqual(found, wanted)
 
+    def test_the_axis_of_waits_has_room_for_its_labels(self):
+        curves = inside(self.shown(a="(exponential(100) && recurs(12))", until="20min"), "curves")
+        labels = re.findall(r'text-anchor="end"[^>]*>([^<]*)</text>', curves)
+        self.assertEqual(labels[:3], ["0 ms", "1 min 42.4 s", "3 min 24.8 s"])
+
     def test_shows_a_fault_with_its_caret(self):
         document = self.shown(a="recurs(3)", b="(spaced(10) && recur(3))")
         self.assertIn("<strong class=\"\">there is no recur</strong>", document)
