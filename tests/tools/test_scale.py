@@ -129,7 +129,13 @@ class Recipes(unittest.TestCase):
                     yield int(place.name)
 
     def kill_all(self):
-        """Kills all that the recipes started."""
+        """Kills all that the recipes started. All are stopped before, so that none sees another's end."""
+        stopped = set()
+        while found := set(self.started()) - stopped:
+            for process in found:
+                with contextlib.suppress(ProcessLookupError):
+                    os.kill(process, signal.SIGSTOP)
+            stopped |= found
         while found := list(self.started()):
             for process in found:
                 with contextlib.suppress(ProcessLookupError):
@@ -410,14 +416,15 @@ class Recipes(unittest.TestCase):
 
     def check_killed_pipe(self, commands, whole):
         """The pipe when all of it, or one of its programs, is killed before the last block is run."""
-        # The block that has job 20 waits, after the others were run.
-        self.program("zsched", f"#!/bin/sh\ncat > $$.plan\n{self.zsched} < $$.plan || exit\n[ ! -e {self.folder}/slow ]"
-                               f" || {{ grep -q job-20 $$.plan && sleep 60 || echo >> {self.folder}/ran; }}\n")
-        ran = self.folder / "ran"
+        # The block that has job 20 waits; the others are run.
+        ran, waits = self.folder / "ran", self.folder / "waits"
+        self.program("zsched", f"#!/bin/sh\ncat > $$.plan\n{self.zsched} < $$.plan || exit\n[ -e {self.folder}/slow ] || exit 0\n"
+                               f"if grep -q job-20 $$.plan; then echo > {waits}; sleep 60; else echo >> {ran}; fi\n")
         for victim in [None, "parallel", "zsched"]:
             with self.subTest(victim):
                 ran.unlink(missing_ok=True)
-                status = self.killed(commands, lambda: ran.exists() and ran.stat().st_size == 2, kill=victim and (
+                waits.unlink(missing_ok=True)
+                status = self.killed(commands, lambda: waits.exists() and ran.exists() and ran.stat().st_size == 2, kill=victim and (
                     lambda: self.kill_named(victim)))
                 self.assertNotEqual(status, 0)
                 self.assertFalse(whole.exists())
