@@ -118,6 +118,21 @@ const refused = (call) => { try { call(); } catch (fault) { console.log(`${fault
 DEEPEST = ["(forever && " * 63 + "forever" + ")" * 63, "(" * 63 + "forever" + " || elapsed)" * 63,
            "(recurs(0) andThenEither " * 63 + "forever" + ")" * 63, "forever" + ".map(+ 1)" * 63, "forever" + ".collectAll" * 63,
            "identity" + ".whileOutput(>= 0)" * 63, "forever" + ".map(+ 1)" * 55 + ".resetWhen(> 1)" * 3]
+# Worked out by hand: the numbers of struct zs_bounds in turn, where 1000 steps are looked at, at most.
+BOUNDS = {
+    # 100, 200, 400, 800, 1600
+    "(exponential(100) && recurs(5))": "6 6 1 6 1600 1 3100",
+    # 100, 200, 400, 800, 1600, 3200, and 5000 twice; any error may be below 500
+    "((exponential(100) || spaced(5000)) && recurs(8)).whileInput(>= 500)": "9 1 1 9 5000 1 16300",
+    # The sixth step has 5 * 401 ms at least, and the fifth 4 * 401, which is less than 2000.
+    "(spaced(400) && elapsed).whileOutput(_2 < 2000)": "6 2 1 6 400 1 2000",
+    # 250, 500, 750, 1000, 1250
+    "linear(250).whileOutput(< 1500)": "6 6 1 6 1250 1 3750",
+    # 100, 200, 400, and 5000 four times
+    "(((exponential(100) && recurs(3)) andThenEither (spaced(5000) && recurs(4))).map(merge)"
+    " && elapsed.whileOutput(< 60000))": "8 2 1 8 5000 1 20700",
+    "spaced(1000).whileInput(!= 404)": "1000 1 0 0 1000 0 0",
+}
 NOT_UTF8 = [b"\xff", b"\xc3", b"\xed\xa0\x80", b"\xf0\x9f\x98"]
 
 room = tempfile.TemporaryDirectory(prefix="zsched-library-test-")
@@ -339,6 +354,21 @@ class FromC(unittest.TestCase):
         self.assertEqual(library.zs_program_begin(words, sizes[0], state, sizes[1]), 0)
         self.assertEqual(list(state), [check, 0, 100, 100, 0, 0, 0, 0, 7])
 
+    def test_bounds_of_policies_are_those_that_were_worked_out_by_hand(self):
+        asked = [*(f".{text.encode().hex()} b 1000" for text in BOUNDS), f".{b'recurs(3)'.hex()} b 3", f".{b'forever'.hex()} b 0"]
+        wanted = [*(f"0 {numbers} 0" for numbers in BOUNDS.values()), "0 3 4 0 0 0 0 0 0", "0 0 1 0 0 0 0 0 0"]
+        self.assertEqual(called([path("caller"), "threads"], asked), wanted)
+
+    def test_a_text_that_has_no_bounds_is_refused_as_a_check_refuses_it(self):
+        faults = [(request, wanted) for request, (wanted, _) in requests() if request.size is None and wanted != "0 0"]
+        self.assertGreater(len(faults), 30)
+        wanted = [f"{number} 0 0 0 0 0 0 0 {at}" for number, at in (wanted.split() for _, wanted in faults)]
+        self.assertEqual(called([path("caller"), "answer"], [f".{it.text.hex()} b 1000" for it, _ in faults]), wanted)
+
+    def test_each_request_for_memory_of_bounds_may_be_refused(self):
+        found = [int(line) for line in called([path("caller"), "refuse"], [f".{text.encode().hex()} b 5" for text in BOUNDS])]
+        self.assertGreater(min(found), 2)
+
     def test_valgrind_finds_no_error_and_no_lost_memory(self):
         if not shutil.which("valgrind"):
             self.skipTest("valgrind isn't on this machine")
@@ -355,6 +385,8 @@ class FromC(unittest.TestCase):
         requests = [Request(text.encode(), 40, [(1, 5), (5, 7), (9, 9)]) for text in DEEPEST]
         for request, line in zip(requests, called([path("caller"), "threads"], requests), strict=True):
             self.compare(line, *request.wanted(), request)
+        bounded = called([path("caller"), "threads"], [f".{text.encode().hex()} b 9" for text in DEEPEST])
+        self.assertEqual([line.split()[0] for line in bounded], ["0"] * len(DEEPEST))
         flat = [request for request in requests if b"collectAll" not in request.text]
         for way in ["state", "program"]:
             for request, line in zip(flat, called([path("caller"), "threads", way], flat), strict=True):
