@@ -16,7 +16,7 @@
  *   - `reply`, `bounds`, `at`, `size`, `state_size`, `state`, `out` and the words that zs_compile writes to overlap nothing
  *     else that the call is given, and nobody else writes to any of it meanwhile;
  *   - no call is made from a signal handler, nor in a forked child of a process with threads, and 64 KiB of stack are free
- *     (the deepest schedule took 44).
+ *     (the deepest schedule took 44), for zs_bounds 192 KiB (it took 115).
  *
  * Calls may run at once on any number of threads: they share nothing but malloc, realloc and free. All that a call takes
  * of these it gives back. Moments are whole milliseconds from any start that suits the caller, in 64 bits without a sign.
@@ -104,7 +104,7 @@ uint32_t zs_answer(const uint8_t *text, size_t text_len, const zs_seen *seen, si
  * of *bounds is 0. So a service can refuse to start with a policy that never gives up, or that may wait too long.
  *
  * It holds for all pairs in which each attempt takes 1 millisecond or more, and no moment is above 999999999999999. The time
- * grows with the steps: at most some 30 milliseconds for 1000. */
+ * grows with the steps and with the schedule: 1000 steps of one with 400 leaves took 56 milliseconds. */
 uint32_t zs_bounds(const uint8_t *text, size_t text_len, uint64_t steps, struct zs_bounds *bounds, uint64_t *at);
 
 /* Steps over a state in the caller's memory, in place of the list of pairs.

@@ -26,6 +26,7 @@
 #define THREADS 4
 #define TIMES 3
 #define STACK (64 * 1024)
+#define BOUNDS_STACK (192 * 1024)
 #define UNTOUCHED 0xAA
 
 typedef struct request {
@@ -401,13 +402,13 @@ static void *thread(void *ignored)
     return ignored;
 }
 
-/* Does all requests on four threads with small stacks. */
+/* Does all requests on four threads with small stacks, which are those of zs_bounds if the first asks for it. */
 static void do_at_once(void)
 {
     pthread_t threads[THREADS];
     pthread_attr_t attributes;
     pthread_attr_init(&attributes);
-    pthread_attr_setstacksize(&attributes, STACK);
+    pthread_attr_setstacksize(&attributes, request_count && requests->is_bounds ? BOUNDS_STACK : STACK);
     is_alone = 0;
     for (int i = 0; i < THREADS; i++)
         if (pthread_create(&threads[i], &attributes, thread, NULL))
