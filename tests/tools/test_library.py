@@ -479,6 +479,40 @@ class FromPython(unittest.TestCase):
                 self.zsched.check(text)
             self.assertEqual((caught.exception.number, caught.exception.at, str(caught.exception)), (number, at, words))
 
+    def test_bounds_of_policies_are_those_that_were_worked_out_by_hand(self):
+        for text, numbers in BOUNDS.items():
+            seen, least, has_most, most, longest, has_total, total = map(int, numbers.split())
+            wanted = (seen, least, most if has_most else None, longest, total if has_total else None)
+            self.assertEqual(self.zsched.bounds(text, 1000), wanted)
+            stepped = self.zsched.Schedule(text)
+            stepped.after(1)
+            for schedule in [stepped, self.zsched.Stepper(text)]:
+                self.assertEqual(self.zsched.bounds(schedule, 1000), wanted)
+        found = self.zsched.bounds("forever.collectAll", 3)
+        self.assertEqual((found.seen, found.least, found.most, found.longest, found.total), (3, 4, None, 0, None))
+
+    def test_a_policy_is_within_its_bounds_and_not_within_less(self):
+        # 6 attempts, and 3100 milliseconds
+        found = self.zsched.bounds("(exponential(100) && recurs(5))", 1000)
+        self.assertEqual([found.within(most, total) for most, total in [(6, 3100), (9, 5000), (5, 3100), (6, 3099), (0, 0)]],
+                         [True, True, False, False, False])
+        most = 2 ** 64
+        # It may end at any step; it goes on at the last step that was looked at; three waits of up to 2^64 - 1 have no sum.
+        for text, steps in [("forever.whileInput(= 1)", 1000), ("recurs(5)", 5), ("(fixed(18446744073709551615) && recurs(3))", 9)]:
+            self.assertFalse(self.zsched.bounds(text, steps).within(most, most), text)
+        self.assertTrue(self.zsched.bounds("recurs(5)", 6).within(6, 0))
+
+    def test_bounds_are_refused_as_other_calls_refuse(self):
+        for text, number, at in [("?", 11, 0), ("forever.", 11, 8), ("windowed(0)", 16, 0), ("forever" + ".map(+ 1)" * 64, 12, 0)]:
+            with self.assertRaises(self.zsched.ScheduleFault) as caught:
+                self.zsched.bounds(text, 9)
+            self.assertEqual((caught.exception.text, caught.exception.number, caught.exception.at), (text, number, at))
+        for error, steps in [(OverflowError, -1), (OverflowError, 2 ** 64), (TypeError, 9.0), (TypeError, None)]:
+            with self.assertRaises(error):
+                self.zsched.bounds("recurs(1)", steps)
+        # So many steps are never made: the schedule is done at its second one.
+        self.assertEqual(self.zsched.bounds("recurs(1)", 2 ** 64 - 1), (2, 2, 2, 0, 0))
+
     def test_a_step_that_is_refused_leaves_the_schedule(self):
         schedule = self.zsched.Schedule("recurs(1)")
         self.assertEqual(schedule.after(5, 7), (5, "0", 1))
@@ -860,6 +894,16 @@ class Examples(unittest.TestCase):
         with Busy(1, 404) as server, self.assertRaisesRegex(OSError, "404"):
             found["fetch"](server.url)
         self.assertEqual(server.asked, [404])
+
+    def test_the_check_of_the_document_ends_a_service_whose_policy_may_go_on(self):
+        found = re.findall(r"```python\n(.*?)```", (TOP / "docs" / "LIBRARY.md").read_text(), re.S)
+        policy, check = re.search(r'^POLICY = "(.*)"$', found[0], re.M)[1], found[2]
+        self.assertEqual(len(check.splitlines()), 5)
+        exec(check, {"POLICY": policy})
+        # Too many attempts, too long, and neither bounded.
+        for other in ["(spaced(1) && recurs(9))", "(spaced(5000) && recurs(5))", "spaced(1)"]:
+            with self.assertRaisesRegex(SystemExit, f"^{re.escape(other)} may go on for too long: Bounds"):
+                exec(check, {"POLICY": other})
 
     def test_the_example_in_rust_waits_for_its_server(self):
         if not shutil.which("cargo"):
