@@ -310,6 +310,7 @@ class FromC(unittest.TestCase):
         compile_caller("watched", "-g", "-fsanitize=address,undefined", "-fno-sanitize-recover=all")
         self.judge(called([path("watched"), "answer"], self.requests))
         self.judge_steps([path("watched"), "answer"])
+        self.judge_bounds([path("watched"), "answer"])
 
     def judge_steps(self, words):
         """Compares what steps over a state and over a program answer with what is wanted of the list of pairs."""
@@ -354,10 +355,14 @@ class FromC(unittest.TestCase):
         self.assertEqual(library.zs_program_begin(words, sizes[0], state, sizes[1]), 0)
         self.assertEqual(list(state), [check, 0, 100, 100, 0, 0, 0, 0, 7])
 
-    def test_bounds_of_policies_are_those_that_were_worked_out_by_hand(self):
+    def judge_bounds(self, words):
+        """Compares bounds with those that were worked out by hand."""
         asked = [*(f".{text.encode().hex()} b 1000" for text in BOUNDS), f".{b'recurs(3)'.hex()} b 3", f".{b'forever'.hex()} b 0"]
         wanted = [*(f"0 {numbers} 0" for numbers in BOUNDS.values()), "0 3 4 0 0 0 0 0 0", "0 0 1 0 0 0 0 0 0"]
-        self.assertEqual(called([path("caller"), "threads"], asked), wanted)
+        self.assertEqual(called(words, asked), wanted)
+
+    def test_bounds_of_policies_are_those_that_were_worked_out_by_hand(self):
+        self.judge_bounds([path("caller"), "threads"])
 
     def test_a_text_that_has_no_bounds_is_refused_as_a_check_refuses_it(self):
         faults = [(request, wanted) for request, (wanted, _) in requests() if request.size is None and wanted != "0 0"]
@@ -374,6 +379,7 @@ class FromC(unittest.TestCase):
             self.skipTest("valgrind isn't on this machine")
         words = ["valgrind", "--quiet", "--error-exitcode=9", "--leak-check=full", "--show-leak-kinds=all"]
         self.judge(called([*words, path("caller"), "answer"], self.requests[:UNDER_VALGRIND]), UNDER_VALGRIND)
+        self.judge_bounds([*words, path("caller"), "answer"])
 
     def test_four_threads_with_small_stacks_may_call_at_once(self):
         self.judge(called([path("caller"), "threads"], self.requests))
