@@ -14,5 +14,6 @@ from .faults import Fault, ScheduleFault
 from .retries import Attempt, Retrying, retrying
 from .schedules import Answer, Bounds, Schedule, Stepper, bounds, check
 
-__all__ = ["Answer", "Attempt", "Bounds", "Fault", "Retrying", "Schedule", "ScheduleFault", "Stepper", "bounds", "check", "retrying"]
+__all__ = ["Answer", "Attempt", "Bounds", "Fault", "Retrying", "Schedule", "ScheduleFault", "Stepper", "bounds", "check",
+           "retrying"]
 __version__ = "0.2.0"
