@@ -184,6 +184,21 @@ def states(count):
     return request(tree(count), [(moment, moment) for moment in range(20)], 100_000)
 
 
+def bounds_request(text, steps):
+    """A line of tests/library.c for the bounds of a schedule, of so many steps at most."""
+    return f".{text.encode().hex()} b {steps}\n".encode()
+
+
+def steps_of_bounds(count):
+    """So many steps of a schedule that goes on."""
+    return bounds_request("((exponential(100) || spaced(5000)) && recurs(1000000))", count)
+
+
+def leaves_of_bounds(count):
+    """So many leaves, of which ten steps are looked at."""
+    return bounds_request(tree(count), 10)
+
+
 def records(make):
     """The same plan for zs_refusals, whose tasks keep all their records."""
     return lambda count: b"jobs\n" + make(count)
@@ -228,6 +243,9 @@ ROWS = [
     Row("pairs of steps", pairs_of_a_history, 2500, Cost(15_000, 31, 14.7),
         runs="library state"),
     Row("leaves of a state", states, 100, Cost(800_000, 370, 240), runs="library state"),
+    Row("steps of bounds", steps_of_bounds, 1000, Cost(4500, 0.01, 4.2), runs="library answer"),
+    Row("leaves of bounds", leaves_of_bounds, 100, Cost(34_000, 333, 29.4),
+        runs="library answer"),
 ]
 ROWS_BY_NAME = {row.name: row for row in ROWS}
 

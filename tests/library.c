@@ -9,9 +9,10 @@
  * 'program' has it done by zs_program_size, zs_compile, zs_program_begin and a zs_program_step for each pair.
  *
  * A request is a line of words: the text in hexadecimal digits behind a '.', the room in bytes, and the moment and the input
- * of each pair in turn. A room of '-' asks for zs_check. A line of an answer has the number, next, size, visits, at and the
- * room in hexadecimal digits behind a '.'; for zs_check it has the number and at. Each block that a call is given is as
- * long as is said to the call, and its own, so that a tool that watches memory sees each step beside it.
+ * of each pair in turn. A room of '-' asks for zs_check, and one of 'b' for zs_bounds, with the steps behind it. A line of an
+ * answer has the number, next, size, visits, at and the room in hexadecimal digits behind a '.'; for zs_check it has the number
+ * and at, for zs_bounds the number, all seven of struct zs_bounds and at. Each block that a call is given is as long as is said
+ * to the call, and its own, so that a tool that watches memory sees each step beside it.
  *
  * It is linked with --wrap=malloc, --wrap=realloc and --wrap=free, by which it counts and refuses requests. */
 #include "zsched.h"
@@ -25,13 +26,15 @@
 #define THREADS 4
 #define TIMES 3
 #define STACK (64 * 1024)
+#define BOUNDS_STACK (192 * 1024)
 #define UNTOUCHED 0xAA
 
 typedef struct request {
     uint8_t *text;
     size_t text_len;
-    int is_check;
+    int is_check, is_bounds;
     size_t room;
+    uint64_t steps;
     zs_seen *seen;
     size_t seen_len;
 } request;
@@ -290,9 +293,31 @@ static int is_told(uint32_t number, uint64_t at)
     return is_well;
 }
 
+/* The line of what zs_bounds answers, and the number. */
+static char *bounded(const request *it, uint32_t *number)
+{
+    struct zs_bounds *told = block(sizeof *told);
+    uint64_t *at = block(sizeof *at);
+    memset(told, UNTOUCHED, sizeof *told);
+    memset(at, UNTOUCHED, sizeof *at);
+    *number = zs_bounds(it->text, it->text_len, it->steps, told, at);
+    if (!is_told(*number, *at))
+        fail("a number has no text", (size_t)(it - requests));
+    const uint64_t told_in_turn[] = {told->seen,    told->least,     told->has_most, told->most,
+                                     told->longest, told->has_total, told->total,    *at};
+    char *line = block(200), *end = line + sprintf(line, "%u", *number);
+    for (size_t i = 0; i < 8; i++)
+        end += sprintf(end, " %llu", (unsigned long long)told_in_turn[i]);
+    __real_free(at);
+    __real_free(told);
+    return line;
+}
+
 /* Does a request: the line that tells of it, and the number that the call answered. */
 static char *done(const request *it, uint32_t *number)
 {
+    if (it->is_bounds)
+        return bounded(it, number);
     char *line = block(200 + 2 * it->room), *end = line;
     if (it->is_check) {
         uint64_t at = 77;
@@ -329,6 +354,8 @@ static int tells_no_memory(const request *it, const char *line)
 {
     if (it->is_check)
         return strcmp(line, "5 0") == 0;
+    if (it->is_bounds)
+        return strcmp(line, "5 0 0 0 0 0 0 0 0") == 0;
     if (strncmp(line, "5 0 0 0 0 .", 11) != 0)
         return 0;
     for (line += 11; *line; line++)
@@ -375,13 +402,13 @@ static void *thread(void *ignored)
     return ignored;
 }
 
-/* Does all requests on four threads with small stacks. */
+/* Does all requests on four threads with small stacks, which are those of zs_bounds if the first asks for it. */
 static void do_at_once(void)
 {
     pthread_t threads[THREADS];
     pthread_attr_t attributes;
     pthread_attr_init(&attributes);
-    pthread_attr_setstacksize(&attributes, STACK);
+    pthread_attr_setstacksize(&attributes, request_count && requests->is_bounds ? BOUNDS_STACK : STACK);
     is_alone = 0;
     for (int i = 0; i < THREADS; i++)
         if (pthread_create(&threads[i], &attributes, thread, NULL))
@@ -412,7 +439,9 @@ static void read_request(request *it, char *line)
     read_text(it, word + 1);
     word = strtok_r(NULL, " \n", &rest);
     it->is_check = *word == '-';
-    it->room = it->is_check ? 0 : strtoull(word, NULL, 10);
+    it->is_bounds = *word == 'b';
+    it->steps = it->is_bounds ? strtoull(strtok_r(NULL, " \n", &rest), NULL, 10) : 0;
+    it->room = it->is_check || it->is_bounds ? 0 : strtoull(word, NULL, 10);
     it->seen_len = (words - 1) / 2;
     it->seen = block(it->seen_len * sizeof *it->seen);
     for (; i < it->seen_len; i++) {

@@ -118,6 +118,21 @@ const refused = (call) => { try { call(); } catch (fault) { console.log(`${fault
 DEEPEST = ["(forever && " * 63 + "forever" + ")" * 63, "(" * 63 + "forever" + " || elapsed)" * 63,
            "(recurs(0) andThenEither " * 63 + "forever" + ")" * 63, "forever" + ".map(+ 1)" * 63, "forever" + ".collectAll" * 63,
            "identity" + ".whileOutput(>= 0)" * 63, "forever" + ".map(+ 1)" * 55 + ".resetWhen(> 1)" * 3]
+# Worked out by hand: the numbers of struct zs_bounds in turn, where 1000 steps are looked at, at most.
+BOUNDS = {
+    # 100, 200, 400, 800, 1600
+    "(exponential(100) && recurs(5))": "6 6 1 6 1600 1 3100",
+    # 100, 200, 400, 800, 1600, 3200, and 5000 twice; any error may be below 500
+    "((exponential(100) || spaced(5000)) && recurs(8)).whileInput(>= 500)": "9 1 1 9 5000 1 16300",
+    # The sixth step has 5 * 401 ms at least, and the fifth 4 * 401, which is less than 2000.
+    "(spaced(400) && elapsed).whileOutput(_2 < 2000)": "6 2 1 6 400 1 2000",
+    # 250, 500, 750, 1000, 1250
+    "linear(250).whileOutput(< 1500)": "6 6 1 6 1250 1 3750",
+    # 100, 200, 400, and 5000 four times
+    "(((exponential(100) && recurs(3)) andThenEither (spaced(5000) && recurs(4))).map(merge)"
+    " && elapsed.whileOutput(< 60000))": "8 2 1 8 5000 1 20700",
+    "spaced(1000).whileInput(!= 404)": "1000 1 0 0 1000 0 0",
+}
 NOT_UTF8 = [b"\xff", b"\xc3", b"\xed\xa0\x80", b"\xf0\x9f\x98"]
 
 room = tempfile.TemporaryDirectory(prefix="zsched-library-test-")
@@ -295,6 +310,7 @@ class FromC(unittest.TestCase):
         compile_caller("watched", "-g", "-fsanitize=address,undefined", "-fno-sanitize-recover=all")
         self.judge(called([path("watched"), "answer"], self.requests))
         self.judge_steps([path("watched"), "answer"])
+        self.judge_bounds([path("watched"), "answer"])
 
     def judge_steps(self, words):
         """Compares what steps over a state and over a program answer with what is wanted of the list of pairs."""
@@ -339,11 +355,31 @@ class FromC(unittest.TestCase):
         self.assertEqual(library.zs_program_begin(words, sizes[0], state, sizes[1]), 0)
         self.assertEqual(list(state), [check, 0, 100, 100, 0, 0, 0, 0, 7])
 
+    def judge_bounds(self, words):
+        """Compares bounds with those that were worked out by hand."""
+        asked = [*(f".{text.encode().hex()} b 1000" for text in BOUNDS), f".{b'recurs(3)'.hex()} b 3", f".{b'forever'.hex()} b 0"]
+        wanted = [*(f"0 {numbers} 0" for numbers in BOUNDS.values()), "0 3 4 0 0 0 0 0 0", "0 0 1 0 0 0 0 0 0"]
+        self.assertEqual(called(words, asked), wanted)
+
+    def test_bounds_of_policies_are_those_that_were_worked_out_by_hand(self):
+        self.judge_bounds([path("caller"), "threads"])
+
+    def test_a_text_that_has_no_bounds_is_refused_as_a_check_refuses_it(self):
+        faults = [(request, wanted) for request, (wanted, _) in requests() if request.size is None and wanted != "0 0"]
+        self.assertGreater(len(faults), 30)
+        wanted = [f"{number} 0 0 0 0 0 0 0 {at}" for number, at in (wanted.split() for _, wanted in faults)]
+        self.assertEqual(called([path("caller"), "answer"], [f".{it.text.hex()} b 1000" for it, _ in faults]), wanted)
+
+    def test_each_request_for_memory_of_bounds_may_be_refused(self):
+        found = [int(line) for line in called([path("caller"), "refuse"], [f".{text.encode().hex()} b 5" for text in BOUNDS])]
+        self.assertGreater(min(found), 2)
+
     def test_valgrind_finds_no_error_and_no_lost_memory(self):
         if not shutil.which("valgrind"):
             self.skipTest("valgrind isn't on this machine")
         words = ["valgrind", "--quiet", "--error-exitcode=9", "--leak-check=full", "--show-leak-kinds=all"]
         self.judge(called([*words, path("caller"), "answer"], self.requests[:UNDER_VALGRIND]), UNDER_VALGRIND)
+        self.judge_bounds([*words, path("caller"), "answer"])
 
     def test_four_threads_with_small_stacks_may_call_at_once(self):
         self.judge(called([path("caller"), "threads"], self.requests))
@@ -352,9 +388,13 @@ class FromC(unittest.TestCase):
         header, caller = (TOP / "include" / "zsched.h").read_text(), (TOP / "tests" / "library.c").read_text()
         stack = re.search(r"define STACK .(\d+) . 1024", caller)[1]
         self.assertIn(f"and {stack} KiB of stack are free", header)
+        stack = re.search(r"define BOUNDS_STACK .(\d+) . 1024", caller)[1]
+        self.assertIn(f"for zs_bounds {stack} KiB", header)
         requests = [Request(text.encode(), 40, [(1, 5), (5, 7), (9, 9)]) for text in DEEPEST]
         for request, line in zip(requests, called([path("caller"), "threads"], requests), strict=True):
             self.compare(line, *request.wanted(), request)
+        bounded = called([path("caller"), "threads"], [f".{text.encode().hex()} b 9" for text in DEEPEST])
+        self.assertEqual([line.split()[0] for line in bounded], ["0"] * len(DEEPEST))
         flat = [request for request in requests if b"collectAll" not in request.text]
         for way in ["state", "program"]:
             for request, line in zip(flat, called([path("caller"), "threads", way], flat), strict=True):
@@ -444,6 +484,40 @@ class FromPython(unittest.TestCase):
             with self.assertRaises(self.zsched.ScheduleFault) as caught:
                 self.zsched.check(text)
             self.assertEqual((caught.exception.number, caught.exception.at, str(caught.exception)), (number, at, words))
+
+    def test_bounds_of_policies_are_those_that_were_worked_out_by_hand(self):
+        for text, numbers in BOUNDS.items():
+            seen, least, has_most, most, longest, has_total, total = map(int, numbers.split())
+            wanted = (seen, least, most if has_most else None, longest, total if has_total else None)
+            self.assertEqual(self.zsched.bounds(text, 1000), wanted)
+            stepped = self.zsched.Schedule(text)
+            stepped.after(1)
+            for schedule in [stepped, self.zsched.Stepper(text)]:
+                self.assertEqual(self.zsched.bounds(schedule, 1000), wanted)
+        found = self.zsched.bounds("forever.collectAll", 3)
+        self.assertEqual((found.seen, found.least, found.most, found.longest, found.total), (3, 4, None, 0, None))
+
+    def test_a_policy_is_within_its_bounds_and_not_within_less(self):
+        # 6 attempts, and 3100 milliseconds
+        found = self.zsched.bounds("(exponential(100) && recurs(5))", 1000)
+        self.assertEqual([found.within(most, total) for most, total in [(6, 3100), (9, 5000), (5, 3100), (6, 3099), (0, 0)]],
+                         [True, True, False, False, False])
+        most = 2 ** 64
+        # It may end at any step; it goes on at the last step that was looked at; three waits of up to 2^64 - 1 have no sum.
+        for text, steps in [("forever.whileInput(= 1)", 1000), ("recurs(5)", 5), ("(fixed(18446744073709551615) && recurs(3))", 9)]:
+            self.assertFalse(self.zsched.bounds(text, steps).within(most, most), text)
+        self.assertTrue(self.zsched.bounds("recurs(5)", 6).within(6, 0))
+
+    def test_bounds_are_refused_as_other_calls_refuse(self):
+        for text, number, at in [("?", 11, 0), ("forever.", 11, 8), ("windowed(0)", 16, 0), ("forever" + ".map(+ 1)" * 64, 12, 0)]:
+            with self.assertRaises(self.zsched.ScheduleFault) as caught:
+                self.zsched.bounds(text, 9)
+            self.assertEqual((caught.exception.text, caught.exception.number, caught.exception.at), (text, number, at))
+        for error, steps in [(OverflowError, -1), (OverflowError, 2 ** 64), (TypeError, 9.0), (TypeError, None)]:
+            with self.assertRaises(error):
+                self.zsched.bounds("recurs(1)", steps)
+        # So many steps are never made: the schedule is done at its second one.
+        self.assertEqual(self.zsched.bounds("recurs(1)", 2 ** 64 - 1), (2, 2, 2, 0, 0))
 
     def test_a_step_that_is_refused_leaves_the_schedule(self):
         schedule = self.zsched.Schedule("recurs(1)")
@@ -826,6 +900,16 @@ class Examples(unittest.TestCase):
         with Busy(1, 404) as server, self.assertRaisesRegex(OSError, "404"):
             found["fetch"](server.url)
         self.assertEqual(server.asked, [404])
+
+    def test_the_check_of_the_document_ends_a_service_whose_policy_may_go_on(self):
+        found = re.findall(r"```python\n(.*?)```", (TOP / "docs" / "LIBRARY.md").read_text(), re.S)
+        policy, check = re.search(r'^POLICY = "(.*)"$', found[0], re.M)[1], found[2]
+        self.assertEqual(len(check.splitlines()), 5)
+        exec(check, {"POLICY": policy})
+        # Too many attempts, too long, and neither bounded.
+        for other in ["(spaced(1) && recurs(9))", "(spaced(5000) && recurs(5))", "spaced(1)"]:
+            with self.assertRaisesRegex(SystemExit, f"^{re.escape(other)} may go on for too long: Bounds"):
+                exec(check, {"POLICY": other})
 
     def test_the_example_in_rust_waits_for_its_server(self):
         if not shutil.which("cargo"):

@@ -128,8 +128,8 @@ class Abi(unittest.TestCase):
             _, name, _, *fields = line.split()
             names = [field.partition("=")[0] for field in fields]
             form = "".join(f" {field}=%zu" for field in names)
-            places = "".join(f", offsetof({name}, {field})" for field in names)
-            lines.append(f'printf("struct {name} %zu{form}\\n", sizeof({name}){places});')
+            places = "".join(f", offsetof(struct {name}, {field})" for field in names)
+            lines.append(f'printf("struct {name} %zu{form}\\n", sizeof(struct {name}){places});')
         numbers = re.findall(r"^    (ZS_\w+) = \d+", HEADER, re.M)
         lines += [f'printf("number {name} %d\\n", {name});' for name in numbers]
         path("printer.c").write_text(PRINTER.format(lines="\n".join(lines)))
@@ -155,7 +155,7 @@ class Made(unittest.TestCase):
         if not shutil.which("rt"):
             self.skipTest("the Rattle toolchain (the command 'rt') isn't on this machine")
         tree = path("tree")
-        for name in ["zs_c", "zs_step", "zs_term"]:
+        for name in ["zs_c", "zs_bounds", "zs_step", "zs_term"]:
             shutil.copytree(TOP / "crates" / name, tree / "crates" / name, ignore=shutil.ignore_patterns("out"))
         (tree / "tools").mkdir()
         for name in ["crates.txt", "HANDLES", "tools/crates", "tools/sources-sum"]:
@@ -191,9 +191,9 @@ class Made(unittest.TestCase):
         tree.mkdir()
         for name in ["crates.txt", "HANDLES", "VERSION", "include", "tools", "tests"]:
             (shutil.copytree if (TOP / name).is_dir() else shutil.copy)(TOP / name, tree / name)
-        for name in ["zs_c", "zs_step", "zs_term"]:
+        for name in ["zs_c", "zs_bounds", "zs_step", "zs_term"]:
             shutil.copytree(TOP / "crates" / name, tree / "crates" / name, ignore=shutil.ignore_patterns("out"))
-        for name in ["zs_step", "zs_term"]:
+        for name in ["zs_bounds", "zs_step", "zs_term"]:
             formats.append(tree / f"crates/{name}/out/rlib/{name}.rlib/format")
             formats[-1].parent.mkdir(parents=True)
             formats[-1].write_text(name)
@@ -208,7 +208,7 @@ class Made(unittest.TestCase):
             """The calls of the toolchain while the library is made: the program, its folder, its words."""
             (place / "ran").write_text("")
             self.assertEqual(output([tree / "tools/make-library", *words], env=env).count("\n"), 2)
-            self.assertEqual([it.read_text() for it in formats], ["zs_step", "zs_term"])
+            self.assertEqual([it.read_text() for it in formats], ["zs_bounds", "zs_step", "zs_term"])
             calls = [line.split(" ", 3) for line in (place / "ran").read_text().splitlines()]
             return [(tool, folder, words) for tool, verb, folder, words in calls if verb != "version"]
 
@@ -219,20 +219,21 @@ class Made(unittest.TestCase):
                 it.unlink()
 
         calls = made()
-        self.assertEqual([f"{tool} {folder.rpartition('/')[2]}" for tool, folder, _ in calls], ["rt zs_term", "rt zs_step", "rt zs_c"])
+        self.assertEqual([f"{tool} {folder.rpartition('/')[2]}" for tool, folder, _ in calls],
+                         ["rt zs_term", "rt zs_step", "rt zs_bounds", "rt zs_c"])
         self.assertFalse([folder for _, folder, _ in calls if folder.startswith(str(tree))])
         self.assertEqual(made(), [])
         self.assertEqual(made("--out", path("elsewhere")), [])
         noted(tree / "crates/zs_c/out/proved")
         (tool, folder, words), = made()
         self.assertEqual((tool, folder), ("rattle", str(tree / "crates/zs_c")))
-        self.assertIn(f"--extern zs_step={formats[0].parent} ", words)
+        self.assertIn(f"--extern zs_bounds={formats[0].parent} ", words)
         (tree / "crates/zs_c/src/lib.rt").write_text("// changed")
-        self.assertEqual(len(made()), 3)
+        self.assertEqual(len(made()), 4)
         # Another command than `rt ci` built this one, and leaves its stamp.
         (formats[0].parents[1] / "stamp").write_text("")
         noted(tree / "crates/zs_c/out/proved")
-        self.assertEqual(len(made()), 3)
+        self.assertEqual(len(made()), 4)
 
     def test_a_binding_without_its_library_names_the_command_that_makes_it(self):
         words = [sys.executable, "-B", "-c", "import zsched; zsched.check('forever')"]

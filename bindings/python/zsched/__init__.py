@@ -5,14 +5,15 @@
             value = fetch()
 
 `retrying` really sleeps, and is a decorator too, for functions and coroutines. `Schedule` and `Stepper` only answer: give
-them the moment and the input of each attempt, and they tell when the next one may begin. Their answers are proved; the
-sleeping is not.
+them the moment and the input of each attempt, and they tell when the next one may begin. `bounds` tells how often and how
+long a schedule retries at most, for every input. These answers are proved; the sleeping is not.
 
 The library is libzsched.so: the one that the variable ZSCHED_LIBRARY names, else the one beside this file, else the one
 that tools/make-library made in this tree, else the system's."""
 from .faults import Fault, ScheduleFault
 from .retries import Attempt, Retrying, retrying
-from .schedules import Answer, Schedule, Stepper, check
+from .schedules import Answer, Bounds, Schedule, Stepper, bounds, check
 
-__all__ = ["Answer", "Attempt", "Fault", "Retrying", "Schedule", "ScheduleFault", "Stepper", "check", "retrying"]
+__all__ = ["Answer", "Attempt", "Bounds", "Fault", "Retrying", "Schedule", "ScheduleFault", "Stepper", "bounds", "check",
+           "retrying"]
 __version__ = "0.2.0"

@@ -14,6 +14,11 @@ class Reply(ctypes.Structure):
     _fields_ = [(name, ctypes.c_uint64) for name in ["next", "size", "visits", "at"]]
 
 
+class Told(ctypes.Structure):
+    """What zs_bounds tells."""
+    _fields_ = [(name, ctypes.c_uint64) for name in ["seen", "least", "has_most", "most", "longest", "has_total", "total"]]
+
+
 def _place() -> str:
     """The library's path, or its name where the system has to find it."""
     here = pathlib.Path(__file__).resolve()
@@ -34,6 +39,7 @@ def library() -> ctypes.CDLL:
     types = {
         "zs_check": [*text, place],
         "zs_answer": [*text, *words, reply, *text],
+        "zs_bounds": [*text, number, ctypes.POINTER(Told), place],
         "zs_state_size": [*text, place, place],
         "zs_begin": [*text, *words, place],
         "zs_step": [*text, *words, number, number, reply, *text],

@@ -4,7 +4,7 @@ import ctypes
 import json
 import typing
 
-from .calls import Reply, library
+from .calls import Reply, Told, library
 from .faults import DONE, KEEPS_LIST, Fault, refuse
 
 ROOM = 256
@@ -16,6 +16,21 @@ class Answer(typing.NamedTuple):
     next: int | None
     output: str
     visits: int
+
+
+class Bounds(typing.NamedTuple):
+    """What a schedule does for every input and however long attempts take: no attempt before the one of number `least` is the
+    last, and none after `most` is made; the longest wait after the first `seen` attempts, and all waits together, in
+    milliseconds. `most` and `total` are None where there is no bound."""
+    seen: int
+    least: int
+    most: int | None
+    longest: int
+    total: int | None
+
+    def within(self, most: int, total: int) -> bool:
+        """Whether there are at most so many attempts, and so many milliseconds of waits together."""
+        return self.most is not None and self.most <= most and self.total is not None and self.total <= total
 
 
 def check(text: str) -> None:
@@ -164,3 +179,13 @@ def begun(text: str) -> Schedule | Stepper:
         if fault.number != KEEPS_LIST:
             raise
     return Schedule(text)
+
+
+def bounds(schedule: str | Schedule | Stepper, steps: int) -> Bounds:
+    """The Bounds of a schedule, of which so many attempts are looked at, at most; of a Schedule or Stepper the text is taken,
+    before its first step. Raises ScheduleFault, and OverflowError where steps is no whole number of 64 bits."""
+    text = schedule if isinstance(schedule, str) else schedule.text
+    data, told, at = text.encode(), Told(), ctypes.c_uint64()
+    refuse(text, library().zs_bounds(data, len(data), array.array("Q", [steps])[0], told, at), at.value)
+    return Bounds(told.seen, told.least, told.most if told.has_most else None, told.longest,
+                  told.total if told.has_total else None)

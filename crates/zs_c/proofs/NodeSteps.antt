@@ -8,7 +8,6 @@ use Rattle.zs_term.specs.declared.term.Pick.{Pick}
 use Rattle.zs_term.specs.declared.term.Func.{Func}
 use Rattle.zs_term.proofs.Sizes.{depth-positive, weight-positive}
 use Rattle.zs_step.specs.declared.decision.Decision.{Decision}
-use Rattle.zs_step.specs.declared.decision.Decision.TheVariants.{Stop}
 use Rattle.zs_step.specs.History.{History}
 use Rattle.zs_step.specs.Answer.{answer_of, leaf_answer, since_reset, later_of, earlier_of, only_if}
 use Rattle.zs_c.specs.declared.program.node.Sizes.{Sizes}
@@ -182,13 +181,6 @@ then-node t h code old new levels now input d before after most n s coded read i
 abbrev pub PartSteps : List ℕ → ℕ → ℕ → List ℕ → List ℕ → ℕ → ℕ → Decision → ℕ → ℕ → Type 0
 PartSteps code levels most old new now input d before after =
     (s : Schedule) (g : History) → IsCode s code levels → before + weight s ≤ most → old ≡ held_of s g → StepsCode s g new now input d before after
-
--- a decision that a test passes, or not
-pub kept-if : (b : Bool) (d : Decision) → b ≡ true → d ≡ only_if b d
-kept-if b d e = sym (ap (λ (z : Bool). only_if z d) e)
-
-pub stopped-if : (b : Bool) (d : Decision) → b ≡ false → Stop ≡ only_if b d
-stopped-if b d e = sym (ap (λ (z : Bool). only_if z d) e)
 
 -- a step of `.whileInput`
 pub while_input-node : (t : Schedule) (h : History) (code other old new : List ℕ) (levels now input : ℕ) (x d : Decision) (before after most : ℕ) (n : Node) (q : Test) (passed : Bool) →

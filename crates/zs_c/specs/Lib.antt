@@ -4,6 +4,7 @@ pub mod Numbers
 pub mod Refusals
 pub mod Told
 pub mod States
+pub mod Bounded
 pub mod FaultText
 pub mod Code
 pub mod Program

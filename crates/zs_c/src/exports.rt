@@ -1,6 +1,7 @@
 // The functions that C calls.
 
 ghost use Rattle.std.specs.Prelude.{◌≡◌, ◌<◌, ◌≤◌, length};
+ghost use Rattle.zs_c.specs.Bounded.{IsBounded, no_bounds_told};
 ghost use Rattle.zs_c.specs.Pairs.{pairs_of};
 ghost use Rattle.zs_c.specs.FaultText.{fault_text, version_number};
 ghost use Rattle.zs_c.specs.Numbers.{refusal_place};
@@ -9,6 +10,7 @@ ghost use Rattle.zs_c.specs.Told.{IsAnswered, IsRefused, IsTextRefused, written}
 ghost use Rattle.zs_c.specs.States.{IsSizeRefusal, IsBeginRefusal, IsSized, IsBegun, IsStepped, IsRefusedFor, IsNotStepped};
 
 use crate::answering::{answered, schedule_in, told};
+use crate::bounding::{BoundsTold, bounds_in};
 use crate::refusal::Refusal;
 use crate::reply::Reply;
 use crate::room::{put, put_behind, put_words};
@@ -61,6 +63,35 @@ pub extern "C" fn zs_answer(
     };
     *reply = refused_at(why);
     why.number()
+}
+
+/// What the schedule of a text does for every input and every duration of attempts, where so many steps are looked at, at
+/// most: 0, or the number of the reason why that isn't known, and the byte at which that shows.
+#[unsafe(no_mangle)]
+pub extern "C" fn zs_bounds(
+    alloc: Global,
+    text: &[u8],
+    steps: u64,
+    bounds: &mut BoundsTold,
+    at: &mut u64,
+) -> u32
+    ensures bounded { result ≡ 0 → IsBounded text.now steps bounds.new }
+    ensures nowhere { result ≡ 0 → at.new ≡ 0 }
+    ensures refused { 0 < result → IsTextRefused text.now result at.new }
+    ensures nothing { 0 < result → bounds.new ≡ no_bounds_told }
+{
+    match bounds_in(alloc, text, steps) {
+        Ok(told) => {
+            *bounds = told;
+            *at = 0;
+            0
+        }
+        Err(why) => {
+            *bounds = BoundsTold::nothing();
+            *at = why.place();
+            why.number()
+        }
+    }
 }
 
 /// The number of words that the state of a text's schedule has: 0, or the number of the reason why it has none, and the

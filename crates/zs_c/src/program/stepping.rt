@@ -4,7 +4,7 @@ ghost use Rattle.std.specs.Prelude.{◌≡◌, ℕ, ◌+◌, ◌≤◌, ◌++◌
 ghost use Rattle.zs_term.specs.Output.{Output, passes, picked};
 ghost use Rattle.zs_term.specs.Schedule.{Schedule, weight, two, and_then};
 ghost use Rattle.zs_step.specs.History.{History};
-ghost use Rattle.zs_step.specs.Answer.{later_of, earlier_of};
+ghost use Rattle.zs_step.specs.Answer.{only_if, later_of, earlier_of};
 ghost use Rattle.zs_c.specs.Code.{IsCode, held_of};
 ghost use Rattle.zs_c.specs.Node.{IsParts};
 ghost use Rattle.zs_c.specs.Steps.{StepsCode, StepsBoth, StepsThen};
@@ -48,20 +48,12 @@ pub(crate) fn step_code(
         Node::AndThen(sizes) => step_and_then(code, words, sizes, levels - 1, step, visits),
         Node::WhileInput(test) => {
             let decision = step_code(behind(code, 3), words, levels - 1, step, visits);
-            if test.passes(step.input) {
-                decision
-            } else {
-                Decision::Stop
-            }
+            only_if(test.passes(step.input), decision)
         }
         Node::WhileOutput(pick, test) => {
             let part = behind(code, 4);
             let decision = step_code(part, words, levels - 1, step, visits);
-            if has_passed(part, words, levels - 1, pick, test) {
-                decision
-            } else {
-                Decision::Stop
-            }
+            only_if(has_passed(part, words, levels - 1, pick, test), decision)
         }
         Node::Map(_) => step_code(behind(code, 3), words, levels - 1, step, visits),
         Node::ResetWhen(pick, test) => {
@@ -148,6 +140,14 @@ fn step_and_then(
         step,
         visits,
     )
+}
+
+// The decision, or done where a test fails.
+#[inline(always)]
+fn only_if(passes: bool, decision: Decision) -> Decision
+    ensures value { result ≡ only_if passes decision }
+{
+    if passes { decision } else { Decision::Stop }
 }
 
 // Goes on where both do, at the later moment.

@@ -1,9 +1,8 @@
 use Rattle.std.proofs.Common.{◌+◌, refl, take, drop, ap, ◌∙◌}
-use Rattle.zs_step.specs.declared.decision.Decision.TheVariants.{Stop}
 use Rattle.zs_step.specs.Answer.{is_next}
 use Rattle.zs_c.specs.declared.program.stepping.TheConstants.{MAX_VISITS}
 use Rattle.zs_c.specs.declared.program.node.Sizes.{Sizes}
-use Rattle.zs_c.proofs.NodeSteps.{code-at, code-deep, code-heavy, leaf-node, both-node, either-node, then-node, while_input-node, mapped-node, while_output-node, reset-stays-node, reset-begins-node, kept-if, stopped-if}
+use Rattle.zs_c.proofs.NodeSteps.{code-at, code-deep, code-heavy, leaf-node, both-node, either-node, then-node, while_input-node, mapped-node, while_output-node, reset-stays-node, reset-begins-node}
 use Rattle.zs_c.proofs.PartSteps.{parts-fit, then-fit, parts-steps, stops, then-goes, then-done, then-on}
 use Rattle.zs_c.proofs.program.stepping.+stepping.Goals as goal
 use Rattle.zs_c.proofs.program.stepping.+stepping.Goals.{step_and_then-then-words-eq0+in_default, step_and_then-else-words-eq0, step_code-then-levels-eq0-via-then-levels-eq0, step_code-then-levels-eq0-via-else-levels-eq0+then-visits-ge-MAX_VISITS}
@@ -94,40 +93,22 @@ step_code-returns-in-AndThen t c = record {
       c.args.visits.now s.new.visits MAX_VISITS c.read_node.result c.in-AndThen.sizes coded c.read_node.ensures.value c.in-AndThen.is room held s.ensures.steps;
 }
 
-pub step_code-returns-then-passes : goal.step_code-returns-then-passes
-step_code-returns-then-passes t c = record {
+pub step_code-returns-in-WhileInput : goal.step_code-returns-in-WhileInput
+step_code-returns-in-WhileInput t c = record {
   steps = λ u h coded room held. let s = c.step_code-decision in
       while_input-node u h c.args.code.now c.behind.result.now c.args.words.now s.new.words c.args.levels c.args.step.now.moment c.args.step.now.input
-      s.result s.result c.args.visits.now s.new.visits MAX_VISITS c.read_node.result c.in-WhileInput.test c.passes.result
+      s.result c.only_if.result c.args.visits.now s.new.visits MAX_VISITS c.read_node.result c.in-WhileInput.test c.passes.result
       coded c.read_node.ensures.value c.in-WhileInput.is c.behind.ensures.value room held s.ensures.steps c.passes.ensures.value
-      (kept-if c.passes.result s.result c.if-passes.true);
+      c.only_if.ensures.value;
 }
 
-pub step_code-returns-else-passes : goal.step_code-returns-else-passes
-step_code-returns-else-passes t c = record {
-  steps = λ u h coded room held. let s = c.step_code-decision in
-      while_input-node u h c.args.code.now c.behind.result.now c.args.words.now s.new.words c.args.levels c.args.step.now.moment c.args.step.now.input
-      s.result Stop c.args.visits.now s.new.visits MAX_VISITS c.read_node.result c.in-WhileInput.test c.passes.result
-      coded c.read_node.ensures.value c.in-WhileInput.is c.behind.ensures.value room held s.ensures.steps c.passes.ensures.value
-      (stopped-if c.passes.result s.result c.if-passes.false);
-}
-
-pub step_code-returns-then-has_passed : goal.step_code-returns-then-has_passed
-step_code-returns-then-has_passed t c = record {
+pub step_code-returns-in-WhileOutput : goal.step_code-returns-in-WhileOutput
+step_code-returns-in-WhileOutput t c = record {
   steps = λ u h coded room held. let s = c.step_code-decision-in-WhileOutput in
       while_output-node u h c.args.code.now c.behind-part.result.now c.args.words.now s.new.words c.args.levels c.args.step.now.moment c.args.step.now.input
-      s.result s.result c.args.visits.now s.new.visits MAX_VISITS c.read_node.result c.in-WhileOutput.pick c.in-WhileOutput.test c.has_passed.result
+      s.result c.only_if-in-WhileOutput.result c.args.visits.now s.new.visits MAX_VISITS c.read_node.result c.in-WhileOutput.pick c.in-WhileOutput.test c.has_passed.result
       coded c.read_node.ensures.value c.in-WhileOutput.is c.behind-part.ensures.value room held s.ensures.steps c.has_passed.ensures.value
-      (kept-if c.has_passed.result s.result c.if-has_passed.true);
-}
-
-pub step_code-returns-else-has_passed : goal.step_code-returns-else-has_passed
-step_code-returns-else-has_passed t c = record {
-  steps = λ u h coded room held. let s = c.step_code-decision-in-WhileOutput in
-      while_output-node u h c.args.code.now c.behind-part.result.now c.args.words.now s.new.words c.args.levels c.args.step.now.moment c.args.step.now.input
-      s.result Stop c.args.visits.now s.new.visits MAX_VISITS c.read_node.result c.in-WhileOutput.pick c.in-WhileOutput.test c.has_passed.result
-      coded c.read_node.ensures.value c.in-WhileOutput.is c.behind-part.ensures.value room held s.ensures.steps c.has_passed.ensures.value
-      (stopped-if c.has_passed.result s.result c.if-has_passed.false);
+      c.only_if-in-WhileOutput.ensures.value;
 }
 
 pub step_code-returns-in-Map : goal.step_code-returns-in-Map
