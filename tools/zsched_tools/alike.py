@@ -33,7 +33,7 @@ def fewer(data):
     listed = plan.root.get("jobs")
     jobs = list(listed.items()) if listed and listed.kind == "list" else []
     numbers = _first_ones(jobs)
-    if len(jobs) > MOST_JOBS or 2 * len(numbers) > len(jobs):
+    if not 0 < 2 * len(numbers) <= len(jobs) <= MOST_JOBS:
         return None
     text = ",".join(jobs[number].source for number in numbers)
     return Fewer(f"{plan.text[:listed.at]}[{text}]{plan.text[listed.end:]}".encode(), numbers)

@@ -92,7 +92,8 @@ def answer(zsched, plan, seconds, bounds=None):
     if status == 2:
         return {"fault": placed(plan, said)}
     if status:
-        cause = f"{said or f'status {status} and no report'} ({MEMORY >> 20} MB are given to it)"
+        first = said.partition("\n")[0] or f"status {status} and no report"
+        cause = f"{first} ({MEMORY >> 20} MB are given to it)"
         return {"fault": {"field": "until", "cause": cause, "help": SMALLER}}
     return {**shown(report, size), "bounds": every_input(bounds, plan)}
 
