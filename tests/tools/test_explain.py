@@ -12,12 +12,13 @@ import subprocess
 import sys
 import tempfile
 import unittest
+import unittest.mock
 
 import faults as faults_table
 from mistakes import MISTAKES
 from mutate import changed_plans
 from support import ONE_JOB, TOP, job, plan
-from zsched_tools import all_faults, explain, hints, json_reading, plan_size, positions, program
+from zsched_tools import alike, all_faults, explain, hints, json_reading, plan_size, positions, program
 
 COMMAND = TOP / "tools" / "zsched-explain"
 CHANGED = int(os.environ.get("CHANGED_PLANS", "2000"))
@@ -406,6 +407,69 @@ class Use(unittest.TestCase):
         status, output, errors = self.run_command("--all", "many.json")
         self.assertEqual((status, output, errors.splitlines()[-1]), (2, "", "2 faults"))
         self.assertEqual(self.run_command("good.json")[2], "")
+
+
+class Alike(unittest.TestCase):
+    """A plan of which one of all jobs that are alike is run: it has the fault of the whole plan."""
+
+    def jobs(self, count, schedule="(exponential({}) && recurs(3))"):
+        """Jobs that differ in their names and their numbers alone."""
+        return [job(f"j{at}", schedule.format(at + 1), script=f'"script":[{{"ms":{at + 5},"err":503}}]',
+                    more=f',"start":{at + 1}') for at in range(count)]
+
+    def test_of_jobs_that_are_alike_the_first_one_remains(self):
+        found = alike.fewer(plan([*self.jobs(20), job("last")]))
+        self.assertEqual(found.numbers, [0, 20])
+        self.assertEqual(found.data, plan([self.jobs(1)[0], job("last")]))
+        self.assertEqual(found.line("zsched: job 1: wrong shape\n"), "zsched: job 20: wrong shape\n")
+        self.assertEqual(found.line("zsched: plan: out of range\n"), "zsched: plan: out of range\n")
+
+    def test_what_may_have_a_fault_of_its_own_remains(self):
+        like = self.jobs(20)
+        for changed in ['"name":"j 7"', '"name":"j3"', '"name":"\\u006a3"', '"name":""', '"start":0', '"start":-8',
+                        '"start":1.5', '"start":8e9', '"start":08', '"start":18446744073709551616']:
+            text = re.sub('"name":"j7"' if "name" in changed else '"start":8', lambda _: changed, like[7])
+            with self.subTest(changed):
+                found = alike.fewer(plan([*like[:7], text, *like[8:]]))
+                self.assertIsNone(found) if changed == '"start":08' else self.assertIn(7, found.numbers)
+        for text in ["7", "[]", "{}", '{"name":7}', like[7].replace("recurs(3)", "recurs(0)"),
+                     like[7].replace("503", "0"), like[7].replace('"err":503', '"ok":503')]:
+            with self.subTest(text):
+                self.assertEqual(alike.fewer(plan([*like[:7], text, *like[8:]])).numbers, [0, 7])
+
+    def test_a_plan_with_few_jobs_alike_or_too_many_or_no_plan_is_run_as_it_is(self):
+        for data in [ONE_JOB, plan([job("a"), job("b", "recurs(3 )"), job("c", "recurs( 3)")]), plan(self.jobs(10001)),
+                     b"", b"[]", b"{}", b'{"jobs":7}', plan(self.jobs(20))[:-1], plan(self.jobs(20)) + b"\xff"]:
+            self.assertIsNone(alike.fewer(data), data[:99])
+
+    def test_the_fault_is_that_of_the_whole_plan(self):
+        zsched = program.find()
+        for name, marked, fault, _ in MISTAKES:
+            found = re.search(r'"jobs": \[\n    (.*)\n  \]\n\}\n$', split(marked)[0], re.S)
+            if not found or not fault.startswith("job 0: "):
+                continue
+            data = plan([*self.jobs(9), found[1], *self.jobs(18)[9:]])
+            with self.subTest(name):
+                fewer = alike.fewer(data)
+                whole = explain.outcome(zsched, data)
+                self.assertEqual(whole, (2, f"zsched: job 9{fault.removeprefix('job 0')}\n"))
+                if fewer:
+                    self.assertLessEqual(len(fewer.numbers), 14)
+                    self.assertEqual(explain.fault_of_fewer(zsched, data), whole)
+
+    def test_a_program_that_takes_long_runs_fewer_jobs(self):
+        script = """#!/bin/sh
+case "$(cat)" in *'"name":"j5"'*) exec sleep 60;; esac
+echo "zsched: job 1: wrong shape" >&2
+exit 2
+"""
+        with tempfile.TemporaryDirectory() as folder:
+            zsched = pathlib.Path(folder) / "zsched"
+            zsched.write_text(script)
+            zsched.chmod(0o755)
+            with unittest.mock.patch.object(explain, "PATIENCE", 0.2):
+                look = explain.Look(plan([*self.jobs(20), "7"]))
+                self.assertEqual(explain.refusal(str(zsched), look), (2, "zsched: job 20: wrong shape\n"))
 
 
 class All(unittest.TestCase):

@@ -500,10 +500,17 @@ onload = () => setTimeout(() => {{
         wanted = [[width, True, number < 2, []] for width in ["360", "400", "1280", "1600"] for number in range(3)]
         self.assertEqual(found, wanted)
 
-    def test_the_axis_of_waits_has_room_for_its_labels(self):
-        curves = inside(self.shown(a="(exponential(100) && recurs(12))", until="20min"), "curves")
-        labels = re.findall(r'text-anchor="end"[^>]*>([^<]*)</text>', curves)
-        self.assertEqual(labels[:3], ["0 ms", "1 min 42.4 s", "3 min 24.8 s"])
+    def test_the_axis_of_waits_has_round_labels(self):
+        for schedule, until, wanted in [
+                ("(exponential(100) && recurs(12))", "20min", ["0 ms", "1 min", "2 min", "3 min"]),
+                ("(exponential(1000, 10) && recurs(7))", "300d", ["0 ms", "5 d", "10 d"]),
+                ("recurs(3)", "1s", ["0 ms", "1 ms"])]:
+            curves = inside(self.shown(a=schedule, until=until, script="5 err 7"), "curves")
+            self.assertEqual(re.findall(r'text-anchor="end"[^>]*>([^<]*)</text>', curves), wanted)
+
+    def test_one_word_that_is_missing_is_named_alone(self):
+        document = self.shown(a="((recurs(3) || spaced(5)) && recurs(4).map(_1)")
+        self.assertTrue(inside(document, "a-fault").endswith(">write )"), inside(document, "a-fault"))
 
     def test_shows_a_fault_with_its_caret(self):
         document = self.shown(a="recurs(3)", b="(spaced(10) && recur(3))")

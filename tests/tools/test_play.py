@@ -288,6 +288,18 @@ class Stopped(unittest.TestCase):
         self.assertEqual((fault["field"], fault["cause"], fault["help"]),
                          ("until", "out of memory (64 MB are given to it)", play.SMALLER))
 
+    def test_a_program_that_maps_terabytes_limits_its_memory_itself(self):
+        found = []
+        with tempfile.TemporaryDirectory() as folder:
+            zsched = pathlib.Path(folder) / "zsched"
+            for line in ["", "# AddressSanitizer"]:
+                zsched.write_text(f'#!/bin/sh\n{line}\ncat > /dev/null\necho "$ASAN_OPTIONS"\n')
+                zsched.chmod(0o755)
+                with unittest.mock.patch.object(play.resource, "prlimit") as limit:
+                    status, report, _, _ = play.run(str(zsched), b"", 10)
+                found.append((status, report, limit.called))
+        self.assertEqual(found, [(0, b"\n", True), (0, b"hard_rss_limit_mb=1024\n", False)])
+
 
 class CommandLine(unittest.TestCase):
     """The words of the command line."""

@@ -30,6 +30,8 @@ STATUSES = """exit status, that of zsched:
   128 and more: a signal ended zsched
 and 1 where zsched isn't found"""
 MOST_FAULTS = 10
+# The seconds after which a plan with fewer jobs is tried.
+PATIENCE = 2
 
 
 class Words(argparse.ArgumentParser):
@@ -101,8 +103,9 @@ def _tell_all(name, zsched, data, most, paint):
     from zsched_tools import all_faults, explanation
 
     def ended(text):
-        """How the program ends on a plan with the faults of this one."""
-        return outcome(zsched, plan_size.with_one_tick(text))
+        """How the program ends on a plan with the faults of this one. One of all jobs that are alike is run first."""
+        text = plan_size.with_one_tick(text)
+        return fault_of_fewer(zsched, text) or outcome(zsched, text)
     count = 0
     for line, found in all_faults.all_faults(ended, data, most + 1):
         count += 1
@@ -117,6 +120,15 @@ def outcome(zsched, data):
     """The status and the line of the program on a plan's bytes."""
     status, _, errors = program.run(zsched, data)
     return status, errors.decode(errors="replace")
+
+
+def fault_of_fewer(zsched, data):
+    """The status and the line of the program on a plan's bytes, by a run of one of all jobs that are alike. None if that
+    has no fault, or if few are alike."""
+    from zsched_tools import alike
+    fewer = alike.fewer(data)
+    status, line = outcome(zsched, fewer.data) if fewer else (0, "")
+    return (2, fewer.line(line)) if status == 2 else None
 
 
 def _failed(what, status):
@@ -157,19 +169,30 @@ class Look(threading.Thread):
 def refusal(zsched, look, seconds=None, data=None):
     """Runs the program on a plan's bytes, or on those that have its faults, while the look through them begins, and
     drops its report: its status and its line on standard error. Past the seconds it is killed, and
-    subprocess.TimeoutExpired is raised."""
+    subprocess.TimeoutExpired is raised. Past PATIENCE it is killed if one of all jobs that are alike has the fault."""
+    data = look.data if data is None else data
     with tempfile.TemporaryFile() as plan:
-        plan.write(look.data if data is None else data)
+        plan.write(data)
         plan.seek(0)
         process = subprocess.Popen([zsched], stdin=plan, stdout=subprocess.DEVNULL, stderr=subprocess.PIPE)
     with process:
         try:
             look.start()
-            line = process.communicate(timeout=seconds)[1].decode(errors="replace")
+            try:
+                errors = process.communicate(timeout=seconds or PATIENCE)[1]
+            except subprocess.TimeoutExpired:
+                if seconds:
+                    raise
+                sooner = fault_of_fewer(zsched, data)
+                if sooner:
+                    process.kill()
+                    return sooner
+                errors = process.communicate()[1]
         except BaseException:
             process.kill()
             raise
-    return process.returncode if process.returncode >= 0 else 128 - process.returncode, line
+    status = process.returncode
+    return status if status >= 0 else 128 - status, errors.decode(errors="replace")
 
 
 def tell(name, look, status, line, paint=lambda _, text: text):

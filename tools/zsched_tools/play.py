@@ -6,6 +6,8 @@ import bisect
 import http.server
 import itertools
 import json
+import os
+import pathlib
 import re
 import resource
 import signal
@@ -19,6 +21,8 @@ ADDRESS = "127.0.0.1"
 PORT = 8642
 SECONDS = 10
 MEMORY = 1 << 30
+# In a program that ./run built unproved. It maps terabytes, and limits the memory that it uses itself.
+SANITIZER = b"AddressSanitizer"
 SMALLER = "shorten the horizon, or lengthen the waits"
 LONGEST_BODY = program.MAX_BYTES
 LONGEST_REPORT = 8_000_000
@@ -44,8 +48,11 @@ def run(zsched, plan, seconds):
     """Runs the program on a plan: its status, the report's beginning, the report's size, and its standard error."""
     with tempfile.TemporaryFile() as report:
         words = {"stdin": subprocess.PIPE, "stdout": report, "stderr": subprocess.PIPE}
-        with subprocess.Popen([zsched], **words) as child:
-            resource.prlimit(child.pid, resource.RLIMIT_AS, (MEMORY, MEMORY))
+        is_sanitized = SANITIZER in pathlib.Path(zsched).read_bytes()
+        more = {"ASAN_OPTIONS": f"hard_rss_limit_mb={MEMORY >> 20}"} if is_sanitized else {}
+        with subprocess.Popen([zsched], env={**os.environ, **more}, **words) as child:
+            if not is_sanitized:
+                resource.prlimit(child.pid, resource.RLIMIT_AS, (MEMORY, MEMORY))
             try:
                 _, errors = child.communicate(plan, timeout=seconds)
             except subprocess.TimeoutExpired:
@@ -85,7 +92,8 @@ def answer(zsched, plan, seconds, bounds=None):
     if status == 2:
         return {"fault": placed(plan, said)}
     if status:
-        cause = f"{said or f'status {status} and no report'} ({MEMORY >> 20} MB are given to it)"
+        first = said.partition("\n")[0] or f"status {status} and no report"
+        cause = f"{first} ({MEMORY >> 20} MB are given to it)"
         return {"fault": {"field": "until", "cause": cause, "help": SMALLER}}
     return {**shown(report, size), "bounds": every_input(bounds, plan)}
 
