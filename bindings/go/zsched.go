@@ -28,8 +28,8 @@ const (
 )
 
 const (
-	done = 1
-	room = 256
+	done    = 1
+	room    = 256
 	longest = uint64(1<<63-1) / uint64(time.Millisecond)
 )
 
