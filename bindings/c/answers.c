@@ -7,7 +7,9 @@
  * A request is a line of words: the text in hexadecimal digits after a '.', and the moment and the input of each step in turn.
  * Its line of output has the number, the next moment, the visits and the output of each step, joined by ','; the last word may
  * be a fault's number and place. A request without steps is checked. */
+#ifndef _GNU_SOURCE
 #define _GNU_SOURCE
+#endif
 #include <zsched.h>
 
 #include <stdio.h>
