@@ -4,10 +4,11 @@
     python3 tests/million_steps.py [--steps N] [LANGUAGE ..]
 
 Each tenth of the steps is measured. Time is flat if the fastest of the last five tenths takes at most 1.5 times as long as
-the fastest of the first five; memory is flat if it grows by less than 4 bytes a step after the first half. A list of the
-steps grows by 16 bytes a step. Under valgrind, where it is installed, the instructions of a step are counted in C and Rust.
-It takes the library of ZSCHED_LIBRARY_DIR, or that of tools/make-library. It isn't part of ./check. The last line is 'N
-passed, M failed'; a language whose compiler isn't on this machine is named as left out."""
+the fastest of the first five, in one of three runs, since other programs make it slower. Memory is flat if it grows by less
+than 4 bytes a step after the first half; a list of the steps grows by 16. Under valgrind, where it is installed, the
+instructions of a step are counted in C and Rust. It takes the library of ZSCHED_LIBRARY_DIR, or that of tools/make-library.
+It isn't part of ./check. The last line is 'N passed, M failed'; a language whose compiler isn't on this machine is named as
+left out."""
 import argparse
 import os
 import pathlib
@@ -25,7 +26,7 @@ from support import TOP, Count
 LIBRARY = pathlib.Path(os.environ.get("ZSCHED_LIBRARY_DIR", TOP / "crates" / "zs_c" / "out"))
 # That of docs/LIBRARY.md, but for the number of retries.
 POLICY = "((exponential(100) || spaced(5000)) && recurs({steps})).whileInput(>= 500)"
-TIMES, BYTES = 1.5, 4
+TIMES, BYTES, RUNS = 1.5, 4, 3
 # Of so many steps and twice as many the instructions are counted.
 COUNTED = 2000
 
@@ -56,8 +57,11 @@ def judge(count, name, room, steps):
     except answers.Missing as fault:
         print(f"{name}: left out: {fault}")
         return
-    spent, memory = measured(program, steps)
-    first, last = min(spent[:5]), min(spent[5:])
+    for _ in range(RUNS):
+        spent, memory = measured(program, steps)
+        first, last = min(spent[:5]), min(spent[5:])
+        if last <= TIMES * first:
+            break
     grown = (memory[-1] - memory[4]) * 1024 / (steps / 2)
     told = f"{name}: {first:.0f} ns a step in the first half, {last:.0f} in the second; {memory[4]} and {memory[-1]} KiB"
     if name in ["C", "Rust"] and shutil.which("valgrind"):
