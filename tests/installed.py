@@ -163,7 +163,7 @@ def python(room):
 def wheel(room):
     """Python, by the wheel in a new environment."""
     maker = next((it for it in [PYTHON, sys.executable] if pathlib.Path(it).exists() and not subprocess.run(
-        [it, "-c", "import pip, setuptools, wheel"], capture_output=True, check=False).returncode), None)
+        [it, "-c", "import setuptools, wheel, pip"], capture_output=True, check=False).returncode), None)
     if maker is None:
         raise Missing("pip, setuptools and wheel of Python aren't installed")
     source = room.place / "source"
@@ -213,7 +213,7 @@ def java(room):
     library = room.install("libzsched0")
     sources = sorted((BINDINGS / "java" / "zsched").glob("*.java"))
     room.run("javac", "-cp", JNA, "-d", "classes", *sources)
-    room.run("jar", "--create", "--file", room.root / "zsched.jar", "-C", "classes", "zsched")
+    room.run("jar", "--create", "--file", room.place / "zsched.jar", "-C", "classes", "zsched")
     shutil.rmtree(room.place / "classes")
     path = f"{JNA}:{room.root / 'zsched.jar'}"
     room.run("javac", "-cp", path, "-d", "client", CLIENTS / "Fetch.java")
@@ -224,11 +224,11 @@ def rust(room):
     """Rust, by the Debian packages and a crate by its path."""
     need("cargo", "cargo")
     library = room.install("libzsched0", "libzsched-dev")
-    shutil.copytree(BINDINGS / "rust", room.root / "zsched", ignore=UNWANTED)
+    shutil.copytree(BINDINGS / "rust", room.place / "zsched", ignore=UNWANTED)
     (room.place / "src").mkdir()
     shutil.copy(CLIENTS / "fetch.rs", room.place / "src" / "main.rs")
     (room.place / "Cargo.toml").write_text('[package]\nname = "fetch"\nversion = "0.1.0"\nedition = "2021"\n\n'
-                                           '[dependencies]\nzsched = { path = "root/zsched" }\n')
+                                           '[dependencies]\nzsched = { path = "zsched" }\n')
     room.run("cargo", "build", "--quiet", "--offline", ZSCHED_LIBRARY_DIR=library)
     return ["target/debug/fetch"], {}
 
