@@ -215,7 +215,7 @@ def java(room):
     room.run("javac", "-cp", JNA, "-d", "classes", *sources)
     room.run("jar", "--create", "--file", room.place / "zsched.jar", "-C", "classes", "zsched")
     shutil.rmtree(room.place / "classes")
-    path = f"{JNA}:{room.root / 'zsched.jar'}"
+    path = f"{JNA}:{room.place / 'zsched.jar'}"
     room.run("javac", "-cp", path, "-d", "client", CLIENTS / "Fetch.java")
     return ["java", "-cp", f"{path}:client", f"-Djna.library.path={library}", "Fetch"], {}
 
