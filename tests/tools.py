@@ -17,7 +17,7 @@ HERE = pathlib.Path(__file__).resolve().parent
 sys.dont_write_bytecode = True
 sys.path[:0] = [str(HERE), str(HERE / "tools"), str(HERE.parent / "tools")]
 # Files that run in one process after each other, because they share what the first one builds.
-TOGETHER = [["test_library", "test_library_install"]]
+TOGETHER = [["test_library", "test_library_install", "test_library_steps"]]
 # Those that take longest begin first.
 LONGEST = ["test_library", "test_scale", "test_page", "test_report", "test_plan", "test_explain"]
 LAST = re.compile(r"(\d+) passed, (\d+) failed")

@@ -14,7 +14,7 @@
 
 #define POLICY "((exponential(20) || spaced(100)) && recurs(5)).whileInput(= 503)"
 #define BUSY 3
-#define WORDS 16
+#define WORDS 64
 
 static struct sockaddr_in address = {.sin_family = AF_INET};
 
@@ -58,16 +58,16 @@ static uint64_t now(void)
 static int fetch_by(const char *policy, char *text, size_t size)
 {
     const uint8_t *bytes = (const uint8_t *)policy;
-    uint64_t state[WORDS], at;
+    uint64_t program[WORDS], state[WORDS], at;
     zs_reply reply;
-    if (zs_begin(bytes, strlen(policy), state, WORDS, &at) != ZS_NEXT)
+    if (zs_compile(bytes, strlen(policy), program, WORDS, &at) || zs_program_begin(program, WORDS, state, WORDS))
         return 0;
     for (int attempt = 1;; attempt++) {
         int code = fetch(text, size);
         uint64_t moment = now();
         if (code == 200)
             return attempt;
-        if (zs_step(bytes, strlen(policy), state, WORDS, moment, (uint64_t)code, &reply, NULL, 0) != ZS_NEXT)
+        if (zs_program_step(program, WORDS, state, WORDS, moment, (uint64_t)code, &reply, NULL, 0) != ZS_NEXT)
             return 0;
         uint64_t wait = reply.next - moment;
         nanosleep(&(struct timespec){(time_t)(wait / 1000), (long)(wait % 1000) * 1000000}, NULL);

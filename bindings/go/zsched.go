@@ -17,11 +17,20 @@ import (
 	"unsafe"
 )
 
+// Numbers of a Fault.
 const (
-	done      = 1
-	keepsList = 6
-	room      = 256
-	longest   = uint64(1<<63-1) / uint64(time.Millisecond)
+	// KeepsList is that of a schedule with collectAll, which has no state of fixed size.
+	KeepsList = 6
+	// NoProgram is that of words that are no program of this version of the library.
+	NoProgram = 8
+	// OtherState is that of words of a state that are another schedule's.
+	OtherState = 9
+)
+
+const (
+	done    = 1
+	room    = 256
+	longest = uint64(1<<63-1) / uint64(time.Millisecond)
 )
 
 // Seen is what a schedule saw at one step.
@@ -48,9 +57,6 @@ type Fault struct {
 	Number uint32
 	At     uint64
 }
-
-// ErrOtherState is returned for words of a state whose number is another schedule's.
-var ErrOtherState = errors.New("zsched: the words of a state are those of another schedule")
 
 // Error is the library's text.
 func (fault *Fault) Error() string {
@@ -133,48 +139,59 @@ func (schedule *Schedule) After(moment, input uint64) (Answer, error) {
 	return answer, err
 }
 
-// Stepper is a schedule with a state of fixed size, so a step takes no longer after many of them than after one.
+// Stepper is a schedule with a state of fixed size, so a step takes no longer after many of them than after one. Its text is
+// read once.
 type Stepper struct {
-	text  string
-	state []uint64
+	program []uint64
+	state   []uint64
 }
 
 // NewStepper is the schedule of a text, before its first step. A schedule with collectAll has no such state.
 func NewStepper(text string) (*Stepper, error) {
-	data, size, at := []byte(text), C.uint64_t(0), C.uint64_t(0)
-	if err := refusal(C.zs_state_size(bytesOf(data), C.size_t(len(data)), &size, &at), at); err != nil {
+	data, size, stateSize, at := []byte(text), C.uint64_t(0), C.uint64_t(0), C.uint64_t(0)
+	number := C.zs_program_size(bytesOf(data), C.size_t(len(data)), &size, &stateSize, &at)
+	if err := refusal(number, at); err != nil {
 		return nil, err
 	}
-	state := make([]uint64, size)
-	number := C.zs_begin(bytesOf(data), C.size_t(len(data)), wordsOf(state), C.size_t(len(state)), &at)
-	return &Stepper{text, state}, refusal(number, at)
+	program, state := make([]uint64, size), make([]uint64, stateSize)
+	number = C.zs_compile(bytesOf(data), C.size_t(len(data)), wordsOf(program), C.size_t(size), &at)
+	if err := refusal(number, at); err != nil {
+		return nil, err
+	}
+	number = C.zs_program_begin(wordsOf(program), C.size_t(size), wordsOf(state), C.size_t(stateSize))
+	if err := refusal(number, 0); err != nil {
+		return nil, err
+	}
+	return &Stepper{program, state}, nil
 }
 
-// Resume is the schedule of a text with a state that State returned. Words that were changed aren't found.
+// Resume is the schedule of a text with a state that State returned, or a *Fault with the number OtherState. Words that were
+// changed after the first aren't found.
 func Resume(text string, state []uint64) (*Stepper, error) {
 	stepper, err := NewStepper(text)
 	if err != nil {
 		return nil, err
 	}
-	if len(state) != len(stepper.state) {
-		return nil, ErrOtherState
+	if len(state) != len(stepper.state) || state[0] != stepper.state[0] {
+		return nil, &Fault{Number: OtherState}
 	}
 	copy(stepper.state, state)
 	return stepper, nil
 }
 
-// State is a copy of the words of the state, whose number depends on the text alone.
+// State is a copy of the words of the state, whose number depends on the text alone. The first tells of which schedule they
+// are.
 func (stepper *Stepper) State() []uint64 {
 	return append([]uint64(nil), stepper.state...)
 }
 
 // After is one step more, at a moment in milliseconds and with an input. After an error the schedule is unchanged.
 func (stepper *Stepper) After(moment, input uint64) (Answer, error) {
-	data, state := []byte(stepper.text), make([]uint64, len(stepper.state))
+	program, state := stepper.program, make([]uint64, len(stepper.state))
 	answer, err := asked(func(out []byte) (number C.uint32_t, reply C.zs_reply) {
 		copy(state, stepper.state)
-		number = C.zs_step(bytesOf(data), C.size_t(len(data)), wordsOf(state), C.size_t(len(state)), C.uint64_t(moment),
-			C.uint64_t(input), &reply, bytesOf(out), C.size_t(len(out)))
+		number = C.zs_program_step(wordsOf(program), C.size_t(len(program)), wordsOf(state), C.size_t(len(state)),
+			C.uint64_t(moment), C.uint64_t(input), &reply, bytesOf(out), C.size_t(len(out)))
 		return
 	})
 	if err == nil {
@@ -195,7 +212,7 @@ type follower interface {
 func begun(text string) (follower, error) {
 	stepper, err := NewStepper(text)
 	var fault *Fault
-	if errors.As(err, &fault) && fault.Number == keepsList {
+	if errors.As(err, &fault) && fault.Number == KeepsList {
 		return New(text)
 	}
 	return stepper, err

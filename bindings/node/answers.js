@@ -1,47 +1,75 @@
 'use strict';
-// Prints what the library answers to the requests of tests/tools/test_library.py, as tests/library.c does. The word 'state'
-// has each done by a Stepper.
+// Steps schedules for tests/tools/test_library.py and tests/million_steps.py, by the words that bindings/c/answers.c names.
 const { readFileSync } = require('node:fs');
-const { Fault, Schedule, Stepper, check } = require('./zsched.js');
+const calls = require(process.env.ZSCHED_NODE || './zsched.node');
+const { Fault, Schedule, Stepper } = require('./zsched.js');
 
-const FALLS = 3;
-const isStepping = process.argv[2] === 'state';
+const CODE = 503n;
 
-function answered(text, room, numbers) {
-  const schedule = isStepping ? new Stepper(text) : new Schedule(text);
-  let answer;
-  for (let i = 0; i < numbers.length; i += 2) {
-    try {
-      answer = schedule.after(BigInt(numbers[i]), BigInt(numbers[i + 1]));
-    } catch (fault) {
-      // A state doesn't know at which pair a moment falls.
-      fault.at = isStepping && fault.number === FALLS ? BigInt(i / 2) : fault.at;
-      throw fault;
+/** A schedule that zs_step steps. */
+class Stated {
+  constructor(text) {
+    const [size, at] = [new BigUint64Array(1), new BigUint64Array(1)];
+    this.text = text;
+    this.refuse(calls.stateSize(text, size, at), at[0]);
+    this.words = new BigUint64Array(Number(size[0]));
+    this.refuse(calls.begin(text, this.words, at), at[0]);
+  }
+
+  refuse(number, at) {
+    if (number > 1) {
+      throw new Fault(number, at);
     }
   }
-  const out = Buffer.alloc(room, 0xaa);
-  out.write(answer.output, 'ascii');
-  const number = answer.done ? 1 : 0;
-  return `${number} ${answer.next ?? 0} ${answer.output.length} ${answer.visits} 0 .${out.toString('hex')}`;
+
+  after(moment, input) {
+    const [reply, out] = [new BigUint64Array(4), Buffer.alloc(1 << 16)];
+    const number = calls.step(this.text, this.words, moment, input, reply, out);
+    this.refuse(number, reply[3]);
+    return { done: number === 1, next: reply[0], output: out.toString('ascii', 0, Number(reply[1])), visits: Number(reply[2]) };
+  }
 }
 
-function line(request) {
-  const [text, room, ...numbers] = request.split(' ');
-  const data = Buffer.from(text.slice(1), 'hex');
+const WAYS = { list: Schedule, state: Stated, program: Stepper };
+
+function stepsOf(text, numbers, Begun) {
+  const said = [];
   try {
-    if (room !== '-') {
-      return answered(data, Number(room), numbers);
+    const schedule = new Begun(text);
+    if (numbers.length === 0) {
+      return '0,0';
     }
-    check(data);
-    return '0 0';
+    for (let i = 0; i < numbers.length; i += 2) {
+      const answer = schedule.after(numbers[i], numbers[i + 1]);
+      said.push(`${answer.done ? 1 : 0},${answer.next ?? 0},${answer.visits},${answer.output}`);
+    }
   } catch (fault) {
     if (!(fault instanceof Fault)) {
       throw fault;
     }
-    return room === '-' ? `${fault.number} ${fault.at}` : `${fault.number} 0 0 0 ${fault.at} .${'aa'.repeat(Number(room))}`;
+    said.push(`${fault.number},${fault.at}`);
+  }
+  return said.join(' ');
+}
+
+function many(count, policy) {
+  const schedule = new Stepper(policy);
+  let moment = 0n;
+  for (let tenth = 0; tenth < 10; tenth++) {
+    const begun = process.hrtime.bigint();
+    for (let i = 0; i < count / 10; i++) {
+      moment = schedule.after(moment, CODE).next;
+    }
+    console.log(`${process.hrtime.bigint() - begun} ${process.memoryUsage.rss() >> 10}`);
   }
 }
 
-for (const request of readFileSync(0, 'utf8').split('\n').slice(0, -1)) {
-  console.log(line(request));
+const [mode, ...words] = process.argv.slice(2);
+if (mode === 'million') {
+  many(Number(words[0]), words[1]);
+} else {
+  for (const request of readFileSync(0, 'utf8').split('\n').slice(0, -1)) {
+    const [text, ...numbers] = request.split(' ');
+    console.log(stepsOf(Buffer.from(text.slice(1), 'hex'), numbers.map(BigInt), WAYS[mode]));
+  }
 }

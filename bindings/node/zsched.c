@@ -121,6 +121,52 @@ static napi_value step(napi_env env, napi_callback_info info)
                                out.length));
 }
 
+/* programSize(text, size, stateSize, at) */
+static napi_value program_size(napi_env env, napi_callback_info info)
+{
+    napi_value given[MOST];
+    span text, size, state_size, at;
+    if (!arguments(env, info, 4, given) || !bytes(env, given[0], &text) || !words(env, given[1], 1, &size) ||
+        !words(env, given[2], 1, &state_size) || !words(env, given[3], 1, &at))
+        return NULL;
+    return result(env, zs_program_size(text.data, text.length, size.data, state_size.data, at.data));
+}
+
+/* compile(text, program, at) */
+static napi_value compile(napi_env env, napi_callback_info info)
+{
+    napi_value given[MOST];
+    span text, program, at;
+    if (!arguments(env, info, 3, given) || !bytes(env, given[0], &text) || !words(env, given[1], 0, &program) ||
+        !words(env, given[2], 1, &at))
+        return NULL;
+    return result(env, zs_compile(text.data, text.length, program.data, program.length, at.data));
+}
+
+/* programBegin(program, state) */
+static napi_value program_begin(napi_env env, napi_callback_info info)
+{
+    napi_value given[MOST];
+    span program, state;
+    if (!arguments(env, info, 2, given) || !words(env, given[0], 0, &program) || !words(env, given[1], 0, &state))
+        return NULL;
+    return result(env, zs_program_begin(program.data, program.length, state.data, state.length));
+}
+
+/* programStep(program, state, moment, input, reply, out) */
+static napi_value program_step(napi_env env, napi_callback_info info)
+{
+    napi_value given[MOST];
+    span program, state, reply, out;
+    uint64_t moment, input;
+    if (!arguments(env, info, 6, given) || !words(env, given[0], 0, &program) || !words(env, given[1], 0, &state) ||
+        !number(env, given[2], &moment) || !number(env, given[3], &input) || !words(env, given[4], 4, &reply) ||
+        !bytes(env, given[5], &out))
+        return NULL;
+    return result(env, zs_program_step(program.data, program.length, state.data, state.length, moment, input, reply.data,
+                                       out.data, out.length));
+}
+
 /* faultText(number, at, out): how many bytes the text has */
 static napi_value fault_text(napi_env env, napi_callback_info info)
 {
@@ -148,6 +194,10 @@ NAPI_MODULE_INIT()
         {"stateSize", NULL, state_size, NULL, NULL, NULL, napi_default, NULL},
         {"begin", NULL, begin, NULL, NULL, NULL, napi_default, NULL},
         {"step", NULL, step, NULL, NULL, NULL, napi_default, NULL},
+        {"programSize", NULL, program_size, NULL, NULL, NULL, napi_default, NULL},
+        {"compile", NULL, compile, NULL, NULL, NULL, napi_default, NULL},
+        {"programBegin", NULL, program_begin, NULL, NULL, NULL, napi_default, NULL},
+        {"programStep", NULL, program_step, NULL, NULL, NULL, napi_default, NULL},
         {"faultText", NULL, fault_text, NULL, NULL, NULL, napi_default, NULL},
         {"version", NULL, version, NULL, NULL, NULL, napi_default, NULL},
     };

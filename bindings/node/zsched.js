@@ -7,6 +7,7 @@ const calls = require(process.env.ZSCHED_NODE || './zsched.node');
 
 const DONE = 1;
 const KEEPS_LIST = 6;
+const OTHER_STATE = 9;
 const ROOM = 256;
 const LONGEST = 2 ** 31 - 1;
 
@@ -75,28 +76,35 @@ class Schedule {
   }
 }
 
-/** A schedule with a state of fixed size in place of its steps, so a step takes no longer after many of them than after one. */
+/**
+ * A schedule with a state of fixed size in place of its steps, so a step takes no longer after many of them than after one.
+ * Its text is read once.
+ */
 class Stepper {
-  #text;
+  #program;
   #state;
 
-  /** The schedule of a text, before its first step, or with a state that `state` gave. */
+  /**
+   * The schedule of a text, before its first step, or with a state that `state` gave. Throws a Fault for the words of another
+   * schedule's state. Words that were changed after the first aren't found.
+   */
   constructor(text, state = null) {
-    this.#text = Buffer.from(text);
-    const size = new BigUint64Array(1);
-    const at = new BigUint64Array(1);
-    refuse(calls.stateSize(this.#text, size, at), at[0]);
-    this.#state = new BigUint64Array(Number(size[0]));
-    refuse(calls.begin(this.#text, this.#state, at), at[0]);
+    const data = Buffer.from(text);
+    const [size, stateSize, at] = [new BigUint64Array(1), new BigUint64Array(1), new BigUint64Array(1)];
+    refuse(calls.programSize(data, size, stateSize, at), at[0]);
+    this.#program = new BigUint64Array(Number(size[0]));
+    this.#state = new BigUint64Array(Number(stateSize[0]));
+    refuse(calls.compile(data, this.#program, at), at[0]);
+    refuse(calls.programBegin(this.#program, this.#state), 0n);
     if (state !== null) {
-      if (state.length !== this.#state.length) {
-        throw new RangeError(`${state.length} words in place of ${this.#state.length}`);
+      if (state.length !== this.#state.length || state[0] !== this.#state[0]) {
+        throw new Fault(OTHER_STATE, 0n);
       }
       this.#state.set(state);
     }
   }
 
-  /** The words of the state, whose number depends on the text alone. */
+  /** The words of the state, whose number depends on the text alone. The first tells of which schedule they are. */
   get state() {
     return this.#state.slice();
   }
@@ -107,7 +115,7 @@ class Stepper {
     let state;
     const answer = asked((reply, out) => {
       state = this.#state.slice();
-      return calls.step(this.#text, state, now, code, reply, out);
+      return calls.programStep(this.#program, state, now, code, reply, out);
     });
     this.#state = state;
     return answer;

@@ -23,12 +23,13 @@ import threading
 import time
 import unittest
 
+import answers
 import generator
 import reference
+from answers import BINDINGS, ran
 from support import TOP, tree
 from zsched_tools import program
 
-BINDINGS = TOP / "bindings"
 MAKE = TOP / "tools" / "make-library"
 REQUESTS = 2000
 SCHEDULES = 2000
@@ -41,7 +42,6 @@ WRAPPED = ["-Wl,--wrap=malloc,--wrap=realloc,--wrap=free", "-lpthread"]
 STRICT = ["-std=gnu11", "-Wall", "-Wextra", "-Werror", "-pedantic"]
 # A short program of Java isn't worth much compiling.
 QUICK = ["-XX:TieredStopAtLevel=1", "-XX:+UseSerialGC"]
-JNA = pathlib.Path("/usr/share/java/jna.jar")
 NUMBERS = {"no term": 11, "too big": 12, "number too large": 13, "factor is 0": 14, "no kind": 15, "window is 0": 16}
 SPOILT = [generator.no_term, generator.too_big, generator.big_number, generator.zero_factor, generator.no_kind,
           generator.zero_window]
@@ -57,8 +57,8 @@ public final class Steps {
     private static void refused(Runnable call) {
         try {
             call.run();
-        } catch (IllegalArgumentException fault) {
-            System.out.println(fault.getMessage());
+        } catch (Schedule.Fault fault) {
+            System.out.println(fault.number + " " + fault.getMessage());
         }
     }
 
@@ -68,8 +68,9 @@ public final class Steps {
         refused(() -> stepper.after(2, 0));
         Stepper again = Stepper.resume(TEXT, stepper.state());
         System.out.println(again.after(13, 0));
-        System.out.println(Arrays.toString(again.state()));
+        System.out.println(Arrays.toString(Arrays.copyOfRange(again.state(), 1, again.state().length)));
         refused(() -> Stepper.resume(TEXT, new long[1]));
+        refused(() -> Stepper.resume("(exponential(10) && recurs(4))", stepper.state()));
         refused(() -> new Stepper("forever.collectAll"));
         refused(() -> new Stepper("?"));
         System.out.println(new Stepper("spaced(18446744073709551615)").after(1, 0).waitFrom(1));
@@ -111,8 +112,59 @@ const refused = (call) => { try { call(); } catch (fault) { console.log(`${fault
   const stepper = new Stepper('(exponential(10) && recurs(3))');
   stepper.after(1, 2);
   refused(() => stepper.after(0));
+  refused(() => new Stepper('(exponential(10) && recurs(4))', stepper.state));
+  refused(() => new Stepper('recurs(3)', stepper.state));
+  refused(() => new Stepper('forever.collectAll'));
   console.log(String(new Stepper('(exponential(10) && recurs(3))', stepper.state).state));
 })();
+"""
+# Steps of the binding for Go over a program.
+GO_STEPS = """
+package zsched
+
+import (
+	"errors"
+	"testing"
+)
+
+const policy = "(exponential(10) && recurs(3))"
+
+func number(err error) uint32 {
+	var fault *Fault
+	if !errors.As(err, &fault) {
+		return 0
+	}
+	return fault.Number
+}
+
+func TestSteps(t *testing.T) {
+	stepper, err := NewStepper(policy)
+	if err != nil {
+		t.Fatal(err)
+	}
+	first, err := stepper.After(3, 0)
+	if err != nil || first.Next != 13 {
+		t.Fatal(first, err)
+	}
+	if _, err := stepper.After(2, 0); number(err) != 3 {
+		t.Fatal(err)
+	}
+	again, err := Resume(policy, stepper.State())
+	if err != nil {
+		t.Fatal(err)
+	}
+	if second, err := again.After(13, 0); err != nil || second.Next != 33 || second.Output != "(20,1)" {
+		t.Fatal(second, err)
+	}
+	for _, text := range []string{"(exponential(10) && recurs(4))", "recurs(3)"} {
+		if _, err := Resume(text, stepper.State()); number(err) != OtherState || err.Error() != "the state of another program" {
+			t.Fatal(text, err)
+		}
+	}
+	if _, err := NewStepper("forever.collectAll"); number(err) != KeepsList {
+		t.Fatal(err)
+	}
+}
 """
 # Schedules as deep as may be.
 DEEPEST = ["(forever && " * 63 + "forever" + ")" * 63, "(" * 63 + "forever" + " || elapsed)" * 63,
@@ -665,37 +717,25 @@ class Refusing:
         return value
 
 
-def judge_answers(test, command, environment):
-    """Compares what a program answers to requests that have pairs, by the list and by a state, with what is wanted."""
-    for words in [[], ["state"]]:
-        chosen = [(request, wanted) for request, wanted in requests() if request.size is None or request.pairs]
-        chosen = [it for it in chosen if not words or b"collectAll" not in it[0].text]
-        test.assertGreater(len(chosen), REQUESTS // 2)
-        said = ran([*command, *words], TOP, "".join(f"{request}\n" for request, _ in chosen), **environment)
-        for (request, wanted), line in zip(chosen, said.splitlines(), strict=True):
-            compare(test, line, *wanted, request)
-
-
 class FromGo(unittest.TestCase):
     """The binding for Go."""
 
-    def setUp(self):
+    def test_the_example_waits_for_its_server(self):
         if not shutil.which("go"):
             self.skipTest("go (of the package golang-go) isn't on this machine")
-        self.environment = {"CGO_CFLAGS": f"-I{TOP / 'include'}", "CGO_LDFLAGS": f"-L{folder}", "LD_LIBRARY_PATH": str(folder),
-                            "GOPROXY": "off", "GOFLAGS": "-mod=readonly"}
+        environment = answers.go_environment(folder)
+        ran(["go", "vet", "./..."], BINDINGS / "go", **environment)
+        ran(["go", "build", "-o", path("go-example"), "./example"], BINDINGS / "go", **environment)
+        self.assertEqual(ran([path("go-example")], TOP, **environment), "ready after 4 attempts\n")
 
-    def built(self, name):
-        """The path of a built program."""
-        made = path(f"go-{name.rpartition('/')[2]}")
-        ran(["go", "build", "-o", made, f"./{name}"], BINDINGS / "go", **self.environment)
-        return made
-
-    def test_two_thousand_requests_are_answered_by_list_and_by_state(self):
-        judge_answers(self, [self.built("internal/answers")], self.environment)
-
-    def test_the_example_waits_for_its_server(self):
-        self.assertEqual(ran([self.built("example")], TOP, **self.environment), "ready after 4 attempts\n")
+    def test_the_words_of_another_schedule_are_an_error(self):
+        if not shutil.which("go"):
+            self.skipTest("go (of the package golang-go) isn't on this machine")
+        tests = path("go")
+        shutil.copytree(BINDINGS / "go", tests)
+        (tests / "steps_test.go").write_text(GO_STEPS)
+        said = ran(["go", "test", "-count=1", "-v", "."], tests, **answers.go_environment(folder))
+        self.assertIn("--- PASS: TestSteps", said)
 
 
 class FromNode(unittest.TestCase):
@@ -703,23 +743,22 @@ class FromNode(unittest.TestCase):
 
     @classmethod
     def setUpClass(cls):
-        header = pathlib.Path(os.environ.get("NODE_INCLUDE", "/usr/include/node")) / "node_api.h"
-        if not shutil.which("node") or not header.exists():
-            raise unittest.SkipTest(f"node or its header ({header}, of the package libnode-dev) isn't on this machine")
-        ran([BINDINGS / "node" / "build", path("zsched.node")], TOP, ZSCHED_LIBRARY_DIR=str(folder))
-        cls.environment = {"ZSCHED_NODE": str(path("zsched.node"))}
-
-    def test_two_thousand_requests_are_answered_by_list_and_by_state(self):
-        judge_answers(self, ["node", BINDINGS / "node" / "answers.js"], self.environment)
+        try:
+            cls.environment = {"ZSCHED_NODE": str(answers.node_addon(pathlib.Path(room.name), folder))}
+        except answers.Missing as fault:
+            raise unittest.SkipTest(str(fault)) from None
 
     def test_the_example_waits_for_its_server(self):
         self.assertEqual(ran(["node", "example.js"], BINDINGS / "node", **self.environment), "ready after 4 attempts\n")
 
     def test_retries_end_as_they_should(self):
         said = ran(["node", "-e", NODE_RETRIES], BINDINGS / "node", **self.environment)
-        self.assertEqual(said.splitlines(), [
+        lines = said.splitlines()
+        self.assertEqual(lines[:-1], [
             "third after 3", "4th, given up", "mine, TypeError: Cannot convert undefined to a BigInt", "stopped",
-            "no term at byte 0, 11 0", "the moment is below that of the step before it, 3 0", "1,20,1"])
+            "no term at byte 0, 11 0", "the moment is below that of the step before it, 3 0", "the state of another program, 9 0",
+            "the state of another program, 9 0", "a schedule with collectAll has no state of fixed size, 6 0"])
+        self.assertEqual(lines[-1].partition(",")[2], "1,10,20,0,1")
 
 
 class Retries(unittest.TestCase):
@@ -835,15 +874,6 @@ def version_number():
     return 1_000_000 * major + 1000 * minor + patch
 
 
-def ran(words, where, text=None, **more):
-    """What a program prints that has to succeed."""
-    ended = subprocess.run([str(it) for it in words], cwd=where, input=text, capture_output=True, text=True,
-                           env={**os.environ, **more})
-    if ended.returncode:
-        raise AssertionError(f"{words}: status {ended.returncode}: {ended.stdout[-1000:]}{ended.stderr[-2000:]}")
-    return ended.stdout
-
-
 class Busy:
     """A server on this machine that answers its first requests with a code, and then with a text."""
 
@@ -882,6 +912,11 @@ class Examples(unittest.TestCase):
             ran(["cc", f"-std={standard}", "-Wall", "-Wextra", "-Werror", "-pedantic", "-I", TOP / "include", "-o", path("example"),
                  source, folder / "libzsched.a", "-lpthread"], TOP)
             self.assertEqual(ran([path("example")], TOP), "ready after 4 attempts\n")
+
+    def test_the_example_in_c_touches_nothing_beside_its_words(self):
+        ran(["cc", *STRICT, "-g", "-fsanitize=address,undefined", "-fno-sanitize-recover=all", "-I", TOP / "include", "-o",
+             path("watched-example"), BINDINGS / "c" / "example.c", folder / "libzsched.a", "-lpthread"], TOP)
+        self.assertEqual(ran([path("watched-example")], TOP), "ready after 4 attempts\n")
 
     def test_the_example_in_python_waits_for_its_server(self):
         said = ran([sys.executable, "-B", "example.py"], BINDINGS / "python")
@@ -924,16 +959,17 @@ class Examples(unittest.TestCase):
         ran(["cargo", "check", "--quiet", "--offline", "--no-default-features"], crate, **more)
 
     def test_the_example_in_java_waits_for_its_server(self):
-        if not shutil.which("javac") or not JNA.exists():
-            self.skipTest(f"javac or JNA ({JNA}, of the package libjna-java) isn't on this machine")
         path("Steps.java").write_text(STEPS)
-        words = ["javac", *[f"-J{flag}" for flag in QUICK], "-Xlint:all", "-Werror", "-cp", JNA, "-d", path("java"), "zsched/Schedule.java", "zsched/Stepper.java"]
-        ran([*words, "Example.java", path("Steps.java")], BINDINGS / "java")
-        words = ["java", *QUICK, "-cp", f"{JNA}:{path('java')}", f"-Djna.library.path={folder}"]
+        try:
+            classes = answers.java_classes(pathlib.Path(room.name), "Example.java", path("Steps.java"))
+        except answers.Missing as fault:
+            self.skipTest(str(fault))
+        words = ["java", *QUICK, "-cp", f"{answers.JNA}:{classes}", f"-Djna.library.path={folder}"]
         self.assertEqual(ran([*words, "Example"], BINDINGS / "java"), "ready after 4 attempts\n")
-        wanted = ["Answer[done=false, next=13, output=(10,0), visits=3]", "the moment is below that of the step before it",
-                  "Answer[done=false, next=33, output=(20,1), visits=3]", "[13, 40, 2]", "1 words in place of 3",
-                  "a schedule with collectAll has no state of fixed size", "no term at byte 0", "PT5124095576030H25M51.614S",
+        wanted = ["Answer[done=false, next=13, output=(10,0), visits=3]", "3 the moment is below that of the step before it",
+                  "Answer[done=false, next=33, output=(20,1), visits=3]", "[13, 20, 40, 1, 2]", "9 the state of another program",
+                  "9 the state of another program", "6 a schedule with collectAll has no state of fixed size",
+                  "11 no term at byte 0", "PT5124095576030H25M51.614S",
                   str(version_number()), "attempt 2, and / by zero", "attempt 2, and / by zero"]
         self.assertEqual(ran([*words, "Steps"], BINDINGS / "java").splitlines(), wanted)
 

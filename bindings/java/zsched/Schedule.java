@@ -24,11 +24,13 @@ public final class Schedule {
 
         int zs_answer(byte[] text, long textLength, long[] seen, long pairs, long[] reply, byte[] out, long room);
 
-        int zs_state_size(byte[] text, long textLength, long[] size, long[] at);
+        int zs_program_size(byte[] text, long textLength, long[] size, long[] stateSize, long[] at);
 
-        int zs_begin(byte[] text, long textLength, long[] state, long words, long[] at);
+        int zs_compile(byte[] text, long textLength, long[] program, long words, long[] at);
 
-        int zs_step(byte[] text, long textLength, long[] state, long words, long moment, long input, long[] reply,
+        int zs_program_begin(long[] program, long words, long[] state, long stateWords);
+
+        int zs_program_step(long[] program, long words, long[] state, long stateWords, long moment, long input, long[] reply,
             byte[] out, long room);
 
         long zs_fault_text(int number, long at, byte[] out, long room);
@@ -50,7 +52,7 @@ public final class Schedule {
         Answer after(long moment, long input);
     }
 
-    /** A text is no schedule. The number and the place are those of zsched.h. */
+    /** There is no answer. The number and the place are those of zsched.h, and the message is the library's. */
     public static final class Fault extends IllegalArgumentException {
         private static final long serialVersionUID = 1;
 
@@ -67,9 +69,9 @@ public final class Schedule {
     static final Calls CALLS = load();
     private static final int DONE = 1;
     private static final int NO_PAIR = 2;
-    private static final int FALLS = 3;
     private static final int NO_MEMORY = 5;
     private static final int KEEPS_LIST = 6;
+    static final int OTHER_STATE = 9;
     static final int ROOM = 256;
 
     private final String text;
@@ -96,8 +98,8 @@ public final class Schedule {
     }
 
     /**
-     * One step more, at a moment in milliseconds and with an input. Throws IllegalArgumentException where the moment is
-     * below that of the step before; the schedule is then as it was.
+     * One step more, at a moment in milliseconds and with an input. Throws {@link Fault} where the moment is below that of
+     * the step before; the schedule is then as it was.
      */
     public Answer after(long moment, long input) {
         if (2 * pairs == seen.length) {
@@ -153,7 +155,6 @@ public final class Schedule {
         switch (number) {
             case 0, DONE -> { }
             case NO_PAIR -> throw new IllegalStateException(faultText(number, at));
-            case FALLS, KEEPS_LIST -> throw new IllegalArgumentException(faultText(number, at));
             case NO_MEMORY -> throw new OutOfMemoryError("zsched: " + faultText(number, at));
             default -> throw new Fault(number, at);
         }
@@ -161,9 +162,14 @@ public final class Schedule {
 
     /** A schedule with a state of fixed size, but for one with collectAll, which keeps its steps. */
     private static Follower begun(String text) {
-        byte[] bytes = text.getBytes(StandardCharsets.UTF_8);
-        int number = CALLS.zs_state_size(bytes, bytes.length, new long[1], new long[1]);
-        return number == KEEPS_LIST ? new Schedule(text)::after : new Stepper(text)::after;
+        try {
+            return new Stepper(text)::after;
+        } catch (Fault fault) {
+            if (fault.number != KEEPS_LIST) {
+                throw fault;
+            }
+            return new Schedule(text)::after;
+        }
     }
 
     /**

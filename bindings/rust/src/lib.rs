@@ -56,11 +56,12 @@ extern "C" {
         out: *mut u8,
         out_len: usize,
     ) -> u32;
-    fn zs_state_size(text: *const u8, text_len: usize, size: *mut u64, at: *mut u64) -> u32;
-    fn zs_begin(text: *const u8, text_len: usize, state: *mut u64, state_len: usize, at: *mut u64) -> u32;
-    fn zs_step(
-        text: *const u8,
-        text_len: usize,
+    fn zs_program_size(text: *const u8, text_len: usize, size: *mut u64, state_size: *mut u64, at: *mut u64) -> u32;
+    fn zs_compile(text: *const u8, text_len: usize, program: *mut u64, program_len: usize, at: *mut u64) -> u32;
+    fn zs_program_begin(program: *const u64, program_len: usize, state: *mut u64, state_len: usize) -> u32;
+    fn zs_program_step(
+        program: *const u64,
+        program_len: usize,
         state: *mut u64,
         state_len: usize,
         moment: u64,
@@ -100,7 +101,9 @@ pub enum Fault {
     Earlier,
     /// The schedule has `collectAll`, so its state has no fixed size.
     KeepsList,
-    /// The words of a state are as many as another schedule's.
+    /// The words are no program of this version of the library.
+    NoProgram,
+    /// The words of a state are those of another schedule.
     OtherState,
     /// Memory ran out.
     Memory,
@@ -125,6 +128,8 @@ impl Fault {
             3 => Fault::Falls { at },
             5 => Fault::Memory,
             6 => Fault::KeepsList,
+            8 => Fault::NoProgram,
+            9 => Fault::OtherState,
             11 => Fault::NoTerm { at },
             12 => Fault::TooBig,
             13 => Fault::BadNumber { at },
@@ -135,21 +140,22 @@ impl Fault {
         }
     }
 
-    /// Its number and place in `zsched.h`; none for `OtherState`, which is found here.
-    pub fn number(self) -> Option<(u32, u64)> {
+    /// Its number and place in `zsched.h`.
+    pub fn number(self) -> (u32, u64) {
         match self {
-            Fault::NoPair => Some((2, 0)),
-            Fault::Falls { at } => Some((3, at)),
-            Fault::Earlier => Some((3, 0)),
-            Fault::Memory => Some((5, 0)),
-            Fault::KeepsList => Some((6, 0)),
-            Fault::OtherState => None,
-            Fault::NoTerm { at } => Some((11, at)),
-            Fault::TooBig => Some((12, 0)),
-            Fault::BadNumber { at } => Some((13, at)),
-            Fault::BadFactor => Some((14, 0)),
-            Fault::NoKind => Some((15, 0)),
-            Fault::BadWindow => Some((16, 0)),
+            Fault::NoPair => (2, 0),
+            Fault::Falls { at } => (3, at),
+            Fault::Earlier => (3, 0),
+            Fault::Memory => (5, 0),
+            Fault::KeepsList => (6, 0),
+            Fault::NoProgram => (8, 0),
+            Fault::OtherState => (9, 0),
+            Fault::NoTerm { at } => (11, at),
+            Fault::TooBig => (12, 0),
+            Fault::BadNumber { at } => (13, at),
+            Fault::BadFactor => (14, 0),
+            Fault::NoKind => (15, 0),
+            Fault::BadWindow => (16, 0),
         }
     }
 }
@@ -157,9 +163,7 @@ impl Fault {
 impl fmt::Display for Fault {
     /// The library's text.
     fn fmt(&self, f: &mut fmt::Formatter<'_>) -> fmt::Result {
-        let Some((number, at)) = self.number() else {
-            return f.write_str("the words of a state are those of another schedule");
-        };
+        let (number, at) = self.number();
         let mut out = [0; ROOM];
         // SAFETY: the pointer and the length are those of an array that is borrowed for the call.
         let size = unsafe { zs_fault_text(number, at, out.as_mut_ptr(), out.len()) } as usize;
@@ -256,6 +260,7 @@ impl Schedule {
 }
 
 /// A schedule with a state of fixed size in place of its steps, so a step takes no longer after many of them than after one.
+/// Its text is read once.
 ///
 /// ```
 /// use zsched::{Fault, Stepper};
@@ -265,37 +270,45 @@ impl Schedule {
 /// assert_eq!(stepper.after(6, 503), Err(Fault::Earlier));
 /// let mut again = Stepper::resume(stepper.text(), stepper.state())?;
 /// assert_eq!(again.after(107, 503)?.next, Some(307));
+/// assert_eq!(Stepper::resume("(spaced(100) && recurs(5))", stepper.state()), Err(Fault::OtherState));
 /// assert_eq!(Stepper::new("forever.collectAll"), Err(Fault::KeepsList));
 /// # Ok::<(), Fault>(())
 /// ```
 #[derive(Clone, Debug, PartialEq, Eq)]
 pub struct Stepper {
     text: String,
+    program: Vec<u64>,
     state: Vec<u64>,
 }
 
 impl Stepper {
     /// The schedule of a text, before its first step.
     pub fn new(text: &str) -> Result<Stepper, Fault> {
-        let (mut size, mut at) = (0, 0);
+        let (mut size, mut state_size, mut at) = (0, 0, 0);
         // SAFETY: the pointer and the length are those of a text that is borrowed for the call, and the others are variables.
-        let number = unsafe { zs_state_size(text.as_ptr(), text.len(), &mut size, &mut at) };
+        let number = unsafe { zs_program_size(text.as_ptr(), text.len(), &mut size, &mut state_size, &mut at) };
         if number != NEXT {
             return Err(Fault::of(number, at));
         }
-        let mut state = vec![0; size as usize];
+        let (mut program, mut state) = (vec![0; size as usize], vec![0; state_size as usize]);
         // SAFETY: so they are here, and the words are borrowed for the call.
-        let number = unsafe { zs_begin(text.as_ptr(), text.len(), state.as_mut_ptr(), state.len(), &mut at) };
+        let number = unsafe { zs_compile(text.as_ptr(), text.len(), program.as_mut_ptr(), program.len(), &mut at) };
         if number != NEXT {
             return Err(Fault::of(number, at));
         }
-        Ok(Stepper { text: text.to_owned(), state })
+        // SAFETY: the pointers and lengths are those of words that are borrowed for the call.
+        let number = unsafe { zs_program_begin(program.as_ptr(), program.len(), state.as_mut_ptr(), state.len()) };
+        if number != NEXT {
+            return Err(Fault::of(number, 0));
+        }
+        Ok(Stepper { text: text.to_owned(), program, state })
     }
 
-    /// The schedule of a text with a state that `state` told. Words that were changed aren't found.
+    /// The schedule of a text with a state that `state` told, or `OtherState`. Words that were changed behind the first
+    /// aren't found.
     pub fn resume(text: &str, state: &[u64]) -> Result<Stepper, Fault> {
         let mut stepper = Stepper::new(text)?;
-        if state.len() != stepper.state.len() {
+        if state.len() != stepper.state.len() || state[0] != stepper.state[0] {
             return Err(Fault::OtherState);
         }
         stepper.state.copy_from_slice(state);
@@ -307,7 +320,7 @@ impl Stepper {
         &self.text
     }
 
-    /// The words of the state, whose number depends on the text alone.
+    /// The words of the state, whose number depends on the text alone. The first tells of which schedule they are.
     pub fn state(&self) -> &[u64] {
         &self.state
     }
@@ -331,11 +344,11 @@ impl Stepper {
     /// What the library tells of a step, and the state behind it.
     fn step(&self, moment: u64, input: u64, out: &mut [u8]) -> (u32, Reply, Vec<u64>) {
         let (mut reply, mut state) = (Reply::default(), self.state.clone());
-        let (text, len) = (self.text.as_ptr(), self.text.len());
-        // SAFETY: the pointers and lengths are those of slices that are borrowed for the call, all but the text mutably, so
-        // these overlap nothing; and `zs_step` asks no more of a caller.
+        let (program, len) = (self.program.as_ptr(), self.program.len());
+        // SAFETY: the pointers and lengths are those of slices that are borrowed for the call, all but the program mutably,
+        // so these overlap nothing; and `zs_program_step` asks no more of a caller.
         let number = unsafe {
-            zs_step(text, len, state.as_mut_ptr(), state.len(), moment, input, &mut reply, out.as_mut_ptr(), out.len())
+            zs_program_step(program, len, state.as_mut_ptr(), state.len(), moment, input, &mut reply, out.as_mut_ptr(), out.len())
         };
         (number, reply, state)
     }
@@ -449,11 +462,14 @@ mod tests {
 
     #[test]
     fn faults_have_the_texts_of_the_library() {
+        let recurring = Stepper::new("recurs(2)").expect("a schedule");
         let texts = [
             (check("recurs(1) && recurs(2)"), "no term at byte 10"),
             (check("exponential(1, 0)"), "factor is 0"),
             (Stepper::new("forever.collectAll").map(drop), "a schedule with collectAll has no state of fixed size"),
-            (Stepper::resume("recurs(1)", &[1]).map(drop), "the words of a state are those of another schedule"),
+            (Stepper::resume("recurs(1)", &[1]).map(drop), "the state of another program"),
+            (Stepper::resume("recurs(1)", recurring.state()).map(drop), "the state of another program"),
+            (Err(Fault::NoProgram), "no program of this version, or one that was changed"),
         ];
         for (found, wanted) in texts {
             assert_eq!(found.expect_err("a fault").to_string(), wanted);

@@ -1,0 +1,277 @@
+#!/usr/bin/env python3
+"""Installs each package of the library in an empty root, and runs a program of its language that retries a flaky server.
+
+    python3 tests/installed.py [LANGUAGE ..]
+
+The Debian packages are installed by dpkg in a folder with a package database of its own, and ldconfig runs there. The files
+of tools/install-library, the wheel, the jar, the crate, the Go module and the Node folder are put in empty folders too. A
+program of tests/clients/ is built with what was installed and with nothing of this tree. It asks a server of this script on
+this machine, which fails the first times. The number of requests and the time between them have to be the policy's; a
+server that never answers is given up after the retries of the policy, and an answer that the policy excludes at once.
+
+It needs no network. It takes the library of ZSCHED_LIBRARY_DIR, or that of tools/make-library. It isn't part of ./check. The
+last line is 'N passed, M failed'; a language that lacks a tool is named as left out."""
+import http.server
+import os
+import pathlib
+import shutil
+import subprocess
+import sys
+import tempfile
+import threading
+import time
+
+sys.dont_write_bytecode = True
+sys.path.insert(0, str(pathlib.Path(__file__).resolve().parent.parent / "tools"))
+
+from answers import BINDINGS, JNA, Missing, need
+from support import TOP, Count
+
+LIBRARY = pathlib.Path(os.environ.get("ZSCHED_LIBRARY_DIR", TOP / "crates" / "zs_c" / "out"))
+CLIENTS = TOP / "tests" / "clients"
+PYTHON = "/usr/bin/python3"
+UNWANTED = shutil.ignore_patterns("__pycache__", "target", "Cargo.lock", "*.node")
+# A policy, the codes of the server's answers, the milliseconds between requests at least, what is printed and the status.
+CASES = {
+    "answers after three failures": ("((exponential(40) || spaced(100)) && recurs(5)).whileInput(>= 500)",
+                                     [503, 503, 503, 200], [40, 80, 100], "ready", 0),
+    "never answers": ("(spaced(30) && recurs(2))", [503] * 3, [30, 30], "status 503", 1),
+    "has no such page": ("((exponential(40) || spaced(100)) && recurs(5)).whileInput(>= 500)", [404], [], "status 404", 1),
+}
+# A client counts whole milliseconds, and a busy machine wakes it late.
+EARLY, LATE = 2, 3000
+
+
+class Failed(Exception):
+    """A command failed. The text says which, and what it said."""
+
+
+class Flaky:
+    """A server on this machine that answers with these codes, and then with the last of them again."""
+
+    def __init__(self, codes):
+        self.moments = moments = []
+
+        class Handler(http.server.BaseHTTPRequestHandler):
+            def do_GET(self):
+                moments.append(time.monotonic())
+                self.send_response(codes[min(len(moments), len(codes)) - 1])
+                self.send_header("Content-Length", "5")
+                self.end_headers()
+                self.wfile.write(b"ready")
+
+            def log_message(self, *_):
+                pass
+        self.server = http.server.ThreadingHTTPServer(("127.0.0.1", 0), Handler)
+        self.port = self.server.server_port
+        self.serving = threading.Thread(target=self.server.serve_forever, kwargs={"poll_interval": 0.01})
+
+    def __enter__(self):
+        self.serving.start()
+        return self
+
+    def __exit__(self, *_):
+        self.server.shutdown()
+        self.serving.join()
+        self.server.server_close()
+
+
+class Room:
+    """An empty folder with a root, and what runs there: no variable of this process but PATH, HOME and those of compilers."""
+
+    def __init__(self, place):
+        self.place, self.root = place, place / "root"
+        names = ["PATH", "HOME", "CARGO_HOME", "RUSTUP_HOME", "NODE_INCLUDE"]
+        self.environment = {name: os.environ[name] for name in names if name in os.environ}
+        self.root.mkdir(parents=True)
+
+    def run(self, *words, where=None, **more):
+        """What a command prints that has to succeed."""
+        ended = subprocess.run([str(it) for it in words], cwd=where or self.place, capture_output=True, text=True, check=False,
+                               env={**self.environment, **{name: str(value) for name, value in more.items()}})
+        if ended.returncode:
+            raise Failed(f"{' '.join(map(str, words))}: status {ended.returncode}: {ended.stdout[-700:]}{ended.stderr[-1500:]}")
+        return ended.stdout
+
+    def install(self, *names):
+        """Installs these Debian packages in the root, and has ldconfig find the library there."""
+        need("dpkg-deb", "dpkg")
+        packages = self.place / "packages"
+        packages.mkdir()
+        self.run(TOP / "tools" / "make-library-debs", "--out", packages, "--library", LIBRARY)
+        for folder in ["var/lib/dpkg/info", "var/lib/dpkg/updates", "etc"]:
+            (self.root / folder).mkdir(parents=True)
+        (self.root / "var/lib/dpkg/status").write_text("")
+        # The packages below, as libc6, are those of this machine.
+        self.dpkg("--force-depends", "--install", *[next(packages.glob(f"{name}_*.deb")) for name in names])
+        library = next(self.root.rglob("libzsched.so.0")).parent
+        (self.root / "etc/ld.so.conf").write_text(f"/{library.relative_to(self.root)}\n")
+        ldconfig = shutil.which("ldconfig") or "/sbin/ldconfig"
+        self.run(ldconfig, "-r", self.root)
+        if f"libzsched.so.0 (libc6,x86-64) => /{library.relative_to(self.root)}" not in self.run(ldconfig, "-r", self.root, "-p"):
+            raise Failed("ldconfig doesn't find libzsched.so.0")
+        return library
+
+    def dpkg(self, *words):
+        """Calls dpkg for the root."""
+        self.run("dpkg", f"--root={self.root}", "--force-not-root", "--force-script-chrootless", "--log=/dev/null", *words)
+
+    def purge(self):
+        """Removes the packages again; nothing of them may remain."""
+        if not (self.root / "var/lib/dpkg/status").exists():
+            return
+        names = [line.split()[1] for line in (self.root / "var/lib/dpkg/status").read_text().splitlines()
+                 if line.startswith("Package: ")]
+        self.dpkg("--force-depends", "--purge", *names)
+        left = [it for it in self.root.rglob("*zsched*") if "var/lib/dpkg" not in str(it)]
+        if left:
+            raise Failed(f"the packages left {left}")
+
+
+def compiled(room, compiler, library):
+    """A program in C or C++, by what pkg-config says of the root."""
+    need("pkg-config", "pkg-config")
+    pkg = {"PKG_CONFIG_LIBDIR": library / "pkgconfig", "PKG_CONFIG_SYSROOT_DIR": room.root}
+    flags = room.run("pkg-config", "--cflags", "--libs", "zsched", **pkg).split()
+    shutil.copy(CLIENTS / "fetch.c", room.place)
+    room.run(*compiler, "-Wall", "-Wextra", "-Werror", "-o", "fetch", "fetch.c", "-x", "none", *flags)
+    return ["./fetch"], {"LD_LIBRARY_PATH": library}
+
+
+def c(room):
+    """C, by the Debian packages."""
+    need("cc", "gcc")
+    return compiled(room, ["cc"], room.install("libzsched0", "libzsched-dev"))
+
+
+def cpp(room):
+    """C++, by tools/install-library."""
+    need("c++", "g++")
+    room.run(TOP / "tools" / "install-library", "--library", LIBRARY, "--destdir", room.root, "--prefix", "/usr")
+    return compiled(room, ["c++", "-x", "c++"], room.root / "usr" / "lib")
+
+
+def python(room):
+    """Python, by the Debian packages."""
+    need(PYTHON, "python3")
+    library = room.install("libzsched0", "python3-zsched")
+    shutil.copy(CLIENTS / "fetch.py", room.place)
+    modules = room.root / "usr/lib/python3/dist-packages"
+    return [PYTHON, "-B", "fetch.py"], {"PYTHONPATH": modules, "LD_LIBRARY_PATH": library}
+
+
+def wheel(room):
+    """Python, by the wheel in a new environment."""
+    maker = next((it for it in [PYTHON, sys.executable] if pathlib.Path(it).exists() and not subprocess.run(
+        [it, "-c", "import setuptools, wheel, pip"], capture_output=True, check=False).returncode), None)
+    if maker is None:
+        raise Missing("pip, setuptools and wheel of Python aren't installed")
+    source = room.place / "source"
+    shutil.copytree(BINDINGS / "python", source, ignore=UNWANTED)
+    room.run(maker, "-m", "pip", "wheel", "--quiet", "--no-build-isolation", "--no-deps", "--no-index", "-w", room.place, source,
+             ZSCHED_LIBRARY_DIR=LIBRARY)
+    shutil.rmtree(source)
+    room.run(sys.executable, "-m", "venv", room.root / "venv")
+    made, = room.place.glob("*.whl")
+    room.run(room.root / "venv/bin/python", "-m", "pip", "install", "--quiet", "--no-index", "--no-deps", made)
+    shutil.copy(CLIENTS / "fetch.py", room.place)
+    return [room.root / "venv/bin/python", "-B", "fetch.py"], {}
+
+
+def go(room):
+    """Go, by the Debian packages and a module by its path."""
+    need("go", "golang-go")
+    library = room.install("libzsched0", "libzsched-dev")
+    shutil.copytree(BINDINGS / "go", room.place / "zsched", ignore=UNWANTED)
+    (room.place / "client").mkdir()
+    shutil.copy(CLIENTS / "fetch.go", room.place / "client")
+    (room.place / "client" / "go.mod").write_text(
+        "module fetch\n\ngo 1.19\n\nrequire zsched v0.0.0\n\nreplace zsched => ../zsched\n")
+    linked = {"CGO_CFLAGS": f"-I{room.root / 'usr/include'}", "CGO_LDFLAGS": f"-L{library}", "GOPROXY": "off"}
+    room.run("go", "build", "-o", room.place / "fetch", ".", where=room.place / "client", **linked)
+    return ["./fetch"], {"LD_LIBRARY_PATH": library}
+
+
+def node(room):
+    """Node, by the Debian packages and the folder in node_modules."""
+    need("node", "nodejs")
+    if not pathlib.Path(os.environ.get("NODE_INCLUDE", "/usr/include/node"), "node_api.h").exists():
+        raise Missing("node_api.h (of the package libnode-dev) isn't on this machine")
+    library = room.install("libzsched0", "libzsched-dev")
+    folder = room.place / "node_modules" / "zsched"
+    shutil.copytree(BINDINGS / "node", folder, ignore=UNWANTED)
+    room.run("./build", where=folder, ZSCHED_LIBRARY_DIR=library, CPATH=room.root / "usr/include")
+    shutil.copy(CLIENTS / "fetch.js", room.place)
+    return ["node", "fetch.js"], {}
+
+
+def java(room):
+    """Java, by the Debian package and a jar on the class path."""
+    need("javac", "default-jdk-headless")
+    if not JNA.exists():
+        raise Missing(f"{JNA} (of the package libjna-java) isn't on this machine")
+    library = room.install("libzsched0")
+    sources = sorted((BINDINGS / "java" / "zsched").glob("*.java"))
+    room.run("javac", "-cp", JNA, "-d", "classes", *sources)
+    room.run("jar", "--create", "--file", room.place / "zsched.jar", "-C", "classes", "zsched")
+    shutil.rmtree(room.place / "classes")
+    path = f"{JNA}:{room.place / 'zsched.jar'}"
+    room.run("javac", "-cp", path, "-d", "client", CLIENTS / "Fetch.java")
+    return ["java", "-cp", f"{path}:client", f"-Djna.library.path={library}", "Fetch"], {}
+
+
+def rust(room):
+    """Rust, by the Debian packages and a crate by its path."""
+    need("cargo", "cargo")
+    library = room.install("libzsched0", "libzsched-dev")
+    shutil.copytree(BINDINGS / "rust", room.place / "zsched", ignore=UNWANTED)
+    (room.place / "src").mkdir()
+    shutil.copy(CLIENTS / "fetch.rs", room.place / "src" / "main.rs")
+    (room.place / "Cargo.toml").write_text('[package]\nname = "fetch"\nversion = "0.1.0"\nedition = "2021"\n\n'
+                                           '[dependencies]\nzsched = { path = "zsched" }\n')
+    room.run("cargo", "build", "--quiet", "--offline", ZSCHED_LIBRARY_DIR=library)
+    return ["target/debug/fetch"], {}
+
+
+LANGUAGES = {"C": c, "C++": cpp, "Python": python, "wheel": wheel, "Go": go, "Node": node, "Java": java, "Rust": rust}
+
+
+def judge(count, name, room, words, more):
+    """Runs the client of a language against each server."""
+    for told, (policy, codes, waits, text, status) in CASES.items():
+        with Flaky(codes) as server:
+            ended = subprocess.run([*map(str, words), str(server.port), policy], cwd=room.place, capture_output=True, text=True,
+                                   check=False, env={**room.environment, **{key: str(it) for key, it in more.items()}})
+        gaps = [1000 * (later - earlier) for earlier, later in zip(server.moments, server.moments[1:])]
+        count.test(f"{name}, a server that {told}", (ended.returncode, ended.stdout, len(server.moments)),
+                   (status, f"{text}\n", len(codes)))
+        count.test(f"{name}, a server that {told}: {gaps} ms between requests",
+                   [wait - EARLY <= gap <= wait + LATE for gap, wait in zip(gaps, waits)], [True] * len(waits))
+        print(f"{name}: {told}: {len(server.moments)} requests, after {' '.join(f'{gap:.0f}' for gap in gaps) or 'no'} ms",
+              flush=True)
+
+
+def main(names):
+    """Installs and judges each language, and returns the exit status."""
+    if {"-h", "--help"} & set(names) or set(names) - set(LANGUAGES):
+        print(__doc__)
+        return 0 if {"-h", "--help"} & set(names) else 2
+    if not (LIBRARY / "libzsched.so").exists():
+        print(f"installed: there is no library in {LIBRARY}: tools/make-library makes it")
+        return 2
+    count = Count()
+    with tempfile.TemporaryDirectory(prefix="zsched-installed-") as folder:
+        for name in names or LANGUAGES:
+            room = Room(pathlib.Path(folder, name.replace("+", "p").lower()))
+            try:
+                judge(count, name, room, *LANGUAGES[name](room))
+                room.purge()
+            except Missing as fault:
+                print(f"{name}: left out: {fault}")
+            except Failed as fault:
+                count.test(name, str(fault), "no fault")
+    return count.close()
+
+
+if __name__ == "__main__":
+    sys.exit(main(sys.argv[1:]))
