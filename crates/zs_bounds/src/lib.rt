@@ -12,6 +12,7 @@
 
 mod answers;
 mod bounding;
+mod deciding;
 mod decisions;
 mod laws;
 mod leaves;
