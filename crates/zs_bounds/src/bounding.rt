@@ -6,11 +6,11 @@ ghost use Rattle.zs_bounds.specs.Bounds.{Promises};
 ghost use Rattle.zs_bounds.specs.BoundsOf.{bounds_of, bounds_from, no_bounds};
 ghost use Rattle.zs_bounds.specs.Node.{node_schedule, node_state};
 
-use crate::deciding::step_decisions;
 use crate::decisions::Decisions;
 use crate::node::{Node, begin, first_decisions, node_of};
 use crate::span::MAX_TICK;
 use crate::told::Bounds;
+use crate::unread::step_decisions;
 use std::alloc::{AllocError, Global};
 use zs_term::Checked;
 

@@ -122,12 +122,16 @@ fn power(base: u64, factor: u64, exponent: u64) -> u64
 }
 
 // A number times a number of Fibonacci.
-#[tactic(auto, using(crate::proofs::Powers::fibonacci_none, crate::proofs::Powers::fibonacci_turn, crate::proofs::Powers::fibonacci_next, crate::proofs::Powers::fibonacci_cut))]
+#[tactic(auto, using(crate::proofs::Powers::fibonacci_none, crate::proofs::Powers::fibonacci_turn, crate::proofs::Powers::fibonacci_next, crate::proofs::Powers::fibonacci_cut, crate::proofs::Powers::fibonacci_large))]
 fn fibonacci(one: u64, index: u64) -> u64
     ensures value { result ≡ saturated (one * fibonacci_number index) }
 {
     if one == 0 {
         return 0;
+    }
+    // The second number after a number is at least twice as large, so the 129th passes the greatest number.
+    if index > 128 {
+        return u64::MAX;
     }
     let mut product = 0u64;
     let mut next = one;

@@ -12,7 +12,6 @@
 
 mod answers;
 mod bounding;
-mod deciding;
 mod decisions;
 mod laws;
 mod leaves;
@@ -21,6 +20,7 @@ mod ranges;
 mod span;
 mod stepping;
 mod told;
+mod unread;
 
 pub use bounding::bounds;
 pub use laws::bounds_hold;

@@ -18,7 +18,7 @@ use std::alloc::{AllocError, Global};
 use zs_term::{Pick, Test};
 
 // One step, in place, some milliseconds at least after the one before: what it may decide.
-#[cycle(deciding)]
+#[cycle(unread)]
 pub(crate) fn step_decisions(
     alloc: Global,
     node: &mut Node,
@@ -65,7 +65,7 @@ pub(crate) fn step_decisions(
 }
 
 // The same, and the span of the numbers that a test reads in the output, if they have one.
-#[cycle(deciding)]
+#[cycle(unread)]
 fn step_picked(
     alloc: Global,
     node: &mut Node,
@@ -110,7 +110,7 @@ fn step_picked(
 }
 
 // One step of both parts of pairs: the span of the numbers that a test reads in the pairs, and what each part may decide.
-#[cycle(deciding)]
+#[cycle(unread)]
 fn pair_picked(
     alloc: Global,
     first: &mut Node,
@@ -141,7 +141,7 @@ fn pair_picked(
 }
 
 // One step of a part under a test of its output.
-#[cycle(deciding)]
+#[cycle(unread)]
 fn while_output_decisions(
     alloc: Global,
     part: &mut Node,
@@ -158,7 +158,7 @@ fn while_output_decisions(
 }
 
 // One step of a part whose outputs are collected.
-#[cycle(deciding)]
+#[cycle(unread)]
 fn collect_all_decisions(
     alloc: Global,
     part: &mut Node,
@@ -175,7 +175,7 @@ fn collect_all_decisions(
 }
 
 // One step of a part that may be reset.
-#[cycle(deciding)]
+#[cycle(unread)]
 fn reset_when_decisions(
     alloc: Global,
     part: &mut Node,
@@ -198,7 +198,7 @@ fn reset_when_decisions(
 }
 
 // One step of two parts in turn, as `stepping::step_and_then`.
-#[cycle(deciding)]
+#[cycle(unread)]
 fn and_then_decisions(
     alloc: Global,
     first_on: &mut bool,
@@ -219,7 +219,7 @@ fn and_then_decisions(
 }
 
 // One step of the first of two parts in turn, if it may be on, and whether the second may begin.
-#[cycle(deciding)]
+#[cycle(unread)]
 fn first_part_decisions(
     alloc: Global,
     is_on: &mut bool,
@@ -245,7 +245,7 @@ fn first_part_decisions(
 }
 
 // One step of the second of two parts in turn, if it may be on.
-#[cycle(deciding)]
+#[cycle(unread)]
 fn second_part_decisions(
     alloc: Global,
     is_on: bool,

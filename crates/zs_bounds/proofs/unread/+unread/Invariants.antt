@@ -1,7 +1,7 @@
 use Rattle.std.proofs.Common.{◌+◌, ◌*◌}
 use Rattle.zs_term.specs.Schedule.{weight}
 use Rattle.zs_bounds.specs.Node.{node_schedule}
-use Rattle.zs_bounds.proofs.deciding.+deciding.Given as goal
+use Rattle.zs_bounds.proofs.unread.+unread.Given as goal
 
 -- a part weighs less
 abbrev pub decreases-step_decisions : goal.decreases-step_decisions
