@@ -1,3 +1,5 @@
 pub mod Histories
 pub mod Within
+pub mod Numbers
+pub mod Plans
 pub mod Rows
