@@ -1,36 +1,27 @@
--- Each number that is read from a plan has 64 bits: the values and error codes of its scripts too.
-use Rattle.std.proofs.Common.{◌≡◌, ℕ, zero, suc, ◌+◌, ◌≤◌, ◌<◌, ◌^◌, List, [], ◌∷◌, ◌++◌, ◌&&◌, ◌==◌, Bool, true, false, nat_lt, Option, Some, None, option_map, option_and_then, Result, Ok, Err, if◌then◌else◌, codes, subst, refl, arith}
-use Rattle.std.specs.Prelude.{⊤, slice_index, drop}
-use Rattle.std.specs.List.{All, AllByRecursion}
-use Rattle.std.specs.Ordering.{Ordering, Less, Equal, Greater, nat_cmp, match_ordering}
+-- Each whole number of a document that was read has 64 bits: the values and error codes of scripts too.
+use Rattle.std.proofs.Common.{◌≡◌, ℕ, ◌≤◌, ◌<◌, ◌^◌, List, [], ◌∷◌, ◌&&◌, Bool, true, false, nat_lt, Option, Some, None, option_map, option_and_then, Ordering, Less, Equal, Greater, if◌then◌else◌, codes, refl, arith}
+use Rattle.std.specs.Prelude.{⊤}
+use Rattle.std.specs.List.{AllByRecursion}
+use Rattle.std.specs.Ordering.{nat_cmp, match_ordering}
 use Rattle.std.specs.Cmp.Lexicographic.{slice_cmp}
 use Rattle.std.specs.Float.{binary64, float_is_finite}
 use Rattle.std.proofs.lemmas.Bool.Decides.{nat_tests}
-use Rattle.fast_float.specs.Text.{minus, Parts, scan, digits_of, nearest}
-use Rattle.json.specs.Lex.{tokens}
+use Rattle.fast_float.specs.Text.{Parts, digits_of, nearest}
 use Rattle.json.specs.Json as json
 use Rattle.serde_json.specs.Data.{Num, unsigned, negative, float, Data, null, boolean, number, string, array, object, Items, no_items, item, Members, no_members, member, put}
-use Rattle.serde_json.specs.Read.{is_integer, float_of, number_from, number_of, of_json, of_items, of_members, max_depth, read}
-use Rattle.serde_json.specs.Find.{get_member, get, as_number, as_u64, as_array}
+use Rattle.serde_json.specs.Read.{is_integer, float_of, number_from, number_of, of_json, of_items, of_members}
+use Rattle.serde_json.specs.Find.{get_member, get, as_u64}
 use Rattle.zs_term.specs.Saturating.{max_moment}
-use Rattle.zs_term.specs.Verdict.{verdict_of}
 use Rattle.zs_effect.specs.declared.script.Beat.{Beat}
-use Rattle.zs_effect.specs.declared.script.Outcome.{Outcome}
 use Rattle.zs_effect.specs.declared.script.Outcome.TheVariants.{Good, Bad}
-use Rattle.zs_drive.specs.Values.{JobRecord}
 use Rattle.zs_drive.specs.Timeline as timeline
-use Rattle.zs_run.specs.declared.plan_fault.PlanFault.{PlanFault}
-use Rattle.zs_run.specs.Refusals.{◌>>=◌, demand, demand_some, passed_on}
-use Rattle.zs_run.specs.Tree as tree
+use Rattle.zs_run.specs.Tree.{◌>>=◌, tree_of, all_of, list_of, as_list, as_whole, find_whole, find_text, find_list, whole_or}
 use Rattle.zs_run.specs.Shapes.{beat_of, outcome_of, job_parts, JobParts, document_parts, DocumentParts}
-use Rattle.zs_run.specs.Jobs.{script_of, job_of, jobs_of}
-use Rattle.zs_run.specs.Plan.{PlanRecord, plan_of_tree, plan_of}
-use Rattle.zs_job_bounds.specs.Histories.{HasInputs}
 
 -- ---- what may be missing
 
 -- what is there has property P
-abbrev There : {A : Type 0} → (A → Type 0) → Option A → Type 0
+abbrev pub There : {A : Type 0} → (A → Type 0) → Option A → Type 0
 There P None = ⊤
 There P (Some a) = P a
 
@@ -45,7 +36,7 @@ there-then P Q f k (Some a) h = k a h
 
 -- the same of a look-up after another one
 there-next : {A B : Type 0} (P : A → Type 0) (Q : B → Type 0) (f : A → Option B) → ((a : A) → P a → There Q (f a)) → (o : Option A) → There P o
-    → There Q (tree.◌>>=◌ o f)
+    → There Q (o >>= f)
 there-next P Q f k None h = tt
 there-next P Q f k (Some a) h = k a h
 
@@ -67,7 +58,7 @@ NumFits (float x) = ⊤
 
 -- each whole number fits
 abbrev mutual
-  DataFits : Data → Type 0
+  pub DataFits : Data → Type 0
   DataFits null = ⊤
   DataFits (boolean b) = ⊤
   DataFits (number n) = NumFits n
@@ -85,10 +76,10 @@ abbrev mutual
 
 -- a number that is no integer
 float-fits : (sign : Bool) (p : Parts) → There NumFits (float_of sign p)
-float-fits sign p = there-if NumFits (float_is_finite (nearest binary64 sign p)) _ _ tt tt
+float-fits sign p = there-if NumFits (float_is_finite (nearest binary64 sign p)) (Some (float (nearest binary64 sign p))) None tt tt
 
 unsigned-fits : (n : ℕ) (a b : Bool) (o : Option Num) → nat_lt n (2 ^ 64) ≡ b → There NumFits o → There NumFits (if a && b then Some (unsigned n) else o)
-unsigned-fits n true true o small h = grind (arith, nat_tests, small)
+unsigned-fits n true true o small h = let fits : n < 2 ^ 64 = grind (arith, nat_tests, small) in omega (arith, fits)
 unsigned-fits n true false o small h = h
 unsigned-fits n false b o small h = h
 
@@ -98,8 +89,7 @@ from-fits true p = there-if NumFits _ _ _ tt (float-fits true p)
 
 number_of-fits : (s : List ℕ) → There NumFits (number_of s)
 unfolding number_of
-number_of-fits s =
-    there-if NumFits (slice_index s 0 == minus) (number_from true (scan (drop 1 s))) (number_from false (scan s)) (from-fits true (scan (drop 1 s))) (from-fits false (scan s))
+number_of-fits s = there-if NumFits _ _ _ (from-fits true _) (from-fits false _)
 
 ordered-fit : (o : Ordering) (a b c : Members) → MembersFit a → MembersFit b → MembersFit c → MembersFit (match_ordering o a b c)
 ordered-fit Less a b c f g h = f
@@ -131,10 +121,8 @@ mutual
       there-then DataFits MembersFit _ (λ d f. of_members-fit ms (put k d found) (put-fits k d found f h)) (of_json j) (of_json-fits j)
 
 -- a document that was read
-read-fits : (text : List ℕ) → There DataFits (tree.tree_of text)
-read-fits text =
-    there-if DataFits _ _ _
-    (there-then (λ _. ⊤) DataFits of_json (λ j x. of_json-fits j) (option_and_then (λ p. json.if_last p.0 p.1) (json.value max_depth (tokens text))) (any-there _)) tt
+pub read-fits : (text : List ℕ) → There DataFits (tree_of text)
+read-fits text = there-if DataFits _ _ _ (there-then (λ _. ⊤) DataFits of_json (λ j x. of_json-fits j) _ (any-there _)) tt
 
 -- ---- look-ups
 
@@ -156,11 +144,11 @@ get-fits k (string s) h = tt
 get-fits k (array ds) h = tt
 get-fits k (object ms) h = member-fits k ms h
 
-items-fit : (ds : Items) → ItemsFit ds → AllByRecursion DataFits (tree.list_of ds)
+items-fit : (ds : Items) → ItemsFit ds → AllByRecursion DataFits (list_of ds)
 items-fit no_items h = tt
 items-fit (item d ds) h = (h.0, items-fit ds h.1)
 
-list-fits : (d : Data) → DataFits d → There (AllByRecursion DataFits) (tree.as_list d)
+list-fits : (d : Data) → DataFits d → There (AllByRecursion DataFits) (as_list d)
 list-fits null h = tt
 list-fits (boolean b) h = tt
 list-fits (number n) h = tt
@@ -168,15 +156,15 @@ list-fits (string s) h = tt
 list-fits (array ds) h = items-fit ds h
 list-fits (object ms) h = tt
 
-find_list-fits : (k : List ℕ) (d : Data) → DataFits d → There (AllByRecursion DataFits) (tree.find_list k d)
-find_list-fits k d h = there-then DataFits (AllByRecursion DataFits) tree.as_list list-fits (get k d) (get-fits k d h)
+find_list-fits : (k : List ℕ) (d : Data) → DataFits d → There (AllByRecursion DataFits) (find_list k d)
+find_list-fits k d h = there-then DataFits (AllByRecursion DataFits) as_list list-fits (get k d) (get-fits k d h)
 
 num-fits : (n : Num) → NumFits n → There (λ x. x ≤ max_moment) (as_u64 n)
 num-fits (unsigned n) h = h
 num-fits (negative z) h = tt
 num-fits (float x) h = tt
 
-whole-fits : (d : Data) → DataFits d → There (λ x. x ≤ max_moment) (tree.as_whole d)
+whole-fits : (d : Data) → DataFits d → There (λ x. x ≤ max_moment) (as_whole d)
 whole-fits null h = tt
 whole-fits (boolean b) h = tt
 whole-fits (number n) h = num-fits n h
@@ -187,12 +175,12 @@ whole-fits (object ms) h = tt
 -- ---- entries
 
 -- the value or the code of an entry fits
-abbrev BeatFits : Beat → Type 0
+abbrev pub BeatFits : Beat → Type 0
 BeatFits beat = timeline.number_of beat.outcome ≤ max_moment
 
 outcome-fits : (ok err : Option Data) → There DataFits ok → There DataFits err → There (λ o. timeline.number_of o ≤ max_moment) (outcome_of ok err)
-outcome-fits (Some ok) None h g = there-map (λ x. x ≤ max_moment) (λ o. timeline.number_of o ≤ max_moment) Good (λ x f. f) (tree.as_whole ok) (whole-fits ok h)
-outcome-fits None (Some err) h g = there-map (λ x. x ≤ max_moment) (λ o. timeline.number_of o ≤ max_moment) Bad (λ x f. f) (tree.as_whole err) (whole-fits err g)
+outcome-fits (Some ok) None h g = there-map (λ x. x ≤ max_moment) (λ o. timeline.number_of o ≤ max_moment) Good (λ x f. f) (as_whole ok) (whole-fits ok h)
+outcome-fits None (Some err) h g = there-map (λ x. x ≤ max_moment) (λ o. timeline.number_of o ≤ max_moment) Bad (λ x f. f) (as_whole err) (whole-fits err g)
 outcome-fits None None h g = tt
 outcome-fits (Some ok) (Some err) h g = tt
 
@@ -202,143 +190,44 @@ beat-fits d h =
     there-next (λ _. ⊤) BeatFits _
     (λ ms x. there-next (λ o. timeline.number_of o ≤ max_moment) BeatFits _ (λ outcome f. f) (outcome_of (get (codes "ok") d) (get (codes "err") d))
     (outcome-fits (get (codes "ok") d) (get (codes "err") d) (get-fits (codes "ok") d h) (get-fits (codes "err") d h)))
-    (tree.find_whole (codes "ms") d) (any-there _)
+    (find_whole (codes "ms") d) (any-there _)
 
-beats-fit : (ds : List Data) → AllByRecursion DataFits ds → There (AllByRecursion BeatFits) (tree.all_of beat_of ds)
-unfolding tree.all_of
+pub beats-fit : (ds : List Data) → AllByRecursion DataFits ds → There (AllByRecursion BeatFits) (all_of beat_of ds)
+unfolding all_of
 beats-fit [] h = tt
 beats-fit (d ∷ ds) h =
     there-next BeatFits (AllByRecursion BeatFits) _
-    (λ beat f. there-next (AllByRecursion BeatFits) (AllByRecursion BeatFits) _ (λ beats g. (f, g)) (tree.all_of beat_of ds) (beats-fit ds h.1))
+    (λ beat f. there-next (AllByRecursion BeatFits) (AllByRecursion BeatFits) _ (λ beats g. (f, g)) (all_of beat_of ds) (beats-fit ds h.1))
     (beat_of d) (beat-fits d h.0)
 
--- ---- what was accepted
+-- ---- jobs and documents
 
--- what was accepted has property P
-abbrev Accepted : {A E : Type 0} → (A → Type 0) → Result A E → Type 0
-Accepted P (Ok a) = P a
-Accepted P (Err e) = ⊤
-
-accepted-next : {A B : Type 0} (P : A → Type 0) (Q : B → Type 0) (f : A → Result B PlanFault) → ((a : A) → P a → Accepted Q (f a))
-    → (r : Result A PlanFault) → Accepted P r → Accepted Q (r >>= f)
-accepted-next P Q f k (Ok a) h = k a h
-accepted-next P Q f k (Err e) h = tt
-
-any-accepted : {A E : Type 0} (r : Result A E) → Accepted (λ _. ⊤) r
-any-accepted (Ok a) = tt
-any-accepted (Err e) = tt
-
--- a check that tells nothing of numbers
-accepted-after : {A B : Type 0} (Q : B → Type 0) (f : A → Result B PlanFault) → ((a : A) → Accepted Q (f a)) → (r : Result A PlanFault) → Accepted Q (r >>= f)
-accepted-after Q f k r = accepted-next (λ _. ⊤) Q f (λ a x. k a) r (any-accepted r)
-
-accepted-some : {A : Type 0} (P : A → Type 0) (fault : PlanFault) (o : Option A) → There P o → Accepted P (demand_some o fault)
-accepted-some P fault None h = tt
-accepted-some P fault (Some a) h = h
-
-accepted-passed : {A E : Type 0} (P : A → Type 0) (wrap : E → PlanFault) (r : Result A E) → Accepted P r → Accepted P (passed_on wrap r)
-accepted-passed P wrap (Ok a) h = h
-accepted-passed P wrap (Err e) h = tt
-
-accepted-unless : {A E : Type 0} (P : A → Type 0) (b : Bool) (e : E) (r : Result A E) → Accepted P r → Accepted P (if b then Err e else r)
-accepted-unless P true e r h = tt
-accepted-unless P false e r h = h
-
--- ---- jobs
-
-abbrev EntriesFit : JobParts → Type 0
+-- the numbers of a job's entries fit
+abbrev pub EntriesFit : JobParts → Type 0
 EntriesFit parts = AllByRecursion DataFits parts.entries
 
-parts-fit : (d : Data) → DataFits d → There EntriesFit (job_parts d)
+pub parts-fit : (d : Data) → DataFits d → There EntriesFit (job_parts d)
 unfolding job_parts
 parts-fit d h =
     there-next (λ _. ⊤) EntriesFit _
     (λ name x. there-next (λ _. ⊤) EntriesFit _
     (λ mode x. there-next (λ _. ⊤) EntriesFit _
     (λ schedule x. there-next (λ _. ⊤) EntriesFit _
-    (λ start x. there-next (AllByRecursion DataFits) EntriesFit _ (λ entries f. f) (tree.find_list (codes "script") d) (find_list-fits (codes "script") d h))
-    (tree.whole_or 0 (get (codes "start") d)) (any-there _))
-    (tree.find_text (codes "schedule") d) (any-there _))
-    (tree.find_text (codes "mode") d) (any-there _))
-    (tree.find_text (codes "name") d) (any-there _)
+    (λ start x. there-next (AllByRecursion DataFits) EntriesFit _ (λ entries f. f) (find_list (codes "script") d) (find_list-fits (codes "script") d h))
+    (whole_or 0 (get (codes "start") d)) (any-there _))
+    (find_text (codes "schedule") d) (any-there _))
+    (find_text (codes "mode") d) (any-there _))
+    (find_text (codes "name") d) (any-there _)
 
-script-fits : (beats : List Beat) → AllByRecursion BeatFits beats → Accepted (AllByRecursion BeatFits) (script_of beats)
-unfolding script_of
-script-fits beats h =
-    accepted-unless (AllByRecursion BeatFits) _ _ _ (accepted-unless (AllByRecursion BeatFits) _ _ _ (accepted-unless (AllByRecursion BeatFits) _ _ _ h))
-
--- the numbers of a job's script fit
-abbrev ScriptFits : JobRecord → Type 0
-ScriptFits job = AllByRecursion BeatFits job.script
-
-job-fits : (n : ℕ) (names : List (List ℕ)) (d : Data) → DataFits d → Accepted ScriptFits (job_of n names d)
-unfolding job_of
-job-fits n names d h =
-    accepted-next EntriesFit ScriptFits _
-    (λ parts entries. accepted-next (AllByRecursion BeatFits) ScriptFits _
-    (λ beats fit. accepted-after ScriptFits _
-    (λ x. accepted-after ScriptFits _
-    (λ mode. accepted-after ScriptFits _
-    (λ x. accepted-after ScriptFits _
-    (λ x. accepted-after ScriptFits _
-    (λ schedule. accepted-next (AllByRecursion BeatFits) ScriptFits _ (λ script f. f) (passed_on _ (script_of beats))
-    (accepted-passed (AllByRecursion BeatFits) _ (script_of beats) (script-fits beats fit))) _) _) _) _) _)
-    (demand_some (tree.all_of beat_of parts.entries) _) (accepted-some (AllByRecursion BeatFits) _ _ (beats-fit parts.entries entries)))
-    (demand_some (job_parts d) _) (accepted-some EntriesFit _ _ (parts-fit d h))
-
-jobs-fit : (n : ℕ) (names : List (List ℕ)) (ds : List Data) → AllByRecursion DataFits ds → Accepted (AllByRecursion ScriptFits) (jobs_of n names ds)
-unfolding jobs_of
-jobs-fit n names [] h = tt
-jobs-fit n names (d ∷ ds) h =
-    accepted-next ScriptFits (AllByRecursion ScriptFits) _
-    (λ job f. accepted-next (AllByRecursion ScriptFits) (AllByRecursion ScriptFits) _ (λ jobs g. (f, g)) (jobs_of (n + 1) (names ++ job.name ∷ []) ds)
-    (jobs-fit (n + 1) (names ++ job.name ∷ []) ds h.1))
-    (job_of n names d) (job-fits n names d h.0)
-
--- ---- plans
-
-abbrev JobsFit : DocumentParts → Type 0
+-- the numbers of a document's jobs fit
+abbrev pub JobsFit : DocumentParts → Type 0
 JobsFit parts = AllByRecursion DataFits parts.jobs
 
-document-fits : (d : Data) → DataFits d → There JobsFit (document_parts d)
+pub document-fits : (d : Data) → DataFits d → There JobsFit (document_parts d)
 unfolding document_parts
 document-fits d h =
     there-next (λ _. ⊤) JobsFit _
     (λ workers x. there-next (λ _. ⊤) JobsFit _
-    (λ grain x. there-next (AllByRecursion DataFits) JobsFit _ (λ jobs f. f) (tree.find_list (codes "jobs") d) (find_list-fits (codes "jobs") d h))
-    (tree.whole_or 1 (get (codes "grain") d)) (any-there _))
-    (tree.whole_or 1 (get (codes "workers") d)) (any-there _)
-
--- the numbers of a plan's scripts fit
-abbrev PlanFits : PlanRecord → Type 0
-PlanFits plan = AllByRecursion ScriptFits plan.jobs
-
-tree-fits : (d : Data) → DataFits d → Accepted PlanFits (plan_of_tree d)
-unfolding plan_of_tree
-tree-fits d h =
-    accepted-after PlanFits _
-    (λ clock. accepted-next JobsFit PlanFits _
-    (λ parts jobs. accepted-after PlanFits _
-    (λ x. accepted-after PlanFits _
-    (λ x. accepted-next (AllByRecursion ScriptFits) PlanFits _ (λ made f. f) (jobs_of 0 [] parts.jobs) (jobs-fit 0 [] parts.jobs jobs)) _) _)
-    (demand_some (document_parts d) _) (accepted-some JobsFit _ _ (document-fits d h))) _
-
-plan-fits : (bytes : List ℕ) → Accepted PlanFits (plan_of bytes)
-unfolding plan_of
-plan-fits bytes =
-    accepted-after PlanFits _
-    (λ x. accepted-next DataFits PlanFits plan_of_tree tree-fits (demand_some (tree.tree_of bytes) _) (accepted-some DataFits _ _ (read-fits bytes))) _
-
--- ---- as the laws say it
-
-all_at : {X : Type 0} (P Q : X → Type 0) → ((x : X) → P x → Q x) → (xs : List X) → AllByRecursion P xs → All Q xs
-all_at P Q f [] h = λ k d inside. absurd (omega arith)
-all_at P Q f (x ∷ xs) h = at x xs (f x h.0) (all_at P Q f xs h.1)
-  where
-    at : (y : X) (ys : List X) → Q y → All Q ys → All Q (y ∷ ys)
-    at y ys here rest zero d inside = here
-    at y ys here rest (suc k) d inside = rest k d (omega arith)
-
-pub plan-inputs : (bytes : List ℕ) (plan : PlanRecord) → plan_of bytes ≡ Ok plan → All (λ job. HasInputs job.script) plan.jobs
-plan-inputs bytes plan is =
-    all_at ScriptFits (λ job. HasInputs job.script) (λ job f. all_at BeatFits BeatFits (λ beat g. g) job.script f) plan.jobs (subst (Accepted PlanFits) is (plan-fits bytes))
+    (λ grain x. there-next (AllByRecursion DataFits) JobsFit _ (λ jobs f. f) (find_list (codes "jobs") d) (find_list-fits (codes "jobs") d h))
+    (whole_or 1 (get (codes "grain") d)) (any-there _))
+    (whole_or 1 (get (codes "workers") d)) (any-there _)
