@@ -1,16 +1,23 @@
 -- Each number of an accepted plan's scripts has 64 bits.
-use Rattle.std.proofs.Common.{◌≡◌, ℕ, zero, suc, ◌+◌, List, [], ◌∷◌, ◌++◌, Bool, true, false, Option, Some, None, Result, Ok, Err, if◌then◌else◌, subst, arith}
-use Rattle.std.specs.Prelude.{⊤}
-use Rattle.std.specs.List.{All, AllByRecursion}
+use Rattle.std.proofs.Common.{◌≡◌, ℕ, zero, suc, ◌+◌, ◌&&◌, List, [], ◌∷◌, ◌++◌, length, Bool, true, false, not, nat_lt, nat_le, Option, Some, None, Result, Ok, Err, if◌then◌else◌, codes, subst, arith}
+use Rattle.std.specs.Prelude.{⊤, ◌==◌}
+use Rattle.std.specs.List.{All, AllByRecursion, list_all, list_any}
 use Rattle.serde_json.specs.Data.{Data}
+use Rattle.serde_json.specs.Find.{get}
+use Rattle.zs_agenda.specs.Tests.{is_clock}
+use Rattle.zs_term.specs.Verdict.{verdict_of}
 use Rattle.zs_effect.specs.declared.script.Beat.{Beat}
+use Rattle.zs_effect.specs.declared.script.ScriptFault.{ScriptFault}
+use Rattle.zs_effect.specs.declared.script.ScriptFault.TheVariants.{Empty, TooLong, ZeroMs}
+use Rattle.zs_effect.specs.Scripts.{max_beats}
 use Rattle.zs_drive.specs.Values.{JobRecord}
 use Rattle.zs_run.specs.declared.plan_fault.PlanFault.{PlanFault}
-use Rattle.zs_run.specs.Refusals.{◌>>=◌, demand_some, passed_on}
-use Rattle.zs_run.specs.Tree.{tree_of, all_of}
-use Rattle.zs_run.specs.Shapes.{beat_of, job_parts, document_parts}
-use Rattle.zs_run.specs.Jobs.{script_of, job_of, jobs_of}
-use Rattle.zs_run.specs.Plan.{PlanRecord, plan_of_tree, plan_of}
+use Rattle.zs_run.specs.declared.plan_fault.PlanFault.TheVariants as faults
+use Rattle.zs_run.specs.Refusals.{◌>>=◌, demand, demand_some, passed_on}
+use Rattle.zs_run.specs.Tree.{tree_of, all_of, is_one_of, has_only_keys}
+use Rattle.zs_run.specs.Shapes.{beat_of, entry_keys, job_keys, job_parts, document_keys, document_parts, ticks_asked}
+use Rattle.zs_run.specs.Jobs.{mode_of, is_name, script_of, job_of, jobs_of}
+use Rattle.zs_run.specs.Plan.{PlanRecord, is_cut, max_bytes, max_jobs, plan_of_tree, plan_of}
 use Rattle.zs_job_bounds.specs.Histories.{HasInputs}
 use Rattle.zs_job_bounds.proofs.Numbers.{There, DataFits, BeatFits, EntriesFit, JobsFit, read-fits, beats-fit, parts-fit, document-fits}
 
@@ -51,7 +58,11 @@ accepted-unless P false e r h = h
 script-fits : (beats : List Beat) → AllByRecursion BeatFits beats → Accepted (AllByRecursion BeatFits) (script_of beats)
 unfolding script_of
 script-fits beats h =
-    accepted-unless (AllByRecursion BeatFits) _ _ _ (accepted-unless (AllByRecursion BeatFits) _ _ _ (accepted-unless (AllByRecursion BeatFits) _ _ _ h))
+    let timed : Result (List Beat) ScriptFault = if list_any (λ b. b.ms == 0) beats then Err ZeroMs else Ok beats in
+    let few : Result (List Beat) ScriptFault = if nat_lt max_beats (length beats) then Err TooLong else timed in
+    accepted-unless (AllByRecursion BeatFits) (length beats == 0) Empty few
+    (accepted-unless (AllByRecursion BeatFits) (nat_lt max_beats (length beats)) TooLong timed
+    (accepted-unless (AllByRecursion BeatFits) (list_any (λ b. b.ms == 0) beats) ZeroMs (Ok beats) h))
 
 -- the numbers of a job's script fit
 abbrev ScriptFits : JobRecord → Type 0
@@ -67,10 +78,16 @@ job-fits n names d h =
     (λ mode. accepted-after ScriptFits _
     (λ x. accepted-after ScriptFits _
     (λ x. accepted-after ScriptFits _
-    (λ schedule. accepted-next (AllByRecursion BeatFits) ScriptFits _ (λ script f. f) (passed_on _ (script_of beats))
-    (accepted-passed (AllByRecursion BeatFits) _ (script_of beats) (script-fits beats fit))) _) _) _) _) _)
-    (demand_some (all_of beat_of parts.entries) _) (accepted-some (AllByRecursion BeatFits) _ _ (beats-fit parts.entries entries)))
-    (demand_some (job_parts d) _) (accepted-some EntriesFit _ _ (parts-fit d h))
+    (λ schedule. accepted-next (AllByRecursion BeatFits) ScriptFits _ (λ script f. f) (passed_on (faults.Script n) (script_of beats))
+    (accepted-passed (AllByRecursion BeatFits) (faults.Script n) (script_of beats) (script-fits beats fit)))
+    (passed_on (faults.Schedule n) (verdict_of parts.schedule)))
+    (demand (not (is_one_of names parts.name)) (faults.SameName n)))
+    (demand (is_name parts.name) (faults.Name n)))
+    (demand_some (mode_of parts.mode) (faults.Range (Some n))))
+    (demand (has_only_keys job_keys d && list_all (has_only_keys entry_keys) parts.entries) (faults.UnknownKey (Some n))))
+    (demand_some (all_of beat_of parts.entries) (faults.Shape (Some n)))
+    (accepted-some (AllByRecursion BeatFits) (faults.Shape (Some n)) (all_of beat_of parts.entries) (beats-fit parts.entries entries)))
+    (demand_some (job_parts d) (faults.Shape (Some n))) (accepted-some EntriesFit (faults.Shape (Some n)) (job_parts d) (parts-fit d h))
 
 jobs-fit : (n : ℕ) (names : List (List ℕ)) (ds : List Data) → AllByRecursion DataFits ds → Accepted (AllByRecursion ScriptFits) (jobs_of n names ds)
 unfolding jobs_of
@@ -94,14 +111,19 @@ tree-fits d h =
     (λ clock. accepted-next JobsFit PlanFits _
     (λ parts jobs. accepted-after PlanFits _
     (λ x. accepted-after PlanFits _
-    (λ x. accepted-next (AllByRecursion ScriptFits) PlanFits _ (λ made f. f) (jobs_of 0 [] parts.jobs) (jobs-fit 0 [] parts.jobs jobs)) _) _)
-    (demand_some (document_parts d) _) (accepted-some JobsFit _ _ (document-fits d h))) _
+    (λ x. accepted-next (AllByRecursion ScriptFits) PlanFits _ (λ made f. f) (jobs_of 0 [] parts.jobs) (jobs-fit 0 [] parts.jobs jobs))
+    (demand (is_clock clock && is_cut parts.workers parts.grain && nat_le (length parts.jobs) max_jobs) (faults.Range None)))
+    (demand (has_only_keys document_keys d) (faults.UnknownKey None)))
+    (demand_some (document_parts d) (faults.Shape None)) (accepted-some JobsFit (faults.Shape None) (document_parts d) (document-fits d h)))
+    (demand_some (ticks_asked (get (codes "horizon") d) (get (codes "ticks") d)) (faults.Shape None))
 
 plan-fits : (bytes : List ℕ) → Accepted PlanFits (plan_of bytes)
 unfolding plan_of
 plan-fits bytes =
     accepted-after PlanFits _
-    (λ x. accepted-next DataFits PlanFits plan_of_tree tree-fits (demand_some (tree_of bytes) _) (accepted-some DataFits _ _ (read-fits bytes))) _
+    (λ x. accepted-next DataFits PlanFits plan_of_tree tree-fits (demand_some (tree_of bytes) faults.Json)
+    (accepted-some DataFits faults.Json (tree_of bytes) (read-fits bytes)))
+    (demand (nat_le (length bytes) max_bytes) faults.TooLong)
 
 -- ---- as the laws say it
 

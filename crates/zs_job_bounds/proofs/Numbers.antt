@@ -1,15 +1,17 @@
 -- Each whole number of a document that was read has 64 bits: the values and error codes of scripts too.
-use Rattle.std.proofs.Common.{◌≡◌, ℕ, ◌≤◌, ◌<◌, ◌^◌, List, [], ◌∷◌, ◌&&◌, Bool, true, false, nat_lt, Option, Some, None, option_map, option_and_then, Ordering, Less, Equal, Greater, if◌then◌else◌, codes, refl, arith}
-use Rattle.std.specs.Prelude.{⊤}
+use Rattle.std.proofs.Common.{◌≡◌, ℕ, ◌≤◌, ◌<◌, ◌^◌, List, [], ◌∷◌, ◌&&◌, Bool, true, false, nat_lt, nat_le, Option, Some, None, option_map, option_and_then, Ordering, Less, Equal, Greater, if◌then◌else◌, codes, refl, arith}
+use Rattle.std.specs.Prelude.{⊤, ◌==◌, slice_index, drop}
+use Rattle.std.specs.Str.{is_utf8}
 use Rattle.std.specs.List.{AllByRecursion}
 use Rattle.std.specs.Ordering.{nat_cmp, match_ordering}
 use Rattle.std.specs.Cmp.Lexicographic.{slice_cmp}
 use Rattle.std.specs.Float.{binary64, float_is_finite}
 use Rattle.std.proofs.lemmas.Bool.Decides.{nat_tests}
-use Rattle.fast_float.specs.Text.{Parts, digits_of, nearest}
+use Rattle.fast_float.specs.Text.{minus, Parts, scan, digits_of, nearest, with_sign}
+use Rattle.json.specs.Lex.{tokens}
 use Rattle.json.specs.Json as json
 use Rattle.serde_json.specs.Data.{Num, unsigned, negative, float, Data, null, boolean, number, string, array, object, Items, no_items, item, Members, no_members, member, put}
-use Rattle.serde_json.specs.Read.{is_integer, float_of, number_from, number_of, of_json, of_items, of_members}
+use Rattle.serde_json.specs.Read.{is_integer, float_of, number_from, number_of, of_json, of_items, of_members, max_depth, read}
 use Rattle.serde_json.specs.Find.{get_member, get, as_u64}
 use Rattle.zs_term.specs.Saturating.{max_moment}
 use Rattle.zs_effect.specs.declared.script.Beat.{Beat}
@@ -85,11 +87,14 @@ unsigned-fits n false b o small h = h
 
 from-fits : (sign : Bool) (p : Parts) → There NumFits (number_from sign p)
 from-fits false p = unsigned-fits (digits_of p) (is_integer p) (nat_lt (digits_of p) (2 ^ 64)) (float_of false p) refl (float-fits false p)
-from-fits true p = there-if NumFits _ _ _ tt (float-fits true p)
+from-fits true p =
+    there-if NumFits (is_integer p && nat_lt 0 (digits_of p) && nat_le (digits_of p) (2 ^ 63)) (Some (negative (with_sign true (digits_of p)))) (float_of true p) tt
+    (float-fits true p)
 
 number_of-fits : (s : List ℕ) → There NumFits (number_of s)
 unfolding number_of
-number_of-fits s = there-if NumFits _ _ _ (from-fits true _) (from-fits false _)
+number_of-fits s =
+    there-if NumFits (slice_index s 0 == minus) (number_from true (scan (drop 1 s))) (number_from false (scan s)) (from-fits true (scan (drop 1 s))) (from-fits false (scan s))
 
 ordered-fit : (o : Ordering) (a b c : Members) → MembersFit a → MembersFit b → MembersFit c → MembersFit (match_ordering o a b c)
 ordered-fit Less a b c f g h = f
@@ -122,7 +127,9 @@ mutual
 
 -- a document that was read
 pub read-fits : (text : List ℕ) → There DataFits (tree_of text)
-read-fits text = there-if DataFits _ _ _ (there-then (λ _. ⊤) DataFits of_json (λ j x. of_json-fits j) _ (any-there _)) tt
+read-fits text =
+    let o : Option json.Json = option_and_then (λ p. json.if_last p.0 p.1) (json.value max_depth (tokens text)) in
+    there-if DataFits (is_utf8 text) (read text) None (there-then (λ _. ⊤) DataFits of_json (λ j x. of_json-fits j) o (any-there o)) tt
 
 -- ---- look-ups
 
