@@ -125,10 +125,16 @@ fibonacci-doubles (suc k) =
     ap fibonacci_number index in
     omega (arith, before, power, is)
 
+-- a number that is cut, and all after it
+cut-from : (o m n d : ℕ) → 0 < o → 2 ^ 64 ≤ fibonacci_number m → m ≤ n → d ≡ 18446744073709551615 → d ≡ saturated (o * fibonacci_number n)
+cut-from o m n d some large le is =
+    let one : 1 ≤ o = omega (arith, some) in
+    let whole : 1 * fibonacci_number m ≤ o * fibonacci_number m = mul-le-mul_right {m = 1} {n = o} (fibonacci_number m) one in
+    let rises = fibonacci-rises o m n le in
+    omega (arith, is, large, whole, rises)
+
 -- the 129th number and those after it are cut
 pub fibonacci_large : (o n d : ℕ) → 0 < o → 128 < n → d ≡ 18446744073709551615 → d ≡ saturated (o * fibonacci_number n)
 fibonacci_large o n d some long is =
     let large : 2 ^ 64 ≤ fibonacci_number 129 = fibonacci-doubles 64 in
-    let whole : 1 * fibonacci_number 129 ≤ o * fibonacci_number 129 = mul-le-mul_right (fibonacci_number 129) (omega arith) in
-    let rises = fibonacci-rises o 129 n (omega arith) in
-    omega (arith, is, large, whole, rises)
+    cut-from o 129 n d some large (omega (arith, long)) is

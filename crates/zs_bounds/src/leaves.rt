@@ -126,12 +126,12 @@ fn power(base: u64, factor: u64, exponent: u64) -> u64
 fn fibonacci(one: u64, index: u64) -> u64
     ensures value { result ≡ saturated (one * fibonacci_number index) }
 {
+    // The second number after a number is at least twice as large, so the 129th passes the greatest number.
+    if one > 0 && index > 128 {
+        return u64::MAX;
+    }
     if one == 0 {
         return 0;
-    }
-    // The second number after a number is at least twice as large, so the 129th passes the greatest number.
-    if index > 128 {
-        return u64::MAX;
     }
     let mut product = 0u64;
     let mut next = one;
