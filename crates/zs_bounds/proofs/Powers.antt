@@ -113,3 +113,28 @@ pub fibonacci_cut : (o k n d : ℕ) → k ≤ n → d ≡ saturated (o * fibonac
 fibonacci_cut o k n d le is cut =
     let rises = fibonacci-rises o k n le in
     omega (arith, rises, is, cut)
+
+-- the second number after a number is at least twice as large
+fibonacci-doubles : (k : ℕ) → 2 ^ k ≤ fibonacci_number (suc (k + k))
+fibonacci-doubles zero = let e = pow-zero 2 in omega (arith, e)
+fibonacci-doubles (suc k) =
+    let before = fibonacci-doubles k in
+    let power = pow-suc 2 k in
+    let index : suc (suc k + suc k) ≡ suc (suc (suc (k + k))) = omega arith in
+    let is : fibonacci_number (suc (suc k + suc k)) ≡ fibonacci_number (suc (k + k)) + (fibonacci_number (k + k) + fibonacci_number (suc (k + k))) =
+    ap fibonacci_number index in
+    omega (arith, before, power, is)
+
+-- a number that is cut, and all after it
+cut-from : (o m n d : ℕ) → 0 < o → 2 ^ 64 ≤ fibonacci_number m → m ≤ n → d ≡ 18446744073709551615 → d ≡ saturated (o * fibonacci_number n)
+cut-from o m n d some large le is =
+    let one : 1 ≤ o = omega (arith, some) in
+    let whole : 1 * fibonacci_number m ≤ o * fibonacci_number m = mul-le-mul_right {m = 1} {n = o} (fibonacci_number m) one in
+    let rises = fibonacci-rises o m n le in
+    omega (arith, is, large, whole, rises)
+
+-- the 129th number and those after it are cut
+pub fibonacci_large : (o n d : ℕ) → 0 < o → 128 < n → d ≡ 18446744073709551615 → d ≡ saturated (o * fibonacci_number n)
+fibonacci_large o n d some long is =
+    let large : 2 ^ 64 ≤ fibonacci_number 129 = fibonacci-doubles 64 in
+    cut-from o 129 n d some large (omega (arith, long)) is

@@ -4,14 +4,13 @@ ghost use Rattle.std.specs.Prelude.{◌≡◌, IfOk, OnOk};
 ghost use Rattle.zs_term.specs.Schedule.{schedule_of};
 ghost use Rattle.zs_bounds.specs.Bounds.{Promises};
 ghost use Rattle.zs_bounds.specs.BoundsOf.{bounds_of, bounds_from, no_bounds};
-ghost use Rattle.zs_bounds.specs.StateRange.{next_range, next_state};
 ghost use Rattle.zs_bounds.specs.Node.{node_schedule, node_state};
 
 use crate::decisions::Decisions;
 use crate::node::{Node, begin, first_decisions, node_of};
 use crate::span::MAX_TICK;
-use crate::stepping::step;
 use crate::told::Bounds;
+use crate::unread::step_decisions;
 use std::alloc::{AllocError, Global};
 use zs_term::Checked;
 
@@ -56,14 +55,4 @@ fn bounds_from(
         decision = step_decisions(alloc, node, later)?;
     }
     Ok(told.unended())
-}
-
-// What the next step may decide.
-fn step_decisions(alloc: Global, node: &mut Node, later: u64) -> Result<Decisions, AllocError>
-    ensures decision { IfOk result (λ d. d ≡ (next_range (node_schedule node.old) (node_state node.old) later).decision) }
-    ensures state { OnOk result (node_state node.new ≡ next_state (node_schedule node.old) (node_state node.old) later) }
-    ensures same { OnOk result (node_schedule node.new ≡ node_schedule node.old) }
-{
-    let (_out, decision) = step(alloc, node, later)?;
-    Ok(decision)
 }

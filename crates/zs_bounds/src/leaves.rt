@@ -122,10 +122,14 @@ fn power(base: u64, factor: u64, exponent: u64) -> u64
 }
 
 // A number times a number of Fibonacci.
-#[tactic(auto, using(crate::proofs::Powers::fibonacci_none, crate::proofs::Powers::fibonacci_turn, crate::proofs::Powers::fibonacci_next, crate::proofs::Powers::fibonacci_cut))]
+#[tactic(auto, using(crate::proofs::Powers::fibonacci_none, crate::proofs::Powers::fibonacci_turn, crate::proofs::Powers::fibonacci_next, crate::proofs::Powers::fibonacci_cut, crate::proofs::Powers::fibonacci_large))]
 fn fibonacci(one: u64, index: u64) -> u64
     ensures value { result ≡ saturated (one * fibonacci_number index) }
 {
+    // The second number after a number is at least twice as large, so the 129th passes the greatest number.
+    if one > 0 && index > 128 {
+        return u64::MAX;
+    }
     if one == 0 {
         return 0;
     }

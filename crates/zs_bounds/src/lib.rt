@@ -20,6 +20,7 @@ mod ranges;
 mod span;
 mod stepping;
 mod told;
+mod unread;
 
 pub use bounding::bounds;
 pub use laws::bounds_hold;

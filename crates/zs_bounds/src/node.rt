@@ -12,7 +12,7 @@ ghost use Rattle.zs_bounds.specs.Node.{node_schedule, node_state};
 use crate::answers::{Answer, answer_hull, left_range, no_answer, paired, right_range, tested};
 use crate::decisions::Decisions;
 use crate::leaves::{Leaf, leaf_range};
-use crate::ranges::{OutRange, applied, picked_span};
+use crate::ranges::{OutRange, applied, may_fail, may_pass, picked_span};
 use crate::span::Span;
 use std::alloc::{AllocError, Global};
 use zs_term::{Func, Pick, Term, Test};
@@ -188,12 +188,57 @@ fn first_turn(alloc: Global, first: &Node, second: &Node) -> Result<Answer, Allo
     Ok(answer_hull(left, right))
 }
 
-// What the first step may decide.
+// What the first step may decide. The range of an output is made only where a test reads it.
+#[cycle(first_deciding)]
 pub(crate) fn first_decisions(alloc: Global, node: &Node) -> Result<Decisions, AllocError>
     ensures value { IfOk result (λ d. d ≡ (first_range (node_schedule node.now)).decision) }
 {
-    let (_out, decision) = first_range(alloc, node)?;
-    Ok(decision)
+    match node {
+        Node::Leaf { leaf, .. } => {
+            let (_out, decision) = leaf_range(*leaf, Span::one(1), Span::one(0));
+            Ok(decision)
+        }
+        Node::Both { first, second } => {
+            let x = first_decisions(alloc, first)?;
+            Ok(x.both(first_decisions(alloc, second)?))
+        }
+        Node::Either { first, second } => {
+            let x = first_decisions(alloc, first)?;
+            Ok(x.either(first_decisions(alloc, second)?))
+        }
+        Node::AndThen { first, second, .. } => first_turn_decisions(alloc, first, second),
+        Node::WhileInput { part, test } => {
+            let x = first_decisions(alloc, part)?;
+            Ok(x.tested(may_pass(*test, any_input()), may_fail(*test, any_input())))
+        }
+        Node::WhileOutput { part, pick, test } => {
+            let (out, x) = first_range(alloc, part)?;
+            let span = picked_span(*pick, &out);
+            Ok(x.tested(may_pass(*test, span), may_fail(*test, span)))
+        }
+        Node::CollectAll { part, .. } => first_decisions(alloc, part),
+        Node::Map { part, .. } => first_decisions(alloc, part),
+        Node::ResetWhen { part, .. } => first_decisions(alloc, part),
+    }
+}
+
+// What the first step of two parts in turn may decide.
+#[cycle(first_deciding)]
+fn first_turn_decisions(alloc: Global, first: &Node, second: &Node) -> Result<Decisions, AllocError>
+    ensures value { IfOk result (λ d. d ≡ (first_turn (first_range (node_schedule first.now)) (first_range (node_schedule second.now))).decision) }
+{
+    let x = first_decisions(alloc, first)?;
+    let left = if x.may_go_on() {
+        x.going_on()
+    } else {
+        Decisions::nothing()
+    };
+    let right = if x.stops {
+        first_decisions(alloc, second)?
+    } else {
+        Decisions::nothing()
+    };
+    Ok(left.hull(right))
 }
 
 // One more item at a step that goes on.

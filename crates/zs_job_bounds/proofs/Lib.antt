@@ -1,3 +1,6 @@
 pub mod Histories
 pub mod Within
+pub mod Numbers
+pub mod Accepted
+pub mod Plans
 pub mod Rows

@@ -9,4 +9,4 @@
 
 mod laws;
 
-pub use laws::{histories_are_driven, jobs_are_within_bounds};
+pub use laws::{histories_are_driven, jobs_are_within_bounds, plans_are_within_bounds};
