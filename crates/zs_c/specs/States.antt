@@ -55,11 +55,11 @@ IsBeginRefusal text room Memory = IsSizeRefusal text Memory
 IsBeginRefusal text room NoPair = ⊥
 IsBeginRefusal text room (Falls at) = ⊥
 
--- Its schedule has no state for this, or the words are too few; or it has one, and the moment is below the last one that they tell, which is
--- their first.
+-- Its schedule has no state for this; or it has one, and the moment is below the last one of the
+-- words, which is their first; or it isn't below that, and the words are too few.
 abbrev pub IsStepRefusal : List ℕ → List ℕ → ℕ → Refusal → Type 0
 IsStepRefusal text words now (Falls at) = SpellsSomeFlat text × (now < slice_index_or words 0 0) × (at ≡ 0)
-IsStepRefusal text words now NoRoom = Outgrows text (length words)
+IsStepRefusal text words now NoRoom = (slice_index_or words 0 0 ≤ now) × Outgrows text (length words)
 IsStepRefusal text words now KeepsList = IsSizeRefusal text KeepsList
 IsStepRefusal text words now (NotUtf8 at) = IsSizeRefusal text (NotUtf8 at)
 IsStepRefusal text words now (Text fault) = IsSizeRefusal text (Text fault)
