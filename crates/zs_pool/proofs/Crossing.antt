@@ -54,6 +54,9 @@ use Rattle.zs_drive.specs.contracts.task.Task as task
 use Rattle.zs_drive.specs.contracts.task.Task.TheInside as task_inside
 use Rattle.atomic_table.proofs.shared.Seat.TheSendSync as seat
 use Rattle.crossbeam_queue.proofs.array_queue.Slotted.TheSendSync as slotted
+use Rattle.zs_pool.specs.contracts.tasks.Tasks as tasks
+use Rattle.zs_pool.specs.declared.tasks.Tasks.{Tasks}
+use Rattle.zs_pool.specs.declared.tasks.Tasks.TheVariants.{One, Many}
 use Rattle.zs_pool.specs.contracts.batch.Batch as batch
 use Rattle.zs_pool.specs.contracts.batch.Batch.TheInside as batch_inside
 use Rattle.zs_pool.specs.contracts.polled.Polled as polled
@@ -138,14 +141,22 @@ task_fields p = declared_send task_inside.the_type (search sendable, (Box-send p
 task_sent : IsSend task_inside.the_row → IsSend task.the_row
 task_sent f = view_send task_inside.the_row _ _ _ _ f
 
-batch_fields : IsSend task.the_row → IsSend batch_inside.the_row
-batch_fields t = declared_send batch_inside.the_type (search sendable, (Vec-send task.the_row t, tt))
+tasks_live : VariantsHave IsSend tasks.the_type.parts → (d : Tasks) → LiveAt SendAt (rowss tasks.the_type.parts) (tasks.the_type.to d)
+tasks_live s (One one) = choice_live tasks.the_type.parts s (inl (one, tt))
+tasks_live s (Many many) = choice_live tasks.the_type.parts s (inr (inl (many, tt)))
+
+tasks_sent : IsSend task.the_row → IsSend tasks.the_row
+tasks_sent t = recorded_send_of (Enum (shape tasks.the_type)) tasks.the_type.D tasks.the_type.to tasks.the_type.to_one
+    (λ d. enum_send_at (shape tasks.the_type) (tasks.the_type.to d) (tasks_live ((t, tt), ((Vec-send task.the_row t, tt), tt)) d))
+
+batch_fields : IsSend tasks.the_row → IsSend batch_inside.the_row
+batch_fields t = declared_send batch_inside.the_type (search sendable, (t, tt))
 
 batch_sent : IsSend batch_inside.the_row → IsSend batch.the_row
 batch_sent f = view_send batch_inside.the_row _ _ _ _ f
 
-polled_fields : IsSend task.the_row → IsSend polled_inside.the_row
-polled_fields t = declared_send polled_inside.the_type (search sendable, (search sendable, (Vec-send task.the_row t, tt)))
+polled_fields : IsSend tasks.the_row → IsSend polled_inside.the_row
+polled_fields t = declared_send polled_inside.the_type (search sendable, (search sendable, (t, tt)))
 
 polled_sent : IsSend polled_inside.the_row → IsSend polled.the_row
 polled_sent f = view_send polled_inside.the_row _ _ _ _ f
@@ -189,11 +200,14 @@ log_send = log_sent attempted_send (told_sent attempted_send)
 task_send : IsSend task.the_row
 task_send = task_sent (task_fields (progress_sent (compiled_sent (checked_sent (checked_fields term_send kind_send)) state_send) log_send out_send))
 
+tasks_send : IsSend tasks.the_row
+tasks_send = tasks_sent task_send
+
 batch_send : IsSend batch.the_row
-batch_send = batch_sent (batch_fields task_send)
+batch_send = batch_sent (batch_fields tasks_send)
 
 polled_send : IsSend polled.the_row
-polled_send = polled_sent (polled_fields task_send)
+polled_send = polled_sent (polled_fields tasks_send)
 
 pub board_pass_send : IsSend board_pass.the_row
 board_pass_send = board_pass_sent (board_pass_fields batch_send)

@@ -11,3 +11,4 @@ pub mod Shares
 -- What the code stores. Only private contracts, and the views and invariants of models, name these.
 pub mod Counter
 pub mod Joined
+pub mod Listed

@@ -12,6 +12,7 @@ use crate::gate::Gate;
 use crate::polled::Polled;
 use crate::poller::{Poller, Polling, TOUCHED_AT_ONCE, touch_from};
 use crate::tally::{Tally, TallySeat};
+use crate::tasks::Tasks;
 use futures::Future;
 use futures::task::Context;
 use std::alloc::Global;
@@ -86,9 +87,19 @@ pub fn poll_in<G: Gate>(
     ensures counted { HasCounted seat.old (length batch.tasks) seat.new }
     ensures polled { IsPollOf now batch result }
 {
-    let Batch { number, mut tasks } = batch;
-    poll_each(polling, tally, seat, now, tasks.as_mut_slice());
-    Polled { number, now, tasks }
+    let Batch { number, tasks } = batch;
+    match tasks {
+        Tasks::One(mut task) => {
+            poll_one(polling, tally, seat, now, &mut task);
+            let tasks = Tasks::One(task);
+            Polled { number, now, tasks }
+        }
+        Tasks::Many(mut tasks) => {
+            poll_each(polling, tally, seat, now, tasks.as_mut_slice());
+            let tasks = Tasks::Many(tasks);
+            Polled { number, now, tasks }
+        }
+    }
 }
 
 /// Polls each task of the batch once, in order, and counts it. After `Memory` nothing was polled,
