@@ -229,7 +229,7 @@ impl Log {
     }
 
     /// The number of attempts that are lines.
-    pub fn told(&self) -> u64
+    pub fn told_count(&self) -> u64
         ensures value { result ≡ told_in self.now }
     {
         match self {
@@ -243,7 +243,7 @@ impl Log {
         requires few { log_count self.now < 2 ^ 64 }
         ensures value { result ≡ log_count self.now }
     {
-        self.told() + self.records().len() as u64
+        self.told_count() + self.records().len() as u64
     }
 
     /// Begins another attempt. If the one before it becomes lines, the caller gets its output.

@@ -31,7 +31,7 @@ pub struct Task {
 }
 
 // How far a job is, in a box, so that a task is moved as three words.
-fn boxed(alloc: Global, progress: Progress) -> Result<Box<Progress>, DriveFault>
+fn box_progress(alloc: Global, progress: Progress) -> Result<Box<Progress>, DriveFault>
     ensures value { IfOk result (λ b. b.value ≡ progress) }
     ensures memory { IfErr result (λ fault. fault ≡ DriveFault.Memory) }
 {
@@ -97,7 +97,7 @@ impl Task {
             polls: 0,
             seen: 0,
         };
-        let progress = boxed(alloc, progress)?;
+        let progress = box_progress(alloc, progress)?;
         Ok(Task {
             number,
             progress,
@@ -172,12 +172,12 @@ impl Task {
     }
 
     /// The number of attempts that these lines show.
-    pub fn told(&self) -> u64
+    pub fn told_count(&self) -> u64
         ensures value { result ≡ length (told_of self.now.keeps (current_timeline self.now).attempts) }
         // At each tick at most one attempt begins.
         ensures few { length (current_timeline self.now).attempts ≤ max_tick + 1 }
     {
-        self.progress.log.told()
+        self.progress.log.told_count()
     }
 
     /// How the job ended, if it has. That of a broken task has not.

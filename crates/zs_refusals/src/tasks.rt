@@ -45,7 +45,7 @@ fn poll_new(solo: &Solo, case: &mut Case<'_>, mut task: Task, told: u64) -> Answ
 {
     case.call = "poll";
     let polled = poll_five_times(solo, &mut task);
-    let is_told = task.told() == told;
+    let is_told = task.told_count() == told;
     drop(task);
     polled?;
     right_if(is_told, "told as lines")?;
@@ -70,7 +70,7 @@ fn poll_well(solo: &Solo, task: &mut Task, now: u64) -> Result<(), Ended>
     requires bounded { now ≤ max_tick }
     ensures seen { OnOk result (task.new.seen ≡ now) }
 {
-    let (polls, told, records) = (task.polls(), task.told(), task.records().len());
+    let (polls, told, records) = (task.polls(), task.told_count(), task.records().len());
     if task.due() != Some(now) {
         return Err(Ended::Wrong("due at another moment"));
     }
@@ -87,7 +87,7 @@ fn poll_well(solo: &Solo, task: &mut Task, now: u64) -> Result<(), Ended>
 
 // A failed poll broke the task, and didn't change its lines, its records and its due moment.
 fn is_as_before(task: &Task, polls: u64, told: u64, records: usize, now: u64) -> Result<(), Ended> {
-    let stands = task.polls() == polls && task.told() == told && task.records().len() == records;
+    let stands = task.polls() == polls && task.told_count() == told && task.records().len() == records;
     let is_right = stands && has_first(task) && task.due() == Some(now);
     right_if(task.broken() && is_right, "not broken, or changed")
 }
@@ -108,7 +108,7 @@ fn poll(solo: &Solo, task: &mut Task) -> Option<DriveFault>
 // Whether the lines of a task are those of the first attempts, and its records are the next ones.
 fn has_first(task: &Task) -> bool {
     let (lines, records) = (task.lines(), task.records());
-    match task.told() {
+    match task.told_count() {
         0 => lines.is_empty() && are_first(records, &[0, 5, 15]),
         1 => lines == FIRST && are_first(records, &[5, 15]),
         2 => lines.strip_prefix(FIRST) == Some(SECOND) && are_first(records, &[15]),

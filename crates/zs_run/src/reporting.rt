@@ -33,7 +33,7 @@ fn push_task(text: &mut String, task: &Task) -> Result<(), AllocError>
     ensures text { OnOk result (string_bytes text.new ≡ string_bytes text.old ++ attempts_lines 1 (current_timeline task.now).attempts) }
 {
     text.push_str(task.lines())?;
-    push_attempts(text, task.told() + 1, task.records())
+    push_attempts(text, task.told_count() + 1, task.records())
 }
 
 // How the last attempt of a task ended, if it has.
@@ -149,7 +149,7 @@ pub(crate) fn into_job(alloc: Global, horizon: u64, task: Task) -> Result<String
     let mut head = String::new(alloc);
     push_head(&mut head, &task)?;
     let mut rest = String::new(alloc);
-    push_attempts(&mut rest, task.told() + 1, task.records())?;
+    push_attempts(&mut rest, task.told_count() + 1, task.records())?;
     push_end(&mut rest, horizon, &task)?;
     let mut text = task.into_lines();
     text.insert_str(0, &head)?;

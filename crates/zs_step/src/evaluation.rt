@@ -36,16 +36,16 @@ fn evaluate(alloc: Global, term: &Term, history: Pairs<'_>) -> Result<Answer, Al
 {
     let now = last_moment(history);
     match term {
-        Term::Forever => Ok(counted(history, Decision::Next(now))),
+        Term::Forever => Ok(count_answer(history, Decision::Next(now))),
         Term::Recurs(k) => {
             let again = steps_before(history) < *k;
-            Ok(counted(history, Decision::Next(now).only_if(again)))
+            Ok(count_answer(history, Decision::Next(now).only_if(again)))
         }
-        Term::Spaced(delay) => Ok(counted(history, Decision::after(now, *delay))),
-        Term::Fixed(period) => Ok(counted(history, Decision::Next(fixed_run(*period, history)))),
+        Term::Spaced(delay) => Ok(count_answer(history, Decision::after(now, *delay))),
+        Term::Fixed(period) => Ok(count_answer(history, Decision::Next(fixed_run(*period, history)))),
         Term::Windowed(period) => {
             let end = window_end(*period, first_moment(history), now);
-            Ok(counted(history, Decision::Next(end)))
+            Ok(count_answer(history, Decision::Next(end)))
         }
         Term::Exponential(base, factor) => {
             let delay = exponential_delay(*base, *factor, history);
@@ -61,12 +61,12 @@ fn evaluate(alloc: Global, term: &Term, history: Pairs<'_>) -> Result<Answer, Al
         Term::Both(a, b) => {
             let (x, y) = (evaluate(alloc, a, history)?, evaluate(alloc, b, history)?);
             let decision = x.1.later(y.1);
-            paired(alloc, x.0, y.0, decision)
+            pair_answers(alloc, x.0, y.0, decision)
         }
         Term::Either(a, b) => {
             let (x, y) = (evaluate(alloc, a, history)?, evaluate(alloc, b, history)?);
             let decision = x.1.earlier(y.1);
-            paired(alloc, x.0, y.0, decision)
+            pair_answers(alloc, x.0, y.0, decision)
         }
         Term::AndThen(a, b) => in_turn(alloc, a, b, history),
         Term::WhileInput(s, test) => {
@@ -75,7 +75,7 @@ fn evaluate(alloc: Global, term: &Term, history: Pairs<'_>) -> Result<Answer, Al
         }
         Term::WhileOutput(s, pick, test) => while_output(alloc, s, *pick, *test, history),
         Term::CollectAll(s) => collecting(alloc, s, history),
-        Term::Map(s, func) => Ok(mapped(evaluate(alloc, s, history)?, *func)),
+        Term::Map(s, func) => Ok(map_answer(evaluate(alloc, s, history)?, *func)),
         Term::ResetWhen(s, pick, test) => since_last_reset(alloc, s, *pick, *test, history),
     }
 }
@@ -152,7 +152,7 @@ fn since_last_reset(
 }
 
 // Makes a pair of two outputs, with a decision.
-fn paired(alloc: Global, first: Out, second: Out, decision: Decision) -> Result<Answer, AllocError>
+fn pair_answers(alloc: Global, first: Out, second: Out, decision: Decision) -> Result<Answer, AllocError>
     ensures value { IfOk result (λ r. answer (output_of r.0) r.1 ≡ answer (pair (output_of first) (output_of second)) decision) }
 {
     Ok((make_pair(alloc, first, second)?, decision))
@@ -167,7 +167,7 @@ fn only_if(from: Answer, passed: bool) -> Answer
 }
 
 // Applies a function to the output.
-fn mapped(from: Answer, func: Func) -> Answer
+fn map_answer(from: Answer, func: Func) -> Answer
     ensures value { answer (output_of result.0) result.1 ≡ answer (applied func (output_of from.0)) from.1 }
 {
     let (out, decision) = from;
@@ -175,7 +175,7 @@ fn mapped(from: Answer, func: Func) -> Answer
 }
 
 // Returns the number of earlier steps, with a decision.
-fn counted(history: Pairs<'_>, decision: Decision) -> Answer
+fn count_answer(history: Pairs<'_>, decision: Decision) -> Answer
     requires some { 0 < length history.now }
     ensures value { answer (output_of result.0) result.1 ≡ answer (number (saturated (length (earlier (history_of history.now))))) decision }
 {
@@ -266,7 +266,7 @@ fn reset_start(
     let mut start = 0;
     for i in 0..history.len() {
         let answer = evaluate(alloc, term, between(history, start, i))?;
-        if passed(answer, pick, test) {
+        if is_passed(answer, pick, test) {
             start = i;
         }
     }
@@ -274,7 +274,7 @@ fn reset_start(
 }
 
 // Whether the output passes a test.
-fn passed(answer: Answer, pick: Pick, test: Test) -> bool
+fn is_passed(answer: Answer, pick: Pick, test: Test) -> bool
     ensures value { result ≡ passes test (picked pick (output_of answer.0)) }
 {
     let (out, _decision) = answer;

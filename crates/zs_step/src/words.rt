@@ -31,7 +31,7 @@ pub fn new_words(alloc: Global, checked: &Checked) -> Result<Vec<u64>, StepFault
     ensures ok { IfOk result (λ v. v.items ≡ state_words (schedule_of checked.now) []) }
 {
     let mut state = state_of(alloc, checked.term())?;
-    Ok(saved(alloc, 0, &mut state)?)
+    Ok(save_state(alloc, 0, &mut state)?)
 }
 
 /// Steps a schedule from the words of its state, with a moment in milliseconds and an input.
@@ -53,14 +53,14 @@ pub fn step_words(
     ensures stands { IfOk result (λ r. (h : History) → KeepsState (schedule_of checked.now) h words.now → r.1.items ≡ state_words (schedule_of checked.now) ((now, input) ∷ h)) }
     ensures len { IfOk result (λ r. length r.1.items ≡ length (state_words (schedule_of checked.now) [])) }
 {
-    let mut state = loaded(alloc, checked, words)?;
+    let mut state = load_state(alloc, checked, words)?;
     let step = Step {
         alloc,
         moment: now,
         input,
     };
     let stepped = step_node(&mut state, &step, Out::Num(0))?;
-    let after = saved(alloc, now, &mut state)?;
+    let after = save_state(alloc, now, &mut state)?;
     Ok((stepped, after))
 }
 
@@ -83,7 +83,7 @@ fn collects_nothing(term: &Term) -> bool
 }
 
 // Builds the state that words represent, after their first word, the last moment.
-fn loaded(alloc: Global, checked: &Checked, words: &[u64]) -> Result<State, AllocError>
+fn load_state(alloc: Global, checked: &Checked, words: &[u64]) -> Result<State, AllocError>
     ensures made_of { IfOk result (λ s. state_schedule s ≡ schedule_of checked.now) }
     ensures small { IfOk result (λ s. weight (state_schedule s) ≤ 1000) }
     ensures stands { IfOk result (λ s. (h : History) → KeepsNoList (schedule_of checked.now) → KeepsState (schedule_of checked.now) h words.now → Represents s h) }
@@ -129,7 +129,7 @@ fn load<'a>(state: &mut State, words: &'a [u64]) -> &'a [u64]
 }
 
 // Returns the words of a state and the last moment. A first part that is done is reset.
-fn saved(alloc: Global, last: u64, state: &mut State) -> Result<Vec<u64>, AllocError>
+fn save_state(alloc: Global, last: u64, state: &mut State) -> Result<Vec<u64>, AllocError>
     ensures ok { IfOk result (λ v. (h : History) → KeepsNoList (state_schedule state.old) → Represents state.old h → v.items ≡ last ∷ words_of (state_schedule state.old) h) }
     ensures len { IfOk result (λ v. length v.items ≡ length (state_words (state_schedule state.old) [])) }
 {

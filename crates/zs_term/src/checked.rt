@@ -138,7 +138,7 @@ fn give_up(term: Term) {
     let mut rest = term;
     loop {
         rest = match rest {
-            Term::Both(a, b) | Term::Either(a, b) | Term::AndThen(a, b) => turned(a, b),
+            Term::Both(a, b) | Term::Either(a, b) | Term::AndThen(a, b) => turn_over(a, b),
             Term::WhileInput(s, _)
             | Term::WhileOutput(s, _, _)
             | Term::CollectAll(s)
@@ -161,7 +161,7 @@ fn give_up(term: Term) {
 // Joins two parts with one node less, or rotates to the right: `((a op b) op c)` becomes
 // `(a op (b op c))`.
 #[tactic(auto, using(crate::proofs::Sizes::steps_positive))]
-fn turned(left: Box<Term>, right: Box<Term>) -> Term
+fn turn_over(left: Box<Term>, right: Box<Term>) -> Term
     ensures less { steps_to_give_up (schedule_of result) < 2 * steps_to_give_up (schedule_of left.value) + steps_to_give_up (schedule_of right.value) }
 {
     let mut left = left;

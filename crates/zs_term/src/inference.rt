@@ -18,7 +18,7 @@ pub(crate) fn kind_of(alloc: Global, term: &Term) -> Result<Option<Kind>, AllocE
 {
     match term.shape() {
         Shape::Plain(_) | Shape::Counted(_, _) | Shape::Exponential(_, _) => Ok(Some(Kind::Num)),
-        Shape::Joined(form, a, b) => joined(alloc, form, kind_of(alloc, a)?, kind_of(alloc, b)?),
+        Shape::Joined(form, a, b) => join_kinds(alloc, form, kind_of(alloc, a)?, kind_of(alloc, b)?),
         Shape::Tested(s, Subject::Input, _) => kind_of(alloc, s),
         Shape::Tested(s, Subject::Picked(_, pick), _) => Ok(where_fits(pick, kind_of(alloc, s)?)),
         Shape::Collected(s) => list_kind(alloc, kind_of(alloc, s)?),
@@ -27,7 +27,7 @@ pub(crate) fn kind_of(alloc: Global, term: &Term) -> Result<Option<Kind>, AllocE
 }
 
 // Returns the kind of the outputs of two joined schedules, if both have one.
-fn joined(
+fn join_kinds(
     alloc: Global,
     form: Infix,
     first: Option<Kind>,
@@ -37,8 +37,8 @@ fn joined(
 {
     match (first, second) {
         (Some(x), Some(y)) => {
-            let x = boxed(alloc, x)?;
-            let y = boxed(alloc, y)?;
+            let x = box_kind(alloc, x)?;
+            let y = box_kind(alloc, y)?;
             Ok(Some(match form {
                 Infix::Both | Infix::Either => Kind::Pair(x, y),
                 Infix::AndThen => Kind::Sum(x, y),
@@ -53,7 +53,7 @@ fn list_kind(alloc: Global, part: Option<Kind>) -> Result<Option<Kind>, AllocErr
     ensures value { IfOk result (λ k. found_kind_of k ≡ list_kind (found_kind_of part)) }
 {
     match part {
-        Some(x) => Ok(Some(Kind::Items(boxed(alloc, x)?))),
+        Some(x) => Ok(Some(Kind::Items(box_kind(alloc, x)?))),
         None => Ok(None),
     }
 }
@@ -74,7 +74,7 @@ fn mapped_kind(func: Func, part: Option<Kind>) -> Option<Kind>
 }
 
 // Moves a kind to the heap.
-fn boxed(alloc: Global, kind: Kind) -> Result<Box<Kind>, AllocError>
+fn box_kind(alloc: Global, kind: Kind) -> Result<Box<Kind>, AllocError>
     ensures value { IfOk result (λ b. b.value ≡ kind) }
 {
     Ok(Box::new(alloc, kind)?)
@@ -140,7 +140,7 @@ fn kind_after(func: Func, kind: Kind) -> Option<Kind>
         Func::First => first_of(kind),
         Func::Second => second_of(kind),
         Func::Size => num_if(is_list(&kind)),
-        Func::Merge => merged(kind),
+        Func::Merge => merge_kind(kind),
         Func::Const(_n) => Some(Kind::Num),
         Func::Add(_n) => num_if(is_num(&kind)),
         Func::Mul(_n) => num_if(is_num(&kind)),
@@ -185,7 +185,7 @@ fn second_of(kind: Kind) -> Option<Kind>
 }
 
 // Returns the kind of both sides of a choice, if it is the same.
-fn merged(kind: Kind) -> Option<Kind>
+fn merge_kind(kind: Kind) -> Option<Kind>
     ensures value { found_kind_of result ≡ answers Func.Merge (output_kind_of kind) }
 {
     match kind {

@@ -69,7 +69,7 @@ fn plain(letters: &[u8]) -> Option<Plain>
 }
 
 // Returns the leaf with one number that these letters name.
-fn counted(letters: &[u8]) -> Option<Counted>
+fn read_counted(letters: &[u8]) -> Option<Counted>
     ensures value { result ≡ counted_of letters.now }
 {
     if is_word(letters, Counted::Recurs.word()) {
@@ -144,7 +144,7 @@ fn word(letters: &[u8]) -> Mark
     if let Some(form) = plain(letters) {
         return Mark::PlainWord(form);
     }
-    if let Some(form) = counted(letters) {
+    if let Some(form) = read_counted(letters) {
         return Mark::CountedWord(form);
     }
     if let Some(form) = method(letters) {

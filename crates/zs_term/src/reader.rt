@@ -119,7 +119,7 @@ fn whole(alloc: Global, build: bool, text: &[u8]) -> Result<(Part, Option<u64>),
 }
 
 // Builds the term of a text that spells a term within the limits, with numbers that fit.
-fn built(alloc: Global, text: &[u8]) -> Result<Term, TermFault>
+fn build_term(alloc: Global, text: &[u8]) -> Result<Term, TermFault>
     requires spelled { (t : Schedule) × IsRead text.now t }
     ensures ok { IfOk result (λ term. IsRead text.now (schedule_of term)) }
     ensures err { IfErr result (IsCause text.now) }
@@ -152,12 +152,12 @@ fn term_in(alloc: Global, text: &[u8]) -> Result<Term, TermFault>
     }
     match part.term {
         Some(term) => Ok(Box::into_inner(term)),
-        None => built(alloc, text),
+        None => build_term(alloc, text),
     }
 }
 
 // Parses and checks a text.
-fn judged(alloc: Global, text: &str) -> Result<Checked, TermFault>
+fn judge(alloc: Global, text: &str) -> Result<Checked, TermFault>
     ensures ok { IfOk result (λ checked. SpellsSchedule text.now (schedule_of checked)) }
     ensures err { IfErr result (IsCause text.now) }
 {
@@ -173,5 +173,5 @@ pub fn read(alloc: Global, text: &str) -> Result<Checked, TermFault>
     // Once more, by the definition that computes: `verdict_of` determines the result.
     ensures verdict { MatchResult result (λ checked. verdict_of text.now ≡ Ok (schedule_of checked)) (λ fault. (fault ≡ Memory → ⊥) → verdict_of text.now ≡ Err fault) }
 {
-    judged(alloc, text)
+    judge(alloc, text)
 }

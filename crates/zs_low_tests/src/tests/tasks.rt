@@ -352,7 +352,7 @@ Pending, 1 polls, due Some(1000000000000004)
 
 // Appends the lines of the attempts that a task stores as records.
 fn push_records(text: &mut String, task: &Task) -> Result<(), AllocError> {
-    let mut number = task.told().saturating_add(1);
+    let mut number = task.told_count().saturating_add(1);
     for record in task.records() {
         append_attempt(text, number, record)?;
         number = number.saturating_add(1);
@@ -364,7 +364,7 @@ fn push_records(text: &mut String, task: &Task) -> Result<(), AllocError> {
 // records, and then the lines of the records.
 fn push_told(text: &mut String, task: &Task) -> Result<(), AllocError> {
     let (polls, ending) = (task.polls(), task.ending());
-    let (told, recorded) = (task.told(), task.records().len());
+    let (told, recorded) = (task.told_count(), task.records().len());
     write!(text, "{polls} polls, ending {ending:?}, {told} told\n")?;
     text.push_str(task.lines())?;
     write!(text, "{recorded} recorded\n")?;

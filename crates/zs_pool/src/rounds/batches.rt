@@ -34,7 +34,7 @@ pub fn cut_into(alloc: Global, grain: u64, mut tasks: Vec<Task>) -> Result<Vec<B
 }
 
 // Puts each message into the slot of its number.
-fn placed(
+fn place_batches(
     alloc: Global,
     now: u64,
     batches: &Snapshot<Vec<Batch>>,
@@ -70,7 +70,7 @@ pub fn in_order(
     ensures tasks { IfOk result (λ v. v.items ≡ map (polled_at now) (tasks_of batches.now.value.items)) }
     ensures memory { IfErr result (λ e. e ≡ Memory) }
 {
-    let slots = placed(alloc, now, batches, count, messages)?;
+    let slots = place_batches(alloc, now, batches, count, messages)?;
     let mut all = Vec::new(alloc);
     for slot in slots {
         let Some(message) = slot else { unreachable!() };

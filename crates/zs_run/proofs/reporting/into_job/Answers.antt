@@ -15,7 +15,7 @@ returns c =
     let head : c.deref.result.now ≡ head_line task.job.name task.job.mode = c.deref.ensures ∙ rw c.new-head.ensures.bytes at c.in_ok-push_head.ensures.text in
     let end : List ℕ = end_line c.args.horizon attempts (current_timeline task).ending (length task.moments) in
     let recorded : string_bytes c.push_attempts.new.text ≡ attempts_lines (length (told_of keeps attempts) + 1) (recorded_of keeps attempts) =
-    rw (c.new-rest.ensures.bytes, c.told.ensures.value, c.records.ensures.attempts) at c.in_ok-push_attempts.ensures.text in
+    rw (c.new-rest.ensures.bytes, c.told_count.ensures.value, c.records.ensures.attempts) at c.in_ok-push_attempts.ensures.text in
     let left : c.deref-2.result.now ≡ attempts_lines (length (told_of keeps attempts) + 1) (recorded_of keeps attempts) ++ end =
     c.deref-2.ensures ∙ c.in_ok-push_end.ensures.text ∙ ap (λ (text : List ℕ). text ++ end) recorded in
     record {

@@ -13,7 +13,7 @@ returns c =
     let told : List AttemptedValue = told_of task.keeps attempts in
     let kept : List AttemptedValue = recorded_of task.keeps attempts in
     let first = string_bytes c.args.text.now in
-    let whole : first ++ attempts_lines 1 attempts ≡ string_bytes c.push_str.new.self ++ attempts_lines (c.told.result + 1) (map attempted_of c.records.result.now) =
-    rw (c.in_ok-push_str.ensures.bytes, c.lines.ensures.told, c.told.ensures.value, c.records.ensures.attempts)
+    let whole : first ++ attempts_lines 1 attempts ≡ string_bytes c.push_str.new.self ++ attempts_lines (c.told_count.result + 1) (map attempted_of c.records.result.now) =
+    rw (c.in_ok-push_str.ensures.bytes, c.lines.ensures.told, c.told_count.ensures.value, c.records.ensures.attempts)
     (ap (λ text. first ++ text) (sym (told-lines task.keeps attempts)) ∙ sym (append_assoc first (attempts_lines 1 told) (attempts_lines (length told + 1) kept))) in
     record { text = rw whole c.push_attempts.ensures.text }

@@ -78,15 +78,15 @@ reset_start-loop-i-preserved t c =
       | reset_start-then-passed w ↦ (
         subst (λ s. s < length c.args.history.now) (sym w.start-is) c.loop-i-test.true,
         subst (λ s. s ≤ c.loop-i.i + 1) (sym w.start-is) (omega arith),
-        reset-begins f c.args.pick c.args.test c.args.history.now c.loop-i.i c.loop-i.start a c.passed.result
-            c.loop-i-test.true c.loop-i.invariant.1 c.loop-i.invariant.2 is c.passed.ensures.value w.if-passed.true
+        reset-begins f c.args.pick c.args.test c.args.history.now c.loop-i.i c.loop-i.start a c.is_passed.result
+            c.loop-i-test.true c.loop-i.invariant.1 c.loop-i.invariant.2 is c.is_passed.ensures.value w.if-is_passed.true
             ∙ ap (λ s. history_of (drop s (take (c.loop-i.i + 1) c.args.history.now))) (sym w.start-is),
       )
       | reset_start-else-passed w ↦ (
         subst (λ s. s < length c.args.history.now) (sym w.start-is) c.loop-i.invariant.0,
         subst (λ s. s ≤ c.loop-i.i + 1) (sym w.start-is) (omega arith),
-        reset-goes-on f c.args.pick c.args.test c.args.history.now c.loop-i.i c.loop-i.start a c.passed.result
-            c.loop-i-test.true c.loop-i.invariant.1 c.loop-i.invariant.2 is c.passed.ensures.value w.if-passed.false
+        reset-goes-on f c.args.pick c.args.test c.args.history.now c.loop-i.i c.loop-i.start a c.is_passed.result
+            c.loop-i-test.true c.loop-i.invariant.1 c.loop-i.invariant.2 is c.is_passed.ensures.value w.if-is_passed.false
             ∙ ap (λ s. history_of (drop s (take (c.loop-i.i + 1) c.args.history.now))) (sym w.start-is),
       )
     ]

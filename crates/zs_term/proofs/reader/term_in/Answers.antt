@@ -27,8 +27,8 @@ returns-in-Some-clause-err c =
     (w.0, w.1, within, sym w.3 ∙ c.in-Some.is)
 
 -- the sizes are within their limits, and no number is too large
-pub built-requires : goal.built-requires
-built-requires c =
+pub build_term-requires : goal.build_term-requires
+build_term-requires c =
     let w = c.in_ok-part.ensures.ok in
     let within = small _ w.0 (kept_of c.in_ok-part.part) w.2 c.if-part-gt-MAX_DEPTH.false c.if-part-gt-MAX_WEIGHT.false in
     record { spelled = (w.0, record { spelled = w.1; within = within; fits = sym w.3 ∙ c.in_default.is }) }

@@ -1,6 +1,6 @@
 use Rattle.zs_term.specs.Schedule.{schedule_of}
 use Rattle.zs_term.proofs.Verdicts.{term_refused, term_accepted}
-use Rattle.zs_term.proofs.reader.judged.Goals as goal
+use Rattle.zs_term.proofs.reader.judge.Goals as goal
 
 pub returns-clause-ok : goal.returns-clause-ok
 returns-clause-ok c =

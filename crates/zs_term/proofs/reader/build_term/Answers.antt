@@ -4,7 +4,7 @@ use Rattle.zs_term.specs.Parts.{kept_of}
 use Rattle.zs_term.specs.Causes.{IsRead}
 use Rattle.zs_term.proofs.Kept.{there}
 use Rattle.zs_term.proofs.Verdicts.{same_term}
-use Rattle.zs_term.proofs.reader.built.Goals as goal
+use Rattle.zs_term.proofs.reader.build_term.Goals as goal
 
 -- the term was built, since its numbers fit
 pub unreachable-requires : goal.unreachable-requires

@@ -6,7 +6,7 @@ use Rattle.std.specs.Vec.Iter.{into_iter_items}
 use Rattle.std.proofs.lemmas.List.Elements.{All-head, All-tail}
 use Rattle.zs_pool.specs.Messages.{PolledValue, IsPollAmong, numbers_of}
 use Rattle.zs_pool.proofs.Places.{slotted_none, slotted_more, slotted_all, get_below}
-use Rattle.zs_pool.proofs.rounds.batches.placed.Goals as goal
+use Rattle.zs_pool.proofs.rounds.batches.place_batches.Goals as goal
 
 pub loop-message-init : goal.loop-message-init
 loop-message-init c =
