@@ -11,17 +11,7 @@ use itoa::Buffer;
 use std::alloc::AllocError;
 use zs_effect::Outcome;
 use zs_step::Decision;
-use zs_term::{Out, append_out};
-
-// Adds the digits of a number.
-#[tactic(auto, using(zs_term::proofs::Texts::begins_with_itself, zs_term::proofs::Texts::begins_pushed, zs_term::proofs::Texts::begins_both))]
-fn append_number(text: &mut String, n: u64) -> Result<(), AllocError>
-    ensures text { OnOk result (string_bytes text.new ≡ string_bytes text.old ++ decimal n) }
-    ensures kept { IsBeginning (string_bytes text.old) (string_bytes text.new) }
-{
-    let mut buffer = Buffer::new();
-    text.push_str(buffer.format(n))
-}
+use zs_term::{Out, append_number, append_out};
 
 // Adds a space, and how an attempt ended.
 #[tactic(auto, using(zs_term::proofs::Texts::begins_with_itself, zs_term::proofs::Texts::begins_pushed, zs_term::proofs::Texts::begins_both))]

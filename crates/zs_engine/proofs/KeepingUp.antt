@@ -42,11 +42,6 @@ record Found (ticks : List ℕ) (low x now : ℕ) : Type 0 where
   after : RisesFrom (now + 1) later
   rest : AllBefore later (max_tick + 1)
 
-RisesFrom-later : (low high : ℕ) (ticks : List ℕ) → low ≤ high → RisesFrom high ticks → RisesFrom low ticks
-unfolding RisesFrom
-RisesFrom-later low high [] h rises = tt
-RisesFrom-later low high (t ∷ ticks) h rises = (omega (arith, rises.0), rises.1)
-
 found : (ticks : List ℕ) (low x now : ℕ) → RisesFrom low ticks → AllBefore ticks (max_tick + 1) → first_tick_from ticks x ≡ Some now → Found ticks low x now
 unfolding first_tick_from RisesFrom AllBefore
 found [] low x now rises bounded = λ e. cc

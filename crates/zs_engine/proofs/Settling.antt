@@ -19,10 +19,6 @@ use Rattle.zs_engine.proofs.KeepingUp.{keeps_up-first, next-due, due-seen}
 use Rattle.zs_engine.proofs.RoundLemmas.{jobs_of, jobs_of-set, polls_of-set, polls_of-push, slice_get-set_same, slice_get-set_other, slice_get-below, length-slice_set, some_at, pending-keeps_up, polled-later, due, AllWaitBut-step, AllWaitBut-end, AllWait-push, unset-past, IsDistinct-increasing}
 use Rattle.zs_engine.proofs.SlotLemmas.{full, full-set, full-get, get-full, full-all, full-push, length-full, jobs_in-full, Picks-set, Picks-length, Picks-all, Picks-numbers, AllBefore-range, length-emptied, get-emptied}
 
--- one more task before the first round
-pub rests-unset : (ticks : List ℕ) (slots : Slots) (a : Timers) (n : ℕ) → Rests ticks slots a 0 → n ≡ length slots → get a.moments n ≡ None
-rests-unset ticks slots a n r l = unset-past ticks r.tasks a n (l ∙ ap (λ (ps : Slots). length ps) r.same ∙ length-full r.tasks) r.all_wait
-
 pub rests-push : (ticks : List ℕ) (slots : Slots) (a : Timers) (t : TaskValue) → AreTicks ticks → Rests ticks slots a 0 → t.number ≡ length slots
     → t.moments ≡ [] → t.seen ≡ 0 → t.broken ≡ false → IsScript t.job.script → Rests ticks (slots ++ Some t ∷ []) (set_next a t.number (next_of ticks (current_timeline t).due)) 0
 rests-push ticks slots a t clock r l fresh unseen whole script = record {

@@ -205,9 +205,6 @@ second_read = λ at rest u. one_read at (mark (PieceWord PieceSecond)) (codes "_
 spaced_read : (bytes : List ℕ) (ts : List Token) → Reads Any bytes ts → Reads Any (bytes ++ codes " ") ts
 spaced_read bytes ts h = λ at rest u. let r = both_read h space_read (λ r u. tt) at rest tt in record { placed = r.placed; same = r.same ∙ append_nil ts; read = r.read }
 
-one_space_read : (at : ℕ) (t : Token) (bytes rest : List ℕ) (n : ℕ) → n ≡ at + length bytes → lex 0 at (bytes ++ rest) ≡ with_token at t (lex 0 n rest) → ReadAt bytes (t ∷ []) at rest
-one_space_read at t bytes rest n e h = one_read at t bytes rest n e h
-
 cmp_read : (c : Cmp) → Reads Any (cmp_text c) (mark (Comparison c) ∷ [])
 unfolding lex
 cmp_read Lt = λ at rest u. one_read at (mark (Comparison Lt)) (codes "< ") rest (at + 1 + 1) (omega arith) refl

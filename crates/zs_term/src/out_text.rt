@@ -70,9 +70,9 @@ fn push_out(text: &mut String, out: &Out) -> Result<(), NoMemory>
     }
 }
 
-// Appends the digits of a number to a text.
+/// Appends the digits of a number to a text. If it fails, the text begins as before.
 #[tactic(auto, using(crate::proofs::Texts::begins_with_itself, crate::proofs::Texts::begins_pushed, crate::proofs::Texts::begins_both))]
-fn append_number(text: &mut String, n: u64) -> Result<(), NoMemory>
+pub fn append_number(text: &mut String, n: u64) -> Result<(), NoMemory>
     ensures ok { OnOk result (string_bytes text.new ≡ string_bytes text.old ++ decimal n) }
     ensures kept { IsBeginning (string_bytes text.old) (string_bytes text.new) }
 {
