@@ -16,7 +16,7 @@ use Rattle.zs_pool.specs.Rounds.{polled_at, IsPollable}
 use Rattle.zs_engine.specs.Rounds.{KeepsUp, IsPending, AllWaitBut, Rests, Begins, KeptJob, jobs_in, set_next, polls_of}
 use Rattle.zs_engine.proofs.ClockTicks.{RisesFrom-increasing}
 use Rattle.zs_engine.proofs.KeepingUp.{keeps_up-first, next-due, due-seen}
-use Rattle.zs_engine.proofs.RoundLemmas.{jobs_of, jobs_of-set, polls_of-set, polls_of-push, slice_get-set_same, slice_get-set_other, slice_get-below, length-slice_set, some_at, pending-keeps_up, polled-later, due, AllWaitBut-step, AllWaitBut-end, AllWait-push, unset-past, IsDistinct-increasing}
+use Rattle.zs_engine.proofs.RoundLemmas.{jobs_of, jobs_of-set, polls_of-set, polls_of-push, slice_get-set_same, slice_get-set_other, slice_get-below, length-slice_set, some_at, pending-keeps_up, polled-later, due, AllWaitBut-step, AllWaitBut-end, AllWait-push, IsDistinct-increasing}
 use Rattle.zs_engine.proofs.SlotLemmas.{full, full-set, full-get, get-full, full-all, full-push, length-full, jobs_in-full, Picks-set, Picks-length, Picks-all, Picks-numbers, AllBefore-range, length-emptied, get-emptied}
 
 pub rests-push : (ticks : List ℕ) (slots : Slots) (a : Timers) (t : TaskValue) → AreTicks ticks → Rests ticks slots a 0 → t.number ≡ length slots
