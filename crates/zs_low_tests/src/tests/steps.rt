@@ -1,6 +1,7 @@
 //! Worked examples, by `plain` on each prefix and by `follow`. The values are worked out by hand
 //! from docs/SEMANTICS.md.
-ghost use Rattle.std.specs.Prelude.{◌<◌, length, IfOk};
+ghost use Rattle.std.specs.Prelude.{◌<◌, ◌≤◌, length, IfOk};
+ghost use Rattle.zs_step.specs.Compiled.{last_seen};
 ghost use Rattle.zs_step.specs.History.{history_of, IsInOrder};
 
 use super::support::expect_text;
@@ -8,7 +9,7 @@ use std::alloc::{Alloc, AllocError, Global};
 use std::fmt::Write;
 use std::process::Abort;
 use std::test::Fail;
-use zs_step::{Compiled, Decision, Interval, StepFault, follow, plain};
+use zs_step::{Compiled, Decision, Interval, follow, plain};
 use zs_term::{Checked, Out, append_out, read};
 
 // A schedule, its pairs of a moment and an input, the results, and the visits of the steps.
@@ -389,43 +390,44 @@ fn each_schedule_returns_what_is_listed(rt: HostRuntime) -> Result<(), Fail> {
     expect_groups(&rt, &ANSWERS)
 }
 
-// Steps a new state of a schedule at 3: whether it is broken before, the decision, whether it is
-// broken after.
-fn first_step(alloc: Global, schedule: &str) -> Result<String, Fail> {
-    let mut compiled = Compiled::new(alloc, read(alloc, schedule)?)?;
-    let before = compiled.broken();
-    let decision = match compiled.step(3, 0) {
-        Ok(step) => step.decision,
-        Err(fault) => return Err(Fail::from(fault)),
-    };
-    let after = compiled.broken();
-    drop(compiled);
-    Ok(format!(in alloc; "{before} {decision:?} {after}")?)
+// A schedule, two moments at which a new state is stepped by hand, and each result, with whether
+// the state is broken before and after.
+type Steps<'a> = (&'a str, u64, u64, &'a str);
+
+static STEPS: [Steps<'static>; 2] = [
+    ("recurs(0)", 3, 3, "false 0 done;false 1 done;false"),
+    ("elapsed", 5, 9, "false 0 5;false 4 9;false"),
+];
+
+// Steps a state, and appends whether it is broken before, and the result.
+fn push_hand(text: &mut String, compiled: &mut Compiled, now: u64) -> Result<(), Fail>
+    requires order { last_seen compiled.old ≤ now }
+    ensures seen { last_seen compiled.new ≤ now }
+{
+    write!(text, "{} ", compiled.broken())?;
+    let step = compiled.step(now, 0)?;
+    Ok(push_step(text, &step.out, step.decision)?)
 }
 
-#[test]
-fn a_new_state_is_whole(rt: HostRuntime) -> Result<(), Fail> {
-    let found = first_step(rt.alloc(), "recurs(0)")?;
-    expect_text(&rt, &found, "false Stop false", "broken, decision, broken");
-    Ok(())
-}
-
-// Steps `elapsed` by hand at 5 and at 9: the results, and whether it is broken then.
-fn elapsed_by_hand(alloc: Global) -> Result<String, Fail> {
+// Steps a new state twice.
+fn by_hand(alloc: Global, schedule: &str, first: u64, second: u64) -> Result<String, Fail>
+    requires order { first ≤ second }
+{
     let mut text = String::new(alloc);
-    let mut compiled = Compiled::new(alloc, read(alloc, "elapsed")?)?;
-    let first = compiled.step(5, 0)?;
-    push_step(&mut text, &first.out, first.decision)?;
-    let second = compiled.step(9, 0)?;
-    push_step(&mut text, &second.out, second.decision)?;
+    let mut compiled = Compiled::new(alloc, read(alloc, schedule)?)?;
+    push_hand(&mut text, &mut compiled, first)?;
+    push_hand(&mut text, &mut compiled, second)?;
     write!(text, "{}", compiled.broken())?;
     Ok(text)
 }
 
 #[test]
-fn a_state_is_stepped_by_hand(rt: HostRuntime) -> Result<(), Fail> {
-    let found = elapsed_by_hand(rt.alloc())?;
-    expect_text(&rt, &found, "0 5;4 9;false", "answers, broken");
+fn a_new_state_is_whole_and_stepped_by_hand(rt: HostRuntime) -> Result<(), Fail> {
+    for (schedule, first, second, wanted) in &STEPS {
+        assert!(rt; *first <= *second);
+        let found = by_hand(rt.alloc(), schedule, *first, *second)?;
+        expect_text(&rt, &found, wanted, schedule);
+    }
     Ok(())
 }
 
@@ -437,26 +439,47 @@ fn intervals_meet_at_their_starts(rt: HostRuntime) {
 }
 
 // Pairs (k, k), each with the result `k k`, and one visit a node.
+#[derive(Drop)]
+struct Many {
+    pairs: Vec<(u64, u64)>,
+    answers: String,
+    visits: String,
+}
+
+// Makes this number of such pairs.
+fn many(alloc: Global, count: u64, visits: &str) -> Result<Many, AllocError> {
+    let mut made = Many {
+        pairs: Vec::new(alloc),
+        answers: String::new(alloc),
+        visits: visits.repeat(alloc, count as usize)?,
+    };
+    for k in 0..count {
+        made.pairs.push((k, k))?;
+        write!(made.answers, "{k} {k};")?;
+    }
+    Ok(made)
+}
+
+// A schedule returns what is listed for this number of such pairs.
+fn expect_many<R: Abort + Alloc<A = Global>>(
+    rt: &R,
+    schedule: &str,
+    count: u64,
+    visits: &str,
+) -> Result<(), Fail> {
+    let made = many(rt.alloc(), count, visits)?;
+    let row = (
+        schedule,
+        made.pairs.as_slice(),
+        made.answers.as_str(),
+        made.visits.as_str(),
+    );
+    expect_answers(rt, "many pairs", &[row])
+}
+
 #[test]
 fn many_pairs_are_answered(rt: HostRuntime) -> Result<(), Fail> {
-    let mut pairs = Vec::new(rt.alloc());
-    let mut answers = String::new(rt.alloc());
-    let (mut leaf, mut list) = (String::new(rt.alloc()), String::new(rt.alloc()));
-    for k in 0..1100u64 {
-        if k == 150 {
-            let row = (
-                "forever.collectAll.map(size)",
-                &pairs[..],
-                answers.as_str(),
-                list.as_str(),
-            );
-            expect_answers(&rt, "collected", &[row])?;
-        }
-        pairs.push((k, k))?;
-        write!(answers, "{k} {k};")?;
-        leaf.push_str("1;")?;
-        list.push_str("3;")?;
-    }
+    expect_many(&rt, "forever.collectAll.map(size)", 150, "3;")?;
     for schedule in [
         "forever",
         "recurs(2000)",
@@ -464,15 +487,7 @@ fn many_pairs_are_answered(rt: HostRuntime) -> Result<(), Fail> {
         "elapsed",
         "spaced(0)",
     ] {
-        expect_answers(&rt, "a leaf", &[(schedule, &pairs, &answers, &leaf)])?;
+        expect_many(&rt, schedule, 1100, "1;")?;
     }
-    Ok(())
-}
-
-#[test]
-fn faults_have_texts(rt: HostRuntime) -> Result<(), Fail> {
-    let memory = StepFault::Memory;
-    let found = format!(in rt.alloc(); "{memory}")?;
-    expect_text(&rt, &found, "out of memory", "the faults");
     Ok(())
 }

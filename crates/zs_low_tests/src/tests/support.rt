@@ -17,18 +17,17 @@ pub fn reading(alloc: Global, text: &str) -> Result<String, AllocError> {
     }
 }
 
-/// Makes an attempt that succeeds.
-pub fn good(ms: u64, value: u64) -> Beat {
-    Beat {
-        ms,
-        outcome: Outcome::Good(value),
-    }
-}
+/// An entry of a script as a table has it: how long the attempt takes, and how it ends.
+pub type Entry = (u64, Outcome);
 
-/// Makes an attempt that fails.
-pub fn bad(ms: u64, code: u64) -> Beat {
-    Beat {
-        ms,
-        outcome: Outcome::Bad(code),
+/// Makes such entries.
+pub fn beats_of(alloc: Global, entries: &[Entry]) -> Result<Vec<Beat>, AllocError> {
+    let mut beats = Vec::new(alloc);
+    for (ms, outcome) in entries {
+        beats.push(Beat {
+            ms: *ms,
+            outcome: *outcome,
+        })?;
     }
+    Ok(beats)
 }

@@ -18,90 +18,119 @@ fn is_set_now(agenda: &mut Agenda, job: u64, moment: u64) -> bool {
 // Sets the timers of these jobs, each to its moment.
 fn set_all(rt: &impl Abort, agenda: &mut Agenda, timers: &[(u64, u64)]) {
     for (job, moment) in timers {
-        assert!(rt; is_set_now(agenda, *job, *moment), "job {job}");
+        assert!(rt; is_set_now(agenda, *job, *moment));
     }
 }
 
 // Whether the jobs 3 and 4 are set, the next moment, and the one that was taken last.
-fn expect_state<R: Abort + Alloc<A = Global>>(rt: &R, agenda: &Agenda, wanted: &str) {
+fn state_of(alloc: Global, agenda: &Agenda) -> Result<String, AllocError> {
     let (third, fourth) = (agenda.is_set(3), agenda.is_set(4));
     let (next, taken) = (agenda.next(), agenda.taken());
-    let found = format!(in rt.alloc(); "{third} {fourth}, {next:?}, {taken:?}");
-    expect_text(rt, &found.expect(rt, "memory"), wanted, "the agenda");
+    format!(in alloc; "{third} {fourth}, {next:?}, {taken:?}")
 }
 
-// The next takes return these, one by one.
-fn expect_takes<R: Abort + Alloc<A = Global>>(rt: &R, agenda: &mut Agenda, takes: &[&str]) {
-    for wanted in takes {
-        let taken = agenda.take();
-        let found = format!(in rt.alloc(); "{taken:?}").expect(rt, "memory");
-        expect_text(rt, &found, wanted, "a take");
+// Takes the next moment with its jobs, and may give the list of jobs back.
+fn taken_of(alloc: Global, agenda: &mut Agenda, is_reused: bool) -> Result<String, AllocError> {
+    match agenda.take() {
+        Ok(Some((moment, jobs))) => {
+            let text = format!(in alloc; "{moment} {jobs:?}");
+            if is_reused {
+                agenda.reuse(jobs);
+            }
+            text
+        }
+        Ok(None) => String::from_str(alloc, "none"),
+        Err(fault) => format!(in alloc; "{fault}"),
     }
 }
 
-#[test]
-fn jobs_of_one_moment_fire_together_in_rising_number(rt: HostRuntime) {
-    let mut agenda = Agenda::new(rt.alloc()).expect(&rt, "memory");
-    set_all(&rt, &mut agenda, &[(3, 50), (1, 50), (2, 70)]);
-    expect_state(&rt, &agenda, "true false, Some(50), None");
-    expect_takes(&rt, &mut agenda, &["Ok(Some((50, [1, 3])))"]);
-    expect_state(&rt, &agenda, "false false, Some(70), Some(50)");
-    expect_takes(&rt, &mut agenda, &["Ok(Some((70, [2])))", "Ok(None)"]);
+// What is done with an agenda.
+enum Step<'a> {
+    // The timers of these jobs are set, each to its moment.
+    Set(&'a [(u64, u64)]),
+    // It is in this state.
+    State(&'a str),
+    // A take returns this.
+    Take(&'a str),
+    // The same, and its list of jobs is given back.
+    Reuse(&'a str),
 }
 
-#[test]
-fn a_list_that_is_taken_back_serves_the_next_moment(rt: HostRuntime) {
-    let mut agenda = Agenda::new(rt.alloc()).expect(&rt, "memory");
-    set_all(&rt, &mut agenda, &[(3, 50), (1, 50), (2, 70)]);
-    let taken = agenda.take().expect(&rt, "memory");
-    let (moment, jobs) = taken.expect(&rt, "a moment");
-    assert_eq!(rt; moment, 50);
-    agenda.reuse(jobs);
-    expect_state(&rt, &agenda, "false false, Some(70), Some(50)");
-    set_all(&rt, &mut agenda, &[(4, 60), (3, 80)]);
-    let takes = [
-        "Ok(Some((60, [4])))",
-        "Ok(Some((70, [2])))",
-        "Ok(Some((80, [3])))",
-        "Ok(None)",
-    ];
-    expect_takes(&rt, &mut agenda, &takes);
+// Makes a step.
+fn make<R: Abort + Alloc<A = Global>>(rt: &R, agenda: &mut Agenda, step: &Step<'_>, of: &str) {
+    let (found, wanted) = match step {
+        Step::Set(timers) => return set_all(rt, agenda, timers),
+        Step::State(wanted) => (state_of(rt.alloc(), agenda), *wanted),
+        Step::Take(wanted) => (taken_of(rt.alloc(), agenda, false), *wanted),
+        Step::Reuse(wanted) => (taken_of(rt.alloc(), agenda, true), *wanted),
+    };
+    let found = found.expect(rt, "memory");
+    expect_text(rt, &found, wanted, of);
 }
 
-#[test]
-fn far_moments_fire_in_order(rt: HostRuntime) {
-    let mut agenda = Agenda::new(rt.alloc()).expect(&rt, "memory");
-    let timers = [
-        (0, u64::MAX),
-        (1, 4096),
-        (2, 4095),
-        (3, 1),
-        (4, 4096),
-        (5, 1_000_000_000),
-    ];
-    set_all(&rt, &mut agenda, &timers);
-    let first = [
-        "Ok(Some((1, [3])))",
-        "Ok(Some((4095, [2])))",
-        "Ok(Some((4096, [1, 4])))",
-    ];
-    expect_takes(&rt, &mut agenda, &first);
-    set_all(&rt, &mut agenda, &[(3, 4097)]);
-    let last = [
-        "Ok(Some((4097, [3])))",
-        "Ok(Some((1000000000, [5])))",
-        "Ok(Some((18446744073709551615, [0])))",
-        "Ok(None)",
-    ];
-    expect_takes(&rt, &mut agenda, &last);
-}
+static AGENDAS: [(&str, &[Step<'static>]); 4] = [
+    (
+        "jobs_of_one_moment_fire_together_in_rising_number",
+        &[
+            Step::Set(&[(3, 50), (1, 50), (2, 70)]),
+            Step::State("true false, Some(50), None"),
+            Step::Take("50 [1, 3]"),
+            Step::State("false false, Some(70), Some(50)"),
+            Step::Take("70 [2]"),
+            Step::Take("none"),
+        ],
+    ),
+    (
+        "a_list_that_is_taken_back_serves_the_next_moment",
+        &[
+            Step::Set(&[(3, 50), (1, 50), (2, 70)]),
+            Step::Reuse("50 [1, 3]"),
+            Step::State("false false, Some(70), Some(50)"),
+            Step::Set(&[(4, 60), (3, 80)]),
+            Step::Take("60 [4]"),
+            Step::Take("70 [2]"),
+            Step::Take("80 [3]"),
+            Step::Take("none"),
+        ],
+    ),
+    (
+        "far_moments_fire_in_order",
+        &[
+            Step::Set(&[
+                (0, u64::MAX),
+                (1, 4096),
+                (2, 4095),
+                (3, 1),
+                (4, 4096),
+                (5, 1_000_000_000),
+            ]),
+            Step::Take("1 [3]"),
+            Step::Take("4095 [2]"),
+            Step::Take("4096 [1, 4]"),
+            Step::Set(&[(3, 4097)]),
+            Step::Take("4097 [3]"),
+            Step::Take("1000000000 [5]"),
+            Step::Take("18446744073709551615 [0]"),
+            Step::Take("none"),
+        ],
+    ),
+    (
+        "any_job_number_can_be_set",
+        &[
+            Step::Set(&[(u64::MAX, 7), (10_000, 7), (9_999, 7)]),
+            Step::Take("7 [9999, 10000, 18446744073709551615]"),
+        ],
+    ),
+];
 
 #[test]
-fn any_job_number_can_be_set(rt: HostRuntime) {
-    let mut agenda = Agenda::new(rt.alloc()).expect(&rt, "memory");
-    set_all(&rt, &mut agenda, &[(u64::MAX, 7), (10_000, 7), (9_999, 7)]);
-    let takes = ["Ok(Some((7, [9999, 10000, 18446744073709551615])))"];
-    expect_takes(&rt, &mut agenda, &takes);
+fn timers_fire_as_listed(rt: HostRuntime) {
+    for (name, steps) in &AGENDAS {
+        let mut agenda = Agenda::new(rt.alloc()).expect(&rt, "memory");
+        for step in *steps {
+            make(&rt, &mut agenda, step, name);
+        }
+    }
 }
 
 // Sets the timers of jobs, each at a separate moment or all at one, and returns the number that
@@ -142,7 +171,7 @@ fn twenty_thousand_jobs_can_be_set(rt: HostRuntime) {
 // The clock's tick at or after each of these moments is as listed.
 fn expect_ticks(rt: &impl Abort, clock: &Clock, rows: &[(u64, Option<u64>)]) {
     for (due, wanted) in rows {
-        assert!(rt; clock.tick(*due) == *wanted, "from {due}");
+        assert!(rt; clock.tick(*due) == *wanted);
     }
 }
 
@@ -164,26 +193,33 @@ fn a_moment_between_ticks_waits_for_the_next(rt: HostRuntime) {
     expect_ticks(&rt, &clock, &rows);
 }
 
-// Each of these lists may be a clock's, or not, as listed.
-fn expect_lists<R: Abort + Alloc<A = Global>>(rt: &R, rows: &[(&[u64], bool)]) {
-    for (ticks, wanted) in rows {
-        let list = Vec::from_slice(rt.alloc(), ticks).expect(rt, "memory");
-        let is_fit = Clock::of_ticks(list).is_some();
-        assert!(rt; is_fit == *wanted, "{ticks:?}");
-    }
+// A name, a list of ticks, and whether it may be a clock's.
+type Ticks<'a> = (&'a str, &'a [u64], &'a str);
+
+static TICKS: [Ticks<'static>; 6] = [
+    ("no tick", &[], "unfit"),
+    ("one", &[5], "fit"),
+    ("two that are equal", &[5, 5], "unfit"),
+    ("one that falls", &[5, 6, 4], "unfit"),
+    ("the greatest", &[0, 999_999_999_999_999], "fit"),
+    ("one too great", &[0, 1_000_000_000_000_000], "unfit"),
+];
+
+// Whether a list may be a clock's.
+fn fitness(alloc: Global, ticks: &[u64]) -> Result<&'static str, AllocError> {
+    let list = Vec::from_slice(alloc, ticks)?;
+    Ok(match Clock::of_ticks(list) {
+        Some(_clock) => "fit",
+        None => "unfit",
+    })
 }
 
 #[test]
 fn a_list_of_ticks_rises_and_has_its_limits(rt: HostRuntime) {
-    let rows: [(&[u64], bool); 6] = [
-        (&[], false),
-        (&[5], true),
-        (&[5, 5], false),
-        (&[5, 6, 4], false),
-        (&[0, 999_999_999_999_999], true),
-        (&[0, 1_000_000_000_000_000], false),
-    ];
-    expect_lists(&rt, &rows);
+    for (name, ticks, wanted) in &TICKS {
+        let found = fitness(rt.alloc(), ticks).expect(&rt, "memory");
+        expect_text(&rt, found, wanted, name);
+    }
 }
 
 // Makes a list of the milliseconds below a number.

@@ -4,6 +4,7 @@ ghost use Rattle.std.specs.Prelude.{◌≡◌, ◌+◌, ◌≤◌};
 use super::*;
 use std::process::Abort;
 use std::thread;
+use std::thread::Threads;
 
 // Counts n times, and returns what was seen last.
 fn count_to(tally: &Tally, mut seat: TallySeat, n: u64) -> (TallySeat, u64)
@@ -82,25 +83,35 @@ fn a_tally_closed_by_one_of_two_seats_has_the_counts_of_both(rt: HostRuntime) ->
     Ok(())
 }
 
-#[test]
-fn two_threads_count_together(rt: HostRuntime) -> Result<(), Fail> {
-    let (tally, seat) = Tally::new(rt.alloc())?;
-    let (first, second) = tally.split(seat, 1000);
+// Two threads count n times each on a new tally.
+fn expect_together<R: Abort + Threads + Sync>(rt: &R, alloc: Global, n: u64) -> Result<(), Fail>
+    requires few { n ≤ 10000000 }
+{
+    let (tally, seat) = Tally::new(alloc)?;
+    let (first, second) = tally.split(seat, n);
     let lent = &tally;
     let ((first, a), (second, b)) = thread::join(
-        &rt,
+        rt,
         move || -> (TallySeat, u64)
-            requires seat { (first.tally ≡ lent.now) × (1000 ≤ first.allowance) }
+            requires seat { (first.tally ≡ lent.now) × (n ≤ first.allowance) }
             ensures tally { result.0.tally ≡ lent.entry.now }
-        { count_to(lent, first, 1000) },
+        { count_to(lent, first, n) },
         move || -> (TallySeat, u64)
-            requires seat { (second.tally ≡ lent.now) × (1000 ≤ second.allowance) }
+            requires seat { (second.tally ≡ lent.now) × (n ≤ second.allowance) }
             ensures tally { result.0.tally ≡ lent.entry.now }
-        { count_to(lent, second, 1000) },
+        { count_to(lent, second, n) },
     );
-    assert!(rt; a >= 1000 && b >= 1000);
-    assert!(rt; a == 2000 || b == 2000);
+    let both = n + n;
+    assert!(rt; a >= n && b >= n);
+    assert!(rt; a == both || b == both);
     let seat = tally.join(first, second);
-    assert_eq!(rt; tally.close(seat), 2000);
+    assert_eq!(rt; tally.close(seat), both);
     Ok(())
+}
+
+// A thread counts a thousand times in less time than the other takes to start.
+#[test]
+fn two_threads_count_together(rt: HostRuntime) -> Result<(), Fail> {
+    expect_together(&rt, rt.alloc(), 1000)?;
+    expect_together(&rt, rt.alloc(), 10_000_000)
 }
