@@ -1,9 +1,8 @@
 //! Whole runs: the attempts of each job, its ending, and the polls in all.
 use super::support::expect_text;
-use super::support::jobs::{Given, Listed, TWICE, good, job_of, jobs_of, listed_jobs, retried};
+use super::support::jobs::{Listed, TWICE, jobs_of, retried};
 use std::alloc::{AllocError, Global};
 use std::fmt::Write;
-use std::mem::drop;
 use std::process::Abort;
 use std::sync::Wait;
 use std::test::Fail;
@@ -82,35 +81,46 @@ fn clock_of(rt: &impl Abort, alloc: Global, ticks: Ticks<'_>) -> Result<Clock, A
     }
 }
 
-// Appends the result of a run of the jobs with this cut, under the gate.
-fn push_run<G: Gate, R: Abort + Threads + Wait + Sync>(
+// Runs jobs with this cut, under the gate.
+fn ran<G: Gate, R: Abort + Threads + Wait + Sync>(
     rt: &R,
-    text: &mut String,
     alloc: Global,
-    cut: Cut,
+    cut: (u64, u64),
     gate: &G,
-    clock: Clock,
+    ticks: Ticks<'_>,
     jobs: Vec<Job>,
-) -> Result<(), Fail> {
+) -> Result<Answer, Fail> {
     assert!(rt; jobs.len() <= 10_000);
-    let answer = run_jobs(rt, alloc, cut, gate, clock, jobs)?;
-    Ok(push_answer(text, &answer)?)
+    let cut = Cut::new(cut.0, cut.1).expect(rt, "within the limits");
+    let clock = clock_of(rt, alloc, ticks)?;
+    Ok(run_jobs(rt, alloc, cut, gate, clock, jobs)?)
 }
 
-// The jobs take this number of polls under the gate.
+// Runs jobs with this cut, and describes the result.
+fn told<R: Abort + Threads + Wait + Sync>(
+    rt: &R,
+    alloc: Global,
+    cut: (u64, u64),
+    ticks: Ticks<'_>,
+    jobs: Vec<Job>,
+) -> Result<String, Fail> {
+    let mut text = String::new(alloc);
+    let answer = ran(rt, alloc, cut, &OpenGate, ticks, jobs)?;
+    push_answer(&mut text, &answer)?;
+    Ok(text)
+}
+
+// The jobs take this number of polls with this cut, under the gate.
 fn expect_polls<G: Gate, R: Abort + Threads + Wait + Sync>(
     rt: &R,
     alloc: Global,
-    cut: Cut,
+    cut: (u64, u64),
     gate: &G,
-    clock: Clock,
+    ticks: Ticks<'_>,
     jobs: Vec<Job>,
     polls: u64,
 ) -> Result<(), Fail> {
-    assert!(rt; jobs.len() <= 10_000);
-    let answer = run_jobs(rt, alloc, cut, gate, clock, jobs)?;
-    let found = answer.polls;
-    drop(answer);
+    let found = ran(rt, alloc, cut, gate, ticks, jobs)?.polls;
     assert!(rt; found == polls, "{found}");
     Ok(())
 }
@@ -125,13 +135,9 @@ fn expect<R: Abort + Threads + Wait + Sync>(
     jobs: &[Listed<'_>],
     wanted: &str,
 ) -> Result<(), Fail> {
-    for (workers, grain) in cuts {
-        let mut text = String::new(alloc);
-        let cut = Cut::new(*workers, *grain).expect(rt, "within the limits");
-        let clock = clock_of(rt, alloc, ticks)?;
-        let jobs = listed_jobs(alloc, jobs)?;
-        push_run(rt, &mut text, alloc, cut, &OpenGate, clock, jobs)?;
-        expect_text(rt, &text, wanted, of);
+    for cut in cuts {
+        let found = told(rt, alloc, *cut, ticks, jobs_of(alloc, jobs)?)?;
+        expect_text(rt, &found, wanted, of);
     }
     Ok(())
 }
@@ -321,19 +327,82 @@ fn each_run_has_the_listed_result(rt: HostRuntime) -> Result<(), Fail> {
     expect_runs(&rt, rt.alloc(), &RUNS)
 }
 
+// This number of equal jobs has this result under each of these cuts: a line for each job after
+// its number, and the last line.
+fn expect_equal<R: Abort + Threads + Wait + Sync>(
+    rt: &R,
+    alloc: Global,
+    cuts: &[(u64, u64)],
+    ticks: Ticks<'_>,
+    job: Listed<'_>,
+    count: u64,
+    lines: (&str, &str),
+) -> Result<(), Fail> {
+    let jobs = Vec::from_elem(alloc, job, count as usize)?;
+    let mut wanted = String::new(alloc);
+    for number in 0..count {
+        write!(wanted, "{number} {}", lines.0)?;
+    }
+    wanted.push_str(lines.1)?;
+    expect(rt, alloc, job.0, cuts, ticks, &jobs, &wanted)
+}
+
+// One attempt of 1 ms, and one of 5 ms.
+const SHORT: [Beat; 1] = [Beat {
+    ms: 1,
+    outcome: Outcome::Good(0),
+}];
+
+const LONG: [Beat; 1] = [Beat {
+    ms: 5,
+    outcome: Outcome::Good(0),
+}];
+
 // The greatest number of jobs of a run, each with one attempt of 1 ms.
 #[test]
 fn ten_thousand_jobs_in_batches_of_one_of_seven_and_of_all(rt: HostRuntime) -> Result<(), Fail> {
-    let beats = [good(1, 0)];
-    let job = ("j", Mode::Repeat, "recurs(0)", 0, beats.as_slice());
-    let jobs = Vec::from_elem(rt.alloc(), job, 10_000)?;
-    let mut wanted = String::new(rt.alloc());
-    for number in 0..10_000u64 {
-        write!(wanted, "{number} j: 0..1 last, Some(Finished), 2 polls\n")?;
-    }
-    wanted.push_str("horizon 1, 20000 polls\n")?;
+    let job = ("j", Mode::Repeat, "recurs(0)", 0, SHORT.as_slice());
     let cuts = [(64, 1), (3, 7), (64, 10_000)];
-    expect(&rt, rt.alloc(), "j", &cuts, Ticks::Every(1), &jobs, &wanted)
+    let lines = (
+        "j: 0..1 last, Some(Finished), 2 polls\n",
+        "horizon 1, 20000 polls\n",
+    );
+    expect_equal(&rt, rt.alloc(), &cuts, Ticks::Every(1), job, 10_000, lines)
+}
+
+// Makes a schedule of 2^(doublings + 1) - 1 nodes.
+fn heavy(alloc: Global, doublings: u64) -> Result<String, AllocError> {
+    let mut schedule = String::from_str(alloc, "recurs(0)")?;
+    for _ in 0..doublings {
+        schedule = "(# && #)".replace(alloc, '#', &schedule)?;
+    }
+    Ok(schedule)
+}
+
+// Two hundred jobs whose schedules have 511 nodes have the same result on one thread and on
+// several.
+#[test]
+fn jobs_of_511_nodes_come_to_the_same_under_each_cut(rt: HostRuntime) -> Result<(), Fail> {
+    let schedule = heavy(rt.alloc(), 8)?;
+    let job = ("j", Mode::Repeat, schedule.as_str(), 0, LONG.as_slice());
+    let cuts = [(1, 1), (2, 3), (64, 1)];
+    let lines = (
+        "j: 0..5 last, Some(Finished), 2 polls\n",
+        "horizon 5, 400 polls\n",
+    );
+    expect_equal(&rt, rt.alloc(), &cuts, Ticks::Every(5), job, 200, lines)
+}
+
+// A job of one node between two of 127 has the same result under each cut.
+#[test]
+fn jobs_of_one_node_and_of_127_come_to_the_same(rt: HostRuntime) -> Result<(), Fail> {
+    let schedule = heavy(rt.alloc(), 6)?;
+    let large = ("j", Mode::Repeat, schedule.as_str(), 0, LONG.as_slice());
+    let small = ("j", Mode::Repeat, "recurs(0)", 0, LONG.as_slice());
+    let wanted =
+        "0 j: 0..5 last, Some(Finished), 2 polls\n1 j: 0..5 last, Some(Finished), 2 polls\n2 j: 0..5 last, Some(Finished), 2 polls\nhorizon 5, 6 polls\n";
+    let jobs = [large, small, large];
+    expect(&rt, rt.alloc(), "j", &CUTS, Ticks::Every(5), &jobs, wanted)
 }
 
 #[test]
@@ -344,53 +413,7 @@ fn a_fault_below_is_a_fault_of_the_run(rt: HostRuntime) {
     assert!(rt; EngineFault::from(DriveFault::Memory) == memory);
 }
 
-#[test]
-fn a_fault_says_what_was_missing(rt: HostRuntime) -> Result<(), Fail> {
-    let (memory, thread) = (EngineFault::Memory, EngineFault::NoThread);
-    let found = format!(in rt.alloc(); "{memory}, {thread}")?;
-    expect_text(&rt, &found, "out of memory, no thread", "the faults");
-    Ok(())
-}
-
-// Jobs with one attempt of 5 ms. Two threads meet at both of its moments.
-#[test]
-fn two_threads_meet_in_a_run_of_ten_thousand_jobs(rt: HostRuntime) -> Result<(), Fail> {
-    let job = Given {
-        name: "j",
-        mode: Mode::Repeat,
-        schedule: "recurs(0)",
-        start: 0,
-        beats: &[good(5, 0)],
-    };
-    let given = Vec::from_elem(rt.alloc(), job, 10_000)?;
-    let jobs = jobs_of(rt.alloc(), &given)?;
-    let clock = clock_of(&rt, rt.alloc(), Ticks::Every(5))?;
-    let cut = Cut::new(2, 1).expect(&rt, "within the limits");
-    let gate = Meeting::of(2);
-    expect_polls(&rt, rt.alloc(), cut, &gate, clock, jobs, 20_000)?;
-    assert!(rt; gate.alone() == 0);
-    Ok(())
-}
-
-// Makes jobs with one attempt of 5 ms, each with a schedule of 2^(doublings + 1) - 1 nodes.
-fn heavy(alloc: Global, count: u64, doublings: u64) -> Result<Vec<Job>, Fail> {
-    let mut schedule = String::from_str(alloc, "recurs(0)")?;
-    for _ in 0..doublings {
-        schedule = format!(in alloc; "({schedule} && {schedule})")?;
-    }
-    let job = Given {
-        name: "j",
-        mode: Mode::Repeat,
-        schedule: &schedule,
-        start: 0,
-        beats: &[good(5, 0)],
-    };
-    let given = Vec::from_elem(alloc, job, count as usize)?;
-    jobs_of(alloc, &given)
-}
-
-// This number of such jobs, whose schedules have one node, take two polls each with the cut, under
-// the gate.
+// This number of jobs with one attempt of 5 ms take two polls each with the cut, under the gate.
 fn expect_light<G: Gate, R: Abort + Threads + Wait + Sync>(
     rt: &R,
     alloc: Global,
@@ -398,20 +421,35 @@ fn expect_light<G: Gate, R: Abort + Threads + Wait + Sync>(
     gate: &G,
     count: u64,
 ) -> Result<(), Fail> {
-    let jobs = heavy(alloc, count, 0)?;
-    let polls = 2 * jobs.len() as u64;
-    let clock = clock_of(rt, alloc, Ticks::Every(5))?;
-    let cut = Cut::new(cut.0, cut.1).expect(rt, "within the limits");
-    expect_polls(rt, alloc, cut, gate, clock, jobs, polls)
+    let job = ("j", Mode::Repeat, "recurs(0)", 0, LONG.as_slice());
+    let jobs = jobs_of(alloc, &Vec::from_elem(alloc, job, count as usize)?)?;
+    let polls = count.wrapping_mul(2);
+    expect_polls(rt, alloc, cut, gate, Ticks::Every(5), jobs, polls)
+}
+
+// Two threads meet at both moments of this number of such jobs.
+fn expect_meeting<R: Abort + Threads + Wait + Sync>(
+    rt: &R,
+    alloc: Global,
+    cut: (u64, u64),
+    count: u64,
+) -> Result<(), Fail> {
+    let gate = Meeting::of(2);
+    expect_light(rt, alloc, cut, &gate, count)?;
+    assert!(rt; gate.alone() == 0, "{count} jobs");
+    Ok(())
+}
+
+#[test]
+fn two_threads_meet_in_a_run_of_ten_thousand_jobs(rt: HostRuntime) -> Result<(), Fail> {
+    expect_meeting(&rt, rt.alloc(), (2, 1), 10_000)
 }
 
 // Two batches of jobs are due at each moment, of one job each or of three and one.
 #[test]
 fn two_threads_meet_where_two_batches_are_due(rt: HostRuntime) -> Result<(), Fail> {
     for (cut, jobs) in [((2, 1), 2u64), ((64, 1), 2), ((2, 3), 4), ((64, 3), 4)] {
-        let gate = Meeting::of(2);
-        expect_light(&rt, rt.alloc(), cut, &gate, jobs)?;
-        assert!(rt; gate.alone() == 0, "{jobs} jobs");
+        expect_meeting(&rt, rt.alloc(), cut, jobs)?;
     }
     Ok(())
 }
@@ -448,16 +486,28 @@ fn one_thread_polls_the_jobs_of_a_moment_in_order(rt: HostRuntime) -> Result<(),
     Ok(())
 }
 
+// The jobs take this number of polls with this cut, each recorded, and the moments never fall.
+fn expect_recorded<R: Abort + Threads + Wait + Sync>(
+    rt: &R,
+    alloc: Global,
+    cut: (u64, u64),
+    gate: &Record,
+    jobs: Vec<Job>,
+    polls: u64,
+) -> Result<(), Fail> {
+    expect_polls(rt, alloc, cut, gate, Ticks::Every(1000), jobs, polls)?;
+    let found = (gate.passes(), gate.wrong());
+    assert!(rt; found == (polls, 0), "{cut:?}");
+    Ok(())
+}
+
 // Jobs that begin at 0 and 3, each polled at its begin, 5 ms later and 10 ms later, by one thread.
 #[test]
 fn a_moment_is_over_before_the_next(rt: HostRuntime) -> Result<(), Fail> {
     let alloc = rt.alloc();
-    let given = [retried("a", 0), retried("b", 3), retried("c", 0)];
+    let rows = [retried("a", 0), retried("b", 3), retried("c", 0)];
     let gate = Record::of(alloc, 9)?;
-    let clock = clock_of(&rt, alloc, Ticks::Every(1000))?;
-    let cut = Cut::new(1, 1).expect(&rt, "within the limits");
-    expect_polls(&rt, alloc, cut, &gate, clock, jobs_of(alloc, &given)?, 9)?;
-    let told = gate.told(alloc)?;
+    expect_recorded(&rt, alloc, (1, 1), &gate, jobs_of(alloc, &rows)?, 9)?;
     let wanted = [
         (0, 0, 0),
         (2, 0, 1),
@@ -469,8 +519,7 @@ fn a_moment_is_over_before_the_next(rt: HostRuntime) -> Result<(), Fail> {
         (2, 10, 7),
         (1, 13, 8),
     ];
-    assert!(rt; told.as_slice() == wanted.as_slice());
-    assert!(rt; (gate.passes(), gate.wrong()) == (9, 0));
+    assert!(rt; gate.told(alloc)?.as_slice() == wanted.as_slice());
     Ok(())
 }
 
@@ -478,58 +527,13 @@ fn a_moment_is_over_before_the_next(rt: HostRuntime) -> Result<(), Fail> {
 #[test]
 fn the_moments_of_a_run_of_jobs_never_fall(rt: HostRuntime) -> Result<(), Fail> {
     let alloc = rt.alloc();
-    for (workers, grain) in CUTS {
-        let mut jobs = Vec::new(alloc);
-        for place in 0..100u64 {
-            jobs.push(job_of(alloc, retried("j", place % 10))?)?;
-        }
+    let mut rows = Vec::new(alloc);
+    for place in 0..100u64 {
+        rows.push(retried("j", place % 10))?;
+    }
+    for cut in CUTS {
         let gate = Record::of(alloc, 300)?;
-        let clock = clock_of(&rt, alloc, Ticks::Every(1000))?;
-        let cut = Cut::new(workers, grain).expect(&rt, "within the limits");
-        expect_polls(&rt, alloc, cut, &gate, clock, jobs, 300)?;
-        let found = (gate.passes(), gate.wrong());
-        assert!(rt; found == (300, 0), "{workers}, {grain}");
-    }
-    Ok(())
-}
-
-// A job of one node between two of 127 has the same result under each cut.
-#[test]
-fn jobs_of_one_node_and_of_127_come_to_the_same(rt: HostRuntime) -> Result<(), Fail> {
-    let wanted =
-        "0 j: 0..5 last, Some(Finished), 2 polls\n1 j: 0..5 last, Some(Finished), 2 polls\n2 j: 0..5 last, Some(Finished), 2 polls\nhorizon 5, 6 polls\n";
-    for (workers, grain) in CUTS {
-        let mut jobs = heavy(rt.alloc(), 1, 6)?;
-        for others in [heavy(rt.alloc(), 1, 0)?, heavy(rt.alloc(), 1, 6)?] {
-            for job in others {
-                jobs.push(job)?;
-            }
-        }
-        let mut text = String::new(rt.alloc());
-        let cut = Cut::new(workers, grain).expect(&rt, "within the limits");
-        let clock = clock_of(&rt, rt.alloc(), Ticks::Every(5))?;
-        push_run(&rt, &mut text, rt.alloc(), cut, &OpenGate, clock, jobs)?;
-        expect_text(&rt, &text, wanted, "a run");
-    }
-    Ok(())
-}
-
-// Two hundred jobs whose schedules have 511 nodes have the same result on one thread and on
-// several.
-#[test]
-fn jobs_of_511_nodes_come_to_the_same_under_each_cut(rt: HostRuntime) -> Result<(), Fail> {
-    let mut wanted = String::new(rt.alloc());
-    for number in 0..200u64 {
-        write!(wanted, "{number} j: 0..5 last, Some(Finished), 2 polls\n")?;
-    }
-    wanted.push_str("horizon 5, 400 polls\n")?;
-    for (workers, grain) in [(1u64, 1u64), (2, 3), (64, 1)] {
-        let mut text = String::new(rt.alloc());
-        let cut = Cut::new(workers, grain).expect(&rt, "within the limits");
-        let clock = clock_of(&rt, rt.alloc(), Ticks::Every(5))?;
-        let jobs = heavy(rt.alloc(), 200, 8)?;
-        push_run(&rt, &mut text, rt.alloc(), cut, &OpenGate, clock, jobs)?;
-        expect_text(&rt, &text, &wanted, "a run");
+        expect_recorded(&rt, alloc, cut, &gate, jobs_of(alloc, &rows)?, 300)?;
     }
     Ok(())
 }

@@ -9,6 +9,7 @@ use super::support::jobs::{job_of, retried};
 use std::alloc::Global;
 use std::test::Fail;
 use zs_drive::Task;
+use zs_engine::EngineFault;
 use zs_pool::{
     Batch, Board, BoardPass, Cut, Gate, OpenGate, Polled, PoolFault, Shelf, ShelfPass, Tally,
     TallySeat, poll_batch, round,
@@ -45,23 +46,20 @@ fn new_tasks(alloc: Global, count: u64, now: u64) -> Result<Vec<Task>, Fail>
 #[test]
 fn a_cut_has_limits(rt: HostRuntime) {
     for (workers, grain) in [(0u64, 1u64), (65, 1), (1, 0), (1, 10001)] {
-        assert!(rt; Cut::new(workers, grain).is_none(), "{workers} {grain}");
+        assert!(rt; Cut::new(workers, grain).is_none());
     }
     for (workers, grain) in [(1u64, 1u64), (64, 1), (1, 10000), (64, 10000)] {
         let cut = Cut::new(workers, grain).expect(&rt, "within the limits");
-        assert_eq!(rt; (cut.workers(), cut.grain()), (workers, grain));
+        assert!(rt; (cut.workers(), cut.grain()) == (workers, grain));
     }
 }
 
 #[test]
 fn faults_have_texts(rt: HostRuntime) -> Result<(), Fail> {
     let (memory, thread, full) = (PoolFault::Memory, PoolFault::NoThread, PoolFault::Full);
-    let found = format!(in rt.alloc(); "{memory}, {thread}, {full}")?;
-    expect_text(
-        &rt,
-        &found,
-        "out of memory, no thread, the shelf is full",
-        "the faults",
-    );
+    let (of_run, no_thread) = (EngineFault::Memory, EngineFault::NoThread);
+    let found = format!(in rt.alloc(); "{memory}, {thread}, {full}; {of_run}, {no_thread}")?;
+    let wanted = "out of memory, no thread, the shelf is full; out of memory, no thread";
+    expect_text(&rt, &found, wanted, "the faults");
     Ok(())
 }

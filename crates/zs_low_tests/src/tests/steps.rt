@@ -392,9 +392,9 @@ fn each_schedule_returns_what_is_listed(rt: HostRuntime) -> Result<(), Fail> {
 
 // A schedule, two moments at which a new state is stepped by hand, and each result, with whether
 // the state is broken before and after.
-type Steps<'a> = (&'a str, u64, u64, &'a str);
+type ByHand<'a> = (&'a str, u64, u64, &'a str);
 
-static STEPS: [Steps<'static>; 2] = [
+static STEPS: [ByHand<'static>; 2] = [
     ("recurs(0)", 3, 3, "false 0 done;false 1 done;false"),
     ("elapsed", 5, 9, "false 0 5;false 4 9;false"),
 ];
@@ -447,7 +447,7 @@ struct Many {
 }
 
 // Makes this number of such pairs.
-fn many(alloc: Global, count: u64, visits: &str) -> Result<Many, AllocError> {
+fn many_of(alloc: Global, count: u64, visits: &str) -> Result<Many, AllocError> {
     let mut made = Many {
         pairs: Vec::new(alloc),
         answers: String::new(alloc),
@@ -467,7 +467,7 @@ fn expect_many<R: Abort + Alloc<A = Global>>(
     count: u64,
     visits: &str,
 ) -> Result<(), Fail> {
-    let made = many(rt.alloc(), count, visits)?;
+    let made = many_of(rt.alloc(), count, visits)?;
     let row = (
         schedule,
         made.pairs.as_slice(),

@@ -20,7 +20,7 @@ use zs_term::read;
 type Given<'a> = (u64, Mode, &'a str, u64, &'a [Entry]);
 
 // When a task is polled, and what is said of it.
-enum Polls<'a> {
+enum Polling<'a> {
     // At each due millisecond up to this horizon: how it stands in the end.
     Due(u64),
     // At these moments, due or not: the result of each poll.
@@ -30,7 +30,7 @@ enum Polls<'a> {
 }
 
 // A name, a task, its polls, and what is said of it.
-type Row<'a> = (&'a str, Given<'a>, Polls<'a>, &'a str);
+type Row<'a> = (&'a str, Given<'a>, Polling<'a>, &'a str);
 
 // Makes a script.
 fn script_of(alloc: Global, entries: &[Entry]) -> Result<Script, Fail> {
@@ -52,17 +52,17 @@ fn job_of(alloc: Global, given: &Given<'_>) -> Result<Job, Fail> {
 }
 
 // Makes a task. What it stores is left open, unless its log is described.
-fn task_of(alloc: Global, given: &Given<'_>, polls: &Polls<'_>) -> Result<Task, Fail>
+fn task_of(alloc: Global, given: &Given<'_>, polls: &Polling<'_>) -> Result<Task, Fail>
     ensures seen { IfOk result (λ task. task.seen ≡ 0) }
 {
     let job = job_of(alloc, given)?;
     match polls {
-        Polls::Logs(keeps, _) => Ok(Task::keeping(alloc, given.0, job, *keeps)?),
-        Polls::Due(_) | Polls::Results(_) => Ok(Task::new(alloc, given.0, job)?),
+        Polling::Logs(keeps, _) => Ok(Task::keeping(alloc, given.0, job, *keeps)?),
+        Polling::Due(_) | Polling::Results(_) => Ok(Task::new(alloc, given.0, job)?),
     }
 }
 
-// Polls a task. Callers know nothing about a mock but this contract.
+// Polling a task. Callers know nothing about a mock but this contract.
 fn poll(solo: &Solo, task: &mut Task) -> Poll<Result<Ending, DriveFault>>
     ensures seen { task.new.seen ≡ task.old.seen }
 {
@@ -73,7 +73,7 @@ fn poll(solo: &Solo, task: &mut Task) -> Poll<Result<Ending, DriveFault>>
     polled
 }
 
-// Polls a task at each millisecond up to the horizon at which it is due.
+// Polling a task at each millisecond up to the horizon at which it is due.
 fn run(solo: &Solo, task: &mut Task, horizon: u64)
     requires seen { task.old.seen ≡ 0 }
     requires bounded { horizon < 10000 }
@@ -137,7 +137,7 @@ fn push_log(text: &mut String, task: &Task) -> Result<(), AllocError> {
     push_records(text, task)
 }
 
-// Polls a task at this moment, due or not.
+// Polling a task at this moment, due or not.
 fn poll_next<R: Abort>(
     rt: &R,
     solo: &Solo,
@@ -166,7 +166,7 @@ fn push_result(
     write!(text, "{polled:?}, {polls} polls, due {due:?}\n")
 }
 
-// Polls a new task at these moments, due or not. Appends what is known of it before, and the result
+// Polling a new task at these moments, due or not. Appends what is known of it before, and the result
 // of each poll, or what it stores before and after each poll.
 fn poll_at_each<R: Abort>(
     rt: &R,
@@ -196,24 +196,24 @@ fn poll_at_each<R: Abort>(
     Ok(())
 }
 
-// Polls a new task as its row says, and appends what is said of it.
+// Polling a new task as its row says, and appends what is said of it.
 fn push_polls<R: Abort>(
     rt: &R,
     solo: &Solo,
     task: &mut Task,
-    polls: &Polls<'_>,
+    polls: &Polling<'_>,
     text: &mut String,
 ) -> Result<(), AllocError>
     requires seen { task.old.seen ≡ 0 }
 {
     match polls {
-        Polls::Due(horizon) => {
+        Polling::Due(horizon) => {
             assert!(rt; *horizon < 10000);
             run(solo, task, *horizon);
             push_standing(text, task)
         }
-        Polls::Results(moments) => poll_at_each(rt, solo, task, moments, false, text),
-        Polls::Logs(_, moments) => poll_at_each(rt, solo, task, moments, true, text),
+        Polling::Results(moments) => poll_at_each(rt, solo, task, moments, false, text),
+        Polling::Logs(_, moments) => poll_at_each(rt, solo, task, moments, true, text),
     }
 }
 
@@ -221,7 +221,7 @@ fn push_polls<R: Abort>(
 fn described<R: Abort + Alloc<A = Global> + RandomSource>(
     rt: &R,
     given: &Given<'_>,
-    polls: &Polls<'_>,
+    polls: &Polling<'_>,
 ) -> Result<String, Fail> {
     let solo = Solo::new(rt, Doorbell::spinning())?;
     let mut task = task_of(rt.alloc(), given, polls)?;
@@ -250,7 +250,7 @@ static RUNS: [Row<'static>; 17] = [
     (
         "a_repeat_finishes_with_its_schedule",
         (7, Mode::Repeat, "recurs(0)", 0, &[(3, Good(9))]),
-        Polls::Due(1000),
+        Polling::Due(1000),
         "2 polls, due None, ending Some(Finished), last Some((0, Some(3)))",
     ),
     (
@@ -262,7 +262,7 @@ static RUNS: [Row<'static>; 17] = [
             0,
             &[(50, Good(1)), (250, Good(1)), (10, Good(1)), (10, Good(1))],
         ),
-        Polls::Due(500),
+        Polling::Due(500),
         "7 polls, due Some(550), ending None, last Some((450, Some(460)))",
     ),
     (
@@ -274,19 +274,19 @@ static RUNS: [Row<'static>; 17] = [
             0,
             &[(50, Good(1)), (100, Good(1))],
         ),
-        Polls::Due(300),
+        Polling::Due(300),
         "4 polls, due Some(350), ending None, last Some((150, Some(250)))",
     ),
     (
         "an_attempt_runs_at_the_horizon",
         (7, Mode::Repeat, "spaced(10)", 0, &[(4, Good(1))]),
-        Polls::Due(16),
+        Polling::Due(16),
         "3 polls, due Some(18), ending None, last Some((14, None))",
     ),
     (
         "an_end_at_the_horizon_counts",
         (7, Mode::Repeat, "spaced(10)", 0, &[(4, Good(1))]),
-        Polls::Due(18),
+        Polling::Due(18),
         "4 polls, due Some(28), ending None, last Some((14, Some(18)))",
     ),
     (
@@ -298,19 +298,19 @@ static RUNS: [Row<'static>; 17] = [
             0,
             &[(2, Good(1)), (2, Bad(4))],
         ),
-        Polls::Due(1000),
+        Polling::Due(1000),
         "3 polls, due None, ending Some(Failed(4)), last Some((2, Some(4)))",
     ),
     (
         "a_job_starts_past_the_horizon",
         (7, Mode::Retry, "recurs(3)", 2000, &[(5, Bad(7))]),
-        Polls::Due(1000),
+        Polling::Due(1000),
         "0 polls, due Some(2000), ending None, last None",
     ),
     (
         "a_retry_ends_with_a_success",
         (7, Mode::Retry, "recurs(3)", 0, &[(5, Bad(7)), (5, Good(1))]),
-        Polls::Due(1000),
+        Polling::Due(1000),
         "3 polls, due None, ending Some(Succeeded(1)), last Some((5, Some(10)))",
     ),
     (
@@ -322,7 +322,7 @@ static RUNS: [Row<'static>; 17] = [
             0,
             &[(1, Good(5))],
         ),
-        Polls::Due(1000),
+        Polling::Due(1000),
         "5 polls, due None, ending Some(Finished), last Some((3, Some(4)))",
     ),
     (
@@ -334,7 +334,7 @@ static RUNS: [Row<'static>; 17] = [
             0,
             &[(1, Good(0))],
         ),
-        Polls::Due(5),
+        Polling::Due(5),
         "6 polls, due Some(6), ending None, last Some((4, Some(5)))",
     ),
     (
@@ -346,7 +346,7 @@ static RUNS: [Row<'static>; 17] = [
             0,
             &[(1, Good(0)), (1, Good(1)), (1, Good(0))],
         ),
-        Polls::Due(4),
+        Polling::Due(4),
         "5 polls, due Some(5), ending None, last Some((4, None))",
     ),
     (
@@ -358,7 +358,7 @@ static RUNS: [Row<'static>; 17] = [
             0,
             &[(1, Good(1)), (1, Good(2)), (1, Good(3))],
         ),
-        Polls::Due(1000),
+        Polling::Due(1000),
         "4 polls, due None, ending Some(Finished), last Some((2, Some(3)))",
     ),
     (
@@ -370,7 +370,7 @@ static RUNS: [Row<'static>; 17] = [
             0,
             &[(1, Bad(11)), (2, Bad(12)), (3, Bad(13))],
         ),
-        Polls::Due(1000),
+        Polling::Due(1000),
         "5 polls, due None, ending Some(Failed(13)), last Some((6, Some(9)))",
     ),
     (
@@ -382,13 +382,13 @@ static RUNS: [Row<'static>; 17] = [
             3,
             &[(2, Good(4)), (u64::MAX, Good(9))],
         ),
-        Polls::Due(20),
+        Polling::Due(20),
         "2 polls, due Some(18446744073709551615), ending None, last Some((5, None))",
     ),
     (
         "a_job_may_make_1002_attempts",
         (7, Mode::Repeat, "forever", 0, &[(1, Good(5))]),
-        Polls::Due(1001),
+        Polling::Due(1001),
         "1002 polls, due Some(1002), ending None, last Some((1001, None))",
     ),
     (
@@ -400,13 +400,13 @@ static RUNS: [Row<'static>; 17] = [
             0,
             &[(4, Good(1))],
         ),
-        Polls::Due(1000),
+        Polling::Due(1000),
         "2 polls, due Some(18446744073709551615), ending None, last Some((0, Some(4)))",
     ),
     (
         "a_job_may_start_at_the_greatest_moment",
         (7, Mode::Retry, "recurs(3)", u64::MAX, &[(5, Bad(7))]),
-        Polls::Due(1000),
+        Polling::Due(1000),
         "0 polls, due Some(18446744073709551615), ending None, last None",
     ),
 ];
@@ -420,7 +420,7 @@ static POLLS: [Row<'static>; 5] = [
     (
         "a_task_is_known_by_its_job_and_polled_by_hand",
         (7, Mode::Retry, "recurs(3)", 0, &[(5, Bad(7)), (5, Good(1))]),
-        Polls::Results(&[0, 5, 10, 10]),
+        Polling::Results(&[0, 5, 10, 10]),
         "7 a Retry Records, broken false, due Some(0)
 Pending, 1 polls, due Some(5)
 Pending, 2 polls, due Some(10)
@@ -431,7 +431,7 @@ Ready(Ok(Succeeded(1))), 3 polls, due None
     (
         "an_early_poll_changes_nothing",
         (7, Mode::Retry, "recurs(3)", 5, &[(5, Bad(7))]),
-        Polls::Results(&[4]),
+        Polling::Results(&[4]),
         "7 a Retry Records, broken false, due Some(5)
 Pending, 0 polls, due Some(5)
 ",
@@ -439,7 +439,7 @@ Pending, 0 polls, due Some(5)
     (
         "an_ended_task_answers_again",
         (7, Mode::Retry, "recurs(3)", 0, &[(5, Good(1))]),
-        Polls::Results(&[0, 5, 5]),
+        Polling::Results(&[0, 5, 5]),
         "7 a Retry Records, broken false, due Some(0)
 Pending, 1 polls, due Some(5)
 Ready(Ok(Succeeded(1))), 2 polls, due None
@@ -455,7 +455,7 @@ Ready(Ok(Succeeded(1))), 2 polls, due None
             999_999_999_999_999,
             &[(5, Bad(7))],
         ),
-        Polls::Results(&[999_999_999_999_999]),
+        Polling::Results(&[999_999_999_999_999]),
         "7 a Retry Records, broken false, due Some(999999999999999)
 Pending, 1 polls, due Some(1000000000000004)
 ",
@@ -463,7 +463,7 @@ Pending, 1 polls, due Some(1000000000000004)
     (
         "a_task_may_have_any_number",
         (u64::MAX, Mode::Retry, "recurs(3)", 0, &[(5, Bad(7))]),
-        Polls::Results(&[]),
+        Polling::Results(&[]),
         "18446744073709551615 a Retry Records, broken false, due Some(0)
 ",
     ),
@@ -484,7 +484,7 @@ static LOGS: [Row<'static>; 5] = [
             2,
             &[(5, Bad(7)), (3, Bad(8)), (4, Good(1))],
         ),
-        Polls::Logs(Keeping::Lines, &[2, 7, 17, 20, 30, 34]),
+        Polling::Logs(Keeping::Lines, &[2, 7, 17, 20, 30, 34]),
         "7 a Retry Lines, broken false, due Some(2)
 0 polls, ending None, 0 told
 0 recorded
@@ -531,7 +531,7 @@ attempt 3 30..34 ok 1
             0,
             &[(2, Good(1)), (3, Bad(4))],
         ),
-        Polls::Logs(Keeping::Lines, &[0, 2, 5]),
+        Polling::Logs(Keeping::Lines, &[0, 2, 5]),
         "7 a Repeat Lines, broken false, due Some(0)
 0 polls, ending None, 0 told
 0 recorded
@@ -553,7 +553,7 @@ attempt 2 2..5 err 4
     (
         "the_step_that_is_done_is_told_of_the_last_record",
         (7, Mode::Repeat, "recurs(1)", 0, &[(3, Good(9))]),
-        Polls::Logs(Keeping::Lines, &[0, 3, 6]),
+        Polling::Logs(Keeping::Lines, &[0, 3, 6]),
         "7 a Repeat Lines, broken false, due Some(0)
 0 polls, ending None, 0 told
 0 recorded
@@ -576,7 +576,7 @@ step 2 out 1 done
     (
         "an_early_poll_and_one_of_an_ended_task_tell_nothing_new",
         (7, Mode::Retry, "recurs(0)", 1, &[(4, Bad(7))]),
-        Polls::Logs(Keeping::Lines, &[0, 2, 5, 8, 9]),
+        Polling::Logs(Keeping::Lines, &[0, 2, 5, 8, 9]),
         "7 a Retry Lines, broken false, due Some(1)
 0 polls, ending None, 0 told
 0 recorded
@@ -607,7 +607,7 @@ step 1 out 0 done
             0,
             &[(2, Good(1)), (3, Bad(4))],
         ),
-        Polls::Logs(Keeping::Records, &[0, 2, 5]),
+        Polling::Logs(Keeping::Records, &[0, 2, 5]),
         "7 a Repeat Records, broken false, due Some(0)
 0 polls, ending None, 0 told
 0 recorded

@@ -194,9 +194,9 @@ fn a_moment_between_ticks_waits_for_the_next(rt: HostRuntime) {
 }
 
 // A name, a list of ticks, and whether it may be a clock's.
-type Ticks<'a> = (&'a str, &'a [u64], &'a str);
+type TickList<'a> = (&'a str, &'a [u64], &'a str);
 
-static TICKS: [Ticks<'static>; 6] = [
+static TICKS: [TickList<'static>; 6] = [
     ("no tick", &[], "unfit"),
     ("one", &[5], "fit"),
     ("two that are equal", &[5, 5], "unfit"),

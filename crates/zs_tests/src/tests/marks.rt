@@ -1,6 +1,7 @@
 //! What a `Marked` returns from the reader or writer inside, and when its mark is set.
 ghost use Rattle.std.specs.Prelude.{◌<◌};
 
+use super::support::expect_each;
 use super::support::streams::{Answers, KINDS};
 use std::process::Abort;
 use zs_run::{Drain, Failed, Marked, Source};
@@ -10,9 +11,12 @@ fn expect_pull(rt: &impl Abort, reader: &mut Marked<&[u8]>, wanted: &str) {
     let mut buf = [0u8; 3];
     let pulled = reader.pull(&mut buf);
     let count = wanted.len();
-    assert!(rt; pulled == Ok(count), "{wanted}");
-    assert!(rt; buf.starts_with(wanted.as_bytes()), "{wanted}");
-    assert!(rt; !Source::failed(reader), "{wanted}");
+    let facts = [
+        pulled == Ok(count),
+        buf.starts_with(wanted.as_bytes()),
+        !Source::failed(reader),
+    ];
+    expect_each(rt, &facts, count as u64);
 }
 
 #[test]
@@ -33,8 +37,7 @@ fn expect_give(
 ) {
     assert!(rt; !bytes.is_empty());
     let given = writer.give(bytes);
-    assert!(rt; given == wanted, "{given:?}");
-    assert!(rt; Drain::failed(writer) == mark, "{given:?}");
+    assert!(rt; given == wanted && Drain::failed(writer) == mark);
 }
 
 // The same for a flush.
@@ -45,8 +48,7 @@ fn expect_flush(
     mark: bool,
 ) {
     let flushed = writer.flush();
-    assert!(rt; flushed == wanted, "{flushed:?}");
-    assert!(rt; Drain::failed(writer) == mark, "{flushed:?}");
+    assert!(rt; flushed == wanted && Drain::failed(writer) == mark);
 }
 
 #[test]

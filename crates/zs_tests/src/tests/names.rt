@@ -1,5 +1,5 @@
 //! Which texts are names of jobs, and which names were used before.
-use super::support::plans::fault_of;
+use super::support::plans::expect_fault;
 use std::alloc::{Alloc, AllocError, Global};
 use std::process::Abort;
 use zs_run::PlanFault;
@@ -74,8 +74,7 @@ fn expect_last<R: Abort + Alloc<A = Global>>(rt: &R, row: &Row<'_>) {
     assert!(rt; !names.is_empty(), "{of}: no names");
     for name in *names {
         let text = plan_of_names(rt.alloc(), others, name).expect(rt, "memory");
-        let found = fault_of(rt.alloc(), &text);
-        assert!(rt; found == *fault, "{of}, {name}: {found:?}");
+        expect_fault(rt, rt.alloc(), &text, *fault);
     }
 }
 
@@ -115,8 +114,7 @@ fn expect_among_thousands<R: Abort + Alloc<A = Global>>(
     fault: Option<PlanFault>,
 ) {
     let text = numbered_plan(rt.alloc(), 9999, name).expect(rt, "memory");
-    let found = fault_of(rt.alloc(), &text);
-    assert!(rt; found == fault, "{name}: {found:?}");
+    expect_fault(rt, rt.alloc(), &text, fault);
 }
 
 #[test]

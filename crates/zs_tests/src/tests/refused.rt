@@ -1,19 +1,13 @@
 //! Bytes that are no plan. Each text has a fault and the next one in the order, and the first is
 //! reported.
-use super::support::plans::fault_of;
+use super::support::plans::expect_fault;
 use std::alloc::{AllocError, Global};
 use std::process::Abort;
-use std::test::Fail;
 use zs_effect::ScriptFault;
 use zs_run::{PlanFault, read_plan};
 use zs_term::TermFault;
 
 const DOCUMENT: Option<u64> = None;
-
-fn expect_fault(rt: &impl Abort, alloc: Global, text: &str, fault: PlanFault) {
-    let found = fault_of(alloc, text);
-    assert!(rt; found == Some(fault), "{text}: {found:?}");
-}
 
 // A name, the text before and after each row, and texts with the fault of the whole.
 type Group<'a> = (&'a str, &'a str, &'a str, &'a [(&'a str, PlanFault)]);
@@ -342,7 +336,7 @@ fn expect_faults(rt: &impl Abort, alloc: Global, group: &Group<'_>) {
     assert!(rt; !rows.is_empty(), "{name}: no rows");
     for (text, fault) in *rows {
         let text = format!(in alloc; "{before}{text}{after}").expect(rt, "memory");
-        expect_fault(rt, alloc, &text, *fault);
+        expect_fault(rt, alloc, &text, Some(*fault));
     }
 }
 
@@ -359,26 +353,12 @@ fn each_text_has_the_fault_that_is_listed(rt: HostRuntime) {
     expect_groups(&rt, rt.alloc(), &FAULTS);
 }
 
-// This number of spaces is no plan, and has this fault.
-fn expect_spaces(
-    rt: &impl Abort,
-    alloc: Global,
-    count: usize,
-    wanted: PlanFault,
-) -> Result<(), Fail> {
-    let bytes = Vec::from_elem(alloc, b' ', count)?;
-    let fault = match read_plan(alloc, &bytes) {
-        Ok(_plan) => None,
-        Err(fault) => Some(fault),
-    };
-    assert!(rt; fault == Some(wanted), "{count}: {fault:?}");
-    Ok(())
-}
-
 #[test]
-fn length_is_looked_at_before_json(rt: HostRuntime) -> Result<(), Fail> {
-    expect_spaces(&rt, rt.alloc(), 16_777_217, PlanFault::TooLong)?;
-    expect_spaces(&rt, rt.alloc(), 16_777_216, PlanFault::Json)
+fn length_is_looked_at_before_json(rt: HostRuntime) {
+    let most = " ".repeat(rt.alloc(), 16_777_216).expect(&rt, "memory");
+    expect_fault(&rt, rt.alloc(), &most, Some(PlanFault::Json));
+    let more = " ".repeat(rt.alloc(), 16_777_217).expect(&rt, "memory");
+    expect_fault(&rt, rt.alloc(), &more, Some(PlanFault::TooLong));
 }
 
 #[test]
@@ -398,10 +378,10 @@ fn plan_of_zeros(alloc: Global, count: usize) -> Result<String, AllocError> {
 fn a_plan_has_ten_thousand_jobs_at_most(rt: HostRuntime) {
     let most = plan_of_zeros(rt.alloc(), 10_000).expect(&rt, "memory");
     let first = PlanFault::Shape { job: Some(0) };
-    expect_fault(&rt, rt.alloc(), &most, first);
+    expect_fault(&rt, rt.alloc(), &most, Some(first));
     let more = plan_of_zeros(rt.alloc(), 10_001).expect(&rt, "memory");
     let range = PlanFault::Range { job: DOCUMENT };
-    expect_fault(&rt, rt.alloc(), &more, range);
+    expect_fault(&rt, rt.alloc(), &more, Some(range));
 }
 
 // Makes a plan of one job with this number of entries, each of 0 ms.
@@ -417,6 +397,7 @@ fn plan_of_entries(alloc: Global, count: usize) -> Result<String, AllocError> {
 fn a_script_is_counted_before_its_entries_are_looked_at(rt: HostRuntime) {
     for (count, fault) in [(1000, ScriptFault::ZeroMs), (1001, ScriptFault::TooLong)] {
         let text = plan_of_entries(rt.alloc(), count).expect(&rt, "memory");
-        expect_fault(&rt, rt.alloc(), &text, PlanFault::Script { job: 0, fault });
+        let wanted = PlanFault::Script { job: 0, fault };
+        expect_fault(&rt, rt.alloc(), &text, Some(wanted));
     }
 }

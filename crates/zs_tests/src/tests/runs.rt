@@ -1,4 +1,5 @@
 //! Whole runs over readers and writers that aren't of `std`.
+use super::support::expect_each;
 use super::support::streams::{Halting, Limited};
 use std::alloc::Global;
 use std::process::Abort;
@@ -71,29 +72,36 @@ fn plan_of(alloc: Global, workers: u64, grain: u64) -> Result<String, Fail> {
     Ok(format!(in alloc; "{{\"horizon\":100,\"workers\":{workers},\"grain\":{grain},{JOBS}")?)
 }
 
-// A run ends with this fault or none. The marks agree: a reader's mark for a failed read, a
-// writer's for a failed write, and a flush on success. The writer has the front of the report, of
-// this length.
+// How a reader and a writer of a run go: the bytes of a read and the bytes before the reader fails,
+// the bytes of a write and the room of the writer, and whether it flushes.
+type Streams = (usize, usize, usize, usize, bool);
+
+const ALL: usize = usize::MAX;
+
+// A run of the plan ends with this fault or none. The marks agree: a reader's mark for a failed
+// read, a writer's for a failed write, and a flush on success. The writer has the front of the
+// report, of this length.
 fn expect_run<R: Abort + Threads + Wait + Sync>(
     rt: &R,
     alloc: Global,
-    reader: &mut Halting<'_>,
-    writer: &mut Limited,
+    plan: &str,
+    streams: Streams,
     wanted: Result<(), RunFault>,
     length: usize,
 ) {
+    let mut reader = Halting::of(plan, streams.0, streams.1);
+    let mut writer = Limited::of(alloc, streams.2, streams.3, streams.4);
     assert!(rt; !reader.failed && !writer.failed);
-    let ended = run(rt, alloc, &OpenGate, reader, writer);
-    assert!(rt; ended == wanted, "{ended:?}");
-    assert!(rt;
+    let ended = run(rt, alloc, &OpenGate, &mut reader, &mut writer);
+    let facts = [
+        ended == wanted,
         reader.failed == (ended == Err(RunFault::Read)),
-        "{ended:?}"
-    );
-    let is_write = matches!(ended, Err(RunFault::Write { .. }));
-    assert!(rt; writer.failed == is_write, "{ended:?}");
-    assert!(rt; writer.flushed == ended.is_ok(), "{ended:?}");
-    assert!(rt; writer.taken.len() == length, "{ended:?}");
-    assert!(rt; REPORT.as_bytes().starts_with(&writer.taken), "{ended:?}");
+        writer.failed == matches!(ended, Err(RunFault::Write { .. })),
+        writer.flushed == ended.is_ok(),
+        writer.taken.len() == length,
+        REPORT.as_bytes().starts_with(&writer.taken),
+    ];
+    expect_each(rt, &facts, length as u64);
 }
 
 #[test]
@@ -101,16 +109,8 @@ fn every_cut_writes_the_same_bytes(rt: HostRuntime) -> Result<(), Fail> {
     for workers in [1, 2, 7, 64] {
         for grain in [1, 3, 10_000] {
             let plan = plan_of(rt.alloc(), workers, grain)?;
-            let mut reader = Halting::of(&plan, 4096, usize::MAX);
-            let mut writer = Limited::of(rt.alloc(), 4096, usize::MAX, true);
-            expect_run(
-                &rt,
-                rt.alloc(),
-                &mut reader,
-                &mut writer,
-                Ok(()),
-                REPORT.len(),
-            );
+            let streams = (4096, ALL, 4096, ALL, true);
+            expect_run(&rt, rt.alloc(), &plan, streams, Ok(()), REPORT.len());
         }
     }
     Ok(())
@@ -120,16 +120,8 @@ fn every_cut_writes_the_same_bytes(rt: HostRuntime) -> Result<(), Fail> {
 fn pieces_of_any_size_make_the_same_bytes(rt: HostRuntime) -> Result<(), Fail> {
     let plan = plan_of(rt.alloc(), 2, 1)?;
     for (read, write) in [(1, 1), (1, 4096), (4096, 1), (3, 7), (100, 64)] {
-        let mut reader = Halting::of(&plan, read, usize::MAX);
-        let mut writer = Limited::of(rt.alloc(), write, usize::MAX, true);
-        expect_run(
-            &rt,
-            rt.alloc(),
-            &mut reader,
-            &mut writer,
-            Ok(()),
-            REPORT.len(),
-        );
+        let streams = (read, ALL, write, ALL, true);
+        expect_run(&rt, rt.alloc(), &plan, streams, Ok(()), REPORT.len());
     }
     Ok(())
 }
@@ -139,10 +131,8 @@ fn a_failed_reader_has_nothing_written(rt: HostRuntime) -> Result<(), Fail> {
     let plan = plan_of(rt.alloc(), 1, 1)?;
     let all = plan.len();
     for (step, left) in [(1, 0), (1, 1), (7, 500), (4096, 500), (1, all), (4096, all)] {
-        let mut reader = Halting::of(&plan, step, left);
-        let mut writer = Limited::of(rt.alloc(), 4096, usize::MAX, true);
-        let wanted = Err(RunFault::Read);
-        expect_run(&rt, rt.alloc(), &mut reader, &mut writer, wanted, 0);
+        let streams = (step, left, 4096, ALL, true);
+        expect_run(&rt, rt.alloc(), &plan, streams, Err(RunFault::Read), 0);
     }
     Ok(())
 }
@@ -152,10 +142,9 @@ fn a_failed_writer_has_the_first_bytes(rt: HostRuntime) -> Result<(), Fail> {
     let plan = plan_of(rt.alloc(), 1, 1)?;
     let nearly = REPORT.len().saturating_sub(1);
     for (step, room) in [(1, 0), (1, 1), (7, 20), (20, 20), (4096, 500), (1, nearly)] {
-        let mut reader = Halting::of(&plan, 4096, usize::MAX);
-        let mut writer = Limited::of(rt.alloc(), step, room, true);
         let wanted = Err(RunFault::Write { sent: room as u64 });
-        expect_run(&rt, rt.alloc(), &mut reader, &mut writer, wanted, room);
+        let streams = (4096, ALL, step, room, true);
+        expect_run(&rt, rt.alloc(), &plan, streams, wanted, room);
     }
     Ok(())
 }
@@ -163,13 +152,12 @@ fn a_failed_writer_has_the_first_bytes(rt: HostRuntime) -> Result<(), Fail> {
 #[test]
 fn a_failed_flush_comes_after_all_bytes(rt: HostRuntime) -> Result<(), Fail> {
     let plan = plan_of(rt.alloc(), 1, 1)?;
-    let mut reader = Halting::of(&plan, 4096, usize::MAX);
-    let mut writer = Limited::of(rt.alloc(), 100, usize::MAX, false);
     let length = REPORT.len();
     let wanted = Err(RunFault::Write {
         sent: length as u64,
     });
-    expect_run(&rt, rt.alloc(), &mut reader, &mut writer, wanted, length);
+    let streams = (4096, ALL, 100, ALL, false);
+    expect_run(&rt, rt.alloc(), &plan, streams, wanted, length);
     Ok(())
 }
 
@@ -183,9 +171,8 @@ fn a_refused_plan_has_nothing_written(rt: HostRuntime) {
             PlanFault::Shape { job: Some(0) },
         ),
     ] {
-        let mut reader = Halting::of(text, 4096, usize::MAX);
-        let mut writer = Limited::of(rt.alloc(), 4096, usize::MAX, true);
         let wanted = Err(RunFault::Plan(fault));
-        expect_run(&rt, rt.alloc(), &mut reader, &mut writer, wanted, 0);
+        let streams = (4096, ALL, 4096, ALL, true);
+        expect_run(&rt, rt.alloc(), text, streams, wanted, 0);
     }
 }

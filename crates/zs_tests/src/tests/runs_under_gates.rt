@@ -1,6 +1,7 @@
 //! Runs on several workers, under gates that hold a thread until others have come. A run on fewer
 //! threads, or one that holds a lock over both the gate and the poll, stops waiting, and a flag
 //! shows it.
+use super::support::expect_each;
 use super::support::plans::{PLAN, plan_of, report_of, written};
 use std::alloc::Global;
 use std::process::Abort;
@@ -34,7 +35,7 @@ fn expect_report_of<G: Gate, R: Abort + Threads + Wait + Sync>(
     let plan = plan_of(alloc, names, workers, grain)?;
     let report = report_of(alloc, names, (names.len() as u64).wrapping_mul(3))?;
     let written = written(rt, alloc, gate, &plan)?;
-    assert!(rt; written.as_slice() == report.as_bytes(), "{names}");
+    assert!(rt; written.as_slice() == report.as_bytes());
     Ok(())
 }
 
@@ -51,7 +52,7 @@ fn one_worker_takes_the_batches_of_both_other_jobs(rt: HostRuntime) -> Result<()
     for job in 0..3u64 {
         let gate = Held::job(job);
         expect_report(&rt, rt.alloc(), &gate, "abc", 2)?;
-        assert!(rt; gate.alone() == 0, "job {job}");
+        expect_each(&rt, &[gate.alone() == 0], job);
     }
     Ok(())
 }
@@ -82,12 +83,12 @@ fn a_thread_takes_the_plans_grain_of_jobs(rt: HostRuntime) -> Result<(), Fail> {
     for (job, others) in [(0u64, 0x3f9u64), (3, 0x3cf), (6, 0x27f), (9, 0x3ff)] {
         let gate = Apart::of(job, others);
         expect_report_of(&rt, rt.alloc(), &gate, "abcdefghij", 2, 3)?;
-        assert!(rt; gate.by_then() == others, "job {job}");
+        expect_each(&rt, &[gate.by_then() == others], job);
     }
     for (job, others) in [(0u64, 0xfffffffffff00001u64), (20, 0xffffff00001fffff)] {
         let gate = Apart::of(job, others);
         expect_report_of(&rt, rt.alloc(), &gate, NAMES, 2, 20)?;
-        assert!(rt; gate.by_then() == others, "job {job} of 64");
+        expect_each(&rt, &[gate.by_then() == others], job);
     }
     Ok(())
 }
@@ -97,7 +98,7 @@ fn as_many_threads_poll_at_once_as_the_plan_has_workers(rt: HostRuntime) -> Resu
     for workers in [1u64, 3, 8, 64] {
         let gate = Crowd::of(workers);
         expect_report(&rt, rt.alloc(), &gate, NAMES, workers)?;
-        assert!(rt; gate.alone() == 0 && gate.most() == workers, "{workers}");
+        expect_each(&rt, &[gate.alone() == 0, gate.most() == workers], workers);
     }
     Ok(())
 }
@@ -107,7 +108,7 @@ fn each_pass_is_told_the_moment_of_its_round(rt: HostRuntime) -> Result<(), Fail
     for workers in [1u64, 3] {
         let gate = Rounds::of(4);
         expect_report(&rt, rt.alloc(), &gate, "abcd", workers)?;
-        assert!(rt; gate.passes() == 12 && gate.wrong() == 0, "{workers}");
+        expect_each(&rt, &[gate.passes() == 12, gate.wrong() == 0], workers);
     }
     Ok(())
 }
@@ -118,8 +119,7 @@ fn the_moments_of_a_plans_run_never_fall(rt: HostRuntime) -> Result<(), Fail> {
     for (workers, grain) in [(1u64, 1u64), (2, 20), (7, 3), (64, 1), (64, 10_000)] {
         let gate = Record::of(rt.alloc(), 192)?;
         expect_report_of(&rt, rt.alloc(), &gate, NAMES, workers, grain)?;
-        let found = (gate.passes(), gate.wrong());
-        assert!(rt; found == (192, 0), "{workers}, {grain}");
+        expect_each(&rt, &[gate.passes() == 192, gate.wrong() == 0], workers);
     }
     Ok(())
 }
@@ -131,7 +131,7 @@ fn no_more_threads_poll_than_there_are_batches(rt: HostRuntime) -> Result<(), Fa
     for (grain, batches) in [(64u64, 1u64), (63, 2), (20, 4), (9, 8)] {
         let gate = Crowd::of(batches);
         expect_report_of(&rt, rt.alloc(), &gate, NAMES, 64, grain)?;
-        assert!(rt; gate.alone() == 0 && gate.most() == batches, "{grain}");
+        expect_each(&rt, &[gate.alone() == 0, gate.most() == batches], grain);
     }
     Ok(())
 }

@@ -1,4 +1,5 @@
 //! Readers and writers of `std` that fail, transfer few bytes at a time, or never end.
+use super::support::expect_each;
 use super::support::plans::{PLAN, REPORT};
 use super::support::streams::{Counted, Halting, KINDS, Limited, Spaces, Stumbling};
 use std::alloc::{Alloc, Global};
@@ -16,25 +17,25 @@ fn expect_refusal<S: Read + Drop, R: Abort + Threads + Wait + Sync>(
     alloc: Global,
     reader: S,
     wanted: RunFault,
-    at: usize,
+    at: u64,
 ) {
     let mut reader = Marked::new(reader);
     let mut written: Vec<u8> = Vec::new(alloc);
     let mut writer = Marked::new(&mut written);
     let ended = run(rt, alloc, &OpenGate, &mut reader, &mut writer);
-    assert!(rt; ended == Err(wanted), "at {at}: {ended:?}");
-    assert!(rt;
+    let facts = [
+        ended == Err(wanted),
         Source::failed(&reader) == (wanted == RunFault::Read),
-        "at {at}"
-    );
-    assert!(rt; written.is_empty(), "at {at}");
+        written.is_empty(),
+    ];
+    expect_each(rt, &facts, at);
 }
 
 #[test]
 fn a_reader_fails_after_each_number_of_bytes(rt: HostRuntime) {
     for left in 0..121usize {
         let reader = Halting::of(PLAN, 1, left);
-        expect_refusal(&rt, rt.alloc(), reader, RunFault::Read, left);
+        expect_refusal(&rt, rt.alloc(), reader, RunFault::Read, left as u64);
     }
 }
 
@@ -53,8 +54,8 @@ fn expect_last_read<R: Abort + Threads + Wait + Sync>(
     before: u64,
 ) {
     let mut reader = Stumbling::of(Halting::of(PLAN, 50, 1000), kind, before);
-    expect_refusal(rt, alloc, &mut reader, RunFault::Read, before as usize);
-    assert!(rt; reader.after == 0, "after {before}");
+    expect_refusal(rt, alloc, &mut reader, RunFault::Read, before);
+    assert!(rt; reader.after == 0);
 }
 
 // The plan comes in three pieces, and the fourth call finds the end.
@@ -73,7 +74,7 @@ fn a_cut_plan_is_not_json(rt: HostRuntime) {
     for end in 0..120usize {
         let reader = &bytes[..end.min(bytes.len())];
         let wanted = RunFault::Plan(PlanFault::Json);
-        expect_refusal(&rt, rt.alloc(), reader, wanted, end);
+        expect_refusal(&rt, rt.alloc(), reader, wanted, end as u64);
     }
 }
 
@@ -85,40 +86,42 @@ fn reading_stops_just_past_the_greatest_length(rt: HostRuntime) {
     assert!(rt; spaces.given == 16_777_217);
 }
 
-// A run that reads and writes in pieces of these sizes ends like this, and has written the front of
-// the report, of this length.
+// A run that reads pieces of `step` bytes, and writes to a writer of this step and room, which may
+// fail to flush, ends like this, and has written the front of the report, of this length.
 fn expect_written<R: Abort + Threads + Wait + Sync>(
     rt: &R,
     alloc: Global,
     step: usize,
-    inner: &mut Limited,
+    writes: (usize, usize, bool),
     wanted: Result<(), RunFault>,
     length: usize,
 ) {
+    let mut inner = Limited::of(alloc, writes.0, writes.1, writes.2);
     let mut reader = Marked::new(Halting::of(PLAN, step, 1000));
-    let mut writer = Marked::new(&mut *inner);
+    let mut writer = Marked::new(&mut inner);
     let ended = run(rt, alloc, &OpenGate, &mut reader, &mut writer);
-    assert!(rt; ended == wanted, "{length}: {ended:?}");
-    assert!(rt; Drain::failed(&writer) == ended.is_err(), "{length}");
-    assert!(rt; inner.flushed == ended.is_ok(), "{length}");
-    assert!(rt; inner.taken.len() == length, "{length}");
-    assert!(rt; REPORT.as_bytes().starts_with(&inner.taken), "{length}");
+    let facts = [
+        ended == wanted,
+        Drain::failed(&writer) == ended.is_err(),
+        inner.flushed == ended.is_ok(),
+        inner.taken.len() == length,
+        REPORT.as_bytes().starts_with(&inner.taken),
+    ];
+    expect_each(rt, &facts, length as u64);
 }
 
 #[test]
 fn a_writer_fails_after_each_number_of_bytes(rt: HostRuntime) {
     for room in 0..112usize {
-        let mut writer = Limited::of(rt.alloc(), 7, room, true);
         let wanted = Err(RunFault::Write { sent: room as u64 });
-        expect_written(&rt, rt.alloc(), 1000, &mut writer, wanted, room);
+        expect_written(&rt, rt.alloc(), 1000, (7, room, true), wanted, room);
     }
 }
 
 #[test]
 fn a_flush_fails(rt: HostRuntime) {
-    let mut writer = Limited::of(rt.alloc(), 200, 200, false);
     let wanted = Err(RunFault::Write { sent: 112 });
-    expect_written(&rt, rt.alloc(), 1000, &mut writer, wanted, 112);
+    expect_written(&rt, rt.alloc(), 1000, (200, 200, false), wanted, 112);
 }
 
 // After this number of good calls one fails with an error of this kind. Then this number of bytes
@@ -134,17 +137,14 @@ fn expect_last_write<R: Abort + Threads + Wait + Sync>(
     let mut stumbling = Stumbling::of(Limited::of(alloc, 50, 1000, true), kind, before);
     let mut writer = Marked::new(&mut stumbling);
     let ended = run(rt, alloc, &OpenGate, &mut reader, &mut writer);
-    assert!(rt;
+    let facts = [
         ended == Err(RunFault::Write { sent: sent as u64 }),
-        "{sent}: {ended:?}"
-    );
-    assert!(rt; Drain::failed(&writer), "{sent}");
-    assert!(rt; stumbling.after == 0, "{sent}");
-    assert!(rt; stumbling.inner.taken.len() == sent, "{sent}");
-    assert!(rt;
+        Drain::failed(&writer),
+        stumbling.after == 0,
+        stumbling.inner.taken.len() == sent,
         REPORT.as_bytes().starts_with(&stumbling.inner.taken),
-        "{sent}"
-    );
+    ];
+    expect_each(rt, &facts, sent as u64);
 }
 
 // The report goes out in three pieces, and the fourth call is the flush.
@@ -159,8 +159,7 @@ fn a_failed_write_or_flush_is_not_tried_again(rt: HostRuntime) {
 
 #[test]
 fn bytes_come_and_go_in_small_pieces(rt: HostRuntime) {
-    let mut writer = Limited::of(rt.alloc(), 3, 1000, true);
-    expect_written(&rt, rt.alloc(), 1, &mut writer, Ok(()), 112);
+    expect_written(&rt, rt.alloc(), 1, (3, 1000, true), Ok(()), 112);
 }
 
 // A run over a writer that takes 50 bytes a call, and nothing at one call, ends like this, after
@@ -185,8 +184,8 @@ fn expect_calls<R: Abort + Threads + Wait + Sync>(
     let mut reader = Marked::new(&mut inner);
     let mut writer = Marked::new(&mut taking);
     let ended = run(rt, alloc, &OpenGate, &mut reader, &mut writer);
-    assert!(rt; ended == wanted, "{ended:?}");
-    assert!(rt; (inner.calls, taking.calls) == calls, "{ended:?}");
+    let facts = [ended == wanted, (inner.calls, taking.calls) == calls];
+    expect_each(rt, &facts, calls.1);
 }
 
 #[test]

@@ -43,7 +43,7 @@ fn expect_claim<R: Wait + Abort>(rt: &R, board: &Board, pass: &mut BoardPass, wa
         Some(batch) => Some(batch.number),
         None => None,
     };
-    assert_eq!(rt; found, wanted);
+    assert!(rt; found == wanted);
 }
 
 // This number of batches remains on the board.
@@ -58,7 +58,7 @@ fn expect_left<R: Wait + Abort>(
     requires whole { pass.share ≡ max_moment }
 {
     let left = board.close(rt, alloc, pass)?;
-    assert_eq!(rt; left.len(), count);
+    assert!(rt; left.len() == count);
     Ok(())
 }
 
@@ -131,9 +131,9 @@ fn expect_none_after_a_split<R: Wait + Abort>(
 // The batch has this number, and three tasks in order.
 fn expect_batch(rt: &impl Abort, batch: Option<Batch>, number: u64) {
     let batch = batch.expect(rt, "a batch");
-    assert_eq!(rt; (batch.number, batch.tasks.len()), (number, 3));
+    assert!(rt; (batch.number, batch.tasks.len()) == (number, 3));
     for (place, task) in batch.tasks.iter().enumerate() {
-        assert_eq!(rt; task.number(), place as u64, "batch {number}");
+        assert!(rt; task.number() == place as u64);
     }
 }
 
@@ -157,9 +157,9 @@ fn what_is_left_on_a_board_comes_back_in_order(rt: HostRuntime) -> Result<(), Fa
     expect_claim(&rt, &board, &mut first, Some(1));
     let pass = board.join(&rt, first, second);
     let left = board.close(&rt, alloc, pass)?;
-    assert_eq!(rt; left.len(), 3);
+    assert!(rt; left.len() == 3);
     for (batch, number) in left.iter().zip([2u64, 3, 4]) {
-        assert_eq!(rt; batch.number, number);
+        assert!(rt; batch.number == number);
     }
     Ok(())
 }
@@ -200,7 +200,7 @@ fn expect_shared(rt: &impl Abort, mut a: Vec<u64>, b: Vec<u64>, all: &[u64]) -> 
         a.push(number)?;
     }
     a.sort()?;
-    assert_eq!(rt; a.as_slice(), all);
+    assert!(rt; a.as_slice() == all);
     Ok(())
 }
 

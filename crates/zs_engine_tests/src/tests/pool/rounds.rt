@@ -30,10 +30,10 @@ fn one_round<G: Gate, R: Threads + Wait + Sync>(
 
 // The tasks of a round at moment 0 are back in order, each polled once.
 fn expect_polled<R: Abort>(rt: &R, tasks: &[Task], count: usize) {
-    assert_eq!(rt; tasks.len(), count);
+    assert!(rt; tasks.len() == count);
     for (place, task) in tasks.iter().enumerate() {
-        assert_eq!(rt; task.number(), place as u64);
-        assert_eq!(rt; (task.polls(), task.due()), (1, Some(5)), "task {place}");
+        let found = (task.number(), task.polls(), task.due());
+        assert!(rt; found == (place as u64, 1, Some(5)));
     }
 }
 
@@ -53,7 +53,7 @@ fn expect_round<G: Gate, R: Abort + Threads + Wait + Sync>(
 {
     let (polled, counted) = one_round(rt, alloc, cut, gate, 0, count)?;
     expect_polled(rt, &polled, count as usize);
-    assert_eq!(rt; counted, count);
+    assert!(rt; counted == count);
     Ok(())
 }
 
@@ -75,7 +75,7 @@ fn an_empty_round_counts_nothing(rt: HostRuntime) -> Result<(), Fail> {
     let cut = within(&rt, 2, 1);
     let polled = round(&rt, alloc, cut, &OpenGate, &tally, &mut seat, 0, tasks)?;
     assert!(rt; polled.is_empty());
-    assert_eq!(rt; tally.seen(&mut seat), 0);
+    assert!(rt; tally.seen(&mut seat) == 0);
     Ok(())
 }
 
@@ -83,7 +83,7 @@ fn an_empty_round_counts_nothing(rt: HostRuntime) -> Result<(), Fail> {
 fn one_worker_passes_each_gate_between_two_polls(rt: HostRuntime) -> Result<(), Fail> {
     let gate = InTurn::of(3);
     expect_round(&rt, rt.alloc(), within(&rt, 1, 1), &gate, 3)?;
-    assert_eq!(rt; (gate.passes(), gate.wrong()), (3, 0));
+    assert!(rt; (gate.passes(), gate.wrong()) == (3, 0));
     Ok(())
 }
 
@@ -91,7 +91,7 @@ fn one_worker_passes_each_gate_between_two_polls(rt: HostRuntime) -> Result<(), 
 fn two_threads_meet_at_the_gate(rt: HostRuntime) -> Result<(), Fail> {
     let gate = Meeting::of(2);
     expect_round(&rt, rt.alloc(), within(&rt, 2, 1), &gate, 2)?;
-    assert_eq!(rt; gate.alone(), 0);
+    assert!(rt; gate.alone() == 0);
     Ok(())
 }
 
@@ -112,7 +112,7 @@ fn hundred_rounds<R: Threads + Wait + Sync + Abort>(
         let gate = Meeting::of(2);
         let tasks = new_tasks(alloc, 2, 0)?;
         let polled = round(rt, alloc, cut, &gate, tally, &mut seat, 0, tasks)?;
-        assert_eq!(rt; gate.alone(), 0);
+        assert!(rt; gate.alone() == 0);
         expect_polled(rt, &polled, 2);
     }
     Ok(seat)
@@ -123,7 +123,7 @@ fn two_threads_meet_in_each_of_a_hundred_rounds(rt: HostRuntime) -> Result<(), F
     let cut = within(&rt, 64, 1);
     let (tally, seat) = Tally::new(rt.alloc())?;
     let seat = hundred_rounds(&rt, rt.alloc(), cut, &tally, seat)?;
-    assert_eq!(rt; tally.close(seat), 200);
+    assert!(rt; tally.close(seat) == 200);
     Ok(())
 }
 
@@ -135,7 +135,7 @@ fn batches_are_claimed_and_not_dealt_out(rt: HostRuntime) -> Result<(), Fail> {
     for job in 0..3u64 {
         let gate = Held::job(job);
         expect_round(&rt, rt.alloc(), cut, &gate, 3)?;
-        assert_eq!(rt; gate.alone(), 0, "job {job}");
+        assert!(rt; gate.alone() == 0, "job {job}");
         assert!(rt; gate.done() == 1 || gate.done() == 2, "job {job}");
     }
     Ok(())
@@ -145,7 +145,7 @@ fn batches_are_claimed_and_not_dealt_out(rt: HostRuntime) -> Result<(), Fail> {
 fn the_last_job_may_be_polled_first(rt: HostRuntime) -> Result<(), Fail> {
     let gate = LastFirst::of(4);
     expect_round(&rt, rt.alloc(), within(&rt, 4, 1), &gate, 4)?;
-    assert_eq!(rt; gate.alone(), 0);
+    assert!(rt; gate.alone() == 0);
     Ok(())
 }
 
@@ -159,7 +159,7 @@ fn a_slow_job_changes_nothing(rt: HostRuntime) -> Result<(), Fail> {
 fn a_gate_is_passed_before_its_poll_is_counted(rt: HostRuntime) -> Result<(), Fail> {
     let gate = Chained::new();
     let (polled, _) = one_round(&rt, rt.alloc(), within(&rt, 2, 1), &gate, 0, 3)?;
-    assert_eq!(rt; (gate.alone(), gate.done()), (0, 1));
+    assert!(rt; (gate.alone(), gate.done()) == (0, 1));
     expect_polled(&rt, &polled, 3);
     Ok(())
 }

@@ -2,6 +2,7 @@
 ghost use Rattle.std.specs.Prelude.{◌≡◌, ◌≤◌};
 
 use super::*;
+use std::process::Abort;
 use std::sync::Wait;
 use std::thread;
 use zs_gates::TURNS;
@@ -45,11 +46,11 @@ fn take<R: Wait>(rt: &R, shelf: &Shelf, pass: &mut ShelfPass) -> Option<u64>
 fn a_shelf_of_one_is_full_after_one(rt: HostRuntime) -> Result<(), Fail> {
     let alloc = rt.alloc();
     let (shelf, mut pass) = Shelf::new(&rt, alloc, 1)?;
-    assert_eq!(rt; put(&rt, alloc, &shelf, &mut pass, 0), Ok(()));
+    assert!(rt; put(&rt, alloc, &shelf, &mut pass, 0) == Ok(()));
     let refused = put(&rt, alloc, &shelf, &mut pass, 1);
-    assert_eq!(rt; refused, Err((1, PoolFault::Full)));
-    assert_eq!(rt; take(&rt, &shelf, &mut pass), Some(0));
-    assert_eq!(rt; take(&rt, &shelf, &mut pass), None);
+    assert!(rt; refused == Err((1, PoolFault::Full)));
+    let zero = take(&rt, &shelf, &mut pass);
+    assert!(rt; zero == Some(0) && take(&rt, &shelf, &mut pass) == None);
     assert!(rt; shelf.close(&rt, alloc, pass)?.is_empty());
     Ok(())
 }
@@ -61,19 +62,26 @@ fn what_two_passes_put_is_taken_in_order_after_their_join(rt: HostRuntime) -> Re
     let Ok((mut first, mut second)) = shelf.split(&rt, alloc, pass) else {
         unreachable!()
     };
-    assert!(rt; put(&rt, alloc, &shelf, &mut second, 0).is_ok());
-    assert!(rt; put(&rt, alloc, &shelf, &mut first, 1).is_ok());
-    assert!(rt; put(&rt, alloc, &shelf, &mut second, 2).is_ok());
-    assert!(rt; put(&rt, alloc, &shelf, &mut first, 3).is_ok());
-    assert_eq!(rt; take(&rt, &shelf, &mut first), Some(0));
+    let puts = [
+        put(&rt, alloc, &shelf, &mut second, 0),
+        put(&rt, alloc, &shelf, &mut first, 1),
+        put(&rt, alloc, &shelf, &mut second, 2),
+        put(&rt, alloc, &shelf, &mut first, 3),
+    ];
+    assert!(rt; puts == [Ok(()); 4]);
+    assert!(rt; take(&rt, &shelf, &mut first) == Some(0));
     let mut pass = shelf.join(&rt, first, second);
-    assert_eq!(rt; take(&rt, &shelf, &mut pass), Some(1));
-    let left = shelf.close(&rt, alloc, pass)?;
-    assert_eq!(rt; left.len(), 2);
-    for (message, number) in left.iter().zip([2u64, 3]) {
-        assert_eq!(rt; message.number, number);
-    }
+    assert!(rt; take(&rt, &shelf, &mut pass) == Some(1));
+    expect_left(&rt, &shelf.close(&rt, alloc, pass)?, &[2, 3]);
     Ok(())
+}
+
+// The messages have these numbers.
+fn expect_left(rt: &impl Abort, left: &[Polled], numbers: &[u64]) {
+    assert!(rt; left.len() == numbers.len());
+    for (message, number) in left.iter().zip(numbers) {
+        assert!(rt; message.number == *number);
+    }
 }
 
 // Puts a polled batch as soon as there is room for it, and returns whether that happened.
@@ -168,7 +176,7 @@ fn one_thread_takes_in_order_what_another_puts(rt: HostRuntime) -> Result<(), Fa
             ensures same { (result.0.shelf ≡ lent.entry.now) × (result.0.share ≡ second.share) }
         { take_all(handle, lent, second, 1000) },
     );
-    assert_eq!(rt; in_order, 1000);
+    assert!(rt; in_order == 1000);
     let pass = shelf.join(&rt, first, second);
     assert!(rt; shelf.close(&rt, alloc, pass)?.is_empty());
     Ok(())
@@ -202,11 +210,8 @@ fn room_of<R: Wait>(rt: &R, alloc: Global, capacity: u64) -> Result<Option<u64>,
 
 #[test]
 fn a_shelf_has_room_for_as_many_as_it_was_made_for(rt: HostRuntime) -> Result<(), Fail> {
-    let (some, most) = (
-        room_of(&rt, rt.alloc(), 9)?,
-        room_of(&rt, rt.alloc(), 10_000)?,
-    );
-    assert_eq!(rt; (some, most), (Some(9), Some(10_000)));
+    assert!(rt; room_of(&rt, rt.alloc(), 9)? == Some(9));
+    assert!(rt; room_of(&rt, rt.alloc(), 10_000)? == Some(10_000));
     Ok(())
 }
 

@@ -24,9 +24,9 @@ fn count_to(tally: &Tally, mut seat: TallySeat, n: u64) -> (TallySeat, u64)
 #[test]
 fn a_new_tally_has_counted_nothing(rt: HostRuntime) -> Result<(), Fail> {
     let (tally, mut seat) = Tally::new(rt.alloc())?;
-    assert_eq!(rt; tally.seen(&mut seat), 0);
-    assert_eq!(rt; Tally::left(&seat), u64::MAX);
-    assert_eq!(rt; tally.close(seat), 0);
+    assert!(rt; tally.seen(&mut seat) == 0);
+    assert!(rt; Tally::left(&seat) == u64::MAX);
+    assert!(rt; tally.close(seat) == 0);
     Ok(())
 }
 
@@ -35,10 +35,10 @@ fn a_seat_sees_what_another_counted(rt: HostRuntime) -> Result<(), Fail> {
     let (tally, seat) = Tally::new(rt.alloc())?;
     let (first, mut second) = tally.split(seat, 1);
     let (first, seen) = count_to(&tally, first, 3);
-    assert_eq!(rt; seen, 3);
-    assert_eq!(rt; tally.seen(&mut second), 3);
+    assert!(rt; seen == 3);
+    assert!(rt; tally.seen(&mut second) == 3);
     let seat = tally.join(first, second);
-    assert_eq!(rt; tally.close(seat), 3);
+    assert!(rt; tally.close(seat) == 3);
     Ok(())
 }
 
@@ -47,7 +47,7 @@ fn expect_count(rt: &impl Abort, tally: &Tally, seat: &mut TallySeat, left: u64)
     requires tally { seat.old.tally ≡ tally.now }
     ensures tally { seat.new.tally ≡ tally.now }
 {
-    assert_eq!(rt; Tally::left(seat), left);
+    assert!(rt; Tally::left(seat) == left);
     if Tally::left(seat) > 0 {
         tally.count(seat);
     }
@@ -62,7 +62,7 @@ fn a_seat_whose_allowance_is_used_up_may_not_count(rt: HostRuntime) -> Result<()
     expect_count(&rt, &tally, &mut second, 0);
     expect_count(&rt, &tally, &mut first, u64::MAX - 2);
     let seat = tally.join(first, second);
-    assert_eq!(rt; (Tally::left(&seat), tally.close(seat)), (u64::MAX - 3, 3));
+    assert!(rt; (Tally::left(&seat), tally.close(seat)) == (u64::MAX - 3, 3));
     Ok(())
 }
 
@@ -72,14 +72,14 @@ fn a_tally_closed_by_one_of_two_seats_has_the_counts_of_both(rt: HostRuntime) ->
     let (tally, seat) = Tally::new(rt.alloc())?;
     let (first, mut second) = tally.split(seat, 5);
     expect_count(&rt, &tally, &mut second, 5);
-    assert_eq!(rt; Tally::left(&first), u64::MAX - 5);
-    assert_eq!(rt; tally.close(first), 1);
+    assert!(rt; Tally::left(&first) == u64::MAX - 5);
+    assert!(rt; tally.close(first) == 1);
     let (tally, seat) = Tally::new(rt.alloc())?;
     let (mut first, mut second) = tally.split(seat, 5);
     expect_count(&rt, &tally, &mut first, u64::MAX - 5);
     expect_count(&rt, &tally, &mut first, u64::MAX - 6);
     expect_count(&rt, &tally, &mut second, 5);
-    assert_eq!(rt; tally.close(second), 3);
+    assert!(rt; tally.close(second) == 3);
     Ok(())
 }
 
@@ -105,7 +105,7 @@ fn expect_together<R: Abort + Threads + Sync>(rt: &R, alloc: Global, n: u64) -> 
     assert!(rt; a >= n && b >= n);
     assert!(rt; a == both || b == both);
     let seat = tally.join(first, second);
-    assert_eq!(rt; tally.close(seat), both);
+    assert!(rt; tally.close(seat) == both);
     Ok(())
 }
 

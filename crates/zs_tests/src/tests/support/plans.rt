@@ -1,5 +1,6 @@
 //! Plans, their reports, and runs over memory.
 use std::alloc::{AllocError, Global};
+use std::process::Abort;
 use std::sync::Wait;
 use std::test::Fail;
 use std::thread::Threads;
@@ -65,10 +66,11 @@ pub fn written<G: Gate, R: Threads + Wait + Sync>(
     Ok(written)
 }
 
-/// Reads a text, and returns its fault if it is no plan.
-pub fn fault_of(alloc: Global, text: &str) -> Option<PlanFault> {
-    match read_plan(alloc, text.as_bytes()) {
+/// A text is a plan, or has this fault.
+pub fn expect_fault(rt: &impl Abort, alloc: Global, text: &str, wanted: Option<PlanFault>) {
+    let found = match read_plan(alloc, text.as_bytes()) {
         Ok(_plan) => None,
         Err(fault) => Some(fault),
-    }
+    };
+    assert!(rt; found == wanted, "{text}: {found:?}");
 }
