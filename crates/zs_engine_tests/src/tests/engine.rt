@@ -348,12 +348,12 @@ fn expect_equal<R: Abort + Threads + Wait + Sync>(
 }
 
 // One attempt of 1 ms, and one of 5 ms.
-const SHORT: [Beat; 1] = [Beat {
+const SHORT: &[Beat] = &[Beat {
     ms: 1,
     outcome: Outcome::Good(0),
 }];
 
-const LONG: [Beat; 1] = [Beat {
+const LONG: &[Beat] = &[Beat {
     ms: 5,
     outcome: Outcome::Good(0),
 }];
@@ -361,7 +361,7 @@ const LONG: [Beat; 1] = [Beat {
 // The greatest number of jobs of a run, each with one attempt of 1 ms.
 #[test]
 fn ten_thousand_jobs_in_batches_of_one_of_seven_and_of_all(rt: HostRuntime) -> Result<(), Fail> {
-    let job = ("j", Mode::Repeat, "recurs(0)", 0, SHORT.as_slice());
+    let job = ("j", Mode::Repeat, "recurs(0)", 0, SHORT);
     let cuts = [(64, 1), (3, 7), (64, 10_000)];
     let lines = (
         "j: 0..1 last, Some(Finished), 2 polls\n",
@@ -384,7 +384,7 @@ fn heavy(alloc: Global, doublings: u64) -> Result<String, AllocError> {
 #[test]
 fn jobs_of_511_nodes_come_to_the_same_under_each_cut(rt: HostRuntime) -> Result<(), Fail> {
     let schedule = heavy(rt.alloc(), 8)?;
-    let job = ("j", Mode::Repeat, schedule.as_str(), 0, LONG.as_slice());
+    let job = ("j", Mode::Repeat, schedule.as_str(), 0, LONG);
     let cuts = [(1, 1), (2, 3), (64, 1)];
     let lines = (
         "j: 0..5 last, Some(Finished), 2 polls\n",
@@ -397,8 +397,8 @@ fn jobs_of_511_nodes_come_to_the_same_under_each_cut(rt: HostRuntime) -> Result<
 #[test]
 fn jobs_of_one_node_and_of_127_come_to_the_same(rt: HostRuntime) -> Result<(), Fail> {
     let schedule = heavy(rt.alloc(), 6)?;
-    let large = ("j", Mode::Repeat, schedule.as_str(), 0, LONG.as_slice());
-    let small = ("j", Mode::Repeat, "recurs(0)", 0, LONG.as_slice());
+    let large = ("j", Mode::Repeat, schedule.as_str(), 0, LONG);
+    let small = ("j", Mode::Repeat, "recurs(0)", 0, LONG);
     let wanted =
         "0 j: 0..5 last, Some(Finished), 2 polls\n1 j: 0..5 last, Some(Finished), 2 polls\n2 j: 0..5 last, Some(Finished), 2 polls\nhorizon 5, 6 polls\n";
     let jobs = [large, small, large];
@@ -421,7 +421,7 @@ fn expect_light<G: Gate, R: Abort + Threads + Wait + Sync>(
     gate: &G,
     count: u64,
 ) -> Result<(), Fail> {
-    let job = ("j", Mode::Repeat, "recurs(0)", 0, LONG.as_slice());
+    let job = ("j", Mode::Repeat, "recurs(0)", 0, LONG);
     let jobs = jobs_of(alloc, &Vec::from_elem(alloc, job, count as usize)?)?;
     let polls = count.wrapping_mul(2);
     expect_polls(rt, alloc, cut, gate, Ticks::Every(5), jobs, polls)

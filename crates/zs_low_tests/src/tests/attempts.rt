@@ -1,14 +1,13 @@
 //! Scripts, and attempts that are polled by hand.
 ghost use Rattle.std.specs.Prelude.{◌≡◌, ◌≤◌};
 
-use super::support::{Entry, beats_of, expect_text};
+use super::support::expect_text;
 use futures::Future;
 use futures::task::{Doorbell, Poll, Solo};
 use std::alloc::{Alloc, AllocError, Global};
 use std::process::Abort;
 use std::random::RandomSource;
 use std::test::Fail;
-use zs_effect::Outcome::{Bad, Good};
 use zs_effect::{Attempt, Beat, Outcome, Script};
 
 // Polls an attempt. Callers know nothing about a mock but this contract.
@@ -23,10 +22,7 @@ fn poll(solo: &Solo, attempt: &mut Attempt) -> Poll<Outcome>
 }
 
 // An attempt of 5 ms.
-const FIVE: Beat = Beat {
-    ms: 5,
-    outcome: Bad(7),
-};
+const FIVE: Beat = bad!(5, 7);
 
 // Polls an attempt of 5 ms that began at 10 twice at a moment.
 fn poll_twice(solo: &Solo, now: u64) -> (Poll<Outcome>, Poll<Outcome>)
@@ -67,8 +63,8 @@ fn an_attempt_takes_its_time(rt: HostRuntime) {
 }
 
 // Returns the first and the thousandth entry of a script, or the text of its fault.
-fn entries_of(alloc: Global, entries: &[Entry]) -> Result<String, AllocError> {
-    match Script::new(beats_of(alloc, entries)?) {
+fn entries_of(alloc: Global, beats: &[Beat]) -> Result<String, AllocError> {
+    match Script::new(Vec::from_slice(alloc, beats)?) {
         Ok(script) => {
             let (first, last) = (script.beat(1), script.beat(1000));
             drop(script);
@@ -84,7 +80,7 @@ fn entries_of(alloc: Global, entries: &[Entry]) -> Result<String, AllocError> {
 // Each script has the entries or the fault that is listed.
 fn expect_entries<R: Abort + Alloc<A = Global>>(
     rt: &R,
-    rows: &[(&[Entry], &str)],
+    rows: &[(&[Beat], &str)],
 ) -> Result<(), Fail> {
     assert!(rt; !rows.is_empty(), "no rows");
     for (entries, wanted) in rows {
@@ -94,11 +90,11 @@ fn expect_entries<R: Abort + Alloc<A = Global>>(
     Ok(())
 }
 
-static SCRIPTS: [(&[Entry], &str); 4] = [
-    (&[(5, Bad(7))], "5 Bad(7), 5 Bad(7)"),
-    (&[(5, Bad(7)), (6, Good(1))], "5 Bad(7), 6 Good(1)"),
+static SCRIPTS: [(&[Beat], &str); 4] = [
+    (&[bad!(5, 7)], "5 Bad(7), 5 Bad(7)"),
+    (&[bad!(5, 7), good!(6, 1)], "5 Bad(7), 6 Good(1)"),
     (&[], "empty"),
-    (&[(5, Bad(7)), (0, Good(1))], "an entry takes 0 ms"),
+    (&[bad!(5, 7), good!(0, 1)], "an entry takes 0 ms"),
 ];
 
 #[test]
@@ -108,7 +104,7 @@ fn a_script_goes_on_with_its_last_entry_and_each_takes_time(rt: HostRuntime) -> 
 
 #[test]
 fn a_script_has_at_most_1000_entries(rt: HostRuntime) -> Result<(), Fail> {
-    let many = Vec::from_elem(rt.alloc(), (5, Bad(7)), 1001)?;
+    let many = Vec::from_elem(rt.alloc(), bad!(5, 7), 1001)?;
     let rows = [
         (&many[..], "more than 1000 entries"),
         (&many[1..], "5 Bad(7), 5 Bad(7)"),

@@ -120,11 +120,19 @@ static DEEP: [Row<'static>; 2] = [
     ),
 ];
 
-// Makes the conjunction of 500 leaves, as a balanced tree.
-fn five_hundred_leaves(alloc: Global) -> Result<String, AllocError> {
-    let five = "((# && #) && ((# && #) && #))";
-    let mut text = String::from_str(alloc, "recurs(1)")?;
-    for frame in [five, five, five, "(# && #)", "(# && #)"] {
+// Frames whose parts are put into each other: 5 * 5 * 5 * 2 * 2 parts.
+static FRAMES: [&str; 5] = [
+    "((# && #) && ((# && #) && #))",
+    "((# && #) && ((# && #) && #))",
+    "((# && #) && ((# && #) && #))",
+    "(# && #)",
+    "(# && #)",
+];
+
+// Puts a text into the first frame, that into the next one, and so on.
+fn framed(alloc: Global, part: &str, frames: &[&str]) -> Result<String, AllocError> {
+    let mut text = String::from_str(alloc, part)?;
+    for frame in frames {
         text = frame.replace(alloc, '#', &text)?;
     }
     Ok(text)
@@ -133,7 +141,7 @@ fn five_hundred_leaves(alloc: Global) -> Result<String, AllocError> {
 // Makes the text of a row.
 fn text_of(alloc: Global, part: &str, times: usize, frame: &str) -> Result<String, AllocError> {
     let part = if part == "leaves" {
-        five_hundred_leaves(alloc)?
+        framed(alloc, "recurs(1)", &FRAMES)?
     } else {
         part.repeat(alloc, times)?
     };

@@ -1,7 +1,6 @@
 //! Helpers that the tests share.
 use std::alloc::{AllocError, Global};
 use std::process::Abort;
-use zs_effect::{Beat, Outcome};
 use zs_term::{read, write};
 
 /// Asserts that two texts are equal.
@@ -15,19 +14,4 @@ pub fn reading(alloc: Global, text: &str) -> Result<String, AllocError> {
         Ok(schedule) => write(alloc, &schedule),
         Err(fault) => format!(in alloc; "{fault}"),
     }
-}
-
-/// An entry of a script as a table has it: how long the attempt takes, and how it ends.
-pub type Entry = (u64, Outcome);
-
-/// Makes such entries.
-pub fn beats_of(alloc: Global, entries: &[Entry]) -> Result<Vec<Beat>, AllocError> {
-    let mut beats = Vec::new(alloc);
-    for (ms, outcome) in entries {
-        beats.push(Beat {
-            ms: *ms,
-            outcome: *outcome,
-        })?;
-    }
-    Ok(beats)
 }

@@ -1,7 +1,7 @@
 //! Jobs that are polled by hand, at each millisecond at which they are due, and at other moments.
 ghost use Rattle.std.specs.Prelude.{◌≡◌, ◌≤◌, ◌<◌, IfOk};
 
-use super::support::{Entry, beats_of, expect_text};
+use super::support::expect_text;
 use futures::Future;
 use futures::task::{Doorbell, Poll, Solo};
 use std::alloc::{Alloc, AllocError, Global};
@@ -11,13 +11,12 @@ use std::random::RandomSource;
 use std::test::Fail;
 use zs_agenda::AgendaFault;
 use zs_drive::{DriveFault, Ending, Job, Keeping, Mode, Task, append_attempt};
-use zs_effect::Outcome::{Bad, Good};
-use zs_effect::Script;
+use zs_effect::{Beat, Outcome, Script};
 use zs_step::StepFault;
 use zs_term::read;
 
 // A task's number, and the mode, schedule, start and entries of its job, which has the name `a`.
-type Given<'a> = (u64, Mode, &'a str, u64, &'a [Entry]);
+type Given<'a> = (u64, Mode, &'a str, u64, &'a [Beat]);
 
 // When a task is polled, and what is said of it.
 enum Polling<'a> {
@@ -33,8 +32,8 @@ enum Polling<'a> {
 type Row<'a> = (&'a str, Given<'a>, Polling<'a>, &'a str);
 
 // Makes a script.
-fn script_of(alloc: Global, entries: &[Entry]) -> Result<Script, Fail> {
-    Ok(Script::new(beats_of(alloc, entries)?)?)
+fn script_of(alloc: Global, beats: &[Beat]) -> Result<Script, Fail> {
+    Ok(Script::new(Vec::from_slice(alloc, beats)?)?)
 }
 
 // Makes the job of a task.
@@ -249,7 +248,7 @@ fn expect_tasks<R: Abort + Alloc<A = Global> + RandomSource>(
 static RUNS: [Row<'static>; 17] = [
     (
         "a_repeat_finishes_with_its_schedule",
-        (7, Mode::Repeat, "recurs(0)", 0, &[(3, Good(9))]),
+        (7, Mode::Repeat, "recurs(0)", 0, &[good!(3, 9)]),
         Polling::Due(1000),
         "2 polls, due None, ending Some(Finished), last Some((0, Some(3)))",
     ),
@@ -260,7 +259,7 @@ static RUNS: [Row<'static>; 17] = [
             Mode::Repeat,
             "fixed(100)",
             0,
-            &[(50, Good(1)), (250, Good(1)), (10, Good(1)), (10, Good(1))],
+            &[good!(50, 1), good!(250, 1), good!(10, 1), good!(10, 1)],
         ),
         Polling::Due(500),
         "7 polls, due Some(550), ending None, last Some((450, Some(460)))",
@@ -272,44 +271,38 @@ static RUNS: [Row<'static>; 17] = [
             Mode::Repeat,
             "fixed(100)",
             0,
-            &[(50, Good(1)), (100, Good(1))],
+            &[good!(50, 1), good!(100, 1)],
         ),
         Polling::Due(300),
         "4 polls, due Some(350), ending None, last Some((150, Some(250)))",
     ),
     (
         "an_attempt_runs_at_the_horizon",
-        (7, Mode::Repeat, "spaced(10)", 0, &[(4, Good(1))]),
+        (7, Mode::Repeat, "spaced(10)", 0, &[good!(4, 1)]),
         Polling::Due(16),
         "3 polls, due Some(18), ending None, last Some((14, None))",
     ),
     (
         "an_end_at_the_horizon_counts",
-        (7, Mode::Repeat, "spaced(10)", 0, &[(4, Good(1))]),
+        (7, Mode::Repeat, "spaced(10)", 0, &[good!(4, 1)]),
         Polling::Due(18),
         "4 polls, due Some(28), ending None, last Some((14, Some(18)))",
     ),
     (
         "a_failure_ends_a_repeat",
-        (
-            7,
-            Mode::Repeat,
-            "recurs(5)",
-            0,
-            &[(2, Good(1)), (2, Bad(4))],
-        ),
+        (7, Mode::Repeat, "recurs(5)", 0, &[good!(2, 1), bad!(2, 4)]),
         Polling::Due(1000),
         "3 polls, due None, ending Some(Failed(4)), last Some((2, Some(4)))",
     ),
     (
         "a_job_starts_past_the_horizon",
-        (7, Mode::Retry, "recurs(3)", 2000, &[(5, Bad(7))]),
+        (7, Mode::Retry, "recurs(3)", 2000, &[bad!(5, 7)]),
         Polling::Due(1000),
         "0 polls, due Some(2000), ending None, last None",
     ),
     (
         "a_retry_ends_with_a_success",
-        (7, Mode::Retry, "recurs(3)", 0, &[(5, Bad(7)), (5, Good(1))]),
+        (7, Mode::Retry, "recurs(3)", 0, &[bad!(5, 7), good!(5, 1)]),
         Polling::Due(1000),
         "3 polls, due None, ending Some(Succeeded(1)), last Some((5, Some(10)))",
     ),
@@ -320,7 +313,7 @@ static RUNS: [Row<'static>; 17] = [
             Mode::Repeat,
             "(recurs(2) andThenEither recurs(1))",
             0,
-            &[(1, Good(5))],
+            &[good!(1, 5)],
         ),
         Polling::Due(1000),
         "5 polls, due None, ending Some(Finished), last Some((3, Some(4)))",
@@ -332,7 +325,7 @@ static RUNS: [Row<'static>; 17] = [
             Mode::Repeat,
             "(exponential(1, 4294967296) || spaced(1))",
             0,
-            &[(1, Good(0))],
+            &[good!(1, 0)],
         ),
         Polling::Due(5),
         "6 polls, due Some(6), ending None, last Some((4, Some(5)))",
@@ -344,7 +337,7 @@ static RUNS: [Row<'static>; 17] = [
             Mode::Repeat,
             "(identity.whileInput(= 0) || recurs(3))",
             0,
-            &[(1, Good(0)), (1, Good(1)), (1, Good(0))],
+            &[good!(1, 0), good!(1, 1), good!(1, 0)],
         ),
         Polling::Due(4),
         "5 polls, due Some(5), ending None, last Some((4, None))",
@@ -356,7 +349,7 @@ static RUNS: [Row<'static>; 17] = [
             Mode::Repeat,
             "identity.whileInput(< 3).collectAll",
             0,
-            &[(1, Good(1)), (1, Good(2)), (1, Good(3))],
+            &[good!(1, 1), good!(1, 2), good!(1, 3)],
         ),
         Polling::Due(1000),
         "4 polls, due None, ending Some(Finished), last Some((2, Some(3)))",
@@ -368,7 +361,7 @@ static RUNS: [Row<'static>; 17] = [
             Mode::Retry,
             "recurs(3)",
             0,
-            &[(1, Bad(11)), (2, Bad(12)), (3, Bad(13))],
+            &[bad!(1, 11), bad!(2, 12), bad!(3, 13)],
         ),
         Polling::Due(1000),
         "5 polls, due None, ending Some(Failed(13)), last Some((6, Some(9)))",
@@ -380,14 +373,14 @@ static RUNS: [Row<'static>; 17] = [
             Mode::Repeat,
             "spaced(0)",
             3,
-            &[(2, Good(4)), (u64::MAX, Good(9))],
+            &[good!(2, 4), good!(u64::MAX, 9)],
         ),
         Polling::Due(20),
         "2 polls, due Some(18446744073709551615), ending None, last Some((5, None))",
     ),
     (
         "a_job_may_make_1002_attempts",
-        (7, Mode::Repeat, "forever", 0, &[(1, Good(5))]),
+        (7, Mode::Repeat, "forever", 0, &[good!(1, 5)]),
         Polling::Due(1001),
         "1002 polls, due Some(1002), ending None, last Some((1001, None))",
     ),
@@ -398,14 +391,14 @@ static RUNS: [Row<'static>; 17] = [
             Mode::Repeat,
             "spaced(18446744073709551615)",
             0,
-            &[(4, Good(1))],
+            &[good!(4, 1)],
         ),
         Polling::Due(1000),
         "2 polls, due Some(18446744073709551615), ending None, last Some((0, Some(4)))",
     ),
     (
         "a_job_may_start_at_the_greatest_moment",
-        (7, Mode::Retry, "recurs(3)", u64::MAX, &[(5, Bad(7))]),
+        (7, Mode::Retry, "recurs(3)", u64::MAX, &[bad!(5, 7)]),
         Polling::Due(1000),
         "0 polls, due Some(18446744073709551615), ending None, last None",
     ),
@@ -419,7 +412,7 @@ fn each_job_ends_as_its_run_says(rt: HostRuntime) -> Result<(), Fail> {
 static POLLS: [Row<'static>; 5] = [
     (
         "a_task_is_known_by_its_job_and_polled_by_hand",
-        (7, Mode::Retry, "recurs(3)", 0, &[(5, Bad(7)), (5, Good(1))]),
+        (7, Mode::Retry, "recurs(3)", 0, &[bad!(5, 7), good!(5, 1)]),
         Polling::Results(&[0, 5, 10, 10]),
         "7 a Retry Records, broken false, due Some(0)
 Pending, 1 polls, due Some(5)
@@ -430,7 +423,7 @@ Ready(Ok(Succeeded(1))), 3 polls, due None
     ),
     (
         "an_early_poll_changes_nothing",
-        (7, Mode::Retry, "recurs(3)", 5, &[(5, Bad(7))]),
+        (7, Mode::Retry, "recurs(3)", 5, &[bad!(5, 7)]),
         Polling::Results(&[4]),
         "7 a Retry Records, broken false, due Some(5)
 Pending, 0 polls, due Some(5)
@@ -438,7 +431,7 @@ Pending, 0 polls, due Some(5)
     ),
     (
         "an_ended_task_answers_again",
-        (7, Mode::Retry, "recurs(3)", 0, &[(5, Good(1))]),
+        (7, Mode::Retry, "recurs(3)", 0, &[good!(5, 1)]),
         Polling::Results(&[0, 5, 5]),
         "7 a Retry Records, broken false, due Some(0)
 Pending, 1 polls, due Some(5)
@@ -453,7 +446,7 @@ Ready(Ok(Succeeded(1))), 2 polls, due None
             Mode::Retry,
             "recurs(3)",
             999_999_999_999_999,
-            &[(5, Bad(7))],
+            &[bad!(5, 7)],
         ),
         Polling::Results(&[999_999_999_999_999]),
         "7 a Retry Records, broken false, due Some(999999999999999)
@@ -462,7 +455,7 @@ Pending, 1 polls, due Some(1000000000000004)
     ),
     (
         "a_task_may_have_any_number",
-        (u64::MAX, Mode::Retry, "recurs(3)", 0, &[(5, Bad(7))]),
+        (u64::MAX, Mode::Retry, "recurs(3)", 0, &[bad!(5, 7)]),
         Polling::Results(&[]),
         "18446744073709551615 a Retry Records, broken false, due Some(0)
 ",
@@ -482,7 +475,7 @@ static LOGS: [Row<'static>; 5] = [
             Mode::Retry,
             "spaced(10)",
             2,
-            &[(5, Bad(7)), (3, Bad(8)), (4, Good(1))],
+            &[bad!(5, 7), bad!(3, 8), good!(4, 1)],
         ),
         Polling::Logs(Keeping::Lines, &[2, 7, 17, 20, 30, 34]),
         "7 a Retry Lines, broken false, due Some(2)
@@ -524,13 +517,7 @@ attempt 3 30..34 ok 1
     ),
     (
         "an_attempt_is_told_in_the_poll_that_ends_it_where_the_next_begins",
-        (
-            7,
-            Mode::Repeat,
-            "recurs(5)",
-            0,
-            &[(2, Good(1)), (3, Bad(4))],
-        ),
+        (7, Mode::Repeat, "recurs(5)", 0, &[good!(2, 1), bad!(3, 4)]),
         Polling::Logs(Keeping::Lines, &[0, 2, 5]),
         "7 a Repeat Lines, broken false, due Some(0)
 0 polls, ending None, 0 told
@@ -552,7 +539,7 @@ attempt 2 2..5 err 4
     ),
     (
         "the_step_that_is_done_is_told_of_the_last_record",
-        (7, Mode::Repeat, "recurs(1)", 0, &[(3, Good(9))]),
+        (7, Mode::Repeat, "recurs(1)", 0, &[good!(3, 9)]),
         Polling::Logs(Keeping::Lines, &[0, 3, 6]),
         "7 a Repeat Lines, broken false, due Some(0)
 0 polls, ending None, 0 told
@@ -575,7 +562,7 @@ step 2 out 1 done
     ),
     (
         "an_early_poll_and_one_of_an_ended_task_tell_nothing_new",
-        (7, Mode::Retry, "recurs(0)", 1, &[(4, Bad(7))]),
+        (7, Mode::Retry, "recurs(0)", 1, &[bad!(4, 7)]),
         Polling::Logs(Keeping::Lines, &[0, 2, 5, 8, 9]),
         "7 a Retry Lines, broken false, due Some(1)
 0 polls, ending None, 0 told
@@ -600,13 +587,7 @@ step 1 out 0 done
     ),
     (
         "a_task_that_keeps_records_tells_no_lines",
-        (
-            7,
-            Mode::Repeat,
-            "recurs(5)",
-            0,
-            &[(2, Good(1)), (3, Bad(4))],
-        ),
+        (7, Mode::Repeat, "recurs(5)", 0, &[good!(2, 1), bad!(3, 4)]),
         Polling::Logs(Keeping::Records, &[0, 2, 5]),
         "7 a Repeat Records, broken false, due Some(0)
 0 polls, ending None, 0 told

@@ -49,8 +49,8 @@ fn a_shelf_of_one_is_full_after_one(rt: HostRuntime) -> Result<(), Fail> {
     assert!(rt; put(&rt, alloc, &shelf, &mut pass, 0) == Ok(()));
     let refused = put(&rt, alloc, &shelf, &mut pass, 1);
     assert!(rt; refused == Err((1, PoolFault::Full)));
-    let zero = take(&rt, &shelf, &mut pass);
-    assert!(rt; zero == Some(0) && take(&rt, &shelf, &mut pass) == None);
+    assert!(rt; take(&rt, &shelf, &mut pass) == Some(0));
+    assert!(rt; take(&rt, &shelf, &mut pass) == None);
     assert!(rt; shelf.close(&rt, alloc, pass)?.is_empty());
     Ok(())
 }
@@ -62,13 +62,10 @@ fn what_two_passes_put_is_taken_in_order_after_their_join(rt: HostRuntime) -> Re
     let Ok((mut first, mut second)) = shelf.split(&rt, alloc, pass) else {
         unreachable!()
     };
-    let puts = [
-        put(&rt, alloc, &shelf, &mut second, 0),
-        put(&rt, alloc, &shelf, &mut first, 1),
-        put(&rt, alloc, &shelf, &mut second, 2),
-        put(&rt, alloc, &shelf, &mut first, 3),
-    ];
-    assert!(rt; puts == [Ok(()); 4]);
+    assert!(rt; put(&rt, alloc, &shelf, &mut second, 0).is_ok());
+    assert!(rt; put(&rt, alloc, &shelf, &mut first, 1).is_ok());
+    assert!(rt; put(&rt, alloc, &shelf, &mut second, 2).is_ok());
+    assert!(rt; put(&rt, alloc, &shelf, &mut first, 3).is_ok());
     assert!(rt; take(&rt, &shelf, &mut first) == Some(0));
     let mut pass = shelf.join(&rt, first, second);
     assert!(rt; take(&rt, &shelf, &mut pass) == Some(1));
