@@ -17,7 +17,7 @@ const PICKS: [&str; 5] = ["", "", "_1 ", "_2 ", "size "];
 
 const FUNCTIONS: [&str; 6] = ["_1", "_2", "size", "merge", "+ 3", "* 2"];
 
-// Schedules without parts. `#` stands for a number, and `%` for a factor.
+// Schedules without parts. `#` is replaced by a number, and `%` by a factor.
 const LEAVES: [&str; 10] = [
     "forever",
     "recurs(#)",
@@ -31,8 +31,8 @@ const LEAVES: [&str; 10] = [
     "windowed(#)",
 ];
 
-// Operators. `#` and `%` stand for schedules, `^` for a pick, `$` for a comparison, `~` for a
-// number, and `@` for a function.
+// Operators. `#` and `%` are replaced by schedules, `^` by a pick, `$` by a comparison, `~` by a
+// number, and `@` by a function.
 const OPERATORS: [&str; 9] = [
     "(# && %)",
     "(% || #)",

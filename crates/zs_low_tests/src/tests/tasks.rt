@@ -20,7 +20,7 @@ type Given<'a> = (u64, Mode, &'a str, u64, &'a [Beat]);
 
 // When a task is polled, and what is said of it.
 enum Polling<'a> {
-    // At each due millisecond up to this horizon: how it stands in the end.
+    // At each due millisecond up to this horizon: its state in the end.
     Due(u64),
     // At these moments, due or not: the result of each poll.
     Results(&'a [u64]),
@@ -50,7 +50,7 @@ fn job_of(alloc: Global, given: &Given<'_>) -> Result<Job, Fail> {
     })
 }
 
-// Makes a task. What it stores is left open, unless its log is described.
+// Makes a task. What it stores is the default, unless its log is described.
 fn task_of(alloc: Global, given: &Given<'_>, polls: &Polling<'_>) -> Result<Task, Fail>
     ensures seen { IfOk result (λ task. task.seen ≡ 0) }
 {
@@ -61,7 +61,7 @@ fn task_of(alloc: Global, given: &Given<'_>, polls: &Polling<'_>) -> Result<Task
     }
 }
 
-// Polling a task. Callers know nothing about a mock but this contract.
+// Polls a task. Callers know nothing about a mock but this contract.
 fn poll(solo: &Solo, task: &mut Task) -> Poll<Result<Ending, DriveFault>>
     ensures seen { task.new.seen ≡ task.old.seen }
 {
@@ -72,7 +72,7 @@ fn poll(solo: &Solo, task: &mut Task) -> Poll<Result<Ending, DriveFault>>
     polled
 }
 
-// Polling a task at each millisecond up to the horizon at which it is due.
+// Polls a task at each millisecond up to the horizon at which it is due.
 fn run(solo: &Solo, task: &mut Task, horizon: u64)
     requires seen { task.old.seen ≡ 0 }
     requires bounded { horizon < 10000 }
@@ -94,8 +94,8 @@ fn last_of(task: &Task) -> Option<(u64, Option<u64>)> {
     }
 }
 
-// Appends how a task stands: its due polls, the moment that it waits for, its ending, and its last
-// attempt.
+// Appends the state of a task: its due polls, the moment that it waits for, its ending, and its
+// last attempt.
 fn push_standing(text: &mut String, task: &Task) -> Result<(), AllocError> {
     let (polls, due, ending, last) = (task.polls(), task.due(), task.ending(), last_of(task));
     write!(
@@ -136,7 +136,7 @@ fn push_log(text: &mut String, task: &Task) -> Result<(), AllocError> {
     push_records(text, task)
 }
 
-// Polling a task at this moment, due or not.
+// Polls a task at this moment, due or not.
 fn poll_next<R: Abort>(
     rt: &R,
     solo: &Solo,
@@ -165,8 +165,8 @@ fn push_result(
     write!(text, "{polled:?}, {polls} polls, due {due:?}\n")
 }
 
-// Polling a new task at these moments, due or not. Appends what is known of it before, and the result
-// of each poll, or what it stores before and after each poll.
+// Polls a new task at these moments, due or not. Appends what is known of it before, and the
+// result of each poll, or what it stores before and after each poll.
 fn poll_at_each<R: Abort>(
     rt: &R,
     solo: &Solo,
@@ -195,7 +195,7 @@ fn poll_at_each<R: Abort>(
     Ok(())
 }
 
-// Polling a new task as its row says, and appends what is said of it.
+// Polls a new task as its row says, and appends what is said of it.
 fn push_polls<R: Abort>(
     rt: &R,
     solo: &Solo,

@@ -12,7 +12,7 @@ pub fn expect_text(rt: &impl Abort, found: &str, wanted: &str, of: &str) {
     assert!(rt; found == wanted, "{of}: wanted {wanted}, found {found}");
 }
 
-/// Asserts each of these facts, of a run that is told from others by a number.
+/// Asserts each of these facts of the run with this number.
 pub fn expect_each(rt: &impl Abort, facts: &[bool], at: u64) {
     for (place, holds) in facts.iter().enumerate() {
         assert!(rt; *holds, "at {at}: fact {place}");
