@@ -87,7 +87,9 @@ fn poll_well(solo: &Solo, task: &mut Task, now: u64) -> Result<(), Ended>
 
 // A failed poll broke the task, and didn't change its lines, its records and its due moment.
 fn is_as_before(task: &Task, polls: u64, told: u64, records: usize, now: u64) -> Result<(), Ended> {
-    let stands = task.polls() == polls && task.told_count() == told && task.records().len() == records;
+    let stands = task.polls() == polls
+        && task.told_count() == told
+        && task.records().len() == records;
     let is_right = stands && has_first(task) && task.due() == Some(now);
     right_if(task.broken() && is_right, "not broken, or changed")
 }

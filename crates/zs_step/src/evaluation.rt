@@ -42,7 +42,10 @@ fn evaluate(alloc: Global, term: &Term, history: Pairs<'_>) -> Result<Answer, Al
             Ok(count_answer(history, Decision::Next(now).only_if(again)))
         }
         Term::Spaced(delay) => Ok(count_answer(history, Decision::after(now, *delay))),
-        Term::Fixed(period) => Ok(count_answer(history, Decision::Next(fixed_run(*period, history)))),
+        Term::Fixed(period) => Ok(count_answer(
+            history,
+            Decision::Next(fixed_run(*period, history)),
+        )),
         Term::Windowed(period) => {
             let end = window_end(*period, first_moment(history), now);
             Ok(count_answer(history, Decision::Next(end)))
@@ -152,7 +155,12 @@ fn since_last_reset(
 }
 
 // Makes a pair of two outputs, with a decision.
-fn pair_answers(alloc: Global, first: Out, second: Out, decision: Decision) -> Result<Answer, AllocError>
+fn pair_answers(
+    alloc: Global,
+    first: Out,
+    second: Out,
+    decision: Decision,
+) -> Result<Answer, AllocError>
     ensures value { IfOk result (λ r. answer (output_of r.0) r.1 ≡ answer (pair (output_of first) (output_of second)) decision) }
 {
     Ok((make_pair(alloc, first, second)?, decision))

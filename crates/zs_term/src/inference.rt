@@ -18,7 +18,12 @@ pub(crate) fn kind_of(alloc: Global, term: &Term) -> Result<Option<Kind>, AllocE
 {
     match term.shape() {
         Shape::Plain(_) | Shape::Counted(_, _) | Shape::Exponential(_, _) => Ok(Some(Kind::Num)),
-        Shape::Joined(form, a, b) => join_kinds(alloc, form, kind_of(alloc, a)?, kind_of(alloc, b)?),
+        Shape::Joined(form, a, b) => join_kinds(
+            alloc,
+            form,
+            kind_of(alloc, a)?,
+            kind_of(alloc, b)?,
+        ),
         Shape::Tested(s, Subject::Input, _) => kind_of(alloc, s),
         Shape::Tested(s, Subject::Picked(_, pick), _) => Ok(where_fits(pick, kind_of(alloc, s)?)),
         Shape::Collected(s) => list_kind(alloc, kind_of(alloc, s)?),
