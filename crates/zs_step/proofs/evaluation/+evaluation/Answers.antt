@@ -5,7 +5,7 @@ use Rattle.zs_step.specs.History.{history_of}
 use Rattle.zs_step.specs.Answer.{Answer, answer, answer_of, is_next}
 use Rattle.zs_step.proofs.Sequels.{sequel-first, sequel-second, from_done-go, from_done-stop, collected-turn, collected-last, collected-answer}
 use Rattle.zs_step.proofs.Resets.{reset-goes-on, reset-begins}
-use Rattle.zs_step.proofs.evaluation.+evaluation.Goals.{reset_start-then-passed, reset_start-else-passed}
+use Rattle.zs_step.proofs.evaluation.+evaluation.Goals.{reset_start-then-is_passed, reset_start-else-is_passed}
 use Rattle.zs_step.proofs.evaluation.+evaluation.Goals as goal
 
 pub in_turn-returns-in_ok-make_left-in-None : goal.in_turn-returns-in_ok-make_left-in-None
@@ -74,15 +74,15 @@ reset_start-loop-i-preserved t c =
     let a = answer (output_of c.in_ok-answer.answer.0) c.in_ok-answer.answer.1 in
     let is : a ≡ f (history_of (drop c.loop-i.start (take (c.loop-i.i + 1) c.args.history.now))) =
     c.in_ok-answer.ensures.value ∙ ap (λ h. f (history_of h)) c.between.ensures.part in
-    elim c.if-passed.branch [
-      | reset_start-then-passed w ↦ (
+    elim c.if-is_passed.branch [
+      | reset_start-then-is_passed w ↦ (
         subst (λ s. s < length c.args.history.now) (sym w.start-is) c.loop-i-test.true,
         subst (λ s. s ≤ c.loop-i.i + 1) (sym w.start-is) (omega arith),
         reset-begins f c.args.pick c.args.test c.args.history.now c.loop-i.i c.loop-i.start a c.is_passed.result
             c.loop-i-test.true c.loop-i.invariant.1 c.loop-i.invariant.2 is c.is_passed.ensures.value w.if-is_passed.true
             ∙ ap (λ s. history_of (drop s (take (c.loop-i.i + 1) c.args.history.now))) (sym w.start-is),
       )
-      | reset_start-else-passed w ↦ (
+      | reset_start-else-is_passed w ↦ (
         subst (λ s. s < length c.args.history.now) (sym w.start-is) c.loop-i.invariant.0,
         subst (λ s. s ≤ c.loop-i.i + 1) (sym w.start-is) (omega arith),
         reset-goes-on f c.args.pick c.args.test c.args.history.now c.loop-i.i c.loop-i.start a c.is_passed.result
