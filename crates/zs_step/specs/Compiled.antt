@@ -1,13 +1,15 @@
 -- What callers know about a compiled schedule.
-use Rattle.std.specs.Prelude.{◌≡◌, ◌≤◌, ℕ, Bool, false, Some}
+use Rattle.std.specs.Prelude.{◌≡◌, ◌≤◌, ℕ, Bool, true, false, ◌∷◌, Some, Result, IfOk, OnOk, IsOk, is_err, IsTrue}
 use Rattle.zs_term.specs.declared.term.Term.{Term}
 use Rattle.zs_term.specs.Schedule.{Schedule, schedule_of, weight}
 use Rattle.zs_term.specs.Output.{output_of}
 use Rattle.zs_term.specs.OutputKind.{OutputKind, HasKind}
 use Rattle.zs_term.specs.Kinds.{kind_of}
 use Rattle.zs_step.specs.declared.compiled.Compiled.{Compiled}
-use Rattle.zs_step.specs.History.{History, last_moment}
+use Rattle.zs_step.specs.declared.fault.StepFault.{StepFault}
 use Rattle.zs_step.specs.declared.stepped.Stepped.{Stepped}
+use Rattle.zs_step.specs.History.{History, last_moment}
+use Rattle.zs_step.specs.Memory.{is_bare}
 use Rattle.zs_step.specs.Answer.{answer, answer_of}
 use Rattle.zs_step.specs.Visits.{visits}
 use Rattle.zs_step.specs.State.{state_schedule, Represents}
@@ -41,3 +43,18 @@ pub record IsAnswer (t : Schedule) (h : History) (r : Stepped) : Type 0 where
   pub visited : r.visits ≡ visits t h
   pub bound : r.visits ≤ weight t
   pub kinded : (a : OutputKind) → kind_of t ≡ Some a → HasKind (output_of r.out) a
+
+-- one step of a compiled schedule with a moment and an input
+pub record Steps (old new : Compiled) (now input : ℕ) (result : Result Stepped StepFault) : Type 0 where
+  pub term : compiled_term new ≡ compiled_term old
+  -- The result is that of every history that the state represents, with this step.
+  pub answered : IfOk result (λ r. (h : History) → StandsFor old h →
+      IsAnswer (compiled_schedule old) ((now, input) ∷ h) r)
+  -- The state then represents that history with this step.
+  pub stands : OnOk result ((h : History) → StandsFor old h → StandsFor new ((now, input) ∷ h))
+  -- A schedule that makes no pair, no side of a choice and no list needs no memory.
+  pub succeeds : (h : History) → StandsFor old h → is_bare (compiled_schedule old) ≡ true → IsOk result
+  pub seen : last_seen new ≤ now
+  -- A step that fails breaks the schedule, and a broken one never changes.
+  pub breaks : is_broken new ≡ is_err result
+  pub stays : IsTrue (is_broken old) → new ≡ old

@@ -27,11 +27,10 @@ pub struct Compiled {
 }
 
 impl Compiled {
-    ghost use Rattle.std.specs.Prelude.{◌≡◌, ◌≤◌, ◌∷◌, [], IfOk, OnOk, IfErr, is_err, IsOk, IsTrue, true};
+    ghost use Rattle.std.specs.Prelude.{◌≡◌, ◌≤◌, [], IfOk, IsOk, true};
     ghost use Rattle.zs_term.specs.Schedule.{schedule_of};
-    ghost use Rattle.zs_step.specs.Memory.{is_bare, is_leaf};
-    ghost use Rattle.zs_step.specs.History.{History};
-    ghost use Rattle.zs_step.specs.Compiled.{compiled_term, compiled_schedule, is_broken, last_seen, StandsFor, IsAnswer};
+    ghost use Rattle.zs_step.specs.Memory.{is_leaf};
+    ghost use Rattle.zs_step.specs.Compiled.{compiled_term, is_broken, last_seen, StandsFor, Steps};
 
     /// Compiles a schedule, before its first step. Fails only with `Memory`, and then drops the
     /// schedule.
@@ -75,17 +74,7 @@ impl Compiled {
     /// memory, the schedule is broken: each later step fails with `Memory` and changes nothing.
     pub fn step(&mut self, now: u64, input: u64) -> Result<Stepped, StepFault>
         requires order { last_seen self.old ≤ now }
-        ensures term { compiled_term self.new ≡ compiled_term self.old }
-        // The result is that of every history that the state represents, with this step.
-        ensures answered { IfOk result (λ r. (h : History) → StandsFor self.old h → IsAnswer (compiled_schedule self.old) ((now, input) ∷ h) r) }
-        // The state then represents that history with this step.
-        ensures stands { OnOk result ((h : History) → StandsFor self.old h → StandsFor self.new ((now, input) ∷ h)) }
-        // A schedule that makes no pair, no side of a choice and no list needs no memory.
-        ensures succeeds { (h : History) → StandsFor self.old h → is_bare (compiled_schedule self.old) ≡ true → IsOk result }
-        ensures seen { last_seen self.new ≤ now }
-        // A step that fails breaks the schedule, and a broken one never changes.
-        ensures breaks { is_broken self.new ≡ is_err result }
-        ensures stays { IsTrue (is_broken self.old) → self.new ≡ self.old }
+        ensures steps { Steps self.old self.new now input result }
     {
         self.step_over(now, input, Out::Num(0))
     }
@@ -93,15 +82,8 @@ impl Compiled {
     /// Like `step`, and reuses the memory of a spare output if it fits: the boxes of a pair become
     /// those of the new pair.
     pub fn step_over(&mut self, now: u64, input: u64, spare: Out) -> Result<Stepped, StepFault>
-        // The clauses of `step`.
         requires order { last_seen self.old ≤ now }
-        ensures term { compiled_term self.new ≡ compiled_term self.old }
-        ensures answered { IfOk result (λ r. (h : History) → StandsFor self.old h → IsAnswer (compiled_schedule self.old) ((now, input) ∷ h) r) }
-        ensures stands { OnOk result ((h : History) → StandsFor self.old h → StandsFor self.new ((now, input) ∷ h)) }
-        ensures succeeds { (h : History) → StandsFor self.old h → is_bare (compiled_schedule self.old) ≡ true → IsOk result }
-        ensures seen { last_seen self.new ≤ now }
-        ensures breaks { is_broken self.new ≡ is_err result }
-        ensures stays { IsTrue (is_broken self.old) → self.new ≡ self.old }
+        ensures steps { Steps self.old self.new now input result }
     {
         if self.broken {
             return Err(StepFault::Memory);

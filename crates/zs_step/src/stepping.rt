@@ -81,14 +81,6 @@ fn step_into(state: &mut State, step: &Step, visits: &mut u64, out: &mut Out) ->
     }
 }
 
-// Replaces an output. The old one is dropped here, so that the nodes' stack frames don't grow.
-#[inline(never)]
-fn put(out: &mut Out, value: Out)
-    ensures value { out.new ≡ value }
-{
-    *out = value;
-}
-
 // Makes a box without an output yet, unless the allocation fails.
 fn new_box(alloc: Global) -> Option<Box<Out>> {
     Box::new(alloc, Out::Num(0)).ok()
@@ -154,7 +146,7 @@ fn step_both(
     let Some(y) = step_into(second, step, visits, &mut b).decision() else {
         return Turn::Refused;
     };
-    put(out, Out::Pair(a, b));
+    out.put(Out::Pair(a, b));
     Turn::of(x.later(y))
 }
 
@@ -182,7 +174,7 @@ fn step_either(
     let Some(y) = step_into(second, step, visits, &mut b).decision() else {
         return Turn::Refused;
     };
-    put(out, Out::Pair(a, b));
+    out.put(Out::Pair(a, b));
     Turn::of(x.earlier(y))
 }
 
@@ -210,13 +202,13 @@ fn step_and_then(
             return Turn::Refused;
         };
         if x.is_next() {
-            put(out, Out::Left(part));
+            out.put(Out::Left(part));
             return Turn::of(x);
         }
         *done = true;
     }
     let turn = step_into(second, step, visits, &mut part);
-    put(out, Out::Right(part));
+    out.put(Out::Right(part));
     turn
 }
 
@@ -283,11 +275,11 @@ fn step_collect_all(
         return Turn::Refused;
     };
     // `out` has the list of the step before. The list can grow in place only after that is dropped.
-    put(out, Out::Num(0));
+    out.put(Out::Num(0));
     let Ok(list) = kept.step(step.alloc, last, x) else {
         return Turn::Refused;
     };
-    put(out, list);
+    out.put(list);
     Turn::of(x)
 }
 

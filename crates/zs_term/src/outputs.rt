@@ -139,6 +139,15 @@ impl Out {
         }
     }
 
+    /// Replaces the output. The old one is dropped here, so that the caller's stack frame doesn't
+    /// grow.
+    #[inline(never)]
+    pub fn put(&mut self, value: Out)
+        ensures value { self.new ≡ value }
+    {
+        *self = value;
+    }
+
     /// Replaces the output by a number.
     #[inline(always)]
     pub fn put_number(&mut self, n: u64)
@@ -146,10 +155,7 @@ impl Out {
     {
         match self {
             Out::Num(old) => *old = n,
-            Out::Pair(_, _) | Out::Left(_) | Out::Right(_) | Out::Items(_) => put(
-                self,
-                Out::Num(n),
-            ),
+            Out::Pair(_, _) | Out::Left(_) | Out::Right(_) | Out::Items(_) => self.put(Out::Num(n)),
         }
     }
 
@@ -226,14 +232,6 @@ impl Outs {
             }),
         }
     }
-}
-
-// Replaces an output. The old one is dropped here, so that the callers' stack frames don't grow.
-#[inline(never)]
-fn put(out: &mut Out, value: Out)
-    ensures value { out.new ≡ value }
-{
-    *out = value;
 }
 
 // Returns outputs of the same values. Only their lists may share memory with these.

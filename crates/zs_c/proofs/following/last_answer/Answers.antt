@@ -17,8 +17,8 @@ loop-i-preserved c =
     let lt : c.loop-i.i < length c.args.seen.now = omega arith in
     record {
       stands = subst (StandsFor c.step.new.self) (sym (history-more c.args.seen.now c.loop-i.i lt))
-          (c.in_ok-_stepped.ensures.stands (history_of (take c.loop-i.i (pairs_of c.args.seen.now))) c.loop-i.invariant.stands);
-      term = c.in_ok-_stepped.ensures.term ∙ c.loop-i.invariant.term;
+          (c.in_ok-_stepped.ensures.steps.stands (history_of (take c.loop-i.i (pairs_of c.args.seen.now))) c.loop-i.invariant.stands);
+      term = c.in_ok-_stepped.ensures.steps.term ∙ c.loop-i.invariant.term;
     }
 
 pub returns-clause-ok : goal.returns-clause-ok
@@ -28,4 +28,4 @@ returns-clause-ok c =
     let whole = history-whole c.args.seen.now c.loop-i.i (length c.args.seen.now - 1) c.requires.some refl (omega arith) in
     subst (λ k. IsAnswer (schedule_of c.args.checked) k c.in_ok-stepped.stepped) whole
     (subst (λ t. IsAnswer (schedule_of t) (p ∷ h) c.in_ok-stepped.stepped) c.loop-i.invariant.term
-    (c.in_ok-stepped.ensures.answered h c.loop-i.invariant.stands))
+    (c.in_ok-stepped.ensures.steps.answered h c.loop-i.invariant.stands))
