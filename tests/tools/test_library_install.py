@@ -14,6 +14,7 @@ import tempfile
 import unittest
 
 import test_library
+from flaky import Flaky
 from support import TOP
 
 VERSION = (TOP / "VERSION").read_text().strip()
@@ -78,14 +79,10 @@ folder = None
 
 
 def setUpModule():
-    """Builds the library."""
+    """Builds the library. What is built of it is removed at the end."""
     global folder
     folder = test_library.made_library()
-
-
-def tearDownModule():
-    """Removes what was built."""
-    room.cleanup()
+    unittest.addModuleCleanup(room.cleanup)
 
 
 def path(name):
@@ -336,7 +333,7 @@ class Packages(unittest.TestCase):
             self.skipTest(f"there is no {PYTHON}")
         library = next(self.root.rglob("libzsched.so.0")).parent
         env = {"PYTHONPATH": str(self.root / "usr/lib/python3/dist-packages"), "LD_LIBRARY_PATH": str(library)}
-        with test_library.Busy(2) as server:
+        with Flaky(503, 503, 200) as server:
             self.assertEqual(output([PYTHON, "-B", "-c", CLIENT, server.url], env=env), f"{VERSION} ready\n")
         self.assertEqual(server.asked, [503, 503, 200])
 
@@ -363,7 +360,7 @@ class Wheel(unittest.TestCase):
         self.assertRegex(wheel.name, rf"^zsched-{VERSION}-py3-none-linux_\w+\.whl$")
         shutil.unpack_archive(wheel, path("unpacked_wheel"), "zip")
         self.assertTrue((path("unpacked_wheel") / "zsched" / "py.typed").exists())
-        with test_library.Busy(1) as server:
+        with Flaky(503, 200) as server:
             found = output([PYTHON, "-B", "-c", CLIENT, server.url], env={"PYTHONPATH": str(path("unpacked_wheel"))})
         self.assertEqual((found, server.asked), (f"{VERSION} ready\n", [503, 200]))
 
