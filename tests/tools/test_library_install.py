@@ -281,6 +281,13 @@ class Installed(unittest.TestCase):
         self.judge(build / "shared")
         self.judge(build / "static")
 
+    def test_make_install_puts_the_same_files(self):
+        if not shutil.which("make"):
+            self.skipTest("make isn't installed")
+        output(["make", "-s", "-C", TOP, "install", f"DESTDIR={path('made')}", "PREFIX=/usr", "LIBDIR=lib/zs", f"LIBRARY={folder}"])
+        found, wanted = (sorted(str(it.relative_to(root)) for it in root.rglob("*")) for root in [path("made"), self.root])
+        self.assertEqual(found, wanted)
+
     def test_a_prefix_that_is_no_path_is_refused(self):
         words = [TOP / "tools/install-library", "--destdir", path("other"), "--prefix", "usr"]
         ended = subprocess.run(words, capture_output=True, text=True, check=False)
