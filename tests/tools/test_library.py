@@ -39,6 +39,8 @@ REFUSED_STEPS = 60
 UNDER_VALGRIND = 60
 UNTOUCHED = "aa"
 WRAPPED = ["-Wl,--wrap=malloc,--wrap=realloc,--wrap=free", "-lpthread"]
+# Where Debian's packages put the sources of crates.
+CRATES = pathlib.Path("/usr/share/cargo/registry")
 STRICT = ["-std=gnu11", "-Wall", "-Wextra", "-Werror", "-pedantic"]
 # A short program of Java isn't worth much compiling.
 QUICK = ["-XX:TieredStopAtLevel=1", "-XX:+UseSerialGC"]
@@ -917,17 +919,30 @@ class Examples(unittest.TestCase):
             with self.assertRaisesRegex(SystemExit, f"^{re.escape(other)} may go on for too long: Bounds"):
                 exec(check, {"POLICY": other})
 
-    def test_the_example_in_rust_waits_for_its_server(self):
+    def crate(self, name):
+        """A copy of the binding for Rust, and the variables for its programs."""
         if not shutil.which("cargo"):
             self.skipTest("cargo isn't on this machine")
-        crate = path("rust")
-        shutil.copytree(BINDINGS / "rust", crate, ignore=shutil.ignore_patterns("target", "Cargo.lock"))
-        more = {"ZSCHED_LIBRARY_DIR": str(folder), "RUSTFLAGS": "-D warnings", "CARGO_INCREMENTAL": "0", "CARGO_PROFILE_DEV_DEBUG": "0"}
+        shutil.copytree(BINDINGS / "rust", path(name), ignore=shutil.ignore_patterns("target", "Cargo.lock"))
+        return path(name), {"ZSCHED_LIBRARY_DIR": str(folder), "RUSTFLAGS": "-D warnings", "CARGO_INCREMENTAL": "0",
+                            "CARGO_PROFILE_DEV_DEBUG": "0"}
+
+    def test_the_example_in_rust_waits_for_its_server(self):
+        crate, more = self.crate("rust")
         said = ran(["cargo", "run", "--quiet", "--offline", "--example", "retry"], crate, **more)
         self.assertEqual(said, 'Ok("ready") after 4 attempts\n')
         tested = ran(["cargo", "test", "--quiet", "--offline"], crate, **more)
-        self.assertEqual(re.findall(r"\d+ passed", tested), ["5 passed", "2 passed"])
+        self.assertEqual(re.findall(r"\d+ passed", tested), ["6 passed", "2 passed"])
         ran(["cargo", "check", "--quiet", "--offline", "--no-default-features"], crate, **more)
+
+    def test_the_example_under_tokio_waits_for_its_server(self):
+        if not any(CRATES.glob("tokio-1.*")):
+            self.skipTest("tokio (of the package librust-tokio-dev) isn't on this machine")
+        crate, more = self.crate("rust-tokio")
+        places = {"crates-io.replace-with": "debian", "debian.directory": CRATES}
+        words = [word for name, place in places.items() for word in ["--config", f'source.{name}="{place}"']]
+        said = ran(["cargo", "run", "--quiet", "--offline", *words], crate / "tokio", **more)
+        self.assertEqual(said, 'Ok("ready") after 4 attempts\n')
 
     def test_the_example_in_java_waits_for_its_server(self):
         path("Steps.java").write_text(STEPS)

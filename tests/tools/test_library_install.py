@@ -21,6 +21,7 @@ VERSION = (TOP / "VERSION").read_text().strip()
 HEADER = (TOP / "include" / "zsched.h").read_text()
 ABI = (TOP / "include" / "zsched.abi").read_text()
 DEBIAN = [tool for tool in ["dpkg", "dpkg-deb", "objdump", "strip"] if shutil.which(tool) is None]
+MISSING = [tool for tool in ["cargo", "git"] if shutil.which(tool) is None]
 PYTHON = "/usr/bin/python3"
 # A service in C: it asks until there is an answer, by the state of a schedule, and prints the moments.
 SERVICE = r'''
@@ -370,6 +371,25 @@ class Wheel(unittest.TestCase):
         with Flaky(503, 200) as server:
             found = output([PYTHON, "-B", "-c", CLIENT, server.url], env={"PYTHONPATH": str(path("unpacked_wheel"))})
         self.assertEqual((found, server.asked), (f"{VERSION} ready\n", [503, 200]))
+
+
+@unittest.skipIf(MISSING, f"not installed: {', '.join(MISSING)}")
+class Crate(unittest.TestCase):
+    """The binding for Rust as a registry takes it."""
+
+    def test_cargo_would_publish_it(self):
+        index, crate = path("index"), path("crate")
+        index.mkdir()
+        (index / "config.json").write_text('{"dl": "file:///nowhere", "api": "file:///nowhere"}')
+        named = ["-c", "user.name=zsched", "-c", "user.email=zsched@example.org"]
+        for words in [["init", "--quiet"], ["add", "config.json"], [*named, "commit", "--quiet", "--message", "index"]]:
+            output(["git", *words], cwd=index)
+        shutil.copytree(TOP / "bindings" / "rust", crate, ignore=shutil.ignore_patterns("target", "Cargo.lock"))
+        words = ["cargo", "publish", "--dry-run", "--allow-dirty", "--index", f"file://{index}"]
+        ended = subprocess.run(words, cwd=crate, capture_output=True, text=True, check=False,
+                               env={**os.environ, "ZSCHED_LIBRARY_DIR": str(folder), "CARGO_TARGET_DIR": str(path("target"))})
+        self.assertEqual(ended.returncode, 0, ended.stderr)
+        self.assertIn("aborting upload due to dry run", ended.stderr)
 
 
 if __name__ == "__main__":
