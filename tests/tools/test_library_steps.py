@@ -23,14 +23,10 @@ folder = None
 
 
 def setUpModule():
-    """Builds the library."""
+    """Builds the library. What is built of it is removed at the end."""
     global folder
     folder = test_library.made_library()
-
-
-def tearDownModule():
-    """Removes what was built."""
-    room.cleanup()
+    unittest.addModuleCleanup(room.cleanup)
 
 
 class History:
