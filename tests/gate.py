@@ -64,7 +64,7 @@ PARTS = {
     "threads": Part(python("threads.py"), 20),
     "growth": Part(python("growth.py"), 40),
     "hostile": Part(python("hostile.py"), 60),
-    "survivors": Part(python("survivors.py", "--some", "5"), 90),
+    "survivors": Part(python("survivors.py", "--some", "5"), 90, beside=True),
     "gate": Part(python("test_gate.py"), 60),
 }
 

@@ -11,20 +11,17 @@ server that never answers is given up after the retries of the policy, and an an
 
 It needs no network. It takes the library of ZSCHED_LIBRARY_DIR, or that of tools/make-library. It isn't part of ./check. The
 last line is 'N passed, M failed'; a language that lacks a tool is named as left out."""
-import http.server
 import os
 import pathlib
 import shutil
 import subprocess
 import sys
 import tempfile
-import threading
-import time
 
 sys.dont_write_bytecode = True
 sys.path.insert(0, str(pathlib.Path(__file__).resolve().parent.parent / "tools"))
 
-from answers import BINDINGS, JNA, Missing, need
+from answers import BINDINGS, JNA, Flaky, Missing, need
 from support import TOP, Count
 
 LIBRARY = pathlib.Path(os.environ.get("ZSCHED_LIBRARY_DIR", TOP / "crates" / "zs_c" / "out"))
@@ -44,36 +41,6 @@ EARLY, LATE = 2, 3000
 
 class Failed(Exception):
     """A command failed. The text says which, and what it said."""
-
-
-class Flaky:
-    """A server on this machine that answers with these codes, and then with the last of them again."""
-
-    def __init__(self, codes):
-        self.moments = moments = []
-
-        class Handler(http.server.BaseHTTPRequestHandler):
-            def do_GET(self):
-                moments.append(time.monotonic())
-                self.send_response(codes[min(len(moments), len(codes)) - 1])
-                self.send_header("Content-Length", "5")
-                self.end_headers()
-                self.wfile.write(b"ready")
-
-            def log_message(self, *_):
-                pass
-        self.server = http.server.ThreadingHTTPServer(("127.0.0.1", 0), Handler)
-        self.port = self.server.server_port
-        self.serving = threading.Thread(target=self.server.serve_forever, kwargs={"poll_interval": 0.01})
-
-    def __enter__(self):
-        self.serving.start()
-        return self
-
-    def __exit__(self, *_):
-        self.server.shutdown()
-        self.serving.join()
-        self.server.server_close()
 
 
 class Room:

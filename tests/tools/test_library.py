@@ -8,7 +8,6 @@ import atexit
 import concurrent.futures
 import ctypes
 import functools
-import http.server
 import multiprocessing
 import os
 import pathlib
@@ -26,7 +25,7 @@ import unittest
 import answers
 import generator
 import reference
-from answers import BINDINGS, ran
+from answers import BINDINGS, Flaky, ran
 from support import TOP, tree
 from zsched_tools import program
 
@@ -187,7 +186,9 @@ BOUNDS = {
 }
 NOT_UTF8 = [b"\xff", b"\xc3", b"\xed\xa0\x80", b"\xf0\x9f\x98"]
 
+# What the files of tests of the library build.
 room = tempfile.TemporaryDirectory(prefix="zsched-library-test-")
+atexit.register(room.cleanup)
 folder = None
 
 
@@ -218,13 +219,8 @@ def setUpModule():
     compile_caller("caller", "-O2")
 
 
-def tearDownModule():
-    """Removes what was built."""
-    room.cleanup()
-
-
 def path(name):
-    """A file of this test."""
+    """A file of these tests."""
     return pathlib.Path(room.name) / name
 
 
@@ -874,35 +870,6 @@ def version_number():
     return 1_000_000 * major + 1000 * minor + patch
 
 
-class Busy:
-    """A server on this machine that answers its first requests with a code, and then with a text."""
-
-    def __init__(self, times, code=503):
-        self.asked = asked = []
-
-        class Handler(http.server.BaseHTTPRequestHandler):
-            def do_GET(self):
-                asked.append(code if len(asked) < times else 200)
-                self.send_response(asked[-1])
-                self.end_headers()
-                self.wfile.write(b"ready")
-
-            def log_message(self, *_):
-                pass
-        self.server = http.server.HTTPServer(("127.0.0.1", 0), Handler)
-        self.url = f"http://127.0.0.1:{self.server.server_port}/"
-        self.serving = threading.Thread(target=self.server.serve_forever, kwargs={"poll_interval": 0.01})
-
-    def __enter__(self):
-        self.serving.start()
-        return self
-
-    def __exit__(self, *_):
-        self.server.shutdown()
-        self.serving.join()
-        self.server.server_close()
-
-
 class Examples(unittest.TestCase):
     """The example of each binding, which really waits, and the program that makes the library."""
 
@@ -927,14 +894,14 @@ class Examples(unittest.TestCase):
         service, found = re.search(r"```python\n(.*?)```", (TOP / "docs" / "LIBRARY.md").read_text(), re.S)[1], {}
         self.assertEqual(len(service.splitlines()), 10)
         exec(service, found)
-        with Busy(2) as server:
+        with Flaky([503, 503, 200]) as server:
             begun = time.monotonic()
             self.assertEqual(found["fetch"](server.url), b"ready")
         self.assertGreaterEqual(time.monotonic() - begun, 0.3)
-        self.assertEqual(server.asked, [503, 503, 200])
-        with Busy(1, 404) as server, self.assertRaisesRegex(OSError, "404"):
+        self.assertEqual(len(server.moments), 3)
+        with Flaky([404]) as server, self.assertRaisesRegex(OSError, "404"):
             found["fetch"](server.url)
-        self.assertEqual(server.asked, [404])
+        self.assertEqual(len(server.moments), 1)
 
     def test_the_check_of_the_document_ends_a_service_whose_policy_may_go_on(self):
         found = re.findall(r"```python\n(.*?)```", (TOP / "docs" / "LIBRARY.md").read_text(), re.S)
