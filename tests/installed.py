@@ -22,8 +22,7 @@ import tempfile
 sys.dont_write_bytecode = True
 sys.path.insert(0, str(pathlib.Path(__file__).resolve().parent.parent / "tools"))
 
-from answers import BINDINGS, JNA, Missing, need
-from flaky import Flaky
+from answers import BINDINGS, JNA, Flaky, Missing, need
 from support import TOP, Count
 
 LIBRARY = pathlib.Path(os.environ.get("ZSCHED_LIBRARY_DIR", TOP / "crates" / "zs_c" / "out"))
@@ -241,7 +240,7 @@ LANGUAGES = {"C": c, "C++": cpp, "Python": python, "wheel": wheel, "Go": go, "No
 def judge(count, name, room, words, more):
     """Runs the client of a language against each server."""
     for told, (policy, codes, waits, text, status) in CASES.items():
-        with Flaky(*codes) as server:
+        with Flaky(codes) as server:
             ended = subprocess.run([*map(str, words), str(server.port), policy], cwd=room.place, capture_output=True, text=True,
                                    check=False, env={**room.environment, **{key: str(it) for key, it in more.items()}})
         gaps = [1000 * (later - earlier) for earlier, later in zip(server.moments, server.moments[1:])]

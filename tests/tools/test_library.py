@@ -25,8 +25,7 @@ import unittest
 import answers
 import generator
 import reference
-from answers import BINDINGS, ran
-from flaky import Flaky
+from answers import BINDINGS, Flaky, ran
 from support import TOP, tree
 from zsched_tools import program
 
@@ -189,7 +188,9 @@ BOUNDS = {
 }
 NOT_UTF8 = [b"\xff", b"\xc3", b"\xed\xa0\x80", b"\xf0\x9f\x98"]
 
+# What the files of tests of the library build.
 room = tempfile.TemporaryDirectory(prefix="zsched-library-test-")
+atexit.register(room.cleanup)
 folder = None
 
 
@@ -220,13 +221,8 @@ def setUpModule():
     compile_caller("caller", "-O2")
 
 
-def tearDownModule():
-    """Removes what was built."""
-    room.cleanup()
-
-
 def path(name):
-    """A file of this test."""
+    """A file of these tests."""
     return pathlib.Path(room.name) / name
 
 
@@ -900,14 +896,14 @@ class Examples(unittest.TestCase):
         service, found = re.search(r"```python\n(.*?)```", (TOP / "docs" / "LIBRARY.md").read_text(), re.S)[1], {}
         self.assertEqual(len(service.splitlines()), 10)
         exec(service, found)
-        with Flaky(503, 503, 200) as server:
+        with Flaky([503, 503, 200]) as server:
             begun = time.monotonic()
             self.assertEqual(found["fetch"](server.url), b"ready")
         self.assertGreaterEqual(time.monotonic() - begun, 0.3)
-        self.assertEqual(server.asked, [503, 503, 200])
-        with Flaky(404) as server, self.assertRaisesRegex(OSError, "404"):
+        self.assertEqual(len(server.moments), 3)
+        with Flaky([404]) as server, self.assertRaisesRegex(OSError, "404"):
             found["fetch"](server.url)
-        self.assertEqual(server.asked, [404])
+        self.assertEqual(len(server.moments), 1)
 
     def test_the_check_of_the_document_ends_a_service_whose_policy_may_go_on(self):
         found = re.findall(r"```python\n(.*?)```", (TOP / "docs" / "LIBRARY.md").read_text(), re.S)

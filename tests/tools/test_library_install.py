@@ -10,12 +10,11 @@ import re
 import shutil
 import subprocess
 import sys
-import tempfile
 import unittest
 
-import test_library
-from flaky import Flaky
+from answers import Flaky
 from support import TOP
+from test_library import made_library, path, version_number
 
 VERSION = (TOP / "VERSION").read_text().strip()
 HEADER = (TOP / "include" / "zsched.h").read_text()
@@ -75,20 +74,13 @@ case "$1" in
 esac
 """
 
-room = tempfile.TemporaryDirectory(prefix="zsched-install-test-")
 folder = None
 
 
 def setUpModule():
     """Builds the library. What is built of it is removed at the end."""
     global folder
-    folder = test_library.made_library()
-    unittest.addModuleCleanup(room.cleanup)
-
-
-def path(name):
-    """A file of this test."""
-    return pathlib.Path(room.name) / name
+    folder = made_library()
 
 
 def output(words, **more):
@@ -139,7 +131,7 @@ class Abi(unittest.TestCase):
         self.assertEqual(".".join(macros), VERSION)
         import zsched
         self.assertEqual(zsched.__version__, VERSION)
-        self.assertEqual(zsched.calls.library().zs_version(), test_library.version_number())
+        self.assertEqual(zsched.calls.library().zs_version(), version_number())
         bindings = TOP / "bindings"
         self.assertIn(f'\nversion = "{VERSION}"\n', (bindings / "rust" / "Cargo.toml").read_text())
         self.assertIn(f'"version": "{VERSION}"', (bindings / "node" / "package.json").read_text())
@@ -341,9 +333,9 @@ class Packages(unittest.TestCase):
             self.skipTest(f"there is no {PYTHON}")
         library = next(self.root.rglob("libzsched.so.0")).parent
         env = {"PYTHONPATH": str(self.root / "usr/lib/python3/dist-packages"), "LD_LIBRARY_PATH": str(library)}
-        with Flaky(503, 503, 200) as server:
+        with Flaky([503, 503, 200]) as server:
             self.assertEqual(output([PYTHON, "-B", "-c", CLIENT, server.url], env=env), f"{VERSION} ready\n")
-        self.assertEqual(server.asked, [503, 503, 200])
+        self.assertEqual(len(server.moments), 3)
 
     def test_a_service_in_c_is_built_from_there(self):
         path("packaged.c").write_text(SERVICE)
@@ -368,9 +360,9 @@ class Wheel(unittest.TestCase):
         self.assertRegex(wheel.name, rf"^zsched-{VERSION}-py3-none-linux_\w+\.whl$")
         shutil.unpack_archive(wheel, path("unpacked_wheel"), "zip")
         self.assertTrue((path("unpacked_wheel") / "zsched" / "py.typed").exists())
-        with Flaky(503, 200) as server:
+        with Flaky([503, 200]) as server:
             found = output([PYTHON, "-B", "-c", CLIENT, server.url], env={"PYTHONPATH": str(path("unpacked_wheel"))})
-        self.assertEqual((found, server.asked), (f"{VERSION} ready\n", [503, 200]))
+        self.assertEqual((found, len(server.moments)), (f"{VERSION} ready\n", 2))
 
 
 @unittest.skipIf(MISSING, f"not installed: {', '.join(MISSING)}")
