@@ -63,11 +63,12 @@ Runs-kept old new runs keeps few seated sum = record {
 }
 
 -- one more job
+pub jobs-add : (before after : Slots) (job : KeptJob) (task : TaskValue) (n : ℕ) → task ≡ record { number = n; job = job.0; keeps = job.1; moments = []; seen = 0; broken = false }
+    → after ≡ before ++ Some task ∷ [] → jobs_in after ≡ jobs_in before ++ job ∷ []
+jobs-add before after job task n made pushed = ap jobs_in pushed ∙ jobs_in-push before task ∙ ap (λ (t : TaskValue). jobs_in before ++ kept_of t ∷ []) made
+
 module _ (old new : Engine) (job : KeptJob) (task : TaskValue) (n : ℕ) (made : task ≡ record { number = n; job = job.0; keeps = job.1; moments = []; seen = 0; broken = false })
     (pushed : new.slots.items ≡ old.slots.items ++ Some task ∷ []) where
-  pub jobs-add : jobs_in new.slots.items ≡ jobs_in old.slots.items ++ job ∷ []
-  jobs-add = ap jobs_in pushed ∙ jobs_in-push old.slots.items task ∙ ap (λ (t : TaskValue). jobs_in old.slots.items ++ kept_of t ∷ []) made
-
   pub IsNew-add : IsNew old → length (jobs_in old.slots.items) < max_tasks → Keeps old new → new.seat ≡ old.seat → n ≡ length old.slots.items → IsScript task.job.script
       → new.agenda ≡ set_next old.agenda task.number (next_of (ticks_of old.clock) (current_timeline task).due) → IsNew new
   IsNew-add h few keeps seat same script set =
@@ -78,7 +79,7 @@ module _ (old new : Engine) (job : KeptJob) (task : TaskValue) (n : ℕ) (made :
       rests-push ticks old.slots.items old.agenda task h.rests.runs.rising before (ap (λ (t : TaskValue). t.number) made ∙ same) (ap (λ (t : TaskValue). t.moments) made)
       (ap (λ (t : TaskValue). t.seen) made) (ap (λ (t : TaskValue). t.broken) made) script in
       let runs = h.rests.runs in
-      let most : length (jobs_in new.slots.items) ≤ max_tasks = omega (arith, few, length-append (jobs_in old.slots.items) (job ∷ []), ap (λ (js : List KeptJob). length js) jobs-add) in
+      let most : length (jobs_in new.slots.items) ≤ max_tasks = omega (arith, few, length-append (jobs_in old.slots.items) (job ∷ []), ap (λ (js : List KeptJob). length js) (jobs-add old.slots.items new.slots.items job task n made pushed)) in
       record {
         rests = record {
           runs = Runs-kept old new runs keeps most (ap (λ (s : Seating). s.tally) seat ∙ runs.seated ∙ sym keeps.tally) (rw seat runs.sum);
