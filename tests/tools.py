@@ -94,8 +94,7 @@ def run_all(files, room):
     """Runs files side by side, those over the library once it is built; returns the counts."""
     # Each command compiles its sources when it starts, unless they are compiled here.
     os.environ["PYTHONPYCACHEPREFIX"] = sys.pycache_prefix = f"{room}/compiled"
-    for folder in [HERE, HERE.parent / "tools"]:
-        compileall.compile_dir(folder, quiet=1)
+    compileall.compile_dir(HERE.parent / "tools", quiet=1)
     order = {name: place for place, name in enumerate(LONGEST)}
     alone = sorted(set(files) - set(OVER_LIBRARY), key=lambda name: (order.get(name, len(order)), name))
     over = [name for name in OVER_LIBRARY if name in files]
