@@ -72,11 +72,11 @@ PARTS = {
 class Running:
     """A part that runs. Its output goes to a log, and on to standard output if it is in front."""
 
-    def __init__(self, name, part, log, words=()):
+    def __init__(self, name, part, log, words=(), **more):
         self.name, self.part, self.log = name, part, log
         self.begun, self.seconds, self.processor = time.monotonic(), 0.0, 0.0
         self.is_late, self.fed = False, part.beside and "--follow" in words
-        environment = {key: value for key, value in os.environ.items() if key not in REDIRECTS}
+        environment = {key: value for key, value in os.environ.items() if key not in REDIRECTS} | more
         self.process = subprocess.Popen(
             [*part.words, *words], cwd=TOP, env=environment, text=True, errors="replace", start_new_session=True,
             stdin=subprocess.PIPE if self.fed else subprocess.DEVNULL, stdout=subprocess.PIPE, stderr=subprocess.STDOUT)
@@ -171,9 +171,13 @@ class Gate:
 
     def start(self, name, *words):
         """Starts a part."""
+        more = {}
         if self.is_anew and name in ["proofs", "wrong-bodies"]:
             words = [*words, "--anew"]
-        run = Running(name, PARTS[name], self.folder / name, words)
+        elif self.is_anew:
+            # no archive of the library that is stored on this machine
+            more = {"XDG_CACHE_HOME": str(self.folder / "cache")}
+        run = Running(name, PARTS[name], self.folder / name, words, **more)
         self.runs.append(run)
         return run
 
