@@ -1,10 +1,14 @@
 """The programs bindings/*/answers.*, one for each language, which step schedules by list, by state and by program, and how
-each is built over a built library. bindings/c/answers.c says what they take and print."""
+each is built over a built library. bindings/c/answers.c says what they take and print. A server that
+programs retry is here too."""
+import http.server
 import os
 import pathlib
 import shutil
 import subprocess
 import sys
+import threading
+import time
 import typing
 
 from support import TOP
@@ -16,6 +20,37 @@ JNA = pathlib.Path("/usr/share/java/jna.jar")
 
 class Missing(Exception):
     """What a language needs isn't on this machine. The text says what."""
+
+
+class Flaky:
+    """A server on this machine that answers with these codes, and then with the last of them again."""
+
+    def __init__(self, codes):
+        self.moments = moments = []
+
+        class Handler(http.server.BaseHTTPRequestHandler):
+            def do_GET(self):
+                moments.append(time.monotonic())
+                self.send_response(codes[min(len(moments), len(codes)) - 1])
+                self.send_header("Content-Length", "5")
+                self.end_headers()
+                self.wfile.write(b"ready")
+
+            def log_message(self, *_):
+                pass
+        self.server = http.server.ThreadingHTTPServer(("127.0.0.1", 0), Handler)
+        self.port = self.server.server_port
+        self.url = f"http://127.0.0.1:{self.port}/"
+        self.serving = threading.Thread(target=self.server.serve_forever, kwargs={"poll_interval": 0.01})
+
+    def __enter__(self):
+        self.serving.start()
+        return self
+
+    def __exit__(self, *_):
+        self.server.shutdown()
+        self.serving.join()
+        self.server.server_close()
 
 
 class Program(typing.NamedTuple):

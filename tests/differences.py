@@ -43,10 +43,12 @@ static uint64_t chosen;
 uint64_t zs_chosen(void) { return chosen; }
 void zs_choose(uint64_t n) { chosen = n; }
 """
-# The same for a program, for which the environment picks the edit.
+# The same for a program of several crates with edits, for which the environment picks one. Each crate has this code, of
+# which the linker takes one.
 C_CODE_OF_A_PROGRAM = """#include <stdint.h>
 #include <stdlib.h>
-uint64_t zs_chosen(void) {
+#define SHARED __attribute__((weak))
+SHARED uint64_t zs_chosen(void) {
     static uint64_t chosen = UINT64_MAX;
     if (chosen == UINT64_MAX) {
         const char *text = getenv("ZS_CHOSEN");
@@ -54,7 +56,7 @@ uint64_t zs_chosen(void) {
     }
     return chosen;
 }
-void zs_choose(uint64_t n) { (void)n; }
+SHARED void zs_choose(uint64_t n) { (void)n; }
 """
 CHOICE = """// Which edit's body runs.
 unsafe extern "C" {
@@ -220,16 +222,23 @@ def try_crate(crate, edits, options):
     return told
 
 
-def build_with(edits, folder):
-    """Builds the program with all these edits, by number: pairs of a crate and an edit."""
+def plant_all(edits, folder):
+    """Plants edits in a copy of the crates, which is made in a folder: pairs of a crate and an edit, by number. Returns the
+    names of the crates that have them."""
     copy_crates(folder)
     crates = {}
     for number, (crate, edit) in edits.items():
         texts = texts_of(TOP / "crates" / crate)
         edit.place(texts)
         crates.setdefault(crate, ({}, texts))[0][number] = edit
-    for place, (crate, (some, texts)) in enumerate(crates.items()):
-        plant(folder / "crates" / crate, some, texts, "typedef int zs_nothing;\n" if place else C_CODE_OF_A_PROGRAM)
+    for crate, (some, texts) in crates.items():
+        plant(folder / "crates" / crate, some, texts, C_CODE_OF_A_PROGRAM)
+    return list(crates)
+
+
+def build_with(edits, folder):
+    """Builds the program with all these edits."""
+    crates = plant_all(edits, folder)
     program = folder / "program"
     unproved.build(folder / "crates" / "zsched", program, RT_ALLOW_C=",".join(crates))
     return program

@@ -64,7 +64,7 @@ PARTS = {
     "threads": Part(python("threads.py"), 20),
     "growth": Part(python("growth.py"), 40),
     "hostile": Part(python("hostile.py"), 60),
-    "survivors": Part(python("survivors.py", "--some", "5"), 90),
+    "survivors": Part(python("survivors.py", "--some", "5"), 90, beside=True),
     "gate": Part(python("test_gate.py"), 60),
 }
 
@@ -232,14 +232,15 @@ class Gate:
 
 
 def table(ended, yard, seconds, processor):
-    """The table of times, with the yardstick."""
+    """The table of times, with the yardstick if it was measured."""
     lines = [f"{'part':<14}{'crate':<18}{'seconds':>9}{'processor s':>13}{'passed':>8}{'failed':>8}"]
     for it, wall, used in ended:
         lines.append(f"{it.name:<14}{'':<18}{wall:>9.0f}{used:>13.0f}{it.passed:>8}{it.failed:>8}")
         lines += [f"{'':<14}{crate:<18}{wall:>9.0f}{used:>13.0f}" for crate, wall, used in it.rows]
     lines.append(f"{'all':<32}{seconds:>9.0f}{processor:>13.0f}")
-    lines.append(f"yardstick: {yardstick.NAME} of the toolchain's examples is proved in {yard:.1f} processor seconds; the gate took "
-                 f"{processor / yard:.0f} times that")
+    if yard:
+        lines.append(f"yardstick: {yardstick.NAME} of the toolchain's examples is proved in {yard:.1f} processor seconds; the gate "
+                     f"took {processor / yard:.0f} times that")
     return "\n".join(lines)
 
 
@@ -320,14 +321,15 @@ def main(words):
         signal.signal(number, lambda number, _: sys.exit(128 + number))
     with tempfile.TemporaryDirectory(prefix="zsched-check-") as folder:
         gate = Gate(folder, options.anew)
-        before, yard, begun = sum_of_sources(), yardstick.measure(), time.monotonic()
+        whole, before = not options.names, sum_of_sources()
+        yard, begun = yardstick.measure() if whole else None, time.monotonic()
         try:
             if not run(gate, options.names):
                 print("0 passed, 1 failed")
                 return 1
         finally:
             gate.stop()
-        return end(gate, not options.names, before, yard, begun)
+        return end(gate, whole, before, yard, begun)
 
 
 if __name__ == "__main__":

@@ -174,6 +174,12 @@ def pairs_of_a_history(count):
     return request("(exponential(10) && recurs(3))", [(moment, moment) for moment in range(count)])
 
 
+def steps_of_a_policy(count):
+    """The policy of docs/LIBRARY.md, stepped as often."""
+    policy = "((exponential(100) || spaced(5000)) && recurs(8)).whileInput(>= 500)"
+    return request(policy, [(moment, 503) for moment in range(count)])
+
+
 def long_text(count):
     """A schedule of so many bytes, at one pair."""
     return request("recurs(" + " " * count + "0)", [(0, 0)])
@@ -242,6 +248,8 @@ ROWS = [
         runs="library answer"),
     Row("pairs of steps", pairs_of_a_history, 2500, Cost(15_000, 31, 14.7),
         runs="library state"),
+    Row("steps of a program", steps_of_a_policy, 2500, Cost(2200, 31, 0.01),
+        runs="library program"),
     Row("leaves of a state", states, 100, Cost(800_000, 370, 240), runs="library state"),
     Row("steps of bounds", steps_of_bounds, 1000, Cost(4500, 0.01, 4.2), runs="library answer"),
     Row("leaves of bounds", leaves_of_bounds, 100, Cost(34_000, 333, 29.4),
@@ -338,6 +346,7 @@ def programs_of(folder, zsched, rows):
         if driver:
             programs["library answer"] = [driver, "answer"]
             programs["library state"] = [driver, "answer", "state"]
+            programs["library program"] = [driver, "answer", "program"]
     return programs
 
 

@@ -11,25 +11,26 @@ server that never answers is given up after the retries of the policy, and an an
 
 It needs no network. It takes the library of ZSCHED_LIBRARY_DIR, or that of tools/make-library. It isn't part of ./check. The
 last line is 'N passed, M failed'; a language that lacks a tool is named as left out."""
-import http.server
+import contextlib
 import os
 import pathlib
 import shutil
 import subprocess
 import sys
 import tempfile
-import threading
-import time
 
 sys.dont_write_bytecode = True
 sys.path.insert(0, str(pathlib.Path(__file__).resolve().parent.parent / "tools"))
 
-from answers import BINDINGS, JNA, Missing, need
+from answers import BINDINGS, JNA, Flaky, Missing, need
 from support import TOP, Count
 
 LIBRARY = pathlib.Path(os.environ.get("ZSCHED_LIBRARY_DIR", TOP / "crates" / "zs_c" / "out"))
 CLIENTS = TOP / "tests" / "clients"
 PYTHON = "/usr/bin/python3"
+# Where Debian's packages put Maven's plugins (libmaven-compiler-plugin-java and so on), and those that a jar needs.
+MAVEN = pathlib.Path("/usr/share/maven-repo")
+PLUGINS = ["compiler", "jar", "resources", "surefire"]
 UNWANTED = shutil.ignore_patterns("__pycache__", "target", "Cargo.lock", "*.node")
 # A policy, the codes of the server's answers, the milliseconds between requests at least, what is printed and the status.
 CASES = {
@@ -44,36 +45,6 @@ EARLY, LATE = 2, 3000
 
 class Failed(Exception):
     """A command failed. The text says which, and what it said."""
-
-
-class Flaky:
-    """A server on this machine that answers with these codes, and then with the last of them again."""
-
-    def __init__(self, codes):
-        self.moments = moments = []
-
-        class Handler(http.server.BaseHTTPRequestHandler):
-            def do_GET(self):
-                moments.append(time.monotonic())
-                self.send_response(codes[min(len(moments), len(codes)) - 1])
-                self.send_header("Content-Length", "5")
-                self.end_headers()
-                self.wfile.write(b"ready")
-
-            def log_message(self, *_):
-                pass
-        self.server = http.server.ThreadingHTTPServer(("127.0.0.1", 0), Handler)
-        self.port = self.server.server_port
-        self.serving = threading.Thread(target=self.server.serve_forever, kwargs={"poll_interval": 0.01})
-
-    def __enter__(self):
-        self.serving.start()
-        return self
-
-    def __exit__(self, *_):
-        self.server.shutdown()
-        self.serving.join()
-        self.server.server_close()
 
 
 class Room:
@@ -205,19 +176,48 @@ def node(room):
     return ["node", "fetch.js"], {}
 
 
-def java(room):
-    """Java, by the Debian package and a jar on the class path."""
+def java_client(room, library, jar):
+    """A client in Java, over a jar of the binding."""
+    path = f"{JNA}:{jar}"
+    room.run("javac", "-cp", path, "-d", "client", CLIENTS / "Fetch.java")
+    return ["java", "-cp", f"{path}:client", f"-Djna.library.path={library}", "Fetch"], {}
+
+
+def need_java():
+    """Raises Missing if Java or JNA isn't on this machine."""
     need("javac", "default-jdk-headless")
     if not JNA.exists():
         raise Missing(f"{JNA} (of the package libjna-java) isn't on this machine")
+
+
+def java(room):
+    """Java, by the Debian package and a jar on the class path."""
+    need_java()
     library = room.install("libzsched0")
     sources = sorted((BINDINGS / "java" / "zsched").glob("*.java"))
     room.run("javac", "-cp", JNA, "-d", "classes", *sources)
     room.run("jar", "--create", "--file", room.place / "zsched.jar", "-C", "classes", "zsched")
     shutil.rmtree(room.place / "classes")
-    path = f"{JNA}:{room.place / 'zsched.jar'}"
-    room.run("javac", "-cp", path, "-d", "client", CLIENTS / "Fetch.java")
-    return ["java", "-cp", f"{path}:client", f"-Djna.library.path={library}", "Fetch"], {}
+    return java_client(room, library, room.place / "zsched.jar")
+
+
+def maven(room):
+    """Java, by the Debian package and the jar that Maven makes, with the plugins that Debian has."""
+    need_java()
+    need("mvn", "maven")
+    lacking = [name for name in PLUGINS if not (MAVEN / f"org/apache/maven/plugins/maven-{name}-plugin").exists()]
+    if lacking:
+        raise Missing(f"Maven's plugins {', '.join(lacking)} aren't in {MAVEN}")
+    library, source, repository = room.install("libzsched0"), room.place / "source", room.place / "repository"
+    shutil.copytree(BINDINGS / "java", source, ignore=UNWANTED)
+    # Links to what isn't installed lead nowhere, and aren't needed.
+    with contextlib.suppress(shutil.Error):
+        shutil.copytree(MAVEN, repository)
+    room.run("mvn", "--offline", "--quiet", f"-Dmaven.repo.local={repository}", "-Dmaven.test.skip=true", "package", where=source)
+    made, = (source / "target").glob("zsched-*.jar")
+    if "META-INF/maven/zsched/zsched/pom.xml" not in room.run("jar", "--list", "--file", made).splitlines():
+        raise Failed(f"{made} has no pom")
+    return java_client(room, library, made)
 
 
 def rust(room):
@@ -233,7 +233,8 @@ def rust(room):
     return ["target/debug/fetch"], {}
 
 
-LANGUAGES = {"C": c, "C++": cpp, "Python": python, "wheel": wheel, "Go": go, "Node": node, "Java": java, "Rust": rust}
+LANGUAGES = {"C": c, "C++": cpp, "Python": python, "wheel": wheel, "Go": go, "Node": node, "Java": java, "Maven": maven,
+             "Rust": rust}
 
 
 def judge(count, name, room, words, more):

@@ -175,12 +175,14 @@ def writes_of(zsched, text):
         return list(iter(lambda: len(ours.recv(LONGEST_PIECE)), 0))
 
 
-def test_sizes(count, zsched):
-    """The plans past such sizes, and the number of writes of a report."""
+def test_sizes(count, zsched, only=None):
+    """The plans past such sizes, and the number of writes of a report; or only one of them."""
     for name, (text, wanted) in sizes():
-        count.test(name, run(zsched, text, seconds=PATIENCE), wanted)
-    text, (_, report, _) = many_attempts(2000)
-    count.test(ONE_WRITE, writes_of(zsched, text), [len(report)])
+        if name == (only or name):
+            count.test(name, run(zsched, text, seconds=PATIENCE), wanted)
+    if only in [None, ONE_WRITE]:
+        text, (_, report, _) = many_attempts(2000)
+        count.test(ONE_WRITE, writes_of(zsched, text), [len(report)])
 
 
 def plans():

@@ -1,7 +1,7 @@
 #!/usr/bin/env python3
 """Plants the wrong bodies that every contract lets through, and says which tests catch each.
 
-    python3 tests/survivors.py                    all of them; each takes one to five minutes
+    python3 tests/survivors.py                    all of them, in half an hour
     python3 tests/survivors.py --some 5           five of them, others on another day: the date chooses
     python3 tests/survivors.py --check            only whether each still applies, and what it names is there
 
@@ -13,16 +13,18 @@ tests/refused_growths.py, growth::ROW for a row of tests/growth.py, large_plans:
 library::TEST for a test of FromC in tests/tools/test_library.py, or `examples`, `reference` or `large_plans` for the plans
 of these parts of the gate.
 
-It is planted in a copy of the crates, which `rt try` builds and runs without any proof: the test that it names, or the
-plans of the part that it names. What `rt try` can't show of a plan, as a report of more than 1 MiB, is left out. For growth,
-for hostile and for one large plan the program is built without proofs and without the checks of `rt try`
-(tests/unproved.py). For library the library is proved and built, over the libraries that ./check built. The last line is
+All are planted in one copy of the crates, as tests/differences.py plants its edits: each function that they change gets a
+body for each of them, and a number picks one at run time. Of that copy the program, zs_refusals and the tests of a crate
+are built once, without proofs and without the checks of `rt try` (tests/unproved.py). What catches a survivor has to
+pass in them while no number is picked. An edit that changes more than bodies of functions has a copy for itself. So has
+each one for library: the library is proved and built, over the libraries that ./check built. The last line is
 'N passed, M failed', where a survivor passes that is caught; the exit status is 0 where M is 0, 1 where it isn't, and 2
-where one no longer applies or `rt` isn't there.
+where one no longer applies, what should catch it fails without it, or `rt` isn't there.
 
 With --wrong-bodies the edits are those of crates/NAME/wrong-bodies that name a test of a crate: the prover rejects these
 too, and the test shows them all the same."""
 import argparse
+import dataclasses
 import datetime
 import functools
 import os
@@ -35,6 +37,7 @@ import tempfile
 
 sys.dont_write_bytecode = True
 
+import differences
 import growth
 import large_plans
 import reference
@@ -46,13 +49,14 @@ from support import TOP
 from wrong_edits import BadEdit, Edit, edited, texts_of
 
 SEEDS = range(30)
-LONGEST_PLAN = 20000
+# How long a plan or a test may take, in seconds.
+PATIENCE = 60
+# How many times the instructions a row of growth.py may take while each changed function looks which body is picked.
+CHOOSING = 1.1
 PARTS = ["examples", "reference", "large_plans"]
 LIBRARY_TESTS = TOP / "tests" / "tools" / "test_library.py"
 # The line of a wrong body that a test of a crate shows.
 SHOWN_BY_A_TEST = re.compile(r"^caught-by: zs_\w+::", re.MULTILINE)
-# A test of a crate, with its name.
-TEST = re.compile(r"^#\[test\]\nfn (\w+)\(.*?\n}\n", re.MULTILINE | re.DOTALL)
 
 
 class Misfit(Exception):
@@ -74,10 +78,14 @@ class Survivor(Edit):
         """The crate whose test catches it, or the part of the gate, and the name in that if there is one."""
         return tuple(self.caught_by.partition("::")[::2])
 
+    def forget(self):
+        """Forgets its places."""
+        self.changes.clear()
+
     def place_in(self, folder):
         """Finds its places in the crates of a folder: the texts of its crate."""
         texts = texts_of(folder / "crates" / self.crate)
-        self.changes.clear()
+        self.forget()
         try:
             self.place(texts)
         except BadEdit as cause:
@@ -114,75 +122,108 @@ class Failures(support.Count):
             self.names.append(name)
 
 
-def write_cases(folder):
-    """Writes plans of three parts of the gate into a folder for each, with the reports beside them or the reference's."""
-    for part in PARTS:
-        (folder / part).mkdir(parents=True)
-    for path in TOP.glob("tests/plans/*.json"):
-        if path.stat().st_size < LONGEST_PLAN:
-            shutil.copy(path, folder / "examples")
-            shutil.copy(path.with_name(path.name + ".stdout"), folder / "examples")
-    plans = [(f"reference/seed_{seed}", plan_of(seed)) for seed in SEEDS]
-    plans += [("large_plans/500_attempts", large_plans.attempts_over_each_operator()),
-              ("large_plans/10500_polls", large_plans.plan([large_plans.job(0, "forever")], horizon=10500)),
-              ("large_plans/10500_rounds", large_plans.plan([large_plans.job(0, "forever" + ".map(+ 1)" * 63)], horizon=10500)),
-              ("large_plans/100001_ticks", large_plans.plan([large_plans.job(0, "spaced(9999)")], ticks=list(range(100001))))]
-    for name, text in plans:
-        status, report, _ = reference.answer(text)
-        if status == 0:
-            (folder / f"{name}.json").write_bytes(text)
-            (folder / f"{name}.json.stdout").write_bytes(report)
-
-
-def said_by_rt(crate, *words):
-    """What `rt` with these words says in a crate."""
-    ended = subprocess.run(["rt", *words], cwd=crate, stdin=subprocess.DEVNULL, capture_output=True, check=False)
-    return (ended.stdout + ended.stderr).decode(errors="replace")
-
-
-def copy_crates(folder, *without):
-    """Copies the crates into a folder, without files of these names."""
-    shutil.copytree(TOP / "crates", folder / "crates", ignore=shutil.ignore_patterns(*without))
-    shutil.copy(TOP / "crates.txt", folder)
-
-
-def passes(folder, crate, test):
-    """Whether a test of a crate passes in a copy, without any proof. The others are taken out of it first."""
-    for file in (folder / "crates" / crate / "src").rglob("*.rt"):
-        file.write_text(TEST.sub(lambda found: found[0] if found[1] == test else "", file.read_text()))
-    said = said_by_rt(folder / "crates" / crate, "try", "--test", "--steps", "1")
-    if not re.search(r"^tests: \d+$", said, re.MULTILINE):
-        raise Misfit(f"{crate}: rt try --test gave no verdict: {said[-500:]}")
-    return re.search(rf"^test (?:\w+::)*{test} \.\.\. ok$", said, re.MULTILINE) is not None
-
-
 @functools.cache
-def passes_unplanted(crate, test):
-    """Whether a test passes in a crate as it is. It could take too long for `rt try`."""
-    with tempfile.TemporaryDirectory(prefix="zsched-survivors-") as folder:
-        copy_crates(pathlib.Path(folder), "out")
-        return passes(pathlib.Path(folder), crate, test)
+def cases_of(part):
+    """Plans of a part of the gate: a name, a plan and its report each, from the file beside it or from the reference."""
+    if part == "examples":
+        return [(path.stem, path.read_bytes(), path.with_name(path.name + ".stdout").read_bytes())
+                for path in sorted(TOP.glob("tests/plans/*.json"))]
+    if part == "reference":
+        plans = [(f"seed {seed}", plan_of(seed)) for seed in SEEDS]
+    else:
+        plans = [("500 attempts", large_plans.attempts_over_each_operator()),
+                 ("10,500 polls", large_plans.plan([large_plans.job(0, "forever")], horizon=10500)),
+                 ("10,500 rounds", large_plans.plan([large_plans.job(0, "forever" + ".map(+ 1)" * 63)], horizon=10500)),
+                 ("100,001 ticks", large_plans.plan([large_plans.job(0, "spaced(9999)")], ticks=list(range(100001))))]
+    ends = [(name, text, *reference.answer(text)[:2]) for name, text in plans]
+    return [(name, text, report) for name, text, status, report in ends if status == 0]
 
 
-def built_in(copy, crate):
-    """A program of a copy, built without proofs."""
-    program = copy / "program"
-    try:
-        unproved.build(copy / "crates" / crate, program)
-    except unproved.NotBuilt as cause:
-        raise Misfit(str(cause)) from None
-    return program
+class Planted:
+    """Survivors in a copy of the crates. What is built of it is built once. One that is alone is planted as it is; of
+    several a number picks one, and the number 0 none."""
+
+    def __init__(self, folder, survivors, is_alone=False):
+        self.folder, self.built = folder, {}
+        self.numbers = {} if is_alone else {it.path: number for number, it in enumerate(survivors, 1)}
+        folder.mkdir()
+        if is_alone:
+            differences.copy_crates(folder)
+            survivors[0].apply(folder)
+            self.with_c = []
+        else:
+            self.with_c = differences.plant_all({self.numbers[it.path]: (it.crate, it) for it in survivors}, folder)
+
+    def pick(self, survivor):
+        """Picks a survivor, or none, for the programs that start from now on."""
+        os.environ["ZS_CHOSEN"] = str(self.numbers.get(survivor.path, 0) if survivor else 0)
+
+    def program(self, crate, *words):
+        """A program of the copy, or with the word --test that of a crate's tests, built without proofs."""
+        if crate not in self.built:
+            program = self.folder / f"{crate}.built"
+            try:
+                unproved.build(self.folder / "crates" / crate, program, *words, RT_ALLOW_C=",".join(self.with_c))
+            except unproved.NotBuilt as cause:
+                raise Misfit(f"{crate}: {cause}") from None
+            self.built[crate] = program
+        return self.built[crate]
 
 
-def caught_by_refusals(name, copy):
+def failed_tests(planted, crate, name):
+    """The test of a crate, if it fails in a copy."""
+    tests = planted.program(crate, "--test")
+    listed = re.findall(rf"^((?:\w+::)*{name}): test$", support.run([tests, "--list"], b"")[1].decode(), re.MULTILINE)
+    if len(listed) != 1:
+        raise Misfit(f"{crate} has {len(listed)} tests {name}")
+    return [name] if support.run([tests, listed[0]], b"", seconds=PATIENCE)[0] != 0 else []
+
+
+def failed_refusals(planted, name):
     """The cases of a function of refused_growths.py that fail with the program of a copy."""
-    support.ZSCHED = built_in(copy, "zsched")
+    support.ZSCHED = planted.program("zsched")
     failures = Failures()
-    getattr(refused_growths, name)(failures, refused_growths.Refuser(copy))
+    getattr(refused_growths, name)(failures, refused_growths.Refuser(planted.folder))
     return failures.names
 
 
-def caught_by_library(name, copy):
+def failed_growth(planted, name):
+    """The tests of a row of growth.py that fail with a program of a copy."""
+    if shutil.which("valgrind") is None:
+        raise Misfit("the command 'valgrind' isn't on this machine")
+    row = growth.ROWS_BY_NAME[name]
+    most = dataclasses.replace(row.most, instructions=CHOOSING * row.most.instructions)
+    row = dataclasses.replace(row, most=most)
+    failures = Failures()
+    growth.judge(failures, growth.Meter(planted.folder, {row.runs: [planted.program(row.runs)]}), row, False)
+    return failures.names
+
+
+def failed_size(planted, name):
+    """The plan of large_plans.py, if the program of a copy answers it otherwise."""
+    failures = Failures()
+    large_plans.test_sizes(failures, planted.program("zsched"), name)
+    return failures.names
+
+
+def failed_plans(planted, part):
+    """The plans of a part on which the program of a copy ends with other bytes or another status."""
+    program = planted.program("zsched")
+    return [name for name, text, report in cases_of(part) if support.run(program, text, seconds=PATIENCE)[:2] != (0, report)]
+
+
+def failed(planted, place, name):
+    """What fails in a copy with the survivor that was picked: of a part of the gate, or a test of a crate."""
+    if place == "hostile":
+        return failed_refusals(planted, name)
+    if place == "growth":
+        return failed_growth(planted, name)
+    if not name:
+        return failed_plans(planted, place)
+    return failed_size(planted, name) if place == "large_plans" else failed_tests(planted, place, name)
+
+
+def library_failure(name, copy):
     """The test of the library that fails over the library of a copy, which is proved and built."""
     for part in ["tools", "tests", "include"]:
         shutil.copytree(TOP / part, copy / part)
@@ -199,73 +240,69 @@ def caught_by_library(name, copy):
     return [name] if ended.returncode else []
 
 
-def grown_too_far(name, copy, program):
-    """The tests of a row of growth.py that fail with a program of a copy."""
-    row = growth.ROWS_BY_NAME[name]
-    failures = Failures()
-    growth.judge(failures, growth.Meter(copy, {row.runs: [program]}), row, False)
-    return failures.names
-
-
-def caught_by_growth(name, copy, whole):
-    """The same with a survivor in the copy. The program of the crates as they are, built once into a folder, has to pass."""
-    if shutil.which("valgrind") is None:
-        raise Misfit("the command 'valgrind' isn't on this machine")
-    runs = growth.ROWS_BY_NAME[name].runs
-    if not (whole / runs / "program").exists():
-        copy_crates(whole / runs, "out")
-        built_in(whole / runs, runs)
-    if failed := grown_too_far(name, whole, whole / runs / "program"):
-        raise Misfit(f"without a survivor the row fails too: {failed[0]}")
-    return grown_too_far(name, copy, built_in(copy, runs))
-
-
-def caught_by_size(name, copy):
-    """The plan of large_plans.py, if the program of a copy answers it otherwise."""
-    failures = Failures()
-    large_plans.test_sizes(failures, built_in(copy, "zsched"))
-    return failures.names if name in failures.names else []
-
-
-def caught_by_plans(copy, cases):
-    """The plans on which the program of a copy ends with other bytes or another status."""
-    said = said_by_rt(copy / "crates" / "zsched", "try", "--steps", "1", "--cases", str(cases))
-    ends = re.findall(r"^case=(\S+)\.json run=(\S+)(?: status=(\d+))?(.*)$", said, re.MULTILINE)
-    if not ends:
-        raise Misfit(f"rt try gave no verdict: {said[-500:]}")
-    return [name for name, *end, more in ends if end != ["ended", "0"] or "output=expected" not in more]
-
-
-def caught(survivor, copy, cases):
-    """What catches a survivor in a copy."""
-    place, name = survivor.where()
-    copy_crates(copy, *([] if place == "library" else ["out"]))
+def caught_by_library(survivor, folder):
+    """What catches a survivor in a copy of the crates with their proofs, of which the library is made."""
+    copy = folder / survivor.name
+    shutil.copytree(TOP / "crates", copy / "crates")
+    shutil.copy(TOP / "crates.txt", copy)
     survivor.apply(copy)
-    if place == "hostile":
-        return caught_by_refusals(name, copy)
-    if place == "library":
-        return caught_by_library(name, copy)
-    if place == "growth":
-        return caught_by_growth(name, copy, cases.parent / "whole")
-    if place == "large_plans" and name:
-        return caught_by_size(name, copy)
-    if not name:
-        return caught_by_plans(copy, cases / place)
-    if not passes_unplanted(place, name):
-        raise Misfit(f"{survivor.name}: {name} of {place} doesn't pass without it")
-    return [] if passes(copy, place, name) else [name]
+    found = library_failure(survivor.where()[1], copy)
+    shutil.rmtree(copy)
+    return found
+
+
+def is_only_bodies(survivor):
+    """Whether it changes nothing but bodies of functions, so that a number can pick it."""
+    try:
+        differences.bodies_of({1: survivor}, survivor.place_in(TOP))
+    except BadEdit:
+        return False
+    finally:
+        survivor.forget()
+    return True
+
+
+class Judge:
+    """Plants survivors in a folder, and says what catches each."""
+
+    def __init__(self, folder, survivors):
+        self.folder = pathlib.Path(folder)
+        here = [it for it in survivors if it.where()[0] != "library"]
+        self.common = [it for it in here if is_only_bodies(it)]
+        self.planted = Planted(self.folder / "common", self.common)
+        self.passed = set()
+
+    def pass_unplanted(self, place, name):
+        """What catches a survivor has to pass while none is picked."""
+        if (place, name) in self.passed:
+            return
+        self.planted.pick(None)
+        if fails := failed(self.planted, place, name):
+            raise Misfit(f"without a survivor {fails[0]} of {place} fails too")
+        self.passed.add((place, name))
+
+    def caught(self, survivor):
+        """What catches a survivor."""
+        place, name = survivor.where()
+        if place == "library":
+            return caught_by_library(survivor, self.folder)
+        self.pass_unplanted(place, name)
+        is_common = survivor in self.common
+        planted = self.planted if is_common else Planted(self.folder / survivor.name, [survivor], True)
+        planted.pick(survivor)
+        found = failed(planted, place, name)
+        if not is_common:
+            shutil.rmtree(planted.folder)
+        return found
 
 
 def judge(survivors):
     """Plants each in turn, prints what caught it, and returns how many nothing caught."""
     missed = 0
     with tempfile.TemporaryDirectory(prefix="zsched-survivors-") as folder:
-        cases = pathlib.Path(folder) / "cases"
-        write_cases(cases)
+        judging = Judge(folder, survivors)
         for survivor in survivors:
-            copy = pathlib.Path(folder) / survivor.name
-            found = caught(survivor, copy, cases)
-            shutil.rmtree(copy)
+            found = judging.caught(survivor)
             missed += not found
             told = ", ".join(found[:4]) + (f" and {len(found) - 4} more" if len(found) > 4 else "")
             print(f"{survivor.crate}/{survivor.name}: {f'caught by {told}' if found else 'NOT CAUGHT'}", flush=True)

@@ -1,7 +1,7 @@
 #!/usr/bin/env python3
 """Shows that the gate can fail: sabotages of a copy of the repository that must each be found, and the runner of wrong
-bodies over a crate whose edits have to be reported by name. It needs the toolchain and the program that was built last,
-and takes some two minutes. The last line is 'N passed, M failed'."""
+bodies over a crate whose edits have to be reported by name. It needs the toolchain and the program that was built last.
+The last line is 'N passed, M failed'."""
 import os
 import pathlib
 import shutil
@@ -153,11 +153,15 @@ def test_heads(count):
 
 
 def test_words(count):
-    """Words that name nothing, and the help."""
-    for words, status in [(["--help"], 0), (["none"], 2), (["quick", "examples"], 2), (["--none"], 2)]:
-        ended = subprocess.run([TOP / "check", *words], capture_output=True, text=True, timeout=60)
-        count.test(f"status of {words}", ended.returncode, status)
-        count.test(f"no traceback of {words}", "Traceback" in ended.stdout + ended.stderr, False)
+    """Words that name nothing, and the help, of the gate and of the runner of wrong bodies."""
+    check, runner = [TOP / "check"], [sys.executable, test_wrong_bodies.RUNNER]
+    for program, words, status in [
+        (check, ["--help"], 0), (check, ["none"], 2), (check, ["quick", "examples"], 2), (check, ["--none"], 2),
+        (runner, ["--help"], 0), (runner, ["--crate", "zs_none"], 2), (runner, ["--edit", "none"], 2), (runner, ["--none"], 2),
+    ]:
+        ended = subprocess.run([*program, *words], capture_output=True, text=True, timeout=60)
+        count.test(f"status of {program[-1].name} {words}", ended.returncode, status)
+        count.test(f"no traceback of {program[-1].name} {words}", "Traceback" in ended.stdout + ended.stderr, False)
 
 
 def main():

@@ -1,5 +1,7 @@
 """Tests of tests/wrong_bodies.py, which tests/test_gate.py runs: a crate of six functions with wrong bodies that the
-prover rejects, and with edits that must be reported by name, none of which hides another. They need the toolchain."""
+prover rejects, and with edits that must be reported by name, none of which hides another. They need the toolchain; what
+doesn't depend on proofs is tested with a script in its place."""
+import contextlib
 import datetime
 import os
 import pathlib
@@ -8,6 +10,7 @@ import subprocess
 import sys
 import tempfile
 import time
+import types
 
 sys.dont_write_bytecode = True
 
@@ -115,6 +118,21 @@ EDITS = [
 ]
 
 
+# A toolchain that proves nothing: `greater` and `up_to_ten` are open if they are asked for, and no other function.
+TOOL = """#!/bin/sh
+[ "$1" = version ] && echo none
+[ "$2" = --crate-name ] && [ -n "$SLOW" ] && exec sleep 60
+while [ $# -gt 0 ]; do
+  case "$1 $2" in
+    "--only greater" | "--only up_to_ten") echo "fn two_numbers::$2: no proof: \\`search\\` did not prove \\`returns-else\\`" ;;
+    "--only "*) echo "fn two_numbers::$2: proved" ;;
+  esac
+  shift
+done
+echo only=1 proved=1
+"""
+
+
 def make_crate(top):
     """Writes a repository of the one crate, with its edits."""
     folder = top / "crates" / "two_numbers"
@@ -131,11 +149,8 @@ def test_runner(count):
     """The whole runner on that crate."""
     with tempfile.TemporaryDirectory() as folder:
         make_crate(pathlib.Path(folder))
-        cache = {**os.environ, "XDG_CACHE_HOME": f"{folder}/cache"}
-        words = [sys.executable, RUNNER, "--top", folder]
-        ended = subprocess.run(words, capture_output=True, text=True, timeout=900, env=cache)
-        test_kept(count, folder, cache)
-        test_followed(count, folder, cache)
+        words = [sys.executable, RUNNER, "--top", folder, "--anew"]
+        ended = subprocess.run(words, capture_output=True, text=True, timeout=900)
     lines = ended.stdout.split("\n")
     print(ended.stdout + ended.stderr, end="")
     for name, _, told in EDITS:
@@ -147,18 +162,33 @@ def test_runner(count):
     count.test("status", ended.returncode, 1)
 
 
-def test_kept(count, folder, cache):
-    """An edit that passed isn't tried again, but with --anew; one that failed is; a change of the crate has all tried."""
-    words = [sys.executable, RUNNER, "--top", folder, "--edit", "the_lesser", "--edit", "no_limit"]
-    source = pathlib.Path(folder) / "crates" / "two_numbers" / "src" / "lib.rt"
-    for name, more, text, told in [("again", [], SOURCE, "2 of 2 wrong bodies were rejected by an earlier run"),
-                                   ("anew", ["--anew"], SOURCE, "2 of 2 wrong bodies rejected"),
-                                   ("with a comment more", [], SOURCE + "\n// More.\n", "2 of 2 wrong bodies were rejected by"),
-                                   ("changed", [], SOURCE + "\nfn more() {}\n", "2 of 2 wrong bodies rejected")]:
-        source.write_text(text, encoding="utf-8")
-        ended = subprocess.run([*words, *more], capture_output=True, text=True, timeout=900, env=cache)
-        count.test(f"edits that passed, {name}", told in ended.stdout or ended.stdout, True)
-        count.test(f"edits that passed, {name}: last line", ended.stdout.split("\n")[-2], "2 passed, 0 failed")
+@contextlib.contextmanager
+def without_proofs():
+    """The folder of a repository of that crate, and variables under which the toolchain is the script in its place."""
+    with tempfile.TemporaryDirectory() as folder:
+        make_crate(pathlib.Path(folder))
+        tools = pathlib.Path(folder) / "bin"
+        tools.mkdir()
+        for name in ["rt", "rattle"]:
+            (tools / name).write_text(TOOL, encoding="utf-8")
+            (tools / name).chmod(0o755)
+        yield folder, {**os.environ, "PATH": f"{tools}:{os.environ['PATH']}", "XDG_CACHE_HOME": f"{folder}/cache"}
+
+
+def test_kept(count):
+    """An edit that passed isn't tried again, but with --anew; a change of the crate has all tried."""
+    with without_proofs() as (folder, tools):
+        words = [sys.executable, RUNNER, "--top", folder, "--edit", "the_lesser", "--edit", "no_limit"]
+        source = pathlib.Path(folder) / "crates" / "two_numbers" / "src" / "lib.rt"
+        for name, more, text, told in [("at first", [], SOURCE, "2 of 2 wrong bodies rejected"),
+                                       ("again", [], SOURCE, "2 of 2 wrong bodies were rejected by an earlier run"),
+                                       ("anew", ["--anew"], SOURCE, "2 of 2 wrong bodies rejected"),
+                                       ("with a comment more", [], SOURCE + "\n// More.\n", "2 of 2 wrong bodies were rejected by"),
+                                       ("changed", [], SOURCE + "\nfn more() {}\n", "2 of 2 wrong bodies rejected")]:
+            source.write_text(text, encoding="utf-8")
+            ended = subprocess.run([*words, *more], capture_output=True, text=True, timeout=300, env=tools)
+            count.test(f"edits that passed, {name}", told in ended.stdout or ended.stdout, True)
+            count.test(f"edits that passed, {name}: last line", ended.stdout.split("\n")[-2], "2 passed, 0 failed")
 
 
 def test_code(count):
@@ -174,41 +204,30 @@ def test_code(count):
         count.test(f"the code of {name}", code_of(path, text), wanted)
 
 
-def test_followed(count, folder, cache):
-    """A crate is tried once it is named as proved; one that never is has failed."""
-    words = [sys.executable, RUNNER, "--top", folder, "--edit", "the_lesser", "--edit", "a_right_body", "--follow"]
-    for text, last in [("two_numbers\n", "1 passed, 1 failed"), ("another\n", "0 passed, 2 failed")]:
-        ended = subprocess.run(words, input=text, capture_output=True, text=True, timeout=900, env=cache)
-        count.test(f"--follow with {text.strip()}", ended.stdout.split("\n")[-2], last)
+def test_followed(count):
+    """A crate is tried once it is named as proved; one that never is has failed. An edit that failed is tried again."""
+    with without_proofs() as (folder, tools):
+        words = [sys.executable, RUNNER, "--top", folder, "--edit", "the_lesser", "--edit", "a_right_body", "--follow"]
+        for text, last in [("two_numbers\n", "1 passed, 1 failed"), ("two_numbers\n", "1 passed, 1 failed"),
+                           ("another\n", "0 passed, 2 failed")]:
+            ended = subprocess.run(words, input=text, capture_output=True, text=True, timeout=300, env=tools)
+            count.test(f"--follow with {text.strip()}", ended.stdout.split("\n")[-2], last)
 
 
 def test_turns(count):
     """A crate over whose files all edits were rejected before is left out on all days but one of five, and no other."""
     trials = [Trial(Crate(pathlib.Path(), name, []), [], None) for name in ["a", "b", "c", "d"]]
-    passed = Listed({"a": "a", "b": "b", "c": "older"})
+    # The checksum of a crate as it is is its name.
+    passed = types.SimpleNamespace(listed=lambda: {"a": "a", "b": "b", "c": "older"}, sum_of_all=lambda crate, _: crate.name)
+    days = {"a": 0, "b": 0}
     for day in range(1, 11):
         give_turns(trials, passed, datetime.date(2026, 1, day))
         turns = [it.has_turn for it in trials]
         count.test(f"turns of what is listed on day {day}", sum(turns[:2]) <= 1, True)
         count.test(f"turns of what is not listed on day {day}", turns[2:], [True, True])
-        passed.days["a"] += turns[0]
-        passed.days["b"] += turns[1]
-    count.test("turns in ten days", passed.days, {"a": 2, "b": 2})
-
-
-class Listed:
-    """What a file of rejected wrong bodies lists: the checksum of a crate is its name."""
-
-    def __init__(self, sums):
-        self.sums, self.days = sums, {"a": 0, "b": 0}
-
-    def listed(self):
-        """The listed checksums."""
-        return self.sums
-
-    def sum_of_all(self, crate, _):
-        """The checksum of a crate as it is."""
-        return crate.name
+        days["a"] += turns[0]
+        days["b"] += turns[1]
+    count.test("turns in ten days", days, {"a": 2, "b": 2})
 
 
 def edit_of(folder, lines):
@@ -268,14 +287,6 @@ def test_said(count):
     count.test("what is open of its own", said.open_of_their_own(), found)
 
 
-def test_words(count):
-    """Words that name nothing, and the help."""
-    for words, status in [(["--help"], 0), (["--crate", "zs_none"], 2), (["--edit", "none"], 2), (["--none"], 2)]:
-        ended = subprocess.run([sys.executable, RUNNER, *words], capture_output=True, text=True, timeout=60)
-        count.test(f"status of {words}", ended.returncode, status)
-        count.test(f"no traceback of {words}", "Traceback" in ended.stdout + ended.stderr, False)
-
-
 def working_in(folder):
     """The processes that work below a folder."""
     found = []
@@ -291,23 +302,23 @@ def working_in(folder):
 def test_end(count):
     """A runner that is ended leaves no process and no folder behind; one that is killed no process."""
     for number, status, left in [(signal.SIGTERM, 128 + signal.SIGTERM, 0), (signal.SIGKILL, -signal.SIGKILL, 1)]:
-        with tempfile.TemporaryDirectory() as folder, tempfile.TemporaryDirectory() as rooms:
-            make_crate(pathlib.Path(folder))
-            words = [sys.executable, RUNNER, "--top", folder]
+        with without_proofs() as (folder, tools), tempfile.TemporaryDirectory() as rooms:
             quiet = {"stdout": subprocess.DEVNULL, "stderr": subprocess.DEVNULL}
-            started = subprocess.Popen(words, **quiet, env={**os.environ, "TMPDIR": rooms})
-            found, until = [], time.monotonic() + 300
-            while not found and time.monotonic() < until:
-                time.sleep(0.1)
-                found = working_in(rooms)
-            count.test("a check has begun", bool(found), True)
+            started = subprocess.Popen([sys.executable, RUNNER, "--top", folder], **quiet, env={**tools, "TMPDIR": rooms, "SLOW": "yes"})
+            is_begun = waited_for(lambda: working_in(rooms))
+            count.test("a check has begun", is_begun, True)
             started.send_signal(number)
             count.test(f"status after signal {number}", started.wait(120), status)
-            until = time.monotonic() + 60
-            while working_in(rooms) and time.monotonic() < until:
-                time.sleep(0.1)
-            count.test(f"processes after signal {number}", working_in(rooms), [])
+            count.test(f"no process after signal {number}", waited_for(lambda: not working_in(rooms)), True)
             count.test(f"folders after signal {number}", len(os.listdir(rooms)), left)
+
+
+def waited_for(holds):
+    """Whether something holds within five minutes."""
+    until = time.monotonic() + 300
+    while not holds() and time.monotonic() < until:
+        time.sleep(0.1)
+    return bool(holds())
 
 
 def test_all(count):
@@ -316,6 +327,7 @@ def test_all(count):
     test_said(count)
     test_turns(count)
     test_code(count)
-    test_words(count)
+    test_kept(count)
+    test_followed(count)
     test_end(count)
     test_runner(count)

@@ -76,9 +76,9 @@ def copy_kit(kit, target, program):
     (target / "c" / "asan.a").write_bytes(b"!<arch>\n")
 
 
-def build(crate, program, **more):
-    """Builds the program of a crate's folder into a file, under more variables. What `rt try` does
-    after that isn't waited for."""
+def build(crate, program, *words, **more):
+    """Builds the program of a crate's folder into a file, or with the word --test that of its
+    tests, under more variables. What `rt try` does after that isn't waited for."""
     found = shutil.which("rt")
     if found is None:
         raise NotBuilt("the command 'rt' isn't on this machine")
@@ -86,8 +86,8 @@ def build(crate, program, **more):
         kit, said = pathlib.Path(room, "kit"), pathlib.Path(room, "said")
         copy_kit(pathlib.Path(found).resolve().parent.parent, kit, program)
         with open(said, "wb") as log, subprocess.Popen(
-                [kit / "bin" / "rt", "try", "--steps", "1"], cwd=crate, stdin=subprocess.DEVNULL,
-                stdout=log, stderr=log, start_new_session=True,
+                [kit / "bin" / "rt", "try", *words, "--steps", "1"], cwd=crate,
+                stdin=subprocess.DEVNULL, stdout=log, stderr=log, start_new_session=True,
                 env={**os.environ, **more}) as running:
             while running.poll() is None and not program.exists():
                 time.sleep(0.5)

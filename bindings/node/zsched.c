@@ -96,15 +96,22 @@ static napi_value state_size(napi_env env, napi_callback_info info)
     return result(env, zs_state_size(text.data, text.length, size.data, at.data));
 }
 
+/* A call that writes words for a text: (text, words, at) */
+static napi_value written(napi_env env, napi_callback_info info,
+                          uint32_t (*call)(const uint8_t *, size_t, uint64_t *, size_t, uint64_t *))
+{
+    napi_value given[MOST];
+    span text, made, at;
+    if (!arguments(env, info, 3, given) || !bytes(env, given[0], &text) || !words(env, given[1], 0, &made) ||
+        !words(env, given[2], 1, &at))
+        return NULL;
+    return result(env, call(text.data, text.length, made.data, made.length, at.data));
+}
+
 /* begin(text, state, at) */
 static napi_value begin(napi_env env, napi_callback_info info)
 {
-    napi_value given[MOST];
-    span text, state, at;
-    if (!arguments(env, info, 3, given) || !bytes(env, given[0], &text) || !words(env, given[1], 0, &state) ||
-        !words(env, given[2], 1, &at))
-        return NULL;
-    return result(env, zs_begin(text.data, text.length, state.data, state.length, at.data));
+    return written(env, info, zs_begin);
 }
 
 /* step(text, state, moment, input, reply, out) */
@@ -135,12 +142,7 @@ static napi_value program_size(napi_env env, napi_callback_info info)
 /* compile(text, program, at) */
 static napi_value compile(napi_env env, napi_callback_info info)
 {
-    napi_value given[MOST];
-    span text, program, at;
-    if (!arguments(env, info, 3, given) || !bytes(env, given[0], &text) || !words(env, given[1], 0, &program) ||
-        !words(env, given[2], 1, &at))
-        return NULL;
-    return result(env, zs_compile(text.data, text.length, program.data, program.length, at.data));
+    return written(env, info, zs_compile);
 }
 
 /* programBegin(program, state) */

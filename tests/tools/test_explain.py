@@ -15,6 +15,7 @@ import unittest
 import unittest.mock
 
 import faults as faults_table
+from commands import InFolder, judge_colours
 from mistakes import MISTAKES
 from mutate import changed_plans
 from support import ONE_JOB, TOP, job, plan
@@ -266,14 +267,12 @@ class Large(unittest.TestCase):
         self.assertEqual(found, (2, "", "zsched: plan: out of range"))
 
 
-class Use(unittest.TestCase):
+class Use(InFolder):
     """The command's words, streams and statuses."""
 
     def setUp(self):
+        super().setUp()
         self.zsched = program.find()
-        folder = tempfile.TemporaryDirectory()
-        self.addCleanup(folder.cleanup)
-        self.folder = pathlib.Path(folder.name)
         self.faulty = ONE_JOB.replace(b"recurs(3)", b"recurs(3s)")
         (self.folder / "plan.json").write_bytes(self.faulty)
         (self.folder / "good.json").write_bytes(ONE_JOB)
@@ -369,16 +368,7 @@ class Use(unittest.TestCase):
                 self.assertEqual(re.sub(r"\x1b\[[0-9;]*m", "", errors), plain)
 
     def test_colours_on_a_terminal(self):
-        for environment, is_painted in [({"TERM": "xterm"}, True), ({"TERM": "xterm", "NO_COLOR": "1"}, False),
-                                        ({"TERM": "dumb"}, False)]:
-            with self.subTest(environment):
-                master, slave = os.openpty()
-                with os.fdopen(master, "rb", 0) as terminal:
-                    subprocess.run([sys.executable, COMMAND, "plan.json"], stderr=slave, cwd=self.folder, check=False,
-                                   env={"PATH": os.environ["PATH"], "ZSCHED": self.zsched, **environment})
-                    os.close(slave)
-                    said = terminal.read(4000)
-                self.assertEqual(b"\x1b[" in said, is_painted, said)
+        judge_colours(self, [sys.executable, COMMAND, "plan.json"], "stderr", self.folder, ZSCHED=self.zsched)
 
     def test_a_reader_that_goes_away_ends_it_quietly(self):
         for name, stream in [("good.json", "stdout"), ("plan.json", "stderr")]:

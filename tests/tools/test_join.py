@@ -13,6 +13,7 @@ import unittest
 from unittest import mock
 
 import support
+from commands import InFolder
 from zsched_tools import join, processes
 from zsched_tools.command import Refused
 from zsched_tools.split import write_parts
@@ -40,14 +41,12 @@ def make_population(folder, names=JOBS, more=""):
     return folder
 
 
-class Known(unittest.TestCase):
+class Known(InFolder):
     """Parts that a manifest knows."""
 
     def setUp(self):
-        temporary = tempfile.TemporaryDirectory()
-        self.addCleanup(temporary.cleanup)
-        self.top = pathlib.Path(temporary.name)
-        self.folder = make_population(self.top / "parts")
+        super().setUp()
+        self.top, self.folder = self.folder, make_population(self.folder / "parts")
 
     def file(self, number, ending):
         """A file of a part."""

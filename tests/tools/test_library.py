@@ -8,7 +8,6 @@ import atexit
 import concurrent.futures
 import ctypes
 import functools
-import http.server
 import multiprocessing
 import os
 import pathlib
@@ -26,7 +25,7 @@ import unittest
 import answers
 import generator
 import reference
-from answers import BINDINGS, ran
+from answers import BINDINGS, Flaky, ran
 from support import TOP, tree
 from zsched_tools import program
 
@@ -39,6 +38,8 @@ REFUSED_STEPS = 60
 UNDER_VALGRIND = 60
 UNTOUCHED = "aa"
 WRAPPED = ["-Wl,--wrap=malloc,--wrap=realloc,--wrap=free", "-lpthread"]
+# Where Debian's packages put the sources of crates.
+CRATES = pathlib.Path("/usr/share/cargo/registry")
 STRICT = ["-std=gnu11", "-Wall", "-Wextra", "-Werror", "-pedantic"]
 # A short program of Java isn't worth much compiling.
 QUICK = ["-XX:TieredStopAtLevel=1", "-XX:+UseSerialGC"]
@@ -187,7 +188,9 @@ BOUNDS = {
 }
 NOT_UTF8 = [b"\xff", b"\xc3", b"\xed\xa0\x80", b"\xf0\x9f\x98"]
 
+# What the files of tests of the library build.
 room = tempfile.TemporaryDirectory(prefix="zsched-library-test-")
+atexit.register(room.cleanup)
 folder = None
 
 
@@ -218,13 +221,8 @@ def setUpModule():
     compile_caller("caller", "-O2")
 
 
-def tearDownModule():
-    """Removes what was built."""
-    room.cleanup()
-
-
 def path(name):
-    """A file of this test."""
+    """A file of these tests."""
     return pathlib.Path(room.name) / name
 
 
@@ -874,35 +872,6 @@ def version_number():
     return 1_000_000 * major + 1000 * minor + patch
 
 
-class Busy:
-    """A server on this machine that answers its first requests with a code, and then with a text."""
-
-    def __init__(self, times, code=503):
-        self.asked = asked = []
-
-        class Handler(http.server.BaseHTTPRequestHandler):
-            def do_GET(self):
-                asked.append(code if len(asked) < times else 200)
-                self.send_response(asked[-1])
-                self.end_headers()
-                self.wfile.write(b"ready")
-
-            def log_message(self, *_):
-                pass
-        self.server = http.server.HTTPServer(("127.0.0.1", 0), Handler)
-        self.url = f"http://127.0.0.1:{self.server.server_port}/"
-        self.serving = threading.Thread(target=self.server.serve_forever, kwargs={"poll_interval": 0.01})
-
-    def __enter__(self):
-        self.serving.start()
-        return self
-
-    def __exit__(self, *_):
-        self.server.shutdown()
-        self.serving.join()
-        self.server.server_close()
-
-
 class Examples(unittest.TestCase):
     """The example of each binding, which really waits, and the program that makes the library."""
 
@@ -927,14 +896,14 @@ class Examples(unittest.TestCase):
         service, found = re.search(r"```python\n(.*?)```", (TOP / "docs" / "LIBRARY.md").read_text(), re.S)[1], {}
         self.assertEqual(len(service.splitlines()), 10)
         exec(service, found)
-        with Busy(2) as server:
+        with Flaky([503, 503, 200]) as server:
             begun = time.monotonic()
             self.assertEqual(found["fetch"](server.url), b"ready")
         self.assertGreaterEqual(time.monotonic() - begun, 0.3)
-        self.assertEqual(server.asked, [503, 503, 200])
-        with Busy(1, 404) as server, self.assertRaisesRegex(OSError, "404"):
+        self.assertEqual(len(server.moments), 3)
+        with Flaky([404]) as server, self.assertRaisesRegex(OSError, "404"):
             found["fetch"](server.url)
-        self.assertEqual(server.asked, [404])
+        self.assertEqual(len(server.moments), 1)
 
     def test_the_check_of_the_document_ends_a_service_whose_policy_may_go_on(self):
         found = re.findall(r"```python\n(.*?)```", (TOP / "docs" / "LIBRARY.md").read_text(), re.S)
@@ -946,17 +915,30 @@ class Examples(unittest.TestCase):
             with self.assertRaisesRegex(SystemExit, f"^{re.escape(other)} may go on for too long: Bounds"):
                 exec(check, {"POLICY": other})
 
-    def test_the_example_in_rust_waits_for_its_server(self):
+    def crate(self, name):
+        """A copy of the binding for Rust, and the variables for its programs."""
         if not shutil.which("cargo"):
             self.skipTest("cargo isn't on this machine")
-        crate = path("rust")
-        shutil.copytree(BINDINGS / "rust", crate, ignore=shutil.ignore_patterns("target", "Cargo.lock"))
-        more = {"ZSCHED_LIBRARY_DIR": str(folder), "RUSTFLAGS": "-D warnings", "CARGO_INCREMENTAL": "0", "CARGO_PROFILE_DEV_DEBUG": "0"}
+        shutil.copytree(BINDINGS / "rust", path(name), ignore=shutil.ignore_patterns("target", "Cargo.lock"))
+        return path(name), {"ZSCHED_LIBRARY_DIR": str(folder), "RUSTFLAGS": "-D warnings", "CARGO_INCREMENTAL": "0",
+                            "CARGO_PROFILE_DEV_DEBUG": "0"}
+
+    def test_the_example_in_rust_waits_for_its_server(self):
+        crate, more = self.crate("rust")
         said = ran(["cargo", "run", "--quiet", "--offline", "--example", "retry"], crate, **more)
         self.assertEqual(said, 'Ok("ready") after 4 attempts\n')
         tested = ran(["cargo", "test", "--quiet", "--offline"], crate, **more)
-        self.assertEqual(re.findall(r"\d+ passed", tested), ["5 passed", "2 passed"])
+        self.assertEqual(re.findall(r"\d+ passed", tested), ["6 passed", "2 passed"])
         ran(["cargo", "check", "--quiet", "--offline", "--no-default-features"], crate, **more)
+
+    def test_the_example_under_tokio_waits_for_its_server(self):
+        if not any(CRATES.glob("tokio-1.*")):
+            self.skipTest("tokio (of the package librust-tokio-dev) isn't on this machine")
+        crate, more = self.crate("rust-tokio")
+        places = {"crates-io.replace-with": "debian", "debian.directory": CRATES}
+        words = [word for name, place in places.items() for word in ["--config", f'source.{name}="{place}"']]
+        said = ran(["cargo", "run", "--quiet", "--offline", *words], crate / "tokio", **more)
+        self.assertEqual(said, 'Ok("ready") after 4 attempts\n')
 
     def test_the_example_in_java_waits_for_its_server(self):
         path("Steps.java").write_text(STEPS)

@@ -10,16 +10,17 @@ import re
 import shutil
 import subprocess
 import sys
-import tempfile
 import unittest
 
-import test_library
+from answers import Flaky
 from support import TOP
+from test_library import made_library, path, version_number
 
 VERSION = (TOP / "VERSION").read_text().strip()
 HEADER = (TOP / "include" / "zsched.h").read_text()
 ABI = (TOP / "include" / "zsched.abi").read_text()
 DEBIAN = [tool for tool in ["dpkg", "dpkg-deb", "objdump", "strip"] if shutil.which(tool) is None]
+MISSING = [tool for tool in ["cargo", "git"] if shutil.which(tool) is None]
 PYTHON = "/usr/bin/python3"
 # A service in C: it asks until there is an answer, by the state of a schedule, and prints the moments.
 SERVICE = r'''
@@ -73,24 +74,13 @@ case "$1" in
 esac
 """
 
-room = tempfile.TemporaryDirectory(prefix="zsched-install-test-")
 folder = None
 
 
 def setUpModule():
-    """Builds the library."""
+    """Builds the library. What is built of it is removed at the end."""
     global folder
-    folder = test_library.made_library()
-
-
-def tearDownModule():
-    """Removes what was built."""
-    room.cleanup()
-
-
-def path(name):
-    """A file of this test."""
-    return pathlib.Path(room.name) / name
+    folder = made_library()
 
 
 def output(words, **more):
@@ -141,7 +131,7 @@ class Abi(unittest.TestCase):
         self.assertEqual(".".join(macros), VERSION)
         import zsched
         self.assertEqual(zsched.__version__, VERSION)
-        self.assertEqual(zsched.calls.library().zs_version(), test_library.version_number())
+        self.assertEqual(zsched.calls.library().zs_version(), version_number())
         bindings = TOP / "bindings"
         self.assertIn(f'\nversion = "{VERSION}"\n', (bindings / "rust" / "Cargo.toml").read_text())
         self.assertIn(f'"version": "{VERSION}"', (bindings / "node" / "package.json").read_text())
@@ -284,6 +274,13 @@ class Installed(unittest.TestCase):
         self.judge(build / "shared")
         self.judge(build / "static")
 
+    def test_make_install_puts_the_same_files(self):
+        if not shutil.which("make"):
+            self.skipTest("make isn't installed")
+        output(["make", "-s", "-C", TOP, "install", f"DESTDIR={path('made')}", "PREFIX=/usr", "LIBDIR=lib/zs", f"LIBRARY={folder}"])
+        found, wanted = (sorted(str(it.relative_to(root)) for it in root.rglob("*")) for root in [path("made"), self.root])
+        self.assertEqual(found, wanted)
+
     def test_a_prefix_that_is_no_path_is_refused(self):
         words = [TOP / "tools/install-library", "--destdir", path("other"), "--prefix", "usr"]
         ended = subprocess.run(words, capture_output=True, text=True, check=False)
@@ -336,9 +333,9 @@ class Packages(unittest.TestCase):
             self.skipTest(f"there is no {PYTHON}")
         library = next(self.root.rglob("libzsched.so.0")).parent
         env = {"PYTHONPATH": str(self.root / "usr/lib/python3/dist-packages"), "LD_LIBRARY_PATH": str(library)}
-        with test_library.Busy(2) as server:
+        with Flaky([503, 503, 200]) as server:
             self.assertEqual(output([PYTHON, "-B", "-c", CLIENT, server.url], env=env), f"{VERSION} ready\n")
-        self.assertEqual(server.asked, [503, 503, 200])
+        self.assertEqual(len(server.moments), 3)
 
     def test_a_service_in_c_is_built_from_there(self):
         path("packaged.c").write_text(SERVICE)
@@ -363,9 +360,28 @@ class Wheel(unittest.TestCase):
         self.assertRegex(wheel.name, rf"^zsched-{VERSION}-py3-none-linux_\w+\.whl$")
         shutil.unpack_archive(wheel, path("unpacked_wheel"), "zip")
         self.assertTrue((path("unpacked_wheel") / "zsched" / "py.typed").exists())
-        with test_library.Busy(1) as server:
+        with Flaky([503, 200]) as server:
             found = output([PYTHON, "-B", "-c", CLIENT, server.url], env={"PYTHONPATH": str(path("unpacked_wheel"))})
-        self.assertEqual((found, server.asked), (f"{VERSION} ready\n", [503, 200]))
+        self.assertEqual((found, len(server.moments)), (f"{VERSION} ready\n", 2))
+
+
+@unittest.skipIf(MISSING, f"not installed: {', '.join(MISSING)}")
+class Crate(unittest.TestCase):
+    """The binding for Rust as a registry takes it."""
+
+    def test_cargo_would_publish_it(self):
+        index, crate = path("index"), path("crate")
+        index.mkdir()
+        (index / "config.json").write_text('{"dl": "file:///nowhere", "api": "file:///nowhere"}')
+        named = ["-c", "user.name=zsched", "-c", "user.email=zsched@example.org"]
+        for words in [["init", "--quiet"], ["add", "config.json"], [*named, "commit", "--quiet", "--message", "index"]]:
+            output(["git", *words], cwd=index)
+        shutil.copytree(TOP / "bindings" / "rust", crate, ignore=shutil.ignore_patterns("target", "Cargo.lock"))
+        words = ["cargo", "publish", "--dry-run", "--allow-dirty", "--index", f"file://{index}"]
+        ended = subprocess.run(words, cwd=crate, capture_output=True, text=True, check=False,
+                               env={**os.environ, "ZSCHED_LIBRARY_DIR": str(folder), "CARGO_TARGET_DIR": str(path("target"))})
+        self.assertEqual(ended.returncode, 0, ended.stderr)
+        self.assertIn("aborting upload due to dry run", ended.stderr)
 
 
 if __name__ == "__main__":

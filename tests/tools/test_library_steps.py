@@ -3,9 +3,7 @@
 
 A language whose compiler isn't on this machine is skipped, by name."""
 import functools
-import pathlib
 import random
-import tempfile
 import unittest
 
 import answers
@@ -17,20 +15,6 @@ from support import TOP
 KEEPS_LIST = "6,0"
 WAYS = ["list", "state", "program"]
 MOST_NODES = 60
-
-room = tempfile.TemporaryDirectory(prefix="zsched-steps-test-")
-folder = None
-
-
-def setUpModule():
-    """Builds the library."""
-    global folder
-    folder = test_library.made_library()
-
-
-def tearDownModule():
-    """Removes what was built."""
-    room.cleanup()
 
 
 class History:
@@ -118,7 +102,7 @@ class Languages(unittest.TestCase):
     def judge(self, language):
         """Compares what the program of a language prints, in all three ways, with what the reference says."""
         try:
-            made = answers.LANGUAGES[language](pathlib.Path(room.name), folder)
+            made = answers.LANGUAGES[language](test_library.path(""), test_library.made_library())
         except answers.Missing as fault:
             self.skipTest(f"{language}: {fault}")
         chosen = [it for it in histories() if made.takes_bytes or is_utf8(it.text)]

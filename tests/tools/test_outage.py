@@ -16,6 +16,7 @@ from unittest import mock
 
 import reference
 from browser import CHROMIUM, inside, opened
+from commands import InFolder, run_here
 from support import TOP
 from zsched_tools import certificate, curve, curve_page, curve_picture, drawn, outage, outage_command, scenario, starting
 from zsched_tools import program as zsched
@@ -92,23 +93,11 @@ def endings(given, name="steady"):
 def tool(given, *words, program=None, text=None):
     """Runs the command on a scenario, in this process: status, standard output, standard error."""
     data = text if text is not None else json.dumps(given).encode()
-    words = ["zsched-outage", "-", *map(str, words), "--zsched", str(program or zsched.find())]
-    streams = {"stdin": io.TextIOWrapper(io.BytesIO(data)), "stdout": io.StringIO(), "stderr": io.StringIO()}
-    with mock.patch.multiple(sys, argv=words, **streams):
-        try:
-            status = outage_command.main()
-        except SystemExit as ended:
-            status = ended.code
-    return status, streams["stdout"].getvalue(), streams["stderr"].getvalue()
+    return run_here(outage_command.main, "zsched-outage", "-", *words, "--zsched", program or zsched.find(), given=data)
 
 
-class InFolder(unittest.TestCase):
-    """Tests with a folder of their own."""
-
-    def setUp(self):
-        folder = tempfile.TemporaryDirectory()
-        self.addCleanup(folder.cleanup)
-        self.folder = pathlib.Path(folder.name)
+class WithFiles(InFolder):
+    """Tests that read folders which the command writes."""
 
     def files(self, name):
         """The files below a folder with their bytes."""
@@ -116,7 +105,7 @@ class InFolder(unittest.TestCase):
         return {str(file.relative_to(top)): file.read_bytes() for file in sorted(top.rglob("*")) if file.is_file()}
 
 
-class ByHand(InFolder):
+class ByHand(WithFiles):
     """The small scenario, all of which was worked out by hand."""
 
     def test_all_that_is_written(self):
@@ -275,7 +264,7 @@ class OneByOne(unittest.TestCase):
                 "policies": {"steady": policy}, "seed": source.randint(0, 99)}
 
 
-class Certificates(InFolder):
+class Certificates(WithFiles):
     """A report that isn't the run that was simulated is found."""
 
     WANTED = [Ending("succeeded", 200, 1200, 3), Ending("succeeded", 200, 2600, 4), Ending("succeeded", 200, 3300, 4)]
@@ -383,7 +372,7 @@ class Draws(unittest.TestCase):
         self.assertEqual(policy.text[cause.at:cause.at + cause.size], "rand(100000, 100000)")
 
 
-class Files(InFolder):
+class Files(WithFiles):
     """What is written, and that it is the same for the same seed."""
 
     DRAWN = changed(clients={"number": 40, "within": "1s"}, policies={"a": "exponential(rand(50, 150))",
@@ -619,7 +608,7 @@ class Faults(unittest.TestCase):
             self.assertRaises(ValueError, milliseconds, text)
 
 
-class Command(InFolder):
+class Command(WithFiles):
     """The words of the command, and how it ends."""
 
     def test_help_and_version(self):

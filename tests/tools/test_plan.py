@@ -3,16 +3,15 @@ import hashlib
 import io
 import json
 import os
-import pathlib
 import random
 import shutil
 import subprocess
 import sys
-import tempfile
 import unittest
 from unittest import mock
 
 import support
+from commands import InFolder
 from measured import measured
 from zsched_tools import manifest, plan_text
 from zsched_tools import program as zsched
@@ -37,13 +36,8 @@ def tool(*words):
     return ended.returncode, ended.stdout.decode(), ended.stderr.decode()
 
 
-class InFolder(unittest.TestCase):
-    """Tests with a folder of their own."""
-
-    def setUp(self):
-        folder = tempfile.TemporaryDirectory()
-        self.addCleanup(folder.cleanup)
-        self.folder = pathlib.Path(folder.name)
+class WithPlans(InFolder):
+    """Tests that cut and join plans."""
 
     def plan(self, text, name="plan"):
         """A plan's file."""
@@ -60,7 +54,7 @@ class InFolder(unittest.TestCase):
         return texts
 
 
-class Parts(InFolder):
+class Parts(WithPlans):
     """All is kept as it was written."""
 
     def test_a_part_has_its_jobs_and_the_document_as_they_were_written(self):
@@ -114,7 +108,7 @@ class Parts(InFolder):
         self.assertLess(kilobytes, 40_000)
 
 
-class Blocks(InFolder):
+class Blocks(WithPlans):
     """JSON lines are looked at many at a time."""
 
     def test_blocks_of_any_length_are_read_the_same(self):
@@ -132,7 +126,7 @@ class Blocks(InFolder):
                         write_parts(self.plan("\n".join([*lines[:-2], plain[4], ""])), True, most, self.folder / "none")
 
 
-class Manifest(InFolder):
+class Manifest(WithPlans):
     """The manifest beside the parts."""
 
     def test_it_has_each_part_with_its_jobs_and_sums(self):
@@ -217,7 +211,7 @@ NO_LINES = [
 ]
 
 
-class Refusals(InFolder):
+class Refusals(WithPlans):
     """What is refused is told with file and line, and nothing is made."""
 
     def fault(self, text, is_lines):
@@ -308,7 +302,7 @@ def random_plan(rng):
     return f'{{{clock}{cut},"jobs":[{",".join(jobs)}]}}'
 
 
-class Whole(InFolder):
+class Whole(WithPlans):
     """The report of a plan is the reports of its parts, joined."""
 
     def setUp(self):

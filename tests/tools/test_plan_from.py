@@ -1,18 +1,16 @@
 """zsched-plan from: logs and policy files as plans, what is changed and reported, and the place of each fault."""
 import contextlib
 import importlib.util
-import io
 import json
 import os
-import pathlib
 import subprocess
 import sys
-import tempfile
 import unittest
 from unittest import mock
 
 import mistakes
 import support
+from commands import InFolder, run_here
 from zsched_tools import importing, placed, plan_command, policy_file, policy_plan
 from zsched_tools import program as zsched
 from zsched_tools.command import Refused
@@ -67,25 +65,14 @@ PLAN = {"horizon": 3600000, "jobs": [
      "script": [{"ms": 1, "ok": 1}, {"ms": 2000, "ok": 0}]}]}
 
 
-class InFolder(unittest.TestCase):
-    """Tests with a folder of their own, in which the command runs."""
-
-    def setUp(self):
-        folder = tempfile.TemporaryDirectory()
-        self.addCleanup(folder.cleanup)
-        self.folder = pathlib.Path(folder.name)
+class Imported(InFolder):
+    """Tests in whose folder the command runs."""
 
     def made(self, name, text, *words):
         """Runs the command on a file, here: status, standard output, standard error."""
         (self.folder / name).write_bytes(text if isinstance(text, bytes) else text.encode())
-        out, errors = io.TextIOWrapper(io.BytesIO()), io.StringIO()
-        with (contextlib.chdir(self.folder), contextlib.redirect_stdout(out), contextlib.redirect_stderr(errors),
-              mock.patch.object(sys, "argv", ["zsched-plan", "from", name, *map(str, words)])):
-            try:
-                status = plan_command.main()
-            except SystemExit as wrong_words:
-                status = wrong_words.code
-        return status, out.buffer.getvalue().decode(), errors.getvalue()
+        with contextlib.chdir(self.folder):
+            return run_here(plan_command.main, "zsched-plan", "from", name, *words)
 
     def told(self, *words, **environment):
         """Runs the command as a process of its own: status, standard output, standard error."""
@@ -101,7 +88,7 @@ class InFolder(unittest.TestCase):
         return jobs, errors
 
 
-class Logs(InFolder):
+class Logs(Imported):
     """A CSV log."""
 
     def test_a_line_is_an_attempt_and_a_name_is_a_job(self):
@@ -179,7 +166,7 @@ polls 5
         self.assertRegex(errors, r"^zsched-plan: the plan has 10001 jobs .*: zsched-plan split cuts it\n$")
 
 
-class Policies(InFolder):
+class Policies(Imported):
     """A YAML or TOML file."""
 
     def test_yaml_and_toml_become_the_same_plan(self):
@@ -262,7 +249,7 @@ FAULTS_OF_TOML = [
 ]
 
 
-class Faults(InFolder):
+class Faults(Imported):
     """A fault is shown at its place in the file that was given."""
 
     def hold(self, name, text, table):

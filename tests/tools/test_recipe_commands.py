@@ -4,9 +4,9 @@ import pathlib
 import re
 import shutil
 import subprocess
-import tempfile
 import unittest
 
+from commands import InFolder
 from zsched_tools import program
 
 TOP = pathlib.Path(__file__).resolve().parents[2]
@@ -32,13 +32,11 @@ def missing_for(text):
     return "pandas (Debian: python3-pandas)" if "pandas" in text and not has_pandas() else None
 
 
-class Commands(unittest.TestCase):
+class Commands(InFolder):
     """Each section's commands, in a folder that has its files and the examples."""
 
     def setUp(self):
-        folder = tempfile.TemporaryDirectory()
-        self.addCleanup(folder.cleanup)
-        self.folder = pathlib.Path(folder.name)
+        super().setUp()
         os.symlink(TOP / "examples", self.folder / "examples")
         os.symlink(os.path.abspath(program.find()), self.folder / "zsched")
         self.path = f"{TOP / 'tools'}:{self.folder}:{os.environ['PATH']}"

@@ -3,7 +3,6 @@ comparer against a wrong reference. No built program is needed: the reference st
 import json
 import pathlib
 import random
-import tempfile
 import unittest
 
 import compare
@@ -11,6 +10,7 @@ import faults
 import generator
 import hostile_plans
 import reference
+from commands import InFolder
 from generator import plan_of
 
 TESTS = pathlib.Path(reference.__file__).resolve().parent
@@ -65,13 +65,12 @@ class TheGenerator(unittest.TestCase):
                     self.assertRegex(reference.answer(made)[2].decode(), form)
 
 
-class TheComparer(unittest.TestCase):
+class TheComparer(InFolder):
     """What compare.py says of a wrong reference."""
 
     def setUp(self):
-        folder = tempfile.TemporaryDirectory()
-        self.addCleanup(folder.cleanup)
-        self.wrong = pathlib.Path(folder.name) / "wrong.py"
+        super().setUp()
+        self.wrong = self.folder / "wrong.py"
         text = (TESTS / "reference.py").read_text()
         self.assertEqual(text.count("m if n - 1 < k else None"), 1)
         self.wrong.write_text(text.replace("m if n - 1 < k else None", "m if n - 1 <= k else None"))

@@ -8,11 +8,11 @@ import re
 import shutil
 import signal
 import subprocess
-import tempfile
 import time
 import unittest
 
 import support
+from commands import InFolder
 from zsched_tools import program as zsched
 
 JOBS = 25
@@ -61,7 +61,7 @@ def recipe(title, language="sh"):
     return re.findall(rf"^```{language}\n(.*?)^```", section, re.MULTILINE | re.DOTALL)
 
 
-class Recipes(unittest.TestCase):
+class Recipes(InFolder):
     """Each recipe, where its engine is installed."""
 
     def setUp(self):
@@ -69,9 +69,7 @@ class Recipes(unittest.TestCase):
             found = pathlib.Path(zsched.find()).resolve()
         except zsched.NoProgram as missing:
             self.skipTest(str(missing))
-        temporary = tempfile.TemporaryDirectory(ignore_cleanup_errors=True)
-        self.addCleanup(temporary.cleanup)
-        self.folder = pathlib.Path(temporary.name)
+        super().setUp()
         (self.folder / "bin").mkdir()
         self.zsched = found
         self.program("zsched", f"#!/bin/sh\n[ ! -e {self.folder}/slow ] || sleep 0.2\nexec {found}\n")

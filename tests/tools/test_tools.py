@@ -11,6 +11,7 @@ import tempfile
 import unittest
 from unittest import mock
 
+from commands import judge_colours
 from support import TOP
 from zsched_tools import program, starting
 
@@ -119,15 +120,7 @@ class Tools(unittest.TestCase):
                     self.assertEqual(re.sub(r"\x1b\[[0-9;]*m", "", painted), plain)
 
     def test_colours_are_for_a_terminal(self):
-        for environment, is_painted in [({"TERM": "xterm"}, True), ({"TERM": "xterm", "NO_COLOR": "1"}, False),
-                                        ({"TERM": "dumb"}, False)]:
-            with self.subTest(environment):
-                master, slave = os.openpty()
-                with os.fdopen(master, "rb", 0) as terminal:
-                    words = [sys.executable, TOP / "tools" / "zsched-report", "summary", "/nowhere"]
-                    subprocess.run(words, stderr=slave, env={"PATH": os.environ["PATH"], **environment}, check=False)
-                    os.close(slave)
-                    self.assertEqual(b"\x1b[" in terminal.read(4000), is_painted)
+        judge_colours(self, [sys.executable, TOP / "tools" / "zsched-report", "summary", "/nowhere"], "stderr")
 
 
 class Program(unittest.TestCase):

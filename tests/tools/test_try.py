@@ -4,7 +4,6 @@ import io
 import json
 import os
 import pathlib
-import pty
 import random
 import re
 import shlex
@@ -15,6 +14,7 @@ import unittest
 from unittest import mock
 
 import reference
+from commands import judge_colours, run_here
 from support import TOP
 from zsched_tools import program as zsched
 from zsched_tools import starting, try_command, trying
@@ -31,15 +31,8 @@ EVERY = re.compile(r"^ *for every input: .*\n", re.M)
 
 def tool(*words, program=None, bounds=None):
     """Runs the command, in this process, with this zsched-bounds or with none: status, standard output, standard error."""
-    words = ["zsched-try", *words, "--zsched", program or zsched.find()]
-    out, err = io.StringIO(), io.StringIO()
-    with mock.patch.multiple(sys, argv=words, stdout=out, stderr=err), \
-            mock.patch.object(zsched, "find_bounds", lambda named: named or bounds):
-        try:
-            status = try_command.main()
-        except SystemExit as ended:
-            status = ended.code
-    return status, out.getvalue(), err.getvalue()
+    with mock.patch.object(zsched, "find_bounds", lambda named: named or bounds):
+        return run_here(try_command.main, "zsched-try", *words, "--zsched", program or zsched.find())
 
 
 class Lines(unittest.TestCase):
@@ -376,16 +369,7 @@ class Command(unittest.TestCase):
         self.assertNotIn("\x1b", "".join(map(str, tool("x") + tool("recurs(1)"))))
 
     def test_colours_on_a_terminal_unless_it_asks_for_none(self):
-        for environment, is_coloured in [({"TERM": "xterm"}, True), ({"TERM": "xterm", "NO_COLOR": "1"}, False),
-                                         ({"TERM": "dumb"}, False)]:
-            with self.subTest(environment):
-                ours, theirs = pty.openpty()
-                plain = {key: value for key, value in os.environ.items() if key not in ("NO_COLOR", "TERM")}
-                subprocess.run([sys.executable, TOOL, "recurs(1)", "--zsched", zsched.find()], stdout=theirs,
-                               check=True, env={**plain, **environment})
-                os.close(theirs)
-                self.assertEqual(b"\x1b[1;31m" in os.read(ours, 1000), is_coloured)
-                os.close(ours)
+        judge_colours(self, [sys.executable, TOOL, "recurs(1)", "--zsched", zsched.find()], "stdout")
 
     def test_a_reader_that_goes_away_ends_it_by_the_signal(self):
         for words in [["recurs(1)"], ["recurs(1)", "--plan"], ["recurs(1)", "--svg"], ["--help"], ["--version"]]:

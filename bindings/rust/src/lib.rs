@@ -195,16 +195,19 @@ pub fn answer(text: &str, seen: &[Seen]) -> Result<Answer, Fault> {
         out.resize(reply.size as usize, 0);
         (number, reply) = ask(text, seen, &mut out);
     }
-    told(number, &reply, out)
+    told(number, &reply, &out)
 }
 
-fn told(number: u32, reply: &Reply, mut out: Vec<u8>) -> Result<Answer, Fault> {
+fn told(number: u32, reply: &Reply, out: &[u8]) -> Result<Answer, Fault> {
     if number > DONE {
         return Err(Fault::of(number, reply.at));
     }
-    out.truncate(reply.size as usize);
-    let output = String::from_utf8(out).expect("an output's text is ASCII");
-    Ok(Answer { next: (number == NEXT).then_some(reply.next), output, visits: reply.visits })
+    let output = core::str::from_utf8(&out[..reply.size as usize]).expect("an output's text is ASCII").to_owned();
+    Ok(Answer { next: next_of(number, reply), output, visits: reply.visits })
+}
+
+fn next_of(number: u32, reply: &Reply) -> Option<u64> {
+    (number == NEXT).then_some(reply.next)
 }
 
 fn ask(text: &str, seen: &[Seen], out: &mut [u8]) -> (u32, Reply) {
@@ -274,11 +277,13 @@ impl Schedule {
 /// assert_eq!(Stepper::new("forever.collectAll"), Err(Fault::KeepsList));
 /// # Ok::<(), Fault>(())
 /// ```
-#[derive(Clone, Debug, PartialEq, Eq)]
+#[derive(Clone, Debug)]
 pub struct Stepper {
     text: String,
     program: Vec<u64>,
     state: Vec<u64>,
+    // The state before the last step, which is made again if its output's text doesn't fit.
+    before: Vec<u64>,
 }
 
 impl Stepper {
@@ -301,7 +306,7 @@ impl Stepper {
         if number != NEXT {
             return Err(Fault::of(number, 0));
         }
-        Ok(Stepper { text: text.to_owned(), program, state })
+        Ok(Stepper { text: text.to_owned(), program, before: state.clone(), state })
     }
 
     /// The schedule of a text with a state that `state` told, or `OtherState`. Words that were changed behind the first
@@ -327,32 +332,48 @@ impl Stepper {
 
     /// One step more, at a moment in milliseconds and with an input. After a fault the schedule is as it was.
     pub fn after(&mut self, moment: u64, input: u64) -> Result<Answer, Fault> {
-        let mut out = vec![0; ROOM];
-        let (mut number, mut reply, mut state) = self.step(moment, input, &mut out);
-        if reply.size > out.len() as u64 {
-            out.resize(reply.size as usize, 0);
-            (number, reply, state) = self.step(moment, input, &mut out);
+        let mut out = [0; ROOM];
+        self.before.copy_from_slice(&self.state);
+        let (number, reply) = self.step(moment, input, &mut out)?;
+        if reply.size <= ROOM as u64 {
+            return told(number, &reply, &out);
         }
-        if number == FALLS {
-            return Err(Fault::Earlier);
-        }
-        let answer = told(number, &reply, out)?;
-        self.state = state;
-        Ok(answer)
+        let mut out = vec![0; reply.size as usize];
+        self.state.copy_from_slice(&self.before);
+        let (number, reply) = self.step(moment, input, &mut out)?;
+        told(number, &reply, &out)
     }
 
-    /// What the library tells of a step, and the state behind it.
-    fn step(&self, moment: u64, input: u64, out: &mut [u8]) -> (u32, Reply, Vec<u64>) {
-        let (mut reply, mut state) = (Reply::default(), self.state.clone());
+    /// The same, but only the moment at which the next attempt may begin; none where the schedule is done. It allocates nothing.
+    pub fn next_after(&mut self, moment: u64, input: u64) -> Result<Option<u64>, Fault> {
+        self.step(moment, input, &mut []).map(|(number, reply)| next_of(number, &reply))
+    }
+
+    /// What the library tells of a step. After a fault it leaves the state as it was.
+    fn step(&mut self, moment: u64, input: u64, out: &mut [u8]) -> Result<(u32, Reply), Fault> {
+        let mut reply = Reply::default();
         let (program, len) = (self.program.as_ptr(), self.program.len());
+        let (state, state_len) = (self.state.as_mut_ptr(), self.state.len());
         // SAFETY: the pointers and lengths are those of slices that are borrowed for the call, all but the program mutably,
         // so these overlap nothing; and `zs_program_step` asks no more of a caller.
         let number = unsafe {
-            zs_program_step(program, len, state.as_mut_ptr(), state.len(), moment, input, &mut reply, out.as_mut_ptr(), out.len())
+            zs_program_step(program, len, state, state_len, moment, input, &mut reply, out.as_mut_ptr(), out.len())
         };
-        (number, reply, state)
+        match number {
+            NEXT | DONE => Ok((number, reply)),
+            FALLS => Err(Fault::Earlier),
+            _ => Err(Fault::of(number, reply.at)),
+        }
     }
 }
+
+impl PartialEq for Stepper {
+    fn eq(&self, other: &Stepper) -> bool {
+        self.text == other.text && self.state == other.state
+    }
+}
+
+impl Eq for Stepper {}
 
 /// A schedule with a state of fixed size, but for one with `collectAll`, which keeps its steps.
 #[cfg(feature = "std")]
@@ -370,10 +391,10 @@ impl Follower {
         }
     }
 
-    fn after(&mut self, moment: u64, input: u64) -> Result<Answer, Fault> {
+    fn next_after(&mut self, moment: u64, input: u64) -> Result<Option<u64>, Fault> {
         match self {
-            Follower::Flat(stepper) => stepper.after(moment, input),
-            Follower::Listed(schedule) => schedule.after(moment, input),
+            Follower::Flat(stepper) => stepper.next_after(moment, input),
+            Follower::Listed(schedule) => schedule.after(moment, input).map(|answer| answer.next),
         }
     }
 }
@@ -409,7 +430,7 @@ pub fn retry_by<T, E>(
             Err(error) => error,
         };
         let moment = now();
-        match schedule.after(moment, input_of(&error))?.next {
+        match schedule.next_after(moment, input_of(&error))? {
             Some(next) => sleep(Duration::from_millis(next - moment)),
             None => return Ok(Err(error)),
         }
@@ -458,6 +479,23 @@ mod tests {
             stepper.after(moment, 0).expect("a step");
         }
         assert_eq!(stepper.state().len(), words);
+    }
+
+    #[test]
+    fn a_long_output_and_a_fault_leave_the_right_state() {
+        let wide = (0..6).fold("spaced(18446744073709551615)".to_owned(), |text, _| format!("({text} && {text})"));
+        let policy = format!("({wide} && linear(9))");
+        let (mut stepper, mut next) = (Stepper::new(&policy).expect("a schedule"), Stepper::new(&policy).expect("a schedule"));
+        let mut schedule = Schedule::new(&policy).expect("a schedule");
+        for moment in [3, 5, 8] {
+            let answer = stepper.after(moment, 7).expect("a step");
+            assert!(answer.output.len() > ROOM);
+            assert_eq!(next.next_after(moment, 7), Ok(answer.next));
+            assert_eq!(schedule.after(moment, 7), Ok(answer));
+            let before = stepper.clone();
+            assert_eq!((stepper.after(2, 7), stepper.next_after(2, 7)), (Err(Fault::Earlier), Err(Fault::Earlier)));
+            assert_eq!((&stepper, &next), (&before, &before));
+        }
     }
 
     #[test]

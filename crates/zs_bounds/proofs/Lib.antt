@@ -9,3 +9,4 @@ pub mod Promising
 pub mod Rows
 pub mod Powers
 pub mod Loops
+pub mod Fresh

@@ -1,10 +1,10 @@
 // The bounds of a schedule, step by step.
 
-ghost use Rattle.std.specs.Prelude.{◌≡◌, IfOk, OnOk};
+ghost use Rattle.std.specs.Prelude.{◌≡◌, IfOk};
 ghost use Rattle.zs_term.specs.Schedule.{schedule_of};
 ghost use Rattle.zs_bounds.specs.Bounds.{Promises};
 ghost use Rattle.zs_bounds.specs.BoundsOf.{bounds_of, bounds_from, no_bounds};
-ghost use Rattle.zs_bounds.specs.Node.{node_schedule, node_state};
+ghost use Rattle.zs_bounds.specs.Node.{node_schedule, node_state, KnowsFirsts};
 
 use crate::decisions::Decisions;
 use crate::node::{Node, begin, first_decisions, node_of};
@@ -24,7 +24,7 @@ pub fn bounds(alloc: Global, checked: &Checked, steps: u64) -> Result<Bounds, Al
     ensures value { IfOk result (λ b. b ≡ bounds_of (schedule_of checked.now) steps) }
 {
     let mut node = node_of(alloc, checked.term())?;
-    begin(alloc, &mut node)?;
+    begin(&mut node);
     let first = first_decisions(alloc, &node)?;
     bounds_from(alloc, &mut node, first, steps)
 }
@@ -37,6 +37,7 @@ fn bounds_from(
     first: Decisions,
     steps: u64,
 ) -> Result<Bounds, AllocError>
+    requires firsts { KnowsFirsts node.old }
     ensures value { IfOk result (λ b. b ≡ bounds_from (node_schedule node.old) steps (node_state node.old) first 0 no_bounds) }
 {
     let mut decision = first;

@@ -1,13 +1,14 @@
 // The states in which a schedule may be: intervals in place of a state's numbers.
 
-ghost use Rattle.std.specs.Prelude.{◌≡◌, true, IfOk, OnOk};
-ghost use Rattle.zs_term.specs.Schedule.{schedule_of, leaf};
+ghost use Rattle.std.specs.Prelude.{◌≡◌, ◌||◌, true, false, IfOk};
+ghost use Rattle.zs_term.specs.Schedule.{schedule_of, leaf, two, over, and_then, collect_all};
 ghost use Rattle.zs_step.specs.Memory.{is_leaf};
 ghost use Rattle.zs_bounds.specs.OutRange.{output_range_of};
 ghost use Rattle.zs_bounds.specs.AnswerRange.{range, any_input};
 ghost use Rattle.zs_bounds.specs.StateRange.{first_range, first_turn, first_state, with_first, more_items, begun};
 ghost use Rattle.zs_bounds.specs.Leaf.{bare_leaf};
-ghost use Rattle.zs_bounds.specs.Node.{node_schedule, node_state};
+ghost use Rattle.zs_bounds.specs.Node.{node_schedule, node_state, fresh_state, fresh_added, turn_of, node_firsts, KnowsFirsts};
+ghost use Rattle.zs_bounds.specs.declared.node.Fresh.TheVariants.{Nothing, Alone};
 
 use crate::answers::{Answer, answer_hull, left_range, no_answer, paired, right_range, tested};
 use crate::decisions::Decisions;
@@ -16,6 +17,87 @@ use crate::ranges::{OutRange, applied, may_fail, may_pass, picked_span};
 use crate::span::Span;
 use std::alloc::{AllocError, Global};
 use zs_term::{Func, Pick, Term, Test};
+
+// What the states of a part still lack: nothing, the state after the first step beside them, or that state in their place.
+#[derive(Clone, Copy)]
+pub(crate) enum Fresh {
+    Nothing,
+    Beside,
+    Alone,
+}
+
+// One of two parts in turn: whether it may be on, what its first step may decide, and what its states still lack.
+#[derive(Clone, Copy)]
+pub(crate) struct Turn {
+    pub(crate) is_on: bool,
+    pub(crate) begins: Decisions,
+    pub(crate) fresh: Fresh,
+}
+
+impl Turn {
+    // A part that is not on.
+    fn of(begins: Decisions) -> Turn
+        ensures value { result ≡ turn_of false begins Nothing }
+    {
+        Turn {
+            is_on: false,
+            begins,
+            fresh: Fresh::Nothing,
+        }
+    }
+
+    // A part that is only at its first step, if it may be on.
+    fn begin(self, is_on: bool) -> Turn
+        ensures value { result ≡ turn_of is_on self.begins Alone }
+    {
+        Turn {
+            is_on,
+            begins: self.begins,
+            fresh: Fresh::Alone,
+        }
+    }
+
+    // A part that may also be at its first step, if it may begin.
+    pub(crate) fn add_first(self, begins: bool) -> Turn
+        ensures value { result ≡ turn_of (self.is_on || begins) self.begins (fresh_added begins self.is_on self.fresh) }
+    {
+        Turn {
+            is_on: self.is_on || begins,
+            begins: self.begins,
+            fresh: self.fresh.add_first(begins, self.is_on),
+        }
+    }
+
+    // A part whose states lack nothing.
+    pub(crate) fn step(self, is_on: bool) -> Turn
+        ensures value { result ≡ turn_of is_on self.begins Nothing }
+    {
+        Turn {
+            is_on,
+            begins: self.begins,
+            fresh: Fresh::Nothing,
+        }
+    }
+}
+
+impl Fresh {
+    // What is lacking if the part may also begin: its first step is its only state if it was not on.
+    fn add_first(self, begins: bool, is_on: bool) -> Fresh
+        ensures value { result ≡ fresh_added begins is_on self }
+    {
+        if !begins {
+            return self;
+        }
+        if !is_on {
+            return Fresh::Alone;
+        }
+        match self {
+            Fresh::Nothing => Fresh::Beside,
+            Fresh::Beside => Fresh::Beside,
+            Fresh::Alone => Fresh::Alone,
+        }
+    }
+}
 
 // A node with the states of its parts.
 #[derive(Drop)]
@@ -34,10 +116,9 @@ pub(crate) enum Node {
         first: Box<Node>,
         second: Box<Node>,
     },
-    // Whether the first part may be on, and whether the second may be.
     AndThen {
-        first_on: bool,
-        second_on: bool,
+        first_turn: Turn,
+        second_turn: Turn,
         first: Box<Node>,
         second: Box<Node>,
     },
@@ -50,9 +131,10 @@ pub(crate) enum Node {
         pick: Pick,
         test: Test,
     },
-    // The number of items so far.
+    // The number of items so far, and what the part's first step may decide.
     CollectAll {
         part: Box<Node>,
+        begins: Decisions,
         items: Span,
     },
     Map {
@@ -77,6 +159,7 @@ pub(crate) fn any_input() -> Option<Span>
 #[cycle(making)]
 pub(crate) fn node_of(alloc: Global, term: &Term) -> Result<Node, AllocError>
     ensures made_of { IfOk result (λ n. node_schedule n ≡ schedule_of term.now) }
+    ensures firsts { IfOk result KnowsFirsts }
 {
     match term {
         Term::Both(a, b) => {
@@ -89,12 +172,7 @@ pub(crate) fn node_of(alloc: Global, term: &Term) -> Result<Node, AllocError>
         }
         Term::AndThen(a, b) => {
             let (first, second) = (part(alloc, a)?, part(alloc, b)?);
-            Ok(Node::AndThen {
-                first_on: false,
-                second_on: false,
-                first,
-                second,
-            })
+            in_turn(alloc, first, second)
         }
         Term::WhileInput(s, test) => Ok(Node::WhileInput {
             part: part(alloc, s)?,
@@ -105,10 +183,7 @@ pub(crate) fn node_of(alloc: Global, term: &Term) -> Result<Node, AllocError>
             pick: *pick,
             test: *test,
         }),
-        Term::CollectAll(s) => Ok(Node::CollectAll {
-            part: part(alloc, s)?,
-            items: Span::one(0),
-        }),
+        Term::CollectAll(s) => collected(alloc, part(alloc, s)?),
         Term::Map(s, func) => Ok(Node::Map {
             part: part(alloc, s)?,
             func: *func,
@@ -130,8 +205,40 @@ pub(crate) fn node_of(alloc: Global, term: &Term) -> Result<Node, AllocError>
 #[cycle(making)]
 fn part(alloc: Global, term: &Term) -> Result<Box<Node>, AllocError>
     ensures made_of { IfOk result (λ n. node_schedule n.value ≡ schedule_of term.now) }
+    ensures firsts { IfOk result (λ n. KnowsFirsts n.value) }
 {
     Ok(Box::new(alloc, node_of(alloc, term)?)?)
+}
+
+// Two parts in turn.
+fn in_turn(alloc: Global, first: Box<Node>, second: Box<Node>) -> Result<Node, AllocError>
+    requires first_knows { KnowsFirsts first.value }
+    requires second_knows { KnowsFirsts second.value }
+    ensures made_of { IfOk result (λ n. node_schedule n ≡ two and_then (node_schedule first.value) (node_schedule second.value)) }
+    ensures firsts { IfOk result KnowsFirsts }
+{
+    let first_turn = Turn::of(first_decisions(alloc, &first)?);
+    let second_turn = Turn::of(first_decisions(alloc, &second)?);
+    Ok(Node::AndThen {
+        first_turn,
+        second_turn,
+        first,
+        second,
+    })
+}
+
+// A part whose outputs are collected.
+fn collected(alloc: Global, part: Box<Node>) -> Result<Node, AllocError>
+    requires knows { KnowsFirsts part.value }
+    ensures made_of { IfOk result (λ n. node_schedule n ≡ over (node_schedule part.value) collect_all) }
+    ensures firsts { IfOk result KnowsFirsts }
+{
+    let begins = first_decisions(alloc, &part)?;
+    Ok(Node::CollectAll {
+        part,
+        begins,
+        items: Span::one(0),
+    })
 }
 
 // What the first step may return.
@@ -259,110 +366,118 @@ pub(crate) fn more_items(decision: Decisions, items: Span) -> Span
 }
 
 // Makes a state that after the first step.
-pub(crate) fn begin(alloc: Global, node: &mut Node) -> Result<(), AllocError>
-    ensures state { OnOk result (node_state node.new ≡ first_state (node_schedule node.old)) }
-    ensures same { OnOk result (node_schedule node.new ≡ node_schedule node.old) }
+pub(crate) fn begin(node: &mut Node)
+    requires firsts { KnowsFirsts node.old }
+    ensures state { node_state node.new ≡ first_state (node_schedule node.old) }
+    ensures same { node_schedule node.new ≡ node_schedule node.old }
+    ensures firsts { node_firsts node.new ≡ node_firsts node.old }
 {
     match node {
         Node::Leaf { steps, time, .. } => {
             *steps = Span::one(1);
             *time = Span::one(0);
-            Ok(())
         }
         Node::Both { first, second } => {
-            begin(alloc, first)?;
-            begin(alloc, second)
+            begin(first);
+            begin(second)
         }
         Node::Either { first, second } => {
-            begin(alloc, first)?;
-            begin(alloc, second)
+            begin(first);
+            begin(second)
         }
         Node::AndThen {
-            first_on,
-            second_on,
-            first,
-            second,
+            first_turn,
+            second_turn,
+            ..
         } => {
-            let decision = first_decisions(alloc, first)?;
-            *first_on = decision.may_go_on();
-            *second_on = decision.stops;
-            begin(alloc, first)?;
-            begin(alloc, second)
+            let decision = first_turn.begins;
+            *first_turn = first_turn.begin(decision.may_go_on());
+            *second_turn = second_turn.begin(decision.stops);
         }
-        Node::CollectAll { part, items } => {
-            *items = more_items(first_decisions(alloc, part)?, Span::one(0));
-            begin(alloc, part)
+        Node::CollectAll {
+            part,
+            begins,
+            items,
+        } => {
+            *items = more_items(*begins, Span::one(0));
+            begin(part)
         }
-        Node::WhileInput { part, .. } => begin(alloc, part),
-        Node::WhileOutput { part, .. } => begin(alloc, part),
-        Node::Map { part, .. } => begin(alloc, part),
-        Node::ResetWhen { part, .. } => begin(alloc, part),
+        Node::WhileInput { part, .. } => begin(part),
+        Node::WhileOutput { part, .. } => begin(part),
+        Node::Map { part, .. } => begin(part),
+        Node::ResetWhen { part, .. } => begin(part),
     }
 }
 
 // Adds the state after the first step to those of a node.
-#[cycle(widening)]
-pub(crate) fn widen(alloc: Global, node: &mut Node) -> Result<(), AllocError>
-    ensures state { OnOk result (node_state node.new ≡ with_first (node_schedule node.old) (node_state node.old)) }
-    ensures same { OnOk result (node_schedule node.new ≡ node_schedule node.old) }
+#[tactic(auto, using(crate::proofs::Fresh::fresh_begun))]
+pub(crate) fn widen(node: &mut Node)
+    requires firsts { KnowsFirsts node.old }
+    ensures state { node_state node.new ≡ with_first (node_schedule node.old) (node_state node.old) }
+    ensures same { node_schedule node.new ≡ node_schedule node.old }
+    ensures firsts { node_firsts node.new ≡ node_firsts node.old }
 {
     match node {
         Node::Leaf { steps, time, .. } => {
             *steps = steps.hull(Span::one(1));
             *time = time.hull(Span::one(0));
-            Ok(())
         }
         Node::Both { first, second } => {
-            widen(alloc, first)?;
-            widen(alloc, second)
+            widen(first);
+            widen(second)
         }
         Node::Either { first, second } => {
-            widen(alloc, first)?;
-            widen(alloc, second)
+            widen(first);
+            widen(second)
         }
         Node::AndThen {
-            first_on,
-            second_on,
-            first,
-            second,
+            first_turn,
+            second_turn,
+            ..
         } => {
-            let decision = first_decisions(alloc, first)?;
-            add_first(alloc, decision.may_go_on(), *first_on, first)?;
-            add_first(alloc, decision.stops, *second_on, second)?;
-            *first_on = *first_on || decision.may_go_on();
-            *second_on = *second_on || decision.stops;
-            Ok(())
+            let decision = first_turn.begins;
+            *first_turn = first_turn.add_first(decision.may_go_on());
+            *second_turn = second_turn.add_first(decision.stops);
         }
-        Node::CollectAll { part, items } => {
-            let decision = first_decisions(alloc, part)?;
-            *items = items.hull(more_items(decision, Span::one(0)));
-            widen(alloc, part)
+        Node::CollectAll {
+            part,
+            begins,
+            items,
+        } => {
+            *items = items.hull(more_items(*begins, Span::one(0)));
+            widen(part)
         }
-        Node::WhileInput { part, .. } => widen(alloc, part),
-        Node::WhileOutput { part, .. } => widen(alloc, part),
-        Node::Map { part, .. } => widen(alloc, part),
-        Node::ResetWhen { part, .. } => widen(alloc, part),
+        Node::WhileInput { part, .. } => widen(part),
+        Node::WhileOutput { part, .. } => widen(part),
+        Node::Map { part, .. } => widen(part),
+        Node::ResetWhen { part, .. } => widen(part),
     }
 }
 
 // Adds the state after the first step to those of a part that may begin: it is its only state if the part was not on.
-#[cycle(widening)]
-pub(crate) fn add_first(
-    alloc: Global,
-    begins: bool,
-    is_on: bool,
-    node: &mut Node,
-) -> Result<(), AllocError>
-    ensures state { OnOk result (node_state node.new ≡ begun begins is_on (with_first (node_schedule node.old) (node_state node.old)) (first_state (node_schedule node.old)) (node_state node.old)) }
-    ensures same { OnOk result (node_schedule node.new ≡ node_schedule node.old) }
+pub(crate) fn add_first(begins: bool, is_on: bool, node: &mut Node)
+    requires firsts { KnowsFirsts node.old }
+    ensures state { node_state node.new ≡ begun begins is_on (with_first (node_schedule node.old) (node_state node.old)) (first_state (node_schedule node.old)) (node_state node.old) }
+    ensures same { node_schedule node.new ≡ node_schedule node.old }
+    ensures firsts { node_firsts node.new ≡ node_firsts node.old }
 {
     if !begins {
-        return Ok(());
+        return;
     }
-    if is_on {
-        widen(alloc, node)
-    } else {
-        begin(alloc, node)
+    if is_on { widen(node) } else { begin(node) }
+}
+
+// Adds to a part's states what they still lack.
+pub(crate) fn refresh(fresh: Fresh, node: &mut Node)
+    requires firsts { KnowsFirsts node.old }
+    ensures state { node_state node.new ≡ fresh_state fresh (node_schedule node.old) (node_state node.old) }
+    ensures same { node_schedule node.new ≡ node_schedule node.old }
+    ensures firsts { node_firsts node.new ≡ node_firsts node.old }
+{
+    match fresh {
+        Fresh::Nothing => {}
+        Fresh::Beside => widen(node),
+        Fresh::Alone => begin(node),
     }
 }
 

@@ -1,16 +1,16 @@
 // One step of all states in which a schedule may be: what it may decide. The range of an output is made only where a test reads it.
 
-ghost use Rattle.std.specs.Prelude.{◌≡◌, ◌&&◌, IfOk, OnOk, if◌then◌else◌};
+ghost use Rattle.std.specs.Prelude.{◌≡◌, ◌&&◌, ◌||◌, IfOk, OnOk, if◌then◌else◌};
 ghost use Rattle.zs_term.specs.Schedule.{two, over, and_then, while_output, collect_all, reset_when};
 ghost use Rattle.zs_bounds.specs.OutputRange.{pairs, picked_span};
 ghost use Rattle.zs_bounds.specs.AnswerRange.{answers_if, left_range, right_range};
-ghost use Rattle.zs_bounds.specs.DecisionRange.{may_go_on};
-ghost use Rattle.zs_bounds.specs.StateRange.{turns, items, first_range, first_state, with_first, begun, next_range, next_state};
-ghost use Rattle.zs_bounds.specs.Node.{node_schedule, node_state};
+ghost use Rattle.zs_bounds.specs.DecisionRange.{may_go_on, no_decision};
+ghost use Rattle.zs_bounds.specs.StateRange.{items, first_range, next_range, next_state};
+ghost use Rattle.zs_bounds.specs.Node.{node_schedule, node_state, part_state, turn_states, turn_of, fresh_added, node_firsts, KnowsFirsts};
 
 use crate::decisions::Decisions;
 use crate::leaves::leaf_range;
-use crate::node::{Node, add_first, any_input, first_decisions, more_items};
+use crate::node::{Node, Turn, add_first, any_input, first_decisions, more_items, refresh};
 use crate::ranges::{OutRange, may_fail, may_pass, picked_span};
 use crate::span::Span;
 use crate::stepping::step;
@@ -24,9 +24,11 @@ pub(crate) fn step_decisions(
     node: &mut Node,
     later: u64,
 ) -> Result<Decisions, AllocError>
+    requires firsts { KnowsFirsts node.old }
     ensures decision { IfOk result (λ d. d ≡ (next_range (node_schedule node.old) (node_state node.old) later).decision) }
     ensures state { OnOk result (node_state node.new ≡ next_state (node_schedule node.old) (node_state node.old) later) }
     ensures same { OnOk result (node_schedule node.new ≡ node_schedule node.old) }
+    ensures firsts { OnOk result (node_firsts node.new ≡ node_firsts node.old) }
 {
     match node {
         Node::Leaf { leaf, steps, time } => {
@@ -44,11 +46,11 @@ pub(crate) fn step_decisions(
             Ok(x.either(step_decisions(alloc, second, later)?))
         }
         Node::AndThen {
-            first_on,
-            second_on,
+            first_turn,
+            second_turn,
             first,
             second,
-        } => and_then_decisions(alloc, first_on, second_on, first, second, later),
+        } => and_then_decisions(alloc, first_turn, second_turn, first, second, later),
         Node::WhileInput { part, test } => {
             let x = step_decisions(alloc, part, later)?;
             Ok(x.tested(may_pass(*test, any_input()), may_fail(*test, any_input())))
@@ -56,7 +58,7 @@ pub(crate) fn step_decisions(
         Node::WhileOutput { part, pick, test } => {
             while_output_decisions(alloc, part, *pick, *test, later)
         }
-        Node::CollectAll { part, items } => collect_all_decisions(alloc, part, items, later),
+        Node::CollectAll { part, items, .. } => collect_all_decisions(alloc, part, items, later),
         Node::Map { part, .. } => step_decisions(alloc, part, later),
         Node::ResetWhen { part, pick, test } => {
             reset_when_decisions(alloc, part, *pick, *test, later)
@@ -72,10 +74,12 @@ fn step_picked(
     pick: Pick,
     later: u64,
 ) -> Result<(Option<Span>, Decisions), AllocError>
+    requires firsts { KnowsFirsts node.old }
     ensures span { IfOk result (λ r. r.0 ≡ picked_span pick (next_range (node_schedule node.old) (node_state node.old) later).output) }
     ensures decision { IfOk result (λ r. r.1 ≡ (next_range (node_schedule node.old) (node_state node.old) later).decision) }
     ensures state { OnOk result (node_state node.new ≡ next_state (node_schedule node.old) (node_state node.old) later) }
     ensures same { OnOk result (node_schedule node.new ≡ node_schedule node.old) }
+    ensures firsts { OnOk result (node_firsts node.new ≡ node_firsts node.old) }
 {
     match node {
         Node::Both { first, second } => {
@@ -93,7 +97,7 @@ fn step_picked(
                 x.tested(may_pass(*test, any_input()), may_fail(*test, any_input())),
             ))
         }
-        Node::CollectAll { part, items } => {
+        Node::CollectAll { part, items, .. } => {
             let earlier = *items;
             let x = collect_all_decisions(alloc, part, items, later)?;
             Ok((picked_span(pick, &OutRange::Lists(earlier)), x))
@@ -118,10 +122,13 @@ fn pair_picked(
     pick: Pick,
     later: u64,
 ) -> Result<(Option<Span>, Decisions, Decisions), AllocError>
+    requires first_firsts { KnowsFirsts first.old }
+    requires second_firsts { KnowsFirsts second.old }
     ensures span { IfOk result (λ r. r.0 ≡ picked_span pick (pairs (next_range (node_schedule first.old) (node_state first.old) later).output (next_range (node_schedule second.old) (node_state second.old) later).output)) }
     ensures decisions { IfOk result (λ r. (r.1 ≡ (next_range (node_schedule first.old) (node_state first.old) later).decision) × (r.2 ≡ (next_range (node_schedule second.old) (node_state second.old) later).decision)) }
     ensures states { OnOk result ((node_state first.new ≡ next_state (node_schedule first.old) (node_state first.old) later) × (node_state second.new ≡ next_state (node_schedule second.old) (node_state second.old) later)) }
     ensures same { OnOk result ((node_schedule first.new ≡ node_schedule first.old) × (node_schedule second.new ≡ node_schedule second.old)) }
+    ensures firsts { OnOk result ((node_firsts first.new ≡ node_firsts first.old) × (node_firsts second.new ≡ node_firsts second.old)) }
 {
     match pick {
         Pick::First => {
@@ -149,9 +156,11 @@ fn while_output_decisions(
     test: Test,
     later: u64,
 ) -> Result<Decisions, AllocError>
+    requires firsts { KnowsFirsts part.old }
     ensures decision { IfOk result (λ d. d ≡ (next_range (over (node_schedule part.old) (while_output pick test)) (node_state part.old) later).decision) }
     ensures state { OnOk result (node_state part.new ≡ next_state (node_schedule part.old) (node_state part.old) later) }
     ensures same { OnOk result (node_schedule part.new ≡ node_schedule part.old) }
+    ensures firsts { OnOk result (node_firsts part.new ≡ node_firsts part.old) }
 {
     let (span, x) = step_picked(alloc, part, pick, later)?;
     Ok(x.tested(may_pass(test, span), may_fail(test, span)))
@@ -165,9 +174,11 @@ fn collect_all_decisions(
     count: &mut Span,
     later: u64,
 ) -> Result<Decisions, AllocError>
+    requires firsts { KnowsFirsts part.old }
     ensures decision { IfOk result (λ d. d ≡ (next_range (node_schedule part.old) (node_state part.old) later).decision) }
     ensures state { OnOk result (items count.new (node_state part.new) ≡ next_state (over (node_schedule part.old) collect_all) (items count.old (node_state part.old)) later) }
     ensures same { OnOk result (node_schedule part.new ≡ node_schedule part.old) }
+    ensures firsts { OnOk result (node_firsts part.new ≡ node_firsts part.old) }
 {
     let decision = step_decisions(alloc, part, later)?;
     *count = more_items(decision, *count);
@@ -183,9 +194,11 @@ fn reset_when_decisions(
     test: Test,
     later: u64,
 ) -> Result<Decisions, AllocError>
+    requires firsts { KnowsFirsts part.old }
     ensures decision { IfOk result (λ d. d ≡ (next_range (over (node_schedule part.old) (reset_when pick test)) (node_state part.old) later).decision) }
     ensures state { OnOk result (node_state part.new ≡ next_state (over (node_schedule part.old) (reset_when pick test)) (node_state part.old) later) }
     ensures same { OnOk result (node_schedule part.new ≡ node_schedule part.old) }
+    ensures firsts { OnOk result (node_firsts part.new ≡ node_firsts part.old) }
 {
     let (span, x) = step_picked(alloc, part, pick, later)?;
     let (passes, fails) = (may_pass(test, span), may_fail(test, span));
@@ -193,28 +206,33 @@ fn reset_when_decisions(
         return Ok(x);
     }
     let first = first_decisions(alloc, part)?;
-    add_first(alloc, passes, fails, part)?;
+    add_first(passes, fails, part);
     if fails { Ok(x.hull(first)) } else { Ok(first) }
 }
 
 // One step of two parts in turn, as `stepping::step_and_then`.
 #[cycle(unread)]
+#[tactic(auto, using(crate::proofs::Fresh::fresh_begun))]
 fn and_then_decisions(
     alloc: Global,
-    first_on: &mut bool,
-    second_on: &mut bool,
+    first_turn: &mut Turn,
+    second_turn: &mut Turn,
     first: &mut Node,
     second: &mut Node,
     later: u64,
 ) -> Result<Decisions, AllocError>
-    ensures decision { IfOk result (λ d. d ≡ (next_range (two and_then (node_schedule first.old) (node_schedule second.old)) (turns first_on.old second_on.old (node_state first.old) (node_state second.old)) later).decision) }
-    ensures state { OnOk result (turns first_on.new second_on.new (node_state first.new) (node_state second.new) ≡ next_state (two and_then (node_schedule first.old) (node_schedule second.old)) (turns first_on.old second_on.old (node_state first.old) (node_state second.old)) later) }
+    requires first_firsts { KnowsFirsts first.old }
+    requires second_firsts { KnowsFirsts second.old }
+    requires begins { second_turn.old.begins ≡ (first_range (node_schedule second.old)).decision }
+    ensures decision { IfOk result (λ d. d ≡ (next_range (two and_then (node_schedule first.old) (node_schedule second.old)) (turn_states first_turn.old second_turn.old first.old second.old) later).decision) }
+    ensures state { OnOk result (turn_states first_turn.new second_turn.new first.new second.new ≡ next_state (two and_then (node_schedule first.old) (node_schedule second.old)) (turn_states first_turn.old second_turn.old first.old second.old) later) }
     ensures same { OnOk result ((node_schedule first.new ≡ node_schedule first.old) × (node_schedule second.new ≡ node_schedule second.old)) }
+    ensures firsts { OnOk result ((node_firsts first.new ≡ node_firsts first.old) × (node_firsts second.new ≡ node_firsts second.old)) }
+    ensures begins { OnOk result ((first_turn.new.begins ≡ first_turn.old.begins) × (second_turn.new.begins ≡ second_turn.old.begins)) }
 {
-    let (left, begins) = first_part_decisions(alloc, first_on, first, later)?;
-    let right = second_part_decisions(alloc, *second_on, second, later)?;
-    let new = begin_decisions(alloc, begins, *second_on, second)?;
-    *second_on = *second_on || begins;
+    let (left, begins) = first_part_decisions(alloc, first_turn, first, later)?;
+    let right = second_part_decisions(alloc, second_turn, second, later)?;
+    let new = begin_decisions(begins, second_turn);
     Ok(left.hull(right).hull(new))
 }
 
@@ -222,21 +240,25 @@ fn and_then_decisions(
 #[cycle(unread)]
 fn first_part_decisions(
     alloc: Global,
-    is_on: &mut bool,
+    turn: &mut Turn,
     part: &mut Node,
     later: u64,
 ) -> Result<(Decisions, bool), AllocError>
-    ensures decision { IfOk result (λ r. r.0 ≡ (answers_if is_on.old (left_range (next_range (node_schedule part.old) (node_state part.old) later))).decision) }
-    ensures begins { IfOk result (λ r. r.1 ≡ (is_on.old && (next_range (node_schedule part.old) (node_state part.old) later).decision.stops)) }
-    ensures on { OnOk result (is_on.new ≡ (is_on.old && may_go_on (next_range (node_schedule part.old) (node_state part.old) later).decision)) }
-    ensures state { OnOk result (node_state part.new ≡ (if is_on.old then next_state (node_schedule part.old) (node_state part.old) later else node_state part.old)) }
+    requires firsts { KnowsFirsts part.old }
+    ensures decision { IfOk result (λ r. r.0 ≡ (answers_if turn.old.is_on (left_range (next_range (node_schedule part.old) (part_state turn.old part.old) later))).decision) }
+    ensures stops { IfOk result (λ r. r.1 ≡ (turn.old.is_on && (next_range (node_schedule part.old) (part_state turn.old part.old) later).decision.stops)) }
+    ensures on { OnOk result (turn.new.is_on ≡ (turn.old.is_on && may_go_on (next_range (node_schedule part.old) (part_state turn.old part.old) later).decision)) }
+    ensures begins { OnOk result (turn.new.begins ≡ turn.old.begins) }
+    ensures state { OnOk result (part_state turn.new part.new ≡ (if turn.old.is_on then next_state (node_schedule part.old) (part_state turn.old part.old) later else part_state turn.old part.old)) }
     ensures same { OnOk result (node_schedule part.new ≡ node_schedule part.old) }
+    ensures firsts { OnOk result (node_firsts part.new ≡ node_firsts part.old) }
 {
-    if !*is_on {
+    if !turn.is_on {
         return Ok((Decisions::nothing(), false));
     }
+    refresh(turn.fresh, part);
     let x = step_decisions(alloc, part, later)?;
-    *is_on = x.may_go_on();
+    *turn = turn.step(x.may_go_on());
     if x.may_go_on() {
         Ok((x.going_on(), x.stops))
     } else {
@@ -248,36 +270,35 @@ fn first_part_decisions(
 #[cycle(unread)]
 fn second_part_decisions(
     alloc: Global,
-    is_on: bool,
+    turn: &mut Turn,
     part: &mut Node,
     later: u64,
 ) -> Result<Decisions, AllocError>
-    ensures decision { IfOk result (λ d. d ≡ (answers_if is_on (right_range (next_range (node_schedule part.old) (node_state part.old) later))).decision) }
-    ensures state { OnOk result (node_state part.new ≡ (if is_on then next_state (node_schedule part.old) (node_state part.old) later else node_state part.old)) }
+    requires firsts { KnowsFirsts part.old }
+    ensures decision { IfOk result (λ d. d ≡ (answers_if turn.old.is_on (right_range (next_range (node_schedule part.old) (part_state turn.old part.old) later))).decision) }
+    ensures on { OnOk result (turn.new.is_on ≡ turn.old.is_on) }
+    ensures begins { OnOk result (turn.new.begins ≡ turn.old.begins) }
+    ensures state { OnOk result (part_state turn.new part.new ≡ (if turn.old.is_on then next_state (node_schedule part.old) (part_state turn.old part.old) later else part_state turn.old part.old)) }
     ensures same { OnOk result (node_schedule part.new ≡ node_schedule part.old) }
+    ensures firsts { OnOk result (node_firsts part.new ≡ node_firsts part.old) }
 {
-    if is_on {
-        step_decisions(alloc, part, later)
-    } else {
-        Ok(Decisions::nothing())
+    if !turn.is_on {
+        return Ok(Decisions::nothing());
     }
+    refresh(turn.fresh, part);
+    *turn = turn.step(true);
+    step_decisions(alloc, part, later)
 }
 
 // The first step of the second of two parts in turn, if it may begin.
-fn begin_decisions(
-    alloc: Global,
-    begins: bool,
-    is_on: bool,
-    part: &mut Node,
-) -> Result<Decisions, AllocError>
-    ensures decision { IfOk result (λ d. d ≡ (answers_if begins (right_range (first_range (node_schedule part.old)))).decision) }
-    ensures state { OnOk result (node_state part.new ≡ begun begins is_on (with_first (node_schedule part.old) (node_state part.old)) (first_state (node_schedule part.old)) (node_state part.old)) }
-    ensures same { OnOk result (node_schedule part.new ≡ node_schedule part.old) }
+fn begin_decisions(begins: bool, turn: &mut Turn) -> Decisions
+    ensures decision { result ≡ (if begins then turn.old.begins else no_decision) }
+    ensures turn { turn.new ≡ turn_of (turn.old.is_on || begins) turn.old.begins (fresh_added begins turn.old.is_on turn.old.fresh) }
 {
-    if !begins {
-        return Ok(Decisions::nothing());
+    *turn = turn.add_first(begins);
+    if begins {
+        turn.begins
+    } else {
+        Decisions::nothing()
     }
-    let first = first_decisions(alloc, part)?;
-    add_first(alloc, begins, is_on, part)?;
-    Ok(first)
 }

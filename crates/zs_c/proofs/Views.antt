@@ -1,5 +1,5 @@
 -- A view shows the output that the words of a place tell, by the node of its code.
-use Rattle.std.proofs.Common.{◌≡◌, ℕ, ◌-◌, List, take, drop, refl, sym, ap, ◌∙◌, subst, arith}
+use Rattle.std.proofs.Common.{◌≡◌, ◌⊎◌, ℕ, ◌-◌, List, take, drop, inl, inr, refl, sym, ap, ◌∙◌, subst, arith}
 use Rattle.zs_term.specs.Output.{Output, number, number_in, applied, size_in}
 use Rattle.zs_term.specs.Schedule.{Schedule, Leaf, leaf, two, over, plain, counted, exponential, both, either, and_then, while_input, while_output, mapped, reset_when}
 use Rattle.zs_term.specs.declared.forms.Plain.TheVariants.{Forever as PlainForever, Identity as PlainIdentity, Elapsed as PlainElapsed}
@@ -86,7 +86,7 @@ parts-told s p a b x y are t = (
 )
 
 -- the parts of `&&`
-pub both-shows : (s : Sizes) (p a b : Place) (o : Output) (n : Node) → n ≡ node_at p.code.now → n ≡ Both s → ArePartsOf s p a b 0 → PlaceTells p o → Shows (Pair a b) o
+both-shows : (s : Sizes) (p a b : Place) (o : Output) (n : Node) → n ≡ node_at p.code.now → n ≡ Both s → ArePartsOf s p a b 0 → PlaceTells p o → Shows (Pair a b) o
 both-shows s p a b o n read is are t =
     let node = told-node p.code.now p.words.now p.levels o n (Both s) read is t in
     let u = told-as p.code.now p.words.now p.levels o t (two both node.0 node.1) node.2 in
@@ -97,7 +97,7 @@ both-shows s p a b o n read is are t =
     (x, y, w.0, told.0, told.1)
 
 -- the parts of `||`
-pub either-shows : (s : Sizes) (p a b : Place) (o : Output) (n : Node) → n ≡ node_at p.code.now → n ≡ Either s → ArePartsOf s p a b 0 → PlaceTells p o → Shows (Pair a b) o
+either-shows : (s : Sizes) (p a b : Place) (o : Output) (n : Node) → n ≡ node_at p.code.now → n ≡ Either s → ArePartsOf s p a b 0 → PlaceTells p o → Shows (Pair a b) o
 either-shows s p a b o n read is are t =
     let node = told-node p.code.now p.words.now p.levels o n (Either s) read is t in
     let u = told-as p.code.now p.words.now p.levels o t (two either node.0 node.1) node.2 in
@@ -106,6 +106,13 @@ either-shows s p a b o n read is are t =
     let y = (answer_of node.1 t.history).output in
     let told = parts-told s p a b x y are w.1 in
     (x, y, w.0, told.0, told.1)
+
+-- the parts of an operator that steps both
+pub pair-shows : (s : Sizes) (p a b : Place) (o : Output) (n : Node) → n ≡ node_at p.code.now → (n ≡ Both s) ⊎ (n ≡ Either s) → ArePartsOf s p a b 0 → PlaceTells p o → Shows (Pair a b) o
+pair-shows s p a b o n read is are t = elim is [
+  | inl w ↦ both-shows s p a b o n read w are t
+  | inr w ↦ either-shows s p a b o n read w are t
+]
 
 -- the first part of `andThenEither`, while it is on
 pub left-shows : (s : Sizes) (p a b : Place) (o : Output) (n : Node) → n ≡ node_at p.code.now → n ≡ AndThen s → ArePartsOf s p a b 1 → word_at p.words.now 0 ≡ 0 →

@@ -2,7 +2,7 @@
 use Rattle.std.proofs.Common.{◌≡◌, ℕ, suc, ◌+◌, ◌-◌, List, [], ◌∷◌, ◌++◌, length, length-append, append_assoc, append-nil, refl, sym, ◌∙◌, ap, arith}
 use Rattle.std.specs.Prelude.{map, flat_map, fold, take, drop, Option, Some, None, option_to_list, string_bytes, slice_set, slice_index_or}
 use Rattle.std.specs.Global.{Vec}
-use Rattle.std.proofs.lemmas.List.{map-append, map-set, length-map, take-append-drop}
+use Rattle.std.proofs.lemmas.List.{map-set, length-map, take-append-drop}
 use Rattle.std.proofs.Math.Seq.{take-append_seam, drop-append_seam, get_or-append_seam}
 use Rattle.std.proofs.Math.ListN.{get_or-map}
 use Rattle.zs_drive.specs.declared.record.Attempted.{Attempted}
@@ -85,16 +85,6 @@ new-log log lines told moments records = record {
   told = rw (none-told (keeping_of log)) told;
   moments = rw (none-told (keeping_of log)) moments;
   records = rw (none-recorded (keeping_of log)) (ap (map attempted_of) records);
-}
-
--- an attempt begins: its record is appended to the others
-pub begun-recorded : (old new : Vec Attempted) (s : ℕ) (attempts : List AttemptedValue) → new.items ≡ old.items ++ record { begun = s; ended = None } ∷ []
-    → IsLog (Recorded old) attempts → IsLog (Recorded new) (attempts ++ runs s ∷ [])
-begun-recorded old new s attempts added is = record {
-  lines = refl;
-  told = refl;
-  moments = refl;
-  records = rw added (map-append attempted_of old.items (record { begun = s; ended = None } ∷ []) ∙ ap (λ (xs : List AttemptedValue). xs ++ runs s ∷ []) is.records);
 }
 
 -- an attempt begins: the one before it, if there is one, becomes lines

@@ -16,7 +16,8 @@ use zs_term::{Out, append_number, append_out};
 // Adds a space, and how an attempt ended.
 #[tactic(auto, using(zs_term::proofs::Texts::begins_with_itself, zs_term::proofs::Texts::begins_pushed, zs_term::proofs::Texts::begins_both))]
 fn append_outcome(text: &mut String, outcome: Outcome) -> Result<(), AllocError>
-    ensures text { OnOk result (string_bytes text.new ≡ string_bytes text.old ++ codes " " ++ outcome_text outcome) }
+    ensures text { OnOk result
+        (string_bytes text.new ≡ string_bytes text.old ++ codes " " ++ outcome_text outcome) }
     ensures kept { IsBeginning (string_bytes text.old) (string_bytes text.new) }
 {
     match outcome {
@@ -40,7 +41,8 @@ fn append_decision(
     at_digits: &str,
 ) -> Result<(), AllocError>
     requires at { at_digits.now ≡ decimal at }
-    ensures text { OnOk result (string_bytes text.new ≡ string_bytes text.old ++ codes " " ++ decision_text decision) }
+    ensures text { OnOk result
+        (string_bytes text.new ≡ string_bytes text.old ++ codes " " ++ decision_text decision) }
     ensures kept { IsBeginning (string_bytes text.old) (string_bytes text.new) }
 {
     match decision {
@@ -68,7 +70,8 @@ fn append_step(
 ) -> Result<(), AllocError>
     requires number { digits.now ≡ decimal _number }
     requires at { at_digits.now ≡ decimal at }
-    ensures text { OnOk result (string_bytes text.new ≡ string_bytes text.old ++ codes "\n" ++ step_lines _number (step_of step.now)) }
+    ensures text { OnOk result (string_bytes text.new
+        ≡ string_bytes text.old ++ codes "\n" ++ step_lines _number (step_of step.now)) }
     ensures kept { IsBeginning (string_bytes text.old) (string_bytes text.new) }
 {
     match step {
@@ -93,7 +96,8 @@ fn append_ended(
     ended: &Option<Ended>,
 ) -> Result<(), AllocError>
     requires number { digits.now ≡ decimal number }
-    ensures text { OnOk result (string_bytes text.new ≡ string_bytes text.old ++ ended_lines number (ended_of ended.now)) }
+    ensures text { OnOk result
+        (string_bytes text.new ≡ string_bytes text.old ++ ended_lines number (ended_of ended.now)) }
     ensures kept { IsBeginning (string_bytes text.old) (string_bytes text.new) }
 {
     match ended {
@@ -112,7 +116,8 @@ fn append_ended(
 /// Adds the lines of the attempt with this number, counted from 1. If that fails, the text is
 /// unchanged.
 pub fn append_attempt(text: &mut String, number: u64, attempt: &Attempted) -> Result<(), AllocError>
-    ensures text { OnOk result (string_bytes text.new ≡ string_bytes text.old ++ attempt_lines number (attempted_of attempt.now)) }
+    ensures text { OnOk result (string_bytes text.new
+        ≡ string_bytes text.old ++ attempt_lines number (attempted_of attempt.now)) }
     ensures err { OnErr result (string_bytes text.new ≡ string_bytes text.old) }
     ensures kept { IsBeginning (string_bytes text.old) (string_bytes text.new) }
 {
@@ -127,7 +132,8 @@ pub fn append_attempt(text: &mut String, number: u64, attempt: &Attempted) -> Re
 // Adds the lines of an attempt. If that fails, the text may end with some of them.
 #[tactic(auto, using(zs_term::proofs::Texts::begins_with_itself, zs_term::proofs::Texts::begins_pushed, zs_term::proofs::Texts::begins_both))]
 fn push_attempt(text: &mut String, number: u64, attempt: &Attempted) -> Result<(), AllocError>
-    ensures text { OnOk result (string_bytes text.new ≡ string_bytes text.old ++ attempt_lines number (attempted_of attempt.now)) }
+    ensures text { OnOk result (string_bytes text.new
+        ≡ string_bytes text.old ++ attempt_lines number (attempted_of attempt.now)) }
     ensures kept { IsBeginning (string_bytes text.old) (string_bytes text.new) }
 {
     let begun = attempt.begun;

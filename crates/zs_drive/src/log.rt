@@ -105,8 +105,10 @@ fn tell(
     number: u64,
     attempt: &Attempted,
 ) -> Result<(), AllocError>
-    ensures lines { OnOk result (string_bytes lines.new ≡ string_bytes lines.old ++ attempt_lines number (attempted_of attempt.now)) }
-    ensures moments { OnOk result (moments.new.items ≡ moments.old.items ++ moments_of (attempted_of attempt.now)) }
+    ensures lines { OnOk result (string_bytes lines.new
+        ≡ string_bytes lines.old ++ attempt_lines number (attempted_of attempt.now)) }
+    ensures moments { OnOk result
+        (moments.new.items ≡ moments.old.items ++ moments_of (attempted_of attempt.now)) }
     ensures err { OnErr result (string_bytes lines.new ≡ string_bytes lines.old) }
     ensures kept { OnErr result (moments.new.items ≡ moments.old.items) }
 {
@@ -140,7 +142,8 @@ impl Told {
     // Another attempt begins. The caller gets the output of the one before it.
     fn begin(&mut self, begun: u64, spare: &mut Out) -> Result<(), AllocError>
         requires few { self.old.count + 1 < 2 ^ 64 }
-        ensures ok { OnOk result (BeginsNext self.old self.new (record { begun = begun; ended = None })) }
+        ensures ok { OnOk result
+            (BeginsNext self.old self.new (record { begun = begun; ended = None })) }
         ensures lines { OnErr result (string_bytes self.new.lines ≡ string_bytes self.old.lines) }
         ensures count { OnErr result (self.new.count ≡ self.old.count) }
         ensures moments { OnErr result (self.new.moments.items ≡ self.old.moments.items) }
@@ -255,14 +258,11 @@ impl Log {
         ensures full { OnErr result (IsFull self.old) }
         ensures keeps { keeping_of self.new ≡ keeping_of self.old }
     {
-        let begun = match self {
-            Log::Recorded(records) => add(records, Attempted { begun, ended: None }, LEAST_ROOM),
-            Log::Written(told) => told.begin(begun, spare),
-        };
-        match begun {
-            Ok(()) => Ok(()),
-            Err(_refused) => Err(DriveFault::Memory),
+        match self {
+            Log::Recorded(records) => add(records, Attempted { begun, ended: None }, LEAST_ROOM)?,
+            Log::Written(told) => told.begin(begun, spare)?,
         }
+        Ok(())
     }
 
     // The last attempt has this end, or none.

@@ -24,7 +24,7 @@ use futures::task::{Context, Poll};
 use futures::{Future, ready};
 use std::mem::replace;
 use zs_effect::{Attempt, Beat, Outcome, Script};
-use zs_step::{Compiled, Decision, StepFault};
+use zs_step::{Compiled, Decision};
 use zs_term::Out;
 
 /// What a task waits for.
@@ -166,10 +166,8 @@ impl Progress {
             → answer (output_of step.0) step.1 ≡ answer_of (compiled_schedule self.old.compiled) ((self.old.seen, number_of outcome) ∷ h)) }
     {
         let spare = replace(&mut self.spare, Out::Num(0));
-        match self.compiled.step_over(self.seen, number(outcome), spare) {
-            Ok(stepped) => Ok((stepped.out, stepped.decision)),
-            Err(StepFault::Memory) => Err(DriveFault::Memory),
-        }
+        let stepped = self.compiled.step_over(self.seen, number(outcome), spare)?;
+        Ok((stepped.out, stepped.decision))
     }
 
     // The attempt that ran has ended, with this outcome.

@@ -19,26 +19,16 @@ use futures::task::{Context, Poll};
 use futures::{Future, ready};
 use std::alloc::Global;
 use std::marker::Model;
-use zs_step::{Compiled, StepFault};
+use zs_step::Compiled;
 use zs_term::Out;
 
 /// A numbered job with the attempts so far. A poll that runs out of memory breaks it.
 #[derive(Drop)]
 pub struct Task {
     number: u64,
+    // In a box, so that a task is moved as three words.
     progress: Box<Progress>,
     broken: bool,
-}
-
-// How far a job is, in a box, so that a task is moved as three words.
-fn box_progress(alloc: Global, progress: Progress) -> Result<Box<Progress>, DriveFault>
-    ensures value { IfOk result (λ b. b.value ≡ progress) }
-    ensures memory { IfErr result (λ fault. fault ≡ DriveFault.Memory) }
-{
-    match Box::new(alloc, progress) {
-        Ok(progress) => Ok(progress),
-        Err(_refused) => Err(DriveFault::Memory),
-    }
 }
 
 impl Model for Task {
@@ -81,10 +71,7 @@ impl Task {
             start,
             script,
         } = job;
-        let compiled = match Compiled::new(alloc, schedule) {
-            Ok(compiled) => compiled,
-            Err(StepFault::Memory) => return Err(DriveFault::Memory),
-        };
+        let compiled = Compiled::new(alloc, schedule)?;
         let progress = Progress {
             name,
             mode,
@@ -97,7 +84,7 @@ impl Task {
             polls: 0,
             seen: 0,
         };
-        let progress = box_progress(alloc, progress)?;
+        let progress = Box::new(alloc, progress)?;
         Ok(Task {
             number,
             progress,

@@ -4,7 +4,6 @@ use Rattle.std.specs.List.Sorted.{IsStrictlyIncreasing, IsStrictlySortedBy}
 use Rattle.std.proofs.lemmas.Bool.Decides.{Decides-eqb}
 use Rattle.std.proofs.lemmas.Map.Keys.{sorted_from_strictly_increasing, IsStrictlyIncreasing-from_sorted}
 use Rattle.zs_agenda.specs.Timers.{Timers}
-use Rattle.zs_agenda.specs.Ticks.{Ticks}
 use Rattle.zs_drive.specs.Tasks.{TaskValue, current_timeline}
 use Rattle.std.specs.FinMap.{get}
 use Rattle.zs_pool.specs.Rounds.{polled_at, IsPolled, IsPollable}
@@ -12,8 +11,8 @@ use Rattle.zs_pool.specs.Shares.{HasCounted}
 use Rattle.zs_engine.specs.declared.engine.Engine.{Engine}
 use Rattle.zs_engine.specs.Times.{ticks_of, next_of, IsLater}
 use Rattle.zs_engine.specs.Slots.{Slots, has}
-use Rattle.zs_engine.specs.Rounds.{IsPending, Begins, KeptJob, jobs_in, set_next}
-use Rattle.zs_engine.specs.Engine.{RestsWith, IsDueWith}
+use Rattle.zs_engine.specs.Rounds.{IsPending, Begins, jobs_in, set_next}
+use Rattle.zs_engine.specs.Engine.{IsResting, IsDueAt, IsSameRun}
 use Rattle.zs_engine.proofs.RoundLemmas.{jobs_of-set, polls_of-set, some_at, pending-keeps_up, polled-later, due, AllWaitBut-step, AllWaitBut-end, IsDistinct-increasing}
 use Rattle.zs_engine.proofs.SlotLemmas.{full, full-set, full-get, get-full, jobs_in-full}
 use Rattle.zs_engine.proofs.Settling.{begins-pollable, begins-room}
@@ -76,7 +75,7 @@ module _ (ticks : List ℕ) (slots : Slots) (a : Timers) (count now n : ℕ) (le
         ∙ sym (jobs_in-full b.tasks) ∙ ap jobs_in (sym b.same)
 
 -- ---- the engine, before and after one poll
-module _ (old : Engine) (now n : ℕ) (left : List ℕ) (h : IsDueWith old.clock (jobs_in old.slots.items) now (n ∷ left) old) where
+module _ (old : Engine) (now n : ℕ) (left : List ℕ) (h : IsDueAt now (n ∷ left) old) where
   pub turn-next : (t : TaskValue) × (slice_get old.slots.items n ≡ Some (Some t))
   turn-next = begins-next (ticks_of old.clock) old.slots.items old.agenda old.seat.count now n left h.begins
 
@@ -84,9 +83,9 @@ module _ (old : Engine) (now n : ℕ) (left : List ℕ) (h : IsDueWith old.clock
   turn-once = (IsDistinct-increasing (n ∷ left) h.in_order).0
 
   -- the seat may count the poll
-  pub turn-room : length (jobs_in old.slots.items) ≤ 10000 → 1 ≤ old.seat.allowance
-  turn-room few =
-      let slots : length old.slots.items ≤ 10000 = omega (arith, few, length-slots old.slots.items h.begins.tasks h.begins.same) in
+  pub turn-room : 1 ≤ old.seat.allowance
+  turn-room =
+      let slots : length old.slots.items ≤ 10000 = omega (arith, h.runs.few, length-slots old.slots.items h.begins.tasks h.begins.same) in
       let room = begins-room (ticks_of old.clock) old.slots.items old.agenda old.seat.count now (n ∷ left) h.begins h.runs.rising slots in
       omega (arith, room, h.runs.sum)
 
@@ -110,40 +109,35 @@ module _ (old : Engine) (now n : ℕ) (left : List ℕ) (h : IsDueWith old.clock
           (begins-later (ticks_of old.clock) old.slots.items old.agenda old.seat.count now n left h.begins t here turn-once)
 
       -- the task was polled and counted, and its timer is armed
-      pub turn-onward : (new : Engine) → Keeps old new → new.slots.items ≡ slice_set old.slots.items n (Some after)
-          → new.agenda ≡ set_next old.agenda after.number (next_of (ticks_of old.clock) (current_timeline after).due)
-          → HasCounted old.seat 1 new.seat → IsDueWith old.clock (jobs_in old.slots.items) now left new
-      turn-onward new keeps put set counts =
-          let slots : new.slots.items ≡ slice_set old.slots.items n (Some (polled_at now t)) = put ∙ ap (λ (u : TaskValue). slice_set old.slots.items n (Some u)) is in
-          let agenda : new.agenda ≡ set_next old.agenda n (next_of (ticks_of old.clock) (current_timeline (polled_at now t)).due) =
-          set ∙ ap (λ (k : ℕ). set_next old.agenda k (next_of (ticks_of old.clock) (current_timeline after).due)) number
-          ∙ ap (λ (u : TaskValue). set_next old.agenda n (next_of (ticks_of old.clock) (current_timeline u).due)) is in
-          record {
-            runs =
-                Runs-kept old.clock (jobs_in old.slots.items) (jobs_in old.slots.items) old new h.runs keeps
-                (ap jobs_in slots ∙ begins-jobs (ticks_of old.clock) old.slots.items old.agenda old.seat.count now n left h.begins t here turn-once)
-                (counts.0 ∙ h.runs.seated ∙ sym keeps.tally) (omega (arith, counts.1, counts.2, h.runs.sum));
-            begins = rw (slots, agenda) (begins-onward (ticks_of old.clock) old.slots.items old.agenda old.seat.count now n left h.begins t here turn-once new.seat.count counts.1);
-            in_order = IsStrictlyIncreasing-rest n left h.in_order;
-          }
+      module _ (new : Engine) (keeps : Keeps old new) (put : new.slots.items ≡ slice_set old.slots.items n (Some after)) where
+        slots : new.slots.items ≡ slice_set old.slots.items n (Some (polled_at now t))
+        slots = put ∙ ap (λ (u : TaskValue). slice_set old.slots.items n (Some u)) is
+
+        pub turn-same : IsSameRun old new
+        turn-same = record {
+          clock = keeps.clock;
+          jobs = ap jobs_in slots ∙ begins-jobs (ticks_of old.clock) old.slots.items old.agenda old.seat.count now n left h.begins t here turn-once;
+        }
+
+        pub turn-onward : new.agenda ≡ set_next old.agenda after.number (next_of (ticks_of old.clock) (current_timeline after).due) → HasCounted old.seat 1 new.seat → IsDueAt now left new
+        turn-onward set counts =
+            let agenda : new.agenda ≡ set_next old.agenda n (next_of (ticks_of old.clock) (current_timeline (polled_at now t)).due) =
+            set ∙ ap (λ (k : ℕ). set_next old.agenda k (next_of (ticks_of old.clock) (current_timeline after).due)) number
+            ∙ ap (λ (u : TaskValue). set_next old.agenda n (next_of (ticks_of old.clock) (current_timeline u).due)) is in
+            record {
+              runs = Runs-kept old new h.runs keeps (rw turn-same.jobs h.runs.few) (counts.0 ∙ h.runs.seated ∙ sym keeps.tally) (omega (arith, counts.1, counts.2, h.runs.sum));
+              begins = rw (keeps.clock, slots, agenda) (begins-onward (ticks_of old.clock) old.slots.items old.agenda old.seat.count now n left h.begins t here turn-once new.seat.count counts.1);
+              in_order = IsStrictlyIncreasing-rest n left h.in_order;
+            }
 
 -- all were polled
-pub due-none : (clock : Ticks) (jobs : List KeptJob) (now : ℕ) (engine : Engine) → IsDueWith clock jobs now [] engine → RestsWith clock jobs engine
-due-none clock jobs now engine h = record {
+pub due-none : (now : ℕ) (engine : Engine) → IsDueAt now [] engine → IsResting engine
+due-none now engine h = record {
   runs = h.runs;
   rests = record {
     tasks = h.begins.tasks;
     same = h.begins.same;
-    all_wait = AllWaitBut-end (ticks_of clock) h.begins.tasks engine.agenda now h.begins.all_wait;
+    all_wait = AllWaitBut-end (ticks_of engine.clock) h.begins.tasks engine.agenda now h.begins.all_wait;
     counted = h.begins.counted;
   };
 }
-
--- the same, for the engine's clock and jobs
-pub IsDueWith-own : (clock : Ticks) (jobs : List KeptJob) (now : ℕ) (numbers : List ℕ) (engine : Engine) → IsDueWith clock jobs now numbers engine → IsDueWith engine.clock (jobs_in engine.slots.items) now numbers engine
-IsDueWith-own clock jobs now numbers engine h =
-    subst (λ (c : Ticks). IsDueWith c (jobs_in engine.slots.items) now numbers engine) (sym h.runs.same_clock) (subst (λ (js : List KeptJob). IsDueWith clock js now numbers engine) (sym h.runs.same_jobs) h)
-
-pub IsDueWith-as : (clock other : Ticks) (jobs others : List KeptJob) (now : ℕ) (numbers : List ℕ) (engine : Engine) → clock ≡ other → jobs ≡ others → IsDueWith clock jobs now numbers engine → IsDueWith other others now numbers engine
-IsDueWith-as clock other jobs others now numbers engine c js h =
-    subst (λ (k : Ticks). IsDueWith k others now numbers engine) c (subst (λ (ks : List KeptJob). IsDueWith clock ks now numbers engine) js h)

@@ -3,6 +3,7 @@
 -- During a round this is true of all tasks but those that are still to be polled.
 use Rattle.std.specs.Prelude.{◌≡◌, ◌<◌, ◌≤◌, ◌+◌, ◌++◌, ◌∷◌, [], ℕ, true, false, List, Option, Some, None, length, slice_get, map, option_to_list, option_map}
 use Rattle.std.specs.FinMap.{get, insert}
+use Rattle.zs_agenda.specs.Ticks.{Ticks}
 use Rattle.zs_agenda.specs.Timers.{Timers}
 use Rattle.zs_effect.specs.Scripts.{IsScript}
 use Rattle.zs_drive.specs.Clocks.{RisesFrom, AllBefore, max_tick}
@@ -11,7 +12,7 @@ use Rattle.zs_drive.specs.declared.record.Keeping.{Keeping}
 use Rattle.zs_drive.specs.Values.{JobValue, record_of, job_value}
 use Rattle.zs_drive.specs.Timeline.{timeline_of, poll_moments}
 use Rattle.zs_drive.specs.Tasks.{TaskValue, current_timeline}
-use Rattle.zs_engine.specs.Times.{next_of}
+use Rattle.zs_engine.specs.Times.{ticks_of, next_of}
 use Rattle.zs_engine.specs.Slots.{Slots, has}
 
 -- The task is up to date after the ticks `past`: it has the timeline of its job alone on them, and
@@ -32,6 +33,10 @@ pub record KeepsUp (ticks : List ℕ) (task : TaskValue) : Type 0 where
   pub kept : task.moments ≡ poll_moments (current_timeline task).attempts
   pub whole : task.broken ≡ false
   pub script : IsScript task.job.script
+
+-- the tick at which the task is due, if there is one
+abbrev pub next_tick_of : Ticks → TaskValue → Option ℕ
+next_tick_of clock task = next_of (ticks_of clock) (current_timeline task).due
 
 -- the task in slot i waits for its next due poll, and its timer is armed for it
 pub record IsWaiting (ticks : List ℕ) (timers : Timers) (i : ℕ) (task : TaskValue) : Type 0 where

@@ -1,10 +1,9 @@
 ghost use Rattle.std.specs.Prelude.{◌≡◌, ℕ, ◌≤◌, ◌<◌, List, [], ◌∷◌, ◌++◌, length, map, Some, None, slice_set, OnOk, IfOk};
 ghost use Rattle.std.specs.FinMap.{empty, get};
 ghost use Rattle.zs_term.specs.Saturating.{max_moment};
-ghost use Rattle.zs_drive.specs.Tasks.{current_timeline};
 ghost use Rattle.zs_pool.specs.Limits.{max_tasks};
-ghost use Rattle.zs_engine.specs.Times.{ticks_of, next_of, IsLater};
-ghost use Rattle.zs_engine.specs.Rounds.{job_alone, job_kept, jobs_in, kept_of, set_next};
+ghost use Rattle.zs_engine.specs.Times.{IsLater};
+ghost use Rattle.zs_engine.specs.Rounds.{job_alone, job_kept, jobs_in, kept_of, next_tick_of, set_next};
 ghost use Rattle.zs_engine.specs.Answers.{IsAnswer};
 
 use crate::answer::Answer;
@@ -36,7 +35,8 @@ pub struct Engine {
 
 // A tally of no polls, with its only seat. Its only error is `Memory`.
 fn new_tally(alloc: Global) -> Result<(Tally, TallySeat), EngineFault>
-    ensures ok { IfOk result (λ t. t.1 ≡ record { tally = t.0; count = 0; allowance = max_moment; seen = 0 }) }
+    ensures ok { IfOk result (λ t.
+        t.1 ≡ record { tally = t.0; count = 0; allowance = max_moment; seen = 0 }) }
 {
     match Tally::new(alloc) {
         Ok(made) => Ok(made),
@@ -45,11 +45,12 @@ fn new_tally(alloc: Global) -> Result<(Tally, TallySeat), EngineFault>
 }
 
 impl Engine {
-    ghost use Rattle.zs_engine.specs.Engine.{IsNew, RestsWith, IsDueWith};
+    ghost use Rattle.zs_engine.specs.Engine.{IsNew, IsResting, IsDueAt, IsSameRun, HasRunRound};
 
     // An engine of no jobs.
     pub fn new(alloc: Global, clock: Clock) -> Result<Engine, EngineFault>
-        ensures new { IfOk result (IsNew clock []) }
+        ensures new { IfOk result IsNew }
+        ensures empty { IfOk result (λ engine. (engine.clock ≡ clock) × (engine.slots.items ≡ [])) }
     {
         let horizon = clock.horizon();
         let agenda = Agenda::new(alloc)?;
@@ -68,8 +69,12 @@ impl Engine {
     // Adds a job, whose task stores its attempts in this way.
     fn add(&mut self, job: Job, keeps: Keeping) -> Result<(), EngineFault>
         requires few { length (jobs_in self.old.slots.items) < max_tasks }
-        requires new { IsNew self.old.clock (jobs_in self.old.slots.items) self.old }
-        ensures new { OnOk result (IsNew self.old.clock (jobs_in self.old.slots.items ++ job_kept keeps job ∷ []) self.new) }
+        requires new { IsNew self.old }
+        ensures new { OnOk result (IsNew self.new) }
+        ensures clock { OnOk result (self.new.clock ≡ self.old.clock) }
+        ensures jobs { OnOk result
+            (jobs_in self.new.slots.items
+            ≡ jobs_in self.old.slots.items ++ job_kept keeps job ∷ []) }
     {
         let task = Task::keeping(self.alloc, self.slots.len() as u64, job, keeps)?;
         set_timer(&self.clock, &mut self.agenda, &task)?;
@@ -81,11 +86,15 @@ impl Engine {
     fn put_back(&mut self, task: Task) -> Result<(), EngineFault>
         requires slot { task.number < length self.old.slots.items }
         requires unset { get self.old.agenda.moments task.number ≡ None }
-        requires later { IsLater self.old.agenda.last_taken (next_of (ticks_of self.old.clock) (current_timeline task).due) }
-        ensures slots { OnOk result (self.new.slots.items ≡ slice_set self.old.slots.items task.number (Some task)) }
-        ensures agenda { OnOk result (self.new.agenda ≡ set_next self.old.agenda task.number (next_of (ticks_of self.old.clock) (current_timeline task).due)) }
-        ensures clock { OnOk result ((self.new.clock ≡ self.old.clock) × (self.new.horizon ≡ self.old.horizon)) }
-        ensures tally { OnOk result ((self.new.tally ≡ self.old.tally) × (self.new.seat ≡ self.old.seat)) }
+        requires later { IsLater self.old.agenda.last_taken (next_tick_of self.old.clock task) }
+        ensures slots { OnOk result
+            (self.new.slots.items ≡ slice_set self.old.slots.items task.number (Some task)) }
+        ensures agenda { OnOk result (self.new.agenda
+            ≡ set_next self.old.agenda task.number (next_tick_of self.old.clock task)) }
+        ensures clock { OnOk result
+            ((self.new.clock ≡ self.old.clock) × (self.new.horizon ≡ self.old.horizon)) }
+        ensures tally { OnOk result
+            ((self.new.tally ≡ self.old.tally) × (self.new.seat ≡ self.old.seat)) }
     {
         match set_timer(&self.clock, &mut self.agenda, &task) {
             Ok(()) => {}
@@ -120,10 +129,10 @@ impl Engine {
         now: u64,
         number: u64,
     ) -> Result<(), EngineFault>
-        requires few { length (jobs_in self.old.slots.items) ≤ max_tasks }
-        requires due { (left : List ℕ) × IsDueWith self.old.clock (jobs_in self.old.slots.items) now (number ∷ left) self.old }
-        ensures onward { OnOk result ((left : List ℕ) → IsDueWith self.old.clock (jobs_in self.old.slots.items) now (number ∷ left) self.old
-            → IsDueWith self.old.clock (jobs_in self.old.slots.items) now left self.new) }
+        requires due { (left : List ℕ) × IsDueAt now (number ∷ left) self.old }
+        ensures onward { OnOk result
+            ((left : List ℕ) → IsDueAt now (number ∷ left) self.old → IsDueAt now left self.new) }
+        ensures same { OnOk result (IsSameRun self.old self.new) }
     {
         let Some(task) = &mut self.slots[number as usize] else {
             unreachable!();
@@ -143,10 +152,8 @@ impl Engine {
         now: u64,
         numbers: &[u64],
     ) -> Result<(), EngineFault>
-        requires few { length (jobs_in self.old.slots.items) ≤ max_tasks }
-        requires due { IsDueWith self.old.clock (jobs_in self.old.slots.items) now numbers.now self.old }
-        ensures rests { OnOk result (RestsWith self.old.clock (jobs_in self.old.slots.items) self.new) }
-        ensures taken { OnOk result (self.new.agenda.last_taken ≡ Some now) }
+        requires due { IsDueAt now numbers.now self.old }
+        ensures round { OnOk result (HasRunRound now self.old self.new) }
     {
         for place in 0..numbers.len() {
             if place % TOUCHED_AT_ONCE == 0 {
@@ -167,10 +174,8 @@ impl Engine {
         now: u64,
         numbers: &[u64],
     ) -> Result<(), EngineFault>
-        requires few { length (jobs_in self.old.slots.items) ≤ max_tasks }
-        requires due { IsDueWith self.old.clock (jobs_in self.old.slots.items) now numbers.now self.old }
-        ensures rests { OnOk result (RestsWith self.old.clock (jobs_in self.old.slots.items) self.new) }
-        ensures taken { OnOk result (self.new.agenda.last_taken ≡ Some now) }
+        requires due { IsDueAt now numbers.now self.old }
+        ensures round { OnOk result (HasRunRound now self.old self.new) }
     {
         let due = take_tasks(self.alloc, &mut self.slots, numbers)?;
         let polled = match round(
@@ -203,10 +208,8 @@ impl Engine {
         numbers: &[u64],
         polling: &mut Polling<'_, G>,
     ) -> Result<(), EngineFault>
-        requires few { length (jobs_in self.old.slots.items) ≤ max_tasks }
-        requires due { IsDueWith self.old.clock (jobs_in self.old.slots.items) now numbers.now self.old }
-        ensures rests { OnOk result (RestsWith self.old.clock (jobs_in self.old.slots.items) self.new) }
-        ensures taken { OnOk result (self.new.agenda.last_taken ≡ Some now) }
+        requires due { IsDueAt now numbers.now self.old }
+        ensures round { OnOk result (HasRunRound now self.old self.new) }
     {
         if cut.workers() == 1 || numbers.len() as u64 <= cut.grain() {
             self.poll_round(polling, now, numbers)
@@ -223,9 +226,9 @@ impl Engine {
         gate: &G,
         polling: &mut Polling<'_, G>,
     ) -> Result<(), EngineFault>
-        requires few { length (jobs_in self.old.slots.items) ≤ max_tasks }
-        requires rests { RestsWith self.old.clock (jobs_in self.old.slots.items) self.old }
-        ensures rests { OnOk result (RestsWith self.old.clock (jobs_in self.old.slots.items) self.new) }
+        requires rests { IsResting self.old }
+        ensures rests { OnOk result (IsResting self.new) }
+        ensures same { OnOk result (IsSameRun self.old self.new) }
         ensures over { OnOk result (self.new.agenda.moments ≡ empty) }
     {
         while let Some((now, numbers)) = self.agenda.take()? {
@@ -245,8 +248,12 @@ impl Engine {
         keeps: Keeping,
     ) -> Result<(), EngineFault>
         requires few { length jobs.items ≤ max_tasks }
-        requires new { IsNew self.old.clock [] self.old }
-        ensures rests { OnOk result (RestsWith self.old.clock (map (job_kept keeps) jobs.items) self.new) }
+        requires new { IsNew self.old }
+        requires empty { self.old.slots.items ≡ [] }
+        ensures rests { OnOk result (IsResting self.new) }
+        ensures clock { OnOk result (self.new.clock ≡ self.old.clock) }
+        ensures jobs { OnOk result
+            (jobs_in self.new.slots.items ≡ map (job_kept keeps) jobs.items) }
         ensures over { OnOk result (self.new.agenda.moments ≡ empty) }
     {
         for job in jobs {
@@ -264,10 +271,12 @@ impl Engine {
 
     // The tasks in job order, with the closed tally.
     pub fn finish(self) -> Result<Answer, EngineFault>
-        requires rests { RestsWith self.clock (jobs_in self.slots.items) self }
+        requires rests { IsResting self }
         requires over { self.agenda.moments ≡ empty }
-        ensures answer { IfOk result (IsAnswer self.clock (map job_alone (jobs_in self.slots.items))) }
-        ensures jobs { IfOk result (λ answer. map kept_of answer.tasks.items ≡ jobs_in self.slots.items) }
+        ensures answer { IfOk result
+            (IsAnswer self.clock (map job_alone (jobs_in self.slots.items))) }
+        ensures jobs { IfOk result (λ answer.
+            map kept_of answer.tasks.items ≡ jobs_in self.slots.items) }
     {
         let Engine {
             alloc,

@@ -1,9 +1,8 @@
 //! The timers of a run: each task that waits for a tick has one.
 ghost use Rattle.std.specs.Prelude.{◌≡◌, None, OnOk};
 ghost use Rattle.std.specs.FinMap.{get};
-ghost use Rattle.zs_drive.specs.Tasks.{current_timeline};
-ghost use Rattle.zs_engine.specs.Times.{ticks_of, next_of, IsLater};
-ghost use Rattle.zs_engine.specs.Rounds.{set_next};
+ghost use Rattle.zs_engine.specs.Times.{IsLater};
+ghost use Rattle.zs_engine.specs.Rounds.{next_tick_of, set_next};
 
 use crate::fault::EngineFault;
 use zs_agenda::{Agenda, Clock};
@@ -11,7 +10,7 @@ use zs_drive::Task;
 
 // Returns the tick at which the task is due, if there is one.
 fn next_tick(clock: &Clock, task: &Task) -> Option<u64>
-    ensures value { result ≡ next_of (ticks_of clock.now) (current_timeline task.now).due }
+    ensures value { result ≡ next_tick_of clock.now task.now }
 {
     clock.tick(task.due()?)
 }
@@ -19,8 +18,9 @@ fn next_tick(clock: &Clock, task: &Task) -> Option<u64>
 // Arms the timer of a task that has none, if there is a tick for it.
 pub fn set_timer(clock: &Clock, agenda: &mut Agenda, task: &Task) -> Result<(), EngineFault>
     requires unset { get agenda.old.moments task.now.number ≡ None }
-    requires later { IsLater agenda.old.last_taken (next_of (ticks_of clock.now) (current_timeline task.now).due) }
-    ensures ok { OnOk result (agenda.new ≡ set_next agenda.old task.now.number (next_of (ticks_of clock.now) (current_timeline task.now).due)) }
+    requires later { IsLater agenda.old.last_taken (next_tick_of clock.now task.now) }
+    ensures ok { OnOk result
+        (agenda.new ≡ set_next agenda.old task.now.number (next_tick_of clock.now task.now)) }
 {
     if let Some(moment) = next_tick(clock, task) {
         agenda.set(task.number(), moment)?;

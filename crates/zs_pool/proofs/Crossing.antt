@@ -7,7 +7,7 @@ use mathlib.Core.List.{List, [], ◌∷◌}
 use mir.Syntax.{Sym, w64}
 use denote.Plain.{UInt}
 use denote.RattleType.{RattleType}
-use denote.Builtin.{One}
+use denote.Builtin.{One as OneType}
 use denote.Hole.{as_row}
 use denote.Enum.Enum.{Enum}
 use denote.Enum.Declared.{Choice, intoss, rowss, shape}
@@ -22,6 +22,9 @@ use Rattle.std.proofs.option.Option.TheSendSync as option
 use Rattle.std.specs.contracts.option.Option as option_type
 use Rattle.std.proofs.result.Result.TheSendSync as result
 use Rattle.zs_step.proofs.decision.Decision.TheSendSync as decision
+use Rattle.std.specs.contracts.alloc.Global as global
+use Rattle.crossbeam_queue.specs.contracts.array_queue.Doing as doing
+use Rattle.crossbeam_queue.specs.contracts.array_queue.Turns as turn
 use Rattle.crossbeam_queue.specs.contracts.array_queue.TurnsTableRuleOptionDoingUnit.TheImpl as turns
 use Rattle.zs_pool.specs.contracts.board.rule.Claims as claims
 use Rattle.zs_pool.specs.contracts.board.rule.InTurn as in_turn
@@ -54,6 +57,9 @@ use Rattle.zs_drive.specs.contracts.task.Task as task
 use Rattle.zs_drive.specs.contracts.task.Task.TheInside as task_inside
 use Rattle.atomic_table.proofs.shared.Seat.TheSendSync as seat
 use Rattle.crossbeam_queue.proofs.array_queue.Slotted.TheSendSync as slotted
+use Rattle.zs_pool.specs.contracts.tasks.Tasks as tasks
+use Rattle.zs_pool.specs.declared.tasks.Tasks.{Tasks}
+use Rattle.zs_pool.specs.declared.tasks.Tasks.TheVariants.{One, Many}
 use Rattle.zs_pool.specs.contracts.batch.Batch as batch
 use Rattle.zs_pool.specs.contracts.batch.Batch.TheInside as batch_inside
 use Rattle.zs_pool.specs.contracts.polled.Polled as polled
@@ -138,14 +144,22 @@ task_fields p = declared_send task_inside.the_type (search sendable, (Box-send p
 task_sent : IsSend task_inside.the_row → IsSend task.the_row
 task_sent f = view_send task_inside.the_row _ _ _ _ f
 
-batch_fields : IsSend task.the_row → IsSend batch_inside.the_row
-batch_fields t = declared_send batch_inside.the_type (search sendable, (Vec-send task.the_row t, tt))
+tasks_live : VariantsHave IsSend tasks.the_type.parts → (d : Tasks) → LiveAt SendAt (rowss tasks.the_type.parts) (tasks.the_type.to d)
+tasks_live s (One one) = choice_live tasks.the_type.parts s (inl (one, tt))
+tasks_live s (Many many) = choice_live tasks.the_type.parts s (inr (inl (many, tt)))
+
+tasks_sent : IsSend task.the_row → IsSend tasks.the_row
+tasks_sent t = recorded_send_of (Enum (shape tasks.the_type)) tasks.the_type.D tasks.the_type.to tasks.the_type.to_one
+    (λ d. enum_send_at (shape tasks.the_type) (tasks.the_type.to d) (tasks_live ((t, tt), ((Vec-send task.the_row t, tt), tt)) d))
+
+batch_fields : IsSend tasks.the_row → IsSend batch_inside.the_row
+batch_fields t = declared_send batch_inside.the_type (search sendable, (t, tt))
 
 batch_sent : IsSend batch_inside.the_row → IsSend batch.the_row
 batch_sent f = view_send batch_inside.the_row _ _ _ _ f
 
-polled_fields : IsSend task.the_row → IsSend polled_inside.the_row
-polled_fields t = declared_send polled_inside.the_type (search sendable, (search sendable, (Vec-send task.the_row t, tt)))
+polled_fields : IsSend tasks.the_row → IsSend polled_inside.the_row
+polled_fields t = declared_send polled_inside.the_type (search sendable, (search sendable, (t, tt)))
 
 polled_sent : IsSend polled_inside.the_row → IsSend polled.the_row
 polled_sent f = view_send polled_inside.the_row _ _ _ _ f
@@ -169,13 +183,13 @@ served_sent : IsSend rights.the_row → IsSend polled.the_row → IsSend served.
 served_sent r p = declared_send served.the_type (r, (result.the_send _ _ (Vec-send polled.the_row p) (search (rules, sendable)), tt))
 
 board_fields : IsSend batch.the_row → IsSync board_inside.the_row
-board_fields b = declared_sync board_inside.the_type (slotted.the_sync (option_type.the_row batch.the_row) _ _ _ (turns.ghosts batch.the_row (claims.the_row batch.the_row) in_turn.the_row (in_turn_rule.ghosts batch.the_row) turns.no_dict) heap.ghosts (option.the_send batch.the_row b) heap_send heap_sync frees, (counter.the_sync, (search sendable, tt)))
+board_fields b = declared_sync board_inside.the_type (slotted.the_sync (option_type.the_row batch.the_row) (doing.the_row batch.the_row (claims.the_row batch.the_row)) (turn.the_row in_turn.the_row) global.the_row (turns.ghosts batch.the_row (claims.the_row batch.the_row) in_turn.the_row (in_turn_rule.ghosts batch.the_row) turns.no_dict) heap.ghosts (option.the_send batch.the_row b) heap_send heap_sync frees, (counter.the_sync, (search sendable, tt)))
 
 board_shared : IsSync board_inside.the_row → IsSync board.the_row
 board_shared f = view_sync board_inside.the_row _ _ _ _ f
 
 shelf_fields : IsSend polled.the_row → IsSync shelf_inside.the_row
-shelf_fields p = declared_sync shelf_inside.the_type (slotted.the_sync (option_type.the_row polled.the_row) _ _ _ (turns.ghosts polled.the_row (hands.the_row polled.the_row) each_once.the_row (each_once_rule.ghosts polled.the_row) turns.no_dict) heap.ghosts (option.the_send polled.the_row p) heap_send heap_sync frees, tt)
+shelf_fields p = declared_sync shelf_inside.the_type (slotted.the_sync (option_type.the_row polled.the_row) (doing.the_row polled.the_row (hands.the_row polled.the_row)) (turn.the_row each_once.the_row) global.the_row (turns.ghosts polled.the_row (hands.the_row polled.the_row) each_once.the_row (each_once_rule.ghosts polled.the_row) turns.no_dict) heap.ghosts (option.the_send polled.the_row p) heap_send heap_sync frees, tt)
 
 shelf_shared : IsSync shelf_inside.the_row → IsSync shelf.the_row
 shelf_shared f = view_sync shelf_inside.the_row _ _ _ _ f
@@ -189,11 +203,14 @@ log_send = log_sent attempted_send (told_sent attempted_send)
 task_send : IsSend task.the_row
 task_send = task_sent (task_fields (progress_sent (compiled_sent (checked_sent (checked_fields term_send kind_send)) state_send) log_send out_send))
 
+tasks_send : IsSend tasks.the_row
+tasks_send = tasks_sent task_send
+
 batch_send : IsSend batch.the_row
-batch_send = batch_sent (batch_fields task_send)
+batch_send = batch_sent (batch_fields tasks_send)
 
 polled_send : IsSend polled.the_row
-polled_send = polled_sent (polled_fields task_send)
+polled_send = polled_sent (polled_fields tasks_send)
 
 pub board_pass_send : IsSend board_pass.the_row
 board_pass_send = board_pass_sent (board_pass_fields batch_send)
@@ -214,7 +231,7 @@ pub shelf_sync : IsSync shelf.the_row
 shelf_sync = shelf_shared (shelf_fields polled_send)
 
 -- a reference that is captured
-pub reference_send : (l : NamedLft) (R : RattleType) (one : One R.mir) → IsSync R → IsSend (as_row (shr_ref_field l R one))
+pub reference_send : (l : NamedLft) (R : RattleType) (one : OneType R.mir) → IsSync R → IsSend (as_row (shr_ref_field l R one))
 reference_send l R one s = as_row_send (shr_ref_field l R one) (shr_send l.mir l.lft R s)
 
 -- what a closure captures, ten values of it

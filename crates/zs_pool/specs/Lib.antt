@@ -2,6 +2,7 @@
 pub mod Limits
 pub mod Rounds
 pub mod Batches
+pub mod Listed
 pub mod Messages
 pub mod Runs
 pub mod Board

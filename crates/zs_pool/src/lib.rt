@@ -24,6 +24,7 @@ mod polling;
 mod rounds;
 mod shelf;
 mod tally;
+mod tasks;
 
 pub use batch::Batch;
 pub use board::{Board, BoardPass};
@@ -36,3 +37,4 @@ pub use rounds::cut::{Cut, MAX_TASKS, MAX_WORKERS};
 pub use rounds::round;
 pub use shelf::{Shelf, ShelfPass};
 pub use tally::{Tally, TallySeat};
+pub use tasks::Tasks;

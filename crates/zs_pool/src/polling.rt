@@ -12,6 +12,7 @@ use crate::gate::Gate;
 use crate::polled::Polled;
 use crate::poller::{Poller, Polling, TOUCHED_AT_ONCE, touch_from};
 use crate::tally::{Tally, TallySeat};
+use crate::tasks::Tasks;
 use futures::Future;
 use futures::task::Context;
 use std::alloc::Global;
@@ -87,7 +88,10 @@ pub fn poll_in<G: Gate>(
     ensures polled { IsPollOf now batch result }
 {
     let Batch { number, mut tasks } = batch;
-    poll_each(polling, tally, seat, now, tasks.as_mut_slice());
+    match &mut tasks {
+        Tasks::One(task) => poll_one(polling, tally, seat, now, task),
+        Tasks::Many(tasks) => poll_each(polling, tally, seat, now, tasks.as_mut_slice()),
+    }
     Polled { number, now, tasks }
 }
 

@@ -19,6 +19,7 @@ use crate::rounds::batches::{cut_into, in_order};
 use crate::rounds::cut::Cut;
 use crate::rounds::sharing::{Work, poll_shared};
 use crate::tally::{Tally, TallySeat};
+use crate::tasks::Tasks;
 use std::alloc::Global;
 use std::snapshot::Snapshot;
 use std::sync::Wait;
@@ -59,9 +60,10 @@ pub fn round<G: Gate, R: Threads + Wait + Sync>(
         return Ok(tasks);
     }
     if cut.workers() == 1 || due <= cut.grain() {
+        let tasks = Tasks::Many(tasks);
         let alone = Batch { number: 0, tasks };
         let polled = poll_batch(rt, alloc, gate, tally, seat, now, alone)?;
-        return polled.into_tasks();
+        return Ok(polled.into_tasks()?.into_vec(alloc)?);
     }
     let batches = cut_into(alloc, cut.grain(), tasks)?;
     let size = batches.len();

@@ -5,7 +5,7 @@ ghost use Rattle.zs_pool.specs.Batches.{AreNumbered};
 use crate::ended::{Answer, Case, right_if};
 use std::alloc::{AllocError, Global};
 use std::sync::Wait;
-use zs_pool::{Batch, Board, BoardPass, Polled, Shelf, ShelfPass};
+use zs_pool::{Batch, Board, BoardPass, Polled, Shelf, ShelfPass, Tasks};
 
 // Three empty batches.
 fn three(alloc: Global) -> Result<Vec<Batch>, AllocError>
@@ -17,10 +17,8 @@ fn three(alloc: Global) -> Result<Vec<Batch>, AllocError>
 fn empty(alloc: Global, number: u64) -> Batch
     ensures number { result.number ≡ number }
 {
-    Batch {
-        number,
-        tasks: Vec::new(alloc),
-    }
+    let tasks = Tasks::Many(Vec::new(alloc));
+    Batch { number, tasks }
 }
 
 // Returns the number of the next batch.
@@ -61,11 +59,9 @@ fn put<R: Wait>(rt: &R, alloc: Global, shelf: &Shelf, pass: &mut ShelfPass, numb
     ensures shelf { pass.new.shelf ≡ shelf.now }
     ensures share { pass.new.share ≡ pass.old.share }
 {
-    let message = Polled {
-        number,
-        now: 0,
-        tasks: Vec::new(alloc),
-    };
+    let tasks = Tasks::Many(Vec::new(alloc));
+    let now = 0;
+    let message = Polled { number, now, tasks };
     shelf.put(rt, pass, message).is_ok()
 }
 

@@ -2,13 +2,13 @@
 
 ghost use Rattle.std.specs.Prelude.{◌≡◌, ◌+◌, ◌^◌, ◌<◌, [], ◌∷◌, ◌++◌, codes, length};
 ghost use Rattle.std.specs.Fmt.{decimal};
-ghost use Rattle.zs_term.specs.Output.{Output};
+ghost use Rattle.zs_term.specs.Output.{Output, pair};
 ghost use Rattle.zs_term.specs.OutputText.{output_text};
 ghost use Rattle.zs_c.specs.Rooms.{written_at};
 ghost use Rattle.zs_c.specs.View.{PlaceTells};
 
 use crate::program::node::{Node, read_node, word};
-use crate::program::outputs::{Place, View, read_view};
+use crate::program::outputs::{Place, View, part, parts, read_view};
 use crate::room::put_behind;
 use itoa::Buffer;
 
@@ -19,18 +19,38 @@ pub(crate) fn put_output(place: Place<'_>, room: &mut [u8], at: usize) -> usize
     ensures text { (o : Output) → PlaceTells place.entry o → at + length (output_text o) < 2 ^ 64 → room.new ≡ written_at at (output_text o) room.old }
     ensures end { (o : Output) → PlaceTells place.entry o → at + length (output_text o) < 2 ^ 64 → result ≡ at + length (output_text o) }
 {
-    match read_view(place) {
-        View::Number(n) => put_number(n, room, at),
-        View::Pair(a, b) => {
-            let end = put_byte(b'(', room, at);
-            let end = put_output(a, room, end);
-            let end = put_byte(b',', room, end);
-            let end = put_output(b, room, end);
-            put_byte(b')', room, end)
-        }
-        View::Left(a) => put_side(b"Left(", a, room, at),
-        View::Right(b) => put_side(b"Right(", b, room, at),
+    if place.levels == 0 {
+        return at;
     }
+    match read_node(place.code) {
+        Node::Leaf(_) => put_number(word(place.words, 0), room, at),
+        Node::Both(sizes) | Node::Either(sizes) => {
+            let (a, b) = parts(place, sizes, 0);
+            put_pair(a, b, room, at)
+        }
+        Node::WhileInput(_) => put_output(part(place, 3), room, at),
+        Node::WhileOutput(_, _) | Node::ResetWhen(_, _) => put_output(part(place, 4), room, at),
+        Node::AndThen(_) | Node::Map(_) => match read_view(place) {
+            View::Number(n) => put_number(n, room, at),
+            View::Pair(a, b) => put_pair(a, b, room, at),
+            View::Left(a) => put_side(b"Left(", a, room, at),
+            View::Right(b) => put_side(b"Right(", b, room, at),
+        },
+    }
+}
+
+// Writes the text of a pair.
+#[inline(always)]
+#[cycle(texts)]
+fn put_pair(first: Place<'_>, second: Place<'_>, room: &mut [u8], at: usize) -> usize
+    ensures text { (x y : Output) → PlaceTells first.entry x → PlaceTells second.entry y → at + length (output_text (pair x y)) < 2 ^ 64 → room.new ≡ written_at at (output_text (pair x y)) room.old }
+    ensures end { (x y : Output) → PlaceTells first.entry x → PlaceTells second.entry y → at + length (output_text (pair x y)) < 2 ^ 64 → result ≡ at + length (output_text (pair x y)) }
+{
+    let start = put_byte(b'(', room, at);
+    let comma = put_output(first, room, start);
+    let next = put_byte(b',', room, comma);
+    let end = put_output(second, room, next);
+    put_byte(b')', room, end)
 }
 
 // Writes the text of a side.

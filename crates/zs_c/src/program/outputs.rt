@@ -82,7 +82,7 @@ fn read_mapped(func: Func, part: Place<'_>) -> View<'_>
 
 // The part of an operator, whose code begins at a place.
 #[inline(always)]
-fn part(place: Place<'_>, at: usize) -> Place<'_>
+pub(crate) fn part(place: Place<'_>, at: usize) -> Place<'_>
     ensures code { result.code.now ≡ drop at place.entry.code.now }
     ensures words { result.words.now ≡ place.entry.words.now }
     ensures levels { result.levels ≡ place.entry.levels - 1 }
@@ -96,7 +96,7 @@ fn part(place: Place<'_>, at: usize) -> Place<'_>
 
 // Both parts of an operator, whose words begin at a place.
 #[inline(always)]
-fn parts(place: Place<'_>, sizes: Sizes, at: usize) -> (Place<'_>, Place<'_>)
+pub(crate) fn parts(place: Place<'_>, sizes: Sizes, at: usize) -> (Place<'_>, Place<'_>)
     ensures first_code { result.0.code.now ≡ take sizes.code (drop 3 place.entry.code.now) }
     ensures second_code { result.1.code.now ≡ drop sizes.code (drop 3 place.entry.code.now) }
     ensures first_words { result.0.words.now ≡ take sizes.state (drop at place.entry.words.now) }

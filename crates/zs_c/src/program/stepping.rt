@@ -81,6 +81,7 @@ fn has_passed(code: &[u64], words: &[u64], levels: u64, pick: Pick, test: Test) 
 }
 
 // One step of both parts.
+#[inline(always)]
 #[cycle(stepping)]
 fn step_parts(
     code: &[u64],

@@ -107,7 +107,7 @@ fn run_scoped<G: Gate, R: Threads + Wait + Sync>(
     )
 }
 
-// The batches, the number of their tasks, and the number of threads that help.
+// The batches, the number of their tasks, and the number of threads that help: each has a batch.
 #[derive(Drop)]
 pub struct Work {
     pub batches: Vec<Batch>,
@@ -130,10 +130,7 @@ pub fn poll_shared<'s, G: Gate, R: Threads + Wait + Sync>(
     requires room { work.tasks + rooms work.helpers work.tasks ≤ seat.old.allowance }
     requires tasks { length (tasks_of work.batches.items) ≤ work.tasks }
     requires helpers { work.helpers ≤ max_workers }
-
-    // No thread is started without a batch for it.
     requires few { work.helpers + 1 ≤ length work.batches.items }
-
     requires size { (1 ≤ length work.batches.items) × (length work.batches.items ≤ max_tasks) }
     requires numbered { AreNumbered work.batches.items }
     requires pollable { AllPollable now work.batches.items }
@@ -161,13 +158,9 @@ pub fn poll_shared<'s, G: Gate, R: Threads + Wait + Sync>(
         batches: size,
     };
     let collected = run_scoped(rt, alloc, shared, work.helpers, rights)?;
-    let Collected {
-        served,
-        mut messages,
-    } = collected;
-    let Served { rights, overflow } = served;
+    let Served { rights, overflow } = collected.served;
+    let (mut messages, mut kept) = (collected.messages, overflow?);
     tally.absorb(seat, rights.seat);
-    let mut kept = overflow?;
     board.close(rt, alloc, rights.board_pass)?;
     let mut left = shelf.close(rt, alloc, rights.shelf_pass)?;
     messages.append(&mut left)?;

@@ -1,6 +1,6 @@
-use Rattle.std.proofs.Common.{ap, arith}
+use Rattle.std.proofs.Common.{sym, ap, ◌∙◌, arith}
 use Rattle.zs_bounds.specs.declared.told.Bounds.{Bounds}
-use Rattle.zs_bounds.specs.Node.{node_schedule, node_state}
+use Rattle.zs_bounds.specs.Node.{node_schedule, node_state, firsts_of}
 use Rattle.zs_bounds.specs.BoundsOf.{bounds_from, no_bounds}
 use Rattle.zs_bounds.proofs.Loops.{loop_keeps}
 use Rattle.zs_bounds.proofs.bounding.bounds_from.Goals as goal
@@ -18,4 +18,5 @@ loop-preserved c =
           c.in_ok-decision.ensures.decision c.with_step-told.ensures.value c.loop.invariant.told;
       seen = omega (arith, seen, c.loop.invariant.seen);
       passed = c.if-passed-gt-MAX_TICK.false;
+      firsts = c.in_ok-decision.ensures.firsts ∙ c.loop.invariant.firsts ∙ sym (ap firsts_of c.in_ok-decision.ensures.same);
     }

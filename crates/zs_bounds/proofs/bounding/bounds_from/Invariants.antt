@@ -1,6 +1,6 @@
 use Rattle.std.proofs.Common.{◌≡◌, ◌-◌, ◌≤◌}
 use Rattle.zs_bounds.specs.Driven.{max_tick}
-use Rattle.zs_bounds.specs.Node.{node_schedule, node_state}
+use Rattle.zs_bounds.specs.Node.{node_schedule, node_state, KnowsFirsts}
 use Rattle.zs_bounds.specs.BoundsOf.{bounds_from, no_bounds}
 use Rattle.zs_bounds.proofs.bounding.bounds_from.Given as goal
 
@@ -11,4 +11,5 @@ invariant-loop l = record {
       ≡ bounds_from (node_schedule l.fn.node) l.fn.steps (node_state l.fn.node) l.fn.first 0 no_bounds;
   seen : l.told.seen ≡ l.counter;
   passed : l.passed ≤ max_tick;
+  firsts : KnowsFirsts l.node;
 }

@@ -1,7 +1,7 @@
 use Rattle.std.proofs.Common.{inl, inr, sym, ap, ◌∙◌, subst}
 use Rattle.zs_term.specs.Output.{number, applied}
 use Rattle.zs_c.specs.View.{Shows}
-use Rattle.zs_c.proofs.Views.{ArePartsOf, no-levels, leaf-shows, both-shows, either-shows, left-shows, right-shows, while_input-part, while_output-part, reset_when-part, mapped-part, told-size}
+use Rattle.zs_c.proofs.Views.{no-levels, leaf-shows, pair-shows, left-shows, right-shows, while_input-part, while_output-part, reset_when-part, mapped-part, told-size}
 use Rattle.zs_c.proofs.program.outputs.+viewing.Goals as goal
 
 pub read_mapped-returns-in-Size-clause-shows : goal.read_mapped-returns-in-Size-clause-shows
@@ -73,20 +73,12 @@ read_view-returns-in-Map-clause-shows t c o tells =
 
 pub read_view-returns-in-Both-clause-shows : goal.read_view-returns-in-Both-clause-shows
 read_view-returns-in-Both-clause-shows t c o tells =
-    let s = c.in-Both.sizes in
-    let p = c.args.place in
-    let a = c.parts-in-Both.result.0 in
-    let b = c.parts-in-Both.result.1 in
     let e = c.parts-in-Both.ensures in
-    let are : ArePartsOf s p a b 0 = record {
+    pair-shows c.in-Both.sizes c.args.place c.parts-in-Both.result.0 c.parts-in-Both.result.1 o c.read_node.result c.read_node.ensures.value c.in-Both.is (record {
       first_code = e.first_code;
       second_code = e.second_code;
       first_words = e.first_words;
       second_words = e.second_words;
       first_levels = e.first_levels;
       second_levels = e.second_levels;
-    } in
-    elim c.in-Both.is [
-      | inl w ↦ both-shows s p a b o c.read_node.result c.read_node.ensures.value w are tells
-      | inr w ↦ either-shows s p a b o c.read_node.result c.read_node.ensures.value w are tells
-    ]
+    }) tells

@@ -7,7 +7,7 @@ use Rattle.zs_drive.proofs.task.Task.keeping.Goals as goal
 
 pub invariant_of-result : goal.invariant_of-result
 invariant_of-result c = record {
-  progress = rw c.in_ok-progress.ensures.value (IsProgress-new _ refl refl refl c.new-2.ensures.none);
+  progress = rw c.in_ok-progress.ensures.ok (IsProgress-new _ refl refl refl c.new-2.ensures.none);
   state = λ _.
       let job = c.args.job in
       let progress : Progress = record {
@@ -15,17 +15,17 @@ invariant_of-result c = record {
         mode = job.mode;
         start = job.start;
         script = job.script;
-        compiled = c.in-Ok.compiled;
+        compiled = c.in_ok-compiled.compiled;
         log = c.new-2.result;
         spare = Num 0;
         phase = Waiting job.start;
         polls = 0;
         seen = 0;
       } in
-      rw c.in_ok-progress.ensures.value (HasState-new progress refl c.new-2.ensures.none c.in-Ok.ensures.stands);
-  script = rw (c.in_ok-progress.ensures.value, ← c.script.view_is) c.script.invariant;
+      rw c.in_ok-progress.ensures.ok (HasState-new progress refl c.new-2.ensures.none c.in_ok-compiled.ensures.stands);
+  script = rw (c.in_ok-progress.ensures.ok, ← c.script.view_is) c.script.invariant;
   unended = λ broken. let clash : false ≡ true = broken in cc;
 }
 
 pub returns-clause-made : goal.returns-clause-made
-returns-clause-made c = rw (c.in_ok-progress.ensures.value, moments-none c.new-2.result c.new-2.ensures.none, c.in-Ok.ensures.term, c.new-2.ensures.keeps) refl
+returns-clause-made c = rw (c.in_ok-progress.ensures.ok, moments-none c.new-2.result c.new-2.ensures.none, c.in_ok-compiled.ensures.term, c.new-2.ensures.keeps) refl

@@ -17,7 +17,7 @@ pub take_tasks-requires-clause-distinct : goal.take_tasks-requires-clause-distin
 take_tasks-requires-clause-distinct g c = due-distinct c.args.self.now c.args.now c.args.numbers.now c.requires.due
 
 pub round-requires-clause-few : goal.round-requires-clause-few
-round-requires-clause-few g c = λ _ _. due-few c.args.self.now c.args.now c.args.numbers.now c.requires.due c.in_ok-due.due.items c.in_ok-due.ensures.picks c.requires.few
+round-requires-clause-few g c = λ _ _. due-few c.args.self.now c.args.now c.args.numbers.now c.requires.due c.in_ok-due.due.items c.in_ok-due.ensures.picks
 
 pub round-requires-clause-rising : goal.round-requires-clause-rising
 round-requires-clause-rising g c = λ _ _. due-rising c.args.self.now c.args.now c.args.numbers.now c.requires.due c.in_ok-due.due.items c.in_ok-due.ensures.picks
@@ -27,7 +27,7 @@ round-requires-clause-pollable g c = λ _ _. due-pollable c.args.self.now c.args
 
 pub round-requires-clause-allowance : goal.round-requires-clause-allowance
 round-requires-clause-allowance g c = λ _ _.
-    due-room c.args.self.now c.args.now c.args.numbers.now c.requires.due c.in_ok-due.due.items c.in_ok-due.ensures.picks c.args.cut.workers c.args.cut.within.1 c.requires.few
+    due-room c.args.self.now c.args.now c.args.numbers.now c.requires.due c.in_ok-due.due.items c.in_ok-due.ensures.picks c.args.cut.workers c.args.cut.within.1
 
 pub loop-task-init : goal.loop-task-init
 loop-task-init g c =
@@ -77,12 +77,12 @@ loop-task-preserved g c =
       sum = rw seat c.loop-task.invariant.sum;
     }
 
-pub returns-clause-rests : goal.returns-clause-rests
-returns-clause-rests g c =
+pub returns : goal.returns
+returns g c =
     let it = c.loop-task.task-iterator in
     let none : into_iter_items it ≡ [] = nil_from_length (into_iter_items it) (omega (arith, it.rest.ok.0, c.in-None.ensures.steps.0)) in
-    due-settled c.args.self.now c.args.now c.args.numbers.now c.requires.due c.loop-task.self c.loop-task.invariant.keeps c.loop-task.invariant.seated c.loop-task.invariant.sum
-    (rw none at c.loop-task.invariant.settling)
-
-pub returns-clause-taken : goal.returns-clause-taken
-returns-clause-taken g c = c.loop-task.invariant.settling.all_wait.is_taken
+    record {
+      round =
+          due-settled c.args.self.now c.args.now c.args.numbers.now c.requires.due c.loop-task.self c.loop-task.invariant.keeps c.loop-task.invariant.seated c.loop-task.invariant.sum
+          (rw none at c.loop-task.invariant.settling);
+    }

@@ -1,0 +1,13 @@
+# The library for services. `make` proves and builds it; `make install DESTDIR=DIR PREFIX=/usr` puts it into a system.
+PREFIX = /usr/local
+LIBDIR = lib
+# The folder of the built library.
+LIBRARY = crates/zs_c/out
+
+.PHONY: library install
+
+library:
+	tools/make-library --out '$(LIBRARY)'
+
+install:
+	tools/install-library --library '$(LIBRARY)' --destdir '$(DESTDIR)' --prefix '$(PREFIX)' --libdir '$(LIBDIR)'
