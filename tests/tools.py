@@ -1,25 +1,28 @@
 #!/usr/bin/env python3
 """The tests of the commands in tools/, of the documents' plans and of the package: each file tests/tools/test_*.py, by
 unittest, as many files side by side as there are processors. `tests/tools.py NAME ..` runs the named files alone
-(test_explain, or explain). A test that needs a program that isn't on this machine is told as skipped, with the reason. The
-last line is 'N passed, M failed'."""
+(test_explain, or explain). The library is built once, beside the other files, and then those that call it run. A test that
+needs a program that isn't on this machine is skipped, by name. The last line is 'N passed, M failed'."""
+import compileall
 import concurrent.futures
 import os
 import pathlib
 import re
+import shutil
 import signal
 import subprocess
 import sys
+import tempfile
 import time
 import unittest
 
 HERE = pathlib.Path(__file__).resolve().parent
 sys.dont_write_bytecode = True
 sys.path[:0] = [str(HERE), str(HERE / "tools"), str(HERE.parent / "tools")]
-# Files that run in one process after each other, because they share what the first one builds.
-TOGETHER = [["test_library", "test_library_install", "test_library_steps"]]
+# Files that call the library.
+OVER_LIBRARY = ["test_library", "test_library_steps", "test_library_install"]
 # Those that take longest begin first.
-LONGEST = ["test_library", "test_scale", "test_page", "test_report", "test_plan", "test_explain"]
+LONGEST = ["test_page", "test_report", "test_explain", "test_plan", "test_package", "test_scale"]
 LAST = re.compile(r"(\d+) passed, (\d+) failed")
 
 
@@ -48,25 +51,57 @@ def run(name):
     for test, reason in result.skipped:
         print(f"{name}: skipped {test.id().split('.', 1)[-1]}: {reason}")
     print(f"{name}: {time.monotonic() - begun:.1f} s", flush=True)
+    if not (result.testsRun or result.skipped):
+        print(f"{name}: no test was found")
+        return 0, 1
     return result.passed, len(result.failures) + len(result.errors) + len(result.unexpectedSuccesses)
 
 
-def run_apart(names):
-    """Runs files in a process of their own, shows what it says, and returns how many passed and failed."""
-    ended = subprocess.run([sys.executable, __file__, *names], stdin=subprocess.DEVNULL, stdout=subprocess.PIPE,
-                           stderr=subprocess.STDOUT, text=True, errors="replace", check=False)
+def run_apart(name, **more):
+    """Runs a file in a process of its own, under more variables, shows what it prints, and returns how many tests passed
+    and failed."""
+    ended = subprocess.run([sys.executable, __file__, name], stdin=subprocess.DEVNULL, stdout=subprocess.PIPE,
+                           stderr=subprocess.STDOUT, text=True, errors="replace", check=False, env={**os.environ, **more})
     lines = ended.stdout.rstrip("\n").split("\n")
     last = LAST.fullmatch(lines[-1])
-    print("\n".join(lines[:-1] if last else [*lines, f"{' '.join(names)}: ended with status {ended.returncode}"]), flush=True)
+    print("\n".join(lines[:-1] if last else [*lines, f"{name}: ended with status {ended.returncode}"]), flush=True)
     return (int(last[1]), int(last[2])) if last else (0, 1)
 
 
-def groups_of(files):
-    """The files by the process that runs them, those that take longest first."""
-    shared = [[name for name in group if name in files] for group in TOGETHER]
-    alone = [[name] for name in files if not any(name in group for group in shared)]
+def built_library(folder):
+    """Builds the library in a folder, unless the toolchain isn't there or a built one is named; returns the variable that
+    names it."""
+    if "ZSCHED_LIBRARY_DIR" in os.environ or not shutil.which("rt"):
+        return {}
+    begun = time.monotonic()
+    subprocess.run([HERE.parent / "tools" / "make-library", "--out", folder], check=True, stdout=subprocess.DEVNULL)
+    print(f"the library: built in {time.monotonic() - begun:.1f} s", flush=True)
+    return {"ZSCHED_LIBRARY_DIR": folder}
+
+
+def run_over_library(names, folder):
+    """Builds the library and then runs the files that call it side by side; returns their counts."""
+    try:
+        variables = built_library(folder)
+    except subprocess.CalledProcessError as failed:
+        print(f"the library can't be built: make-library ended with status {failed.returncode}", flush=True)
+        return [(0, 1) for _ in names]
+    with concurrent.futures.ThreadPoolExecutor(len(names)) as pool:
+        return list(pool.map(lambda name: run_apart(name, **variables), names))
+
+
+def run_all(files, room):
+    """Runs files side by side, those over the library once it is built; returns the counts."""
+    # Each command compiles its sources when it starts, unless they are compiled here.
+    os.environ["PYTHONPYCACHEPREFIX"] = sys.pycache_prefix = f"{room}/compiled"
+    compileall.compile_dir(HERE.parent / "tools", quiet=1)
     order = {name: place for place, name in enumerate(LONGEST)}
-    return sorted([*filter(None, shared), *alone], key=lambda group: order.get(group[0], len(order)))
+    alone = sorted(set(files) - set(OVER_LIBRARY), key=lambda name: (order.get(name, len(order)), name))
+    over = [name for name in OVER_LIBRARY if name in files]
+    with concurrent.futures.ThreadPoolExecutor(len(os.sched_getaffinity(0))) as pool, \
+            concurrent.futures.ThreadPoolExecutor(1) as beside:
+        counts = beside.submit(run_over_library, over, f"{room}/library") if over else None
+        return [*pool.map(run_apart, alone), *(counts.result() if counts else [])]
 
 
 def main(names):
@@ -74,16 +109,12 @@ def main(names):
     # A shell that runs this in the background has Ctrl-C ignored, here and in all that is started from here.
     signal.signal(signal.SIGINT, signal.default_int_handler)
     files = [f"test_{name.removeprefix('test_')}" for name in names] or sorted(it.stem for it in HERE.glob("tools/test_*.py"))
-    groups = groups_of(files)
-    if len(groups) == 1:
-        counts = list(map(run, files))
+    if len(files) == 1:
+        counts = [run(files[0])]
     else:
-        with concurrent.futures.ThreadPoolExecutor(len(os.sched_getaffinity(0))) as pool:
-            counts = list(pool.map(run_apart, groups))
+        with tempfile.TemporaryDirectory(prefix="zsched-tools-") as room:
+            counts = run_all(files, room)
     passed, failed = (sum(column) for column in zip(*counts))
-    if passed + failed == 0:
-        failed = 1
-        print("no test was found")
     print(f"{passed} passed, {failed} failed")
     return 1 if failed else 0
 

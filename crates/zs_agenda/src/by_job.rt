@@ -23,7 +23,10 @@ pub(crate) struct ByJob {
 // Writes the moment of a job to its place.
 fn put_near(near: &mut Vec<Option<u64>>, job: u64, moment: u64) -> Result<(), AllocError>
     requires small { job < table_size }
-    ensures ok { OnOk result ((q : ℕ) → place_in near.new.items q ≡ (if job == q then Some moment else place_in near.old.items q)) }
+    ensures ok { OnOk result
+        ((q : ℕ)
+        → place_in near.new.items q
+        ≡ (if job == q then Some moment else place_in near.old.items q)) }
     ensures err { OnErr result (near.new.items ≡ near.old.items) }
     ensures full { OnErr result (vec_capacity near.old ≤ job) }
 {
@@ -38,7 +41,8 @@ fn put_near(near: &mut Vec<Option<u64>>, job: u64, moment: u64) -> Result<(), Al
 // Clears the place of a job, if it has one.
 fn clear_near(near: &mut Vec<Option<u64>>, job: u64)
     requires small { job < table_size }
-    ensures cleared { (q : ℕ) → place_in near.new.items q ≡ (if job == q then None else place_in near.old.items q) }
+    ensures cleared { (q : ℕ)
+        → place_in near.new.items q ≡ (if job == q then None else place_in near.old.items q) }
 {
     let place = job as usize;
     if place < near.len() {

@@ -138,8 +138,11 @@ impl ByMoment {
     // Inserts a moment with its jobs before all others.
     fn put_first(&mut self, moment: u64, jobs: Vec<u64>) -> Result<(), AllocError>
         requires order { IsInOrder self.old }
-        requires before { (t : ℕ) (others : List ℕ) → jobs_at self.old t ≡ Some others → moment < t }
-        ensures ok { OnOk result ((t : ℕ) → jobs_at self.new t ≡ (if moment == t then Some jobs.items else jobs_at self.old t)) }
+        requires before { (t : ℕ) (others : List ℕ) → jobs_at self.old t ≡ Some others
+            → moment < t }
+        ensures ok { OnOk result
+            ((t : ℕ)
+            → jobs_at self.new t ≡ (if moment == t then Some jobs.items else jobs_at self.old t)) }
         ensures err { OnErr result (HasSameJobs self.old self.new) }
         ensures order { IsInOrder self.new }
     {

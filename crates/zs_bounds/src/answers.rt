@@ -23,7 +23,9 @@ pub(crate) fn no_answer() -> Answer
 
 // The answers of one or the other.
 pub(crate) fn answer_hull(first: Answer, second: Answer) -> Answer
-    ensures value { range (output_range_of result.0) result.1 ≡ answer_hull (range (output_range_of first.0) first.1) (range (output_range_of second.0) second.1) }
+    ensures value { range (output_range_of result.0) result.1
+        ≡ answer_hull (range (output_range_of first.0) first.1)
+        (range (output_range_of second.0) second.1) }
 {
     let (x, d) = first;
     let (y, e) = second;
@@ -37,14 +39,17 @@ pub(crate) fn paired(
     second: OutRange,
     decision: Decisions,
 ) -> Result<Answer, AllocError>
-    ensures value { IfOk result (λ r. range (output_range_of r.0) r.1 ≡ range (pairs (output_range_of first) (output_range_of second)) decision) }
+    ensures value { IfOk result (λ r.
+        range (output_range_of r.0) r.1
+        ≡ range (pairs (output_range_of first) (output_range_of second)) decision) }
 {
     Ok((make_pairs(alloc, first, second)?, decision))
 }
 
 // The answers of a first part that goes on.
 pub(crate) fn left_range(alloc: Global, answer: Answer) -> Result<Answer, AllocError>
-    ensures value { IfOk result (λ r. range (output_range_of r.0) r.1 ≡ left_range (range (output_range_of answer.0) answer.1)) }
+    ensures value { IfOk result (λ r.
+        range (output_range_of r.0) r.1 ≡ left_range (range (output_range_of answer.0) answer.1)) }
 {
     let (out, decision) = answer;
     if !decision.may_go_on() {
@@ -58,7 +63,8 @@ pub(crate) fn left_range(alloc: Global, answer: Answer) -> Result<Answer, AllocE
 
 // The answers of a second part.
 pub(crate) fn right_range(alloc: Global, answer: Answer) -> Result<Answer, AllocError>
-    ensures value { IfOk result (λ r. range (output_range_of r.0) r.1 ≡ right_range (range (output_range_of answer.0) answer.1)) }
+    ensures value { IfOk result (λ r.
+        range (output_range_of r.0) r.1 ≡ right_range (range (output_range_of answer.0) answer.1)) }
 {
     let (out, decision) = answer;
     Ok((make_sides(alloc, OutRange::Nothing, out)?, decision))
@@ -66,7 +72,8 @@ pub(crate) fn right_range(alloc: Global, answer: Answer) -> Result<Answer, Alloc
 
 // The answers under a test of a number of a span, if there is one.
 pub(crate) fn tested(test: Test, span: Option<Span>, answer: Answer) -> Answer
-    ensures value { range (output_range_of result.0) result.1 ≡ test_range test span (range (output_range_of answer.0) answer.1) }
+    ensures value { range (output_range_of result.0) result.1
+        ≡ test_range test span (range (output_range_of answer.0) answer.1) }
 {
     let (out, decision) = answer;
     let passes = may_pass(test, span);
@@ -75,7 +82,9 @@ pub(crate) fn tested(test: Test, span: Option<Span>, answer: Answer) -> Answer
 
 // The answers of a part, or those of its first step, if it may be reset.
 pub(crate) fn reset(passes: bool, fails: bool, answer: Answer, first: Answer) -> Answer
-    ensures value { range (output_range_of result.0) result.1 ≡ reset_range passes fails (range (output_range_of answer.0) answer.1) (range (output_range_of first.0) first.1) }
+    ensures value { range (output_range_of result.0) result.1
+        ≡ reset_range passes fails (range (output_range_of answer.0) answer.1)
+        (range (output_range_of first.0) first.1) }
 {
     if !passes {
         return answer;

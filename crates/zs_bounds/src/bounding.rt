@@ -38,7 +38,8 @@ fn bounds_from(
     steps: u64,
 ) -> Result<Bounds, AllocError>
     requires firsts { KnowsFirsts node.old }
-    ensures value { IfOk result (λ b. b ≡ bounds_from (node_schedule node.old) steps (node_state node.old) first 0 no_bounds) }
+    ensures value { IfOk result (λ b.
+        b ≡ bounds_from (node_schedule node.old) steps (node_state node.old) first 0 no_bounds) }
 {
     let mut decision = first;
     let mut passed = 0u64;

@@ -7,5 +7,6 @@ ghost use Rattle.zs_bounds.specs.BoundsOf.{bounds_of};
 
 /// What is told of a schedule holds for every history that a driver can make.
 pub fn bounds_hold()
-    ensures value { (s : Schedule) (steps : ℕ) → has_factors s ≡ true → Promises s (bounds_of s steps) }
+    ensures value { (s : Schedule) (steps : ℕ) → has_factors s ≡ true
+        → Promises s (bounds_of s steps) }
 {}

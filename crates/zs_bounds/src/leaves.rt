@@ -37,7 +37,8 @@ fn at_once() -> Option<Span>
 
 // The answers of a leaf, by its number of steps with this one, and the time since the first one.
 pub(crate) fn leaf_range(leaf: Leaf, steps: Span, time: Span) -> Answer
-    ensures value { range (output_range_of result.0) result.1 ≡ leaf_range (bare_leaf leaf) steps time }
+    ensures value { range (output_range_of result.0) result.1
+        ≡ leaf_range (bare_leaf leaf) steps time }
 {
     let earlier = steps.earlier();
     let count = OutRange::Numbers(earlier);
@@ -69,7 +70,8 @@ pub(crate) fn leaf_range(leaf: Leaf, steps: Span, time: Span) -> Answer
 
 // What `recurs` decides after so many earlier steps.
 fn recurring(k: u64, earlier: Span) -> Decisions
-    ensures value { result ≡ decisions (nat_le k earlier.high) (if nat_lt earlier.low k then at_once else None) }
+    ensures value { result
+        ≡ decisions (nat_le k earlier.high) (if nat_lt earlier.low k then at_once else None) }
 {
     Decisions {
         stops: k <= earlier.high,

@@ -59,7 +59,9 @@ impl Turn {
 
     // A part that may also be at its first step, if it may begin.
     pub(crate) fn add_first(self, begins: bool) -> Turn
-        ensures value { result ≡ turn_of (self.is_on || begins) self.begins (fresh_added begins self.is_on self.fresh) }
+        ensures value { result
+            ≡ turn_of (self.is_on || begins) self.begins
+            (fresh_added begins self.is_on self.fresh) }
     {
         Turn {
             is_on: self.is_on || begins,
@@ -214,7 +216,8 @@ fn part(alloc: Global, term: &Term) -> Result<Box<Node>, AllocError>
 fn in_turn(alloc: Global, first: Box<Node>, second: Box<Node>) -> Result<Node, AllocError>
     requires first_knows { KnowsFirsts first.value }
     requires second_knows { KnowsFirsts second.value }
-    ensures made_of { IfOk result (λ n. node_schedule n ≡ two and_then (node_schedule first.value) (node_schedule second.value)) }
+    ensures made_of { IfOk result (λ n.
+        node_schedule n ≡ two and_then (node_schedule first.value) (node_schedule second.value)) }
     ensures firsts { IfOk result KnowsFirsts }
 {
     let first_turn = Turn::of(first_decisions(alloc, &first)?);
@@ -230,7 +233,8 @@ fn in_turn(alloc: Global, first: Box<Node>, second: Box<Node>) -> Result<Node, A
 // A part whose outputs are collected.
 fn collected(alloc: Global, part: Box<Node>) -> Result<Node, AllocError>
     requires knows { KnowsFirsts part.value }
-    ensures made_of { IfOk result (λ n. node_schedule n ≡ over (node_schedule part.value) collect_all) }
+    ensures made_of { IfOk result (λ n.
+        node_schedule n ≡ over (node_schedule part.value) collect_all) }
     ensures firsts { IfOk result KnowsFirsts }
 {
     let begins = first_decisions(alloc, &part)?;
@@ -244,7 +248,8 @@ fn collected(alloc: Global, part: Box<Node>) -> Result<Node, AllocError>
 // What the first step may return.
 #[cycle(beginning)]
 pub(crate) fn first_range(alloc: Global, node: &Node) -> Result<Answer, AllocError>
-    ensures value { IfOk result (λ r. range (output_range_of r.0) r.1 ≡ first_range (node_schedule node.now)) }
+    ensures value { IfOk result (λ r.
+        range (output_range_of r.0) r.1 ≡ first_range (node_schedule node.now)) }
 {
     match node {
         Node::Leaf { leaf, .. } => Ok(leaf_range(*leaf, Span::one(1), Span::one(0))),
@@ -282,7 +287,10 @@ pub(crate) fn first_range(alloc: Global, node: &Node) -> Result<Answer, AllocErr
 // What the first step of two parts in turn may return.
 #[cycle(beginning)]
 fn first_turn(alloc: Global, first: &Node, second: &Node) -> Result<Answer, AllocError>
-    ensures value { IfOk result (λ r. range (output_range_of r.0) r.1 ≡ first_turn (first_range (node_schedule first.now)) (first_range (node_schedule second.now))) }
+    ensures value { IfOk result (λ r.
+        range (output_range_of r.0) r.1
+        ≡ first_turn (first_range (node_schedule first.now))
+        (first_range (node_schedule second.now))) }
 {
     let x = first_range(alloc, first)?;
     let begins = x.1.stops;
@@ -332,7 +340,10 @@ pub(crate) fn first_decisions(alloc: Global, node: &Node) -> Result<Decisions, A
 // What the first step of two parts in turn may decide.
 #[cycle(first_deciding)]
 fn first_turn_decisions(alloc: Global, first: &Node, second: &Node) -> Result<Decisions, AllocError>
-    ensures value { IfOk result (λ d. d ≡ (first_turn (first_range (node_schedule first.now)) (first_range (node_schedule second.now))).decision) }
+    ensures value { IfOk result (λ d.
+        d
+        ≡ (first_turn (first_range (node_schedule first.now))
+        (first_range (node_schedule second.now))).decision) }
 {
     let x = first_decisions(alloc, first)?;
     let left = if x.may_go_on() {
@@ -413,7 +424,8 @@ pub(crate) fn begin(node: &mut Node)
 #[tactic(auto, using(crate::proofs::Fresh::fresh_begun))]
 pub(crate) fn widen(node: &mut Node)
     requires firsts { KnowsFirsts node.old }
-    ensures state { node_state node.new ≡ with_first (node_schedule node.old) (node_state node.old) }
+    ensures state { node_state node.new
+        ≡ with_first (node_schedule node.old) (node_state node.old) }
     ensures same { node_schedule node.new ≡ node_schedule node.old }
     ensures firsts { node_firsts node.new ≡ node_firsts node.old }
 {
@@ -457,7 +469,9 @@ pub(crate) fn widen(node: &mut Node)
 // Adds the state after the first step to those of a part that may begin: it is its only state if the part was not on.
 pub(crate) fn add_first(begins: bool, is_on: bool, node: &mut Node)
     requires firsts { KnowsFirsts node.old }
-    ensures state { node_state node.new ≡ begun begins is_on (with_first (node_schedule node.old) (node_state node.old)) (first_state (node_schedule node.old)) (node_state node.old) }
+    ensures state { node_state node.new
+        ≡ begun begins is_on (with_first (node_schedule node.old) (node_state node.old))
+        (first_state (node_schedule node.old)) (node_state node.old) }
     ensures same { node_schedule node.new ≡ node_schedule node.old }
     ensures firsts { node_firsts node.new ≡ node_firsts node.old }
 {
@@ -470,7 +484,8 @@ pub(crate) fn add_first(begins: bool, is_on: bool, node: &mut Node)
 // Adds to a part's states what they still lack.
 pub(crate) fn refresh(fresh: Fresh, node: &mut Node)
     requires firsts { KnowsFirsts node.old }
-    ensures state { node_state node.new ≡ fresh_state fresh (node_schedule node.old) (node_state node.old) }
+    ensures state { node_state node.new
+        ≡ fresh_state fresh (node_schedule node.old) (node_state node.old) }
     ensures same { node_schedule node.new ≡ node_schedule node.old }
     ensures firsts { node_firsts node.new ≡ node_firsts node.old }
 {

@@ -29,7 +29,8 @@ pub(crate) fn make_pairs(
     first: OutRange,
     second: OutRange,
 ) -> Result<OutRange, AllocError>
-    ensures value { IfOk result (λ r. output_range_of r ≡ pairs (output_range_of first) (output_range_of second)) }
+    ensures value { IfOk result (λ r.
+        output_range_of r ≡ pairs (output_range_of first) (output_range_of second)) }
 {
     Ok(OutRange::Pairs(Box::new(alloc, first)?, Box::new(alloc, second)?))
 }
@@ -40,7 +41,8 @@ pub(crate) fn make_sides(
     left: OutRange,
     right: OutRange,
 ) -> Result<OutRange, AllocError>
-    ensures value { IfOk result (λ r. output_range_of r ≡ sides (output_range_of left) (output_range_of right)) }
+    ensures value { IfOk result (λ r.
+        output_range_of r ≡ sides (output_range_of left) (output_range_of right)) }
 {
     Ok(OutRange::Sides(Box::new(alloc, left)?, Box::new(alloc, right)?))
 }
@@ -48,7 +50,8 @@ pub(crate) fn make_sides(
 // A range around two.
 #[cycle(hulls)]
 pub(crate) fn hull(first: OutRange, second: OutRange) -> OutRange
-    ensures value { output_range_of result ≡ output_hull (output_range_of first) (output_range_of second) }
+    ensures value { output_range_of result
+        ≡ output_hull (output_range_of first) (output_range_of second) }
 {
     match first {
         OutRange::Nothing => second,
@@ -88,7 +91,9 @@ fn lists_hull(span: Span, second: OutRange) -> OutRange
 // A range around pairs and another range.
 #[cycle(hulls)]
 fn pairs_hull(a: Box<OutRange>, b: Box<OutRange>, second: OutRange) -> OutRange
-    ensures value { output_range_of result ≡ output_hull (pairs (output_range_of a.value) (output_range_of b.value)) (output_range_of second) }
+    ensures value { output_range_of result
+        ≡ output_hull (pairs (output_range_of a.value) (output_range_of b.value))
+        (output_range_of second) }
 {
     match second {
         OutRange::Nothing => OutRange::Pairs(a, b),
@@ -101,7 +106,9 @@ fn pairs_hull(a: Box<OutRange>, b: Box<OutRange>, second: OutRange) -> OutRange
 // A range around the sides of a choice and another range.
 #[cycle(hulls)]
 fn sides_hull(a: Box<OutRange>, b: Box<OutRange>, second: OutRange) -> OutRange
-    ensures value { output_range_of result ≡ output_hull (sides (output_range_of a.value) (output_range_of b.value)) (output_range_of second) }
+    ensures value { output_range_of result
+        ≡ output_hull (sides (output_range_of a.value) (output_range_of b.value))
+        (output_range_of second) }
 {
     match second {
         OutRange::Nothing => OutRange::Sides(a, b),
@@ -114,7 +121,8 @@ fn sides_hull(a: Box<OutRange>, b: Box<OutRange>, second: OutRange) -> OutRange
 // A range around two in the memory of the first.
 #[cycle(hulls)]
 fn boxed_hull(first: Box<OutRange>, second: Box<OutRange>) -> Box<OutRange>
-    ensures value { output_range_of result.value ≡ output_hull (output_range_of first.value) (output_range_of second.value) }
+    ensures value { output_range_of result.value
+        ≡ output_hull (output_range_of first.value) (output_range_of second.value) }
 {
     let mut first = first;
     let inside = replace(&mut *first, OutRange::Nothing);

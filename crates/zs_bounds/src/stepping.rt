@@ -22,8 +22,11 @@ use zs_term::{Func, Pick, Test};
 #[cycle(stepping)]
 pub(crate) fn step(alloc: Global, node: &mut Node, later: u64) -> Result<Answer, AllocError>
     requires firsts { KnowsFirsts node.old }
-    ensures answer { IfOk result (λ r. range (output_range_of r.0) r.1 ≡ next_range (node_schedule node.old) (node_state node.old) later) }
-    ensures state { OnOk result (node_state node.new ≡ next_state (node_schedule node.old) (node_state node.old) later) }
+    ensures answer { IfOk result (λ r.
+        range (output_range_of r.0) r.1
+        ≡ next_range (node_schedule node.old) (node_state node.old) later) }
+    ensures state { OnOk result
+        (node_state node.new ≡ next_state (node_schedule node.old) (node_state node.old) later) }
     ensures same { OnOk result (node_schedule node.new ≡ node_schedule node.old) }
     ensures firsts { OnOk result (node_firsts node.new ≡ node_firsts node.old) }
 {
@@ -73,8 +76,12 @@ fn step_while_output(
     later: u64,
 ) -> Result<Answer, AllocError>
     requires firsts { KnowsFirsts part.old }
-    ensures answer { IfOk result (λ r. range (output_range_of r.0) r.1 ≡ next_range (over (node_schedule part.old) (while_output pick test)) (node_state part.old) later) }
-    ensures state { OnOk result (node_state part.new ≡ next_state (node_schedule part.old) (node_state part.old) later) }
+    ensures answer { IfOk result (λ r.
+        range (output_range_of r.0) r.1
+        ≡ next_range (over (node_schedule part.old) (while_output pick test)) (node_state part.old)
+        later) }
+    ensures state { OnOk result
+        (node_state part.new ≡ next_state (node_schedule part.old) (node_state part.old) later) }
     ensures same { OnOk result (node_schedule part.new ≡ node_schedule part.old) }
     ensures firsts { OnOk result (node_firsts part.new ≡ node_firsts part.old) }
 {
@@ -92,8 +99,14 @@ fn step_collect_all(
     later: u64,
 ) -> Result<Answer, AllocError>
     requires firsts { KnowsFirsts part.old }
-    ensures answer { IfOk result (λ r. range (output_range_of r.0) r.1 ≡ next_range (over (node_schedule part.old) collect_all) (items count.old (node_state part.old)) later) }
-    ensures state { OnOk result (items count.new (node_state part.new) ≡ next_state (over (node_schedule part.old) collect_all) (items count.old (node_state part.old)) later) }
+    ensures answer { IfOk result (λ r.
+        range (output_range_of r.0) r.1
+        ≡ next_range (over (node_schedule part.old) collect_all)
+        (items count.old (node_state part.old)) later) }
+    ensures state { OnOk result
+        (items count.new (node_state part.new)
+        ≡ next_state (over (node_schedule part.old) collect_all)
+        (items count.old (node_state part.old)) later) }
     ensures same { OnOk result (node_schedule part.new ≡ node_schedule part.old) }
     ensures firsts { OnOk result (node_firsts part.new ≡ node_firsts part.old) }
 {
@@ -107,8 +120,11 @@ fn step_collect_all(
 #[cycle(stepping)]
 fn step_map(alloc: Global, part: &mut Node, func: Func, later: u64) -> Result<Answer, AllocError>
     requires firsts { KnowsFirsts part.old }
-    ensures answer { IfOk result (λ r. range (output_range_of r.0) r.1 ≡ next_range (over (node_schedule part.old) (mapped func)) (node_state part.old) later) }
-    ensures state { OnOk result (node_state part.new ≡ next_state (node_schedule part.old) (node_state part.old) later) }
+    ensures answer { IfOk result (λ r.
+        range (output_range_of r.0) r.1
+        ≡ next_range (over (node_schedule part.old) (mapped func)) (node_state part.old) later) }
+    ensures state { OnOk result
+        (node_state part.new ≡ next_state (node_schedule part.old) (node_state part.old) later) }
     ensures same { OnOk result (node_schedule part.new ≡ node_schedule part.old) }
     ensures firsts { OnOk result (node_firsts part.new ≡ node_firsts part.old) }
 {
@@ -126,8 +142,14 @@ fn step_reset_when(
     later: u64,
 ) -> Result<Answer, AllocError>
     requires firsts { KnowsFirsts part.old }
-    ensures answer { IfOk result (λ r. range (output_range_of r.0) r.1 ≡ next_range (over (node_schedule part.old) (reset_when pick test)) (node_state part.old) later) }
-    ensures state { OnOk result (node_state part.new ≡ next_state (over (node_schedule part.old) (reset_when pick test)) (node_state part.old) later) }
+    ensures answer { IfOk result (λ r.
+        range (output_range_of r.0) r.1
+        ≡ next_range (over (node_schedule part.old) (reset_when pick test)) (node_state part.old)
+        later) }
+    ensures state { OnOk result
+        (node_state part.new
+        ≡ next_state (over (node_schedule part.old) (reset_when pick test)) (node_state part.old)
+        later) }
     ensures same { OnOk result (node_schedule part.new ≡ node_schedule part.old) }
     ensures firsts { OnOk result (node_firsts part.new ≡ node_firsts part.old) }
 {
@@ -156,11 +178,23 @@ fn step_and_then(
 ) -> Result<Answer, AllocError>
     requires first_firsts { KnowsFirsts first.old }
     requires second_firsts { KnowsFirsts second.old }
-    ensures answer { IfOk result (λ r. range (output_range_of r.0) r.1 ≡ next_range (two and_then (node_schedule first.old) (node_schedule second.old)) (turn_states first_turn.old second_turn.old first.old second.old) later) }
-    ensures state { OnOk result (turn_states first_turn.new second_turn.new first.new second.new ≡ next_state (two and_then (node_schedule first.old) (node_schedule second.old)) (turn_states first_turn.old second_turn.old first.old second.old) later) }
-    ensures same { OnOk result ((node_schedule first.new ≡ node_schedule first.old) × (node_schedule second.new ≡ node_schedule second.old)) }
-    ensures firsts { OnOk result ((node_firsts first.new ≡ node_firsts first.old) × (node_firsts second.new ≡ node_firsts second.old)) }
-    ensures begins { OnOk result ((first_turn.new.begins ≡ first_turn.old.begins) × (second_turn.new.begins ≡ second_turn.old.begins)) }
+    ensures answer { IfOk result (λ r.
+        range (output_range_of r.0) r.1
+        ≡ next_range (two and_then (node_schedule first.old) (node_schedule second.old))
+        (turn_states first_turn.old second_turn.old first.old second.old) later) }
+    ensures state { OnOk result
+        (turn_states first_turn.new second_turn.new first.new second.new
+        ≡ next_state (two and_then (node_schedule first.old) (node_schedule second.old))
+        (turn_states first_turn.old second_turn.old first.old second.old) later) }
+    ensures same { OnOk result
+        ((node_schedule first.new ≡ node_schedule first.old)
+        × (node_schedule second.new ≡ node_schedule second.old)) }
+    ensures firsts { OnOk result
+        ((node_firsts first.new ≡ node_firsts first.old)
+        × (node_firsts second.new ≡ node_firsts second.old)) }
+    ensures begins { OnOk result
+        ((first_turn.new.begins ≡ first_turn.old.begins)
+        × (second_turn.new.begins ≡ second_turn.old.begins)) }
 {
     let (left, begins) = step_first(alloc, first_turn, first, later)?;
     let right = step_second(alloc, second_turn, second, later)?;
@@ -179,11 +213,28 @@ fn step_first(
     later: u64,
 ) -> Result<(Answer, bool), AllocError>
     requires firsts { KnowsFirsts part.old }
-    ensures answer { IfOk result (λ r. range (output_range_of r.0.0) r.0.1 ≡ answers_if turn.old.is_on (left_range (next_range (node_schedule part.old) (part_state turn.old part.old) later))) }
-    ensures stops { IfOk result (λ r. r.1 ≡ (turn.old.is_on && (next_range (node_schedule part.old) (part_state turn.old part.old) later).decision.stops)) }
-    ensures on { OnOk result (turn.new.is_on ≡ (turn.old.is_on && may_go_on (next_range (node_schedule part.old) (part_state turn.old part.old) later).decision)) }
+    ensures answer { IfOk result (λ r.
+        range (output_range_of r.0.0) r.0.1
+        ≡ answers_if turn.old.is_on
+        (left_range
+        (next_range (node_schedule part.old) (part_state turn.old part.old) later))) }
+    ensures stops { IfOk result (λ r.
+        r.1
+        ≡ (turn.old.is_on
+        && (next_range (node_schedule part.old) (part_state turn.old part.old)
+        later).decision.stops)) }
+    ensures on { OnOk result
+        (turn.new.is_on
+        ≡ (turn.old.is_on
+        && may_go_on
+        (next_range (node_schedule part.old) (part_state turn.old part.old)
+        later).decision)) }
     ensures begins { OnOk result (turn.new.begins ≡ turn.old.begins) }
-    ensures state { OnOk result (part_state turn.new part.new ≡ (if turn.old.is_on then next_state (node_schedule part.old) (part_state turn.old part.old) later else part_state turn.old part.old)) }
+    ensures state { OnOk result
+        (part_state turn.new part.new
+        ≡ (if turn.old.is_on
+        then next_state (node_schedule part.old) (part_state turn.old part.old) later
+        else part_state turn.old part.old)) }
     ensures same { OnOk result (node_schedule part.new ≡ node_schedule part.old) }
     ensures firsts { OnOk result (node_firsts part.new ≡ node_firsts part.old) }
 {
@@ -206,10 +257,18 @@ fn step_second(
     later: u64,
 ) -> Result<Answer, AllocError>
     requires firsts { KnowsFirsts part.old }
-    ensures answer { IfOk result (λ r. range (output_range_of r.0) r.1 ≡ answers_if turn.old.is_on (right_range (next_range (node_schedule part.old) (part_state turn.old part.old) later))) }
+    ensures answer { IfOk result (λ r.
+        range (output_range_of r.0) r.1
+        ≡ answers_if turn.old.is_on
+        (right_range
+        (next_range (node_schedule part.old) (part_state turn.old part.old) later))) }
     ensures on { OnOk result (turn.new.is_on ≡ turn.old.is_on) }
     ensures begins { OnOk result (turn.new.begins ≡ turn.old.begins) }
-    ensures state { OnOk result (part_state turn.new part.new ≡ (if turn.old.is_on then next_state (node_schedule part.old) (part_state turn.old part.old) later else part_state turn.old part.old)) }
+    ensures state { OnOk result
+        (part_state turn.new part.new
+        ≡ (if turn.old.is_on
+        then next_state (node_schedule part.old) (part_state turn.old part.old) later
+        else part_state turn.old part.old)) }
     ensures same { OnOk result (node_schedule part.new ≡ node_schedule part.old) }
     ensures firsts { OnOk result (node_firsts part.new ≡ node_firsts part.old) }
 {
@@ -223,7 +282,9 @@ fn step_second(
 
 // What the second of two parts in turn may return at its first step, if it may begin.
 fn begin_second(alloc: Global, begins: bool, part: &Node) -> Result<Answer, AllocError>
-    ensures answer { IfOk result (λ r. range (output_range_of r.0) r.1 ≡ answers_if begins (right_range (first_range (node_schedule part.now)))) }
+    ensures answer { IfOk result (λ r.
+        range (output_range_of r.0) r.1
+        ≡ answers_if begins (right_range (first_range (node_schedule part.now)))) }
 {
     if !begins {
         return Ok(no_answer());

@@ -25,8 +25,10 @@ pub(crate) fn step_decisions(
     later: u64,
 ) -> Result<Decisions, AllocError>
     requires firsts { KnowsFirsts node.old }
-    ensures decision { IfOk result (λ d. d ≡ (next_range (node_schedule node.old) (node_state node.old) later).decision) }
-    ensures state { OnOk result (node_state node.new ≡ next_state (node_schedule node.old) (node_state node.old) later) }
+    ensures decision { IfOk result (λ d.
+        d ≡ (next_range (node_schedule node.old) (node_state node.old) later).decision) }
+    ensures state { OnOk result
+        (node_state node.new ≡ next_state (node_schedule node.old) (node_state node.old) later) }
     ensures same { OnOk result (node_schedule node.new ≡ node_schedule node.old) }
     ensures firsts { OnOk result (node_firsts node.new ≡ node_firsts node.old) }
 {
@@ -75,9 +77,14 @@ fn step_picked(
     later: u64,
 ) -> Result<(Option<Span>, Decisions), AllocError>
     requires firsts { KnowsFirsts node.old }
-    ensures span { IfOk result (λ r. r.0 ≡ picked_span pick (next_range (node_schedule node.old) (node_state node.old) later).output) }
-    ensures decision { IfOk result (λ r. r.1 ≡ (next_range (node_schedule node.old) (node_state node.old) later).decision) }
-    ensures state { OnOk result (node_state node.new ≡ next_state (node_schedule node.old) (node_state node.old) later) }
+    ensures span { IfOk result (λ r.
+        r.0
+        ≡ picked_span pick
+        (next_range (node_schedule node.old) (node_state node.old) later).output) }
+    ensures decision { IfOk result (λ r.
+        r.1 ≡ (next_range (node_schedule node.old) (node_state node.old) later).decision) }
+    ensures state { OnOk result
+        (node_state node.new ≡ next_state (node_schedule node.old) (node_state node.old) later) }
     ensures same { OnOk result (node_schedule node.new ≡ node_schedule node.old) }
     ensures firsts { OnOk result (node_firsts node.new ≡ node_firsts node.old) }
 {
@@ -124,11 +131,24 @@ fn pair_picked(
 ) -> Result<(Option<Span>, Decisions, Decisions), AllocError>
     requires first_firsts { KnowsFirsts first.old }
     requires second_firsts { KnowsFirsts second.old }
-    ensures span { IfOk result (λ r. r.0 ≡ picked_span pick (pairs (next_range (node_schedule first.old) (node_state first.old) later).output (next_range (node_schedule second.old) (node_state second.old) later).output)) }
-    ensures decisions { IfOk result (λ r. (r.1 ≡ (next_range (node_schedule first.old) (node_state first.old) later).decision) × (r.2 ≡ (next_range (node_schedule second.old) (node_state second.old) later).decision)) }
-    ensures states { OnOk result ((node_state first.new ≡ next_state (node_schedule first.old) (node_state first.old) later) × (node_state second.new ≡ next_state (node_schedule second.old) (node_state second.old) later)) }
-    ensures same { OnOk result ((node_schedule first.new ≡ node_schedule first.old) × (node_schedule second.new ≡ node_schedule second.old)) }
-    ensures firsts { OnOk result ((node_firsts first.new ≡ node_firsts first.old) × (node_firsts second.new ≡ node_firsts second.old)) }
+    ensures span { IfOk result (λ r.
+        r.0
+        ≡ picked_span pick
+        (pairs (next_range (node_schedule first.old) (node_state first.old) later).output
+        (next_range (node_schedule second.old) (node_state second.old) later).output)) }
+    ensures decisions { IfOk result (λ r.
+        (r.1 ≡ (next_range (node_schedule first.old) (node_state first.old) later).decision)
+        × (r.2 ≡ (next_range (node_schedule second.old) (node_state second.old) later).decision)) }
+    ensures states { OnOk result
+        ((node_state first.new ≡ next_state (node_schedule first.old) (node_state first.old) later)
+        × (node_state second.new
+        ≡ next_state (node_schedule second.old) (node_state second.old) later)) }
+    ensures same { OnOk result
+        ((node_schedule first.new ≡ node_schedule first.old)
+        × (node_schedule second.new ≡ node_schedule second.old)) }
+    ensures firsts { OnOk result
+        ((node_firsts first.new ≡ node_firsts first.old)
+        × (node_firsts second.new ≡ node_firsts second.old)) }
 {
     match pick {
         Pick::First => {
@@ -157,8 +177,12 @@ fn while_output_decisions(
     later: u64,
 ) -> Result<Decisions, AllocError>
     requires firsts { KnowsFirsts part.old }
-    ensures decision { IfOk result (λ d. d ≡ (next_range (over (node_schedule part.old) (while_output pick test)) (node_state part.old) later).decision) }
-    ensures state { OnOk result (node_state part.new ≡ next_state (node_schedule part.old) (node_state part.old) later) }
+    ensures decision { IfOk result (λ d.
+        d
+        ≡ (next_range (over (node_schedule part.old) (while_output pick test)) (node_state part.old)
+        later).decision) }
+    ensures state { OnOk result
+        (node_state part.new ≡ next_state (node_schedule part.old) (node_state part.old) later) }
     ensures same { OnOk result (node_schedule part.new ≡ node_schedule part.old) }
     ensures firsts { OnOk result (node_firsts part.new ≡ node_firsts part.old) }
 {
@@ -175,8 +199,12 @@ fn collect_all_decisions(
     later: u64,
 ) -> Result<Decisions, AllocError>
     requires firsts { KnowsFirsts part.old }
-    ensures decision { IfOk result (λ d. d ≡ (next_range (node_schedule part.old) (node_state part.old) later).decision) }
-    ensures state { OnOk result (items count.new (node_state part.new) ≡ next_state (over (node_schedule part.old) collect_all) (items count.old (node_state part.old)) later) }
+    ensures decision { IfOk result (λ d.
+        d ≡ (next_range (node_schedule part.old) (node_state part.old) later).decision) }
+    ensures state { OnOk result
+        (items count.new (node_state part.new)
+        ≡ next_state (over (node_schedule part.old) collect_all)
+        (items count.old (node_state part.old)) later) }
     ensures same { OnOk result (node_schedule part.new ≡ node_schedule part.old) }
     ensures firsts { OnOk result (node_firsts part.new ≡ node_firsts part.old) }
 {
@@ -195,8 +223,14 @@ fn reset_when_decisions(
     later: u64,
 ) -> Result<Decisions, AllocError>
     requires firsts { KnowsFirsts part.old }
-    ensures decision { IfOk result (λ d. d ≡ (next_range (over (node_schedule part.old) (reset_when pick test)) (node_state part.old) later).decision) }
-    ensures state { OnOk result (node_state part.new ≡ next_state (over (node_schedule part.old) (reset_when pick test)) (node_state part.old) later) }
+    ensures decision { IfOk result (λ d.
+        d
+        ≡ (next_range (over (node_schedule part.old) (reset_when pick test)) (node_state part.old)
+        later).decision) }
+    ensures state { OnOk result
+        (node_state part.new
+        ≡ next_state (over (node_schedule part.old) (reset_when pick test)) (node_state part.old)
+        later) }
     ensures same { OnOk result (node_schedule part.new ≡ node_schedule part.old) }
     ensures firsts { OnOk result (node_firsts part.new ≡ node_firsts part.old) }
 {
@@ -224,11 +258,23 @@ fn and_then_decisions(
     requires first_firsts { KnowsFirsts first.old }
     requires second_firsts { KnowsFirsts second.old }
     requires begins { second_turn.old.begins ≡ (first_range (node_schedule second.old)).decision }
-    ensures decision { IfOk result (λ d. d ≡ (next_range (two and_then (node_schedule first.old) (node_schedule second.old)) (turn_states first_turn.old second_turn.old first.old second.old) later).decision) }
-    ensures state { OnOk result (turn_states first_turn.new second_turn.new first.new second.new ≡ next_state (two and_then (node_schedule first.old) (node_schedule second.old)) (turn_states first_turn.old second_turn.old first.old second.old) later) }
-    ensures same { OnOk result ((node_schedule first.new ≡ node_schedule first.old) × (node_schedule second.new ≡ node_schedule second.old)) }
-    ensures firsts { OnOk result ((node_firsts first.new ≡ node_firsts first.old) × (node_firsts second.new ≡ node_firsts second.old)) }
-    ensures begins { OnOk result ((first_turn.new.begins ≡ first_turn.old.begins) × (second_turn.new.begins ≡ second_turn.old.begins)) }
+    ensures decision { IfOk result (λ d.
+        d
+        ≡ (next_range (two and_then (node_schedule first.old) (node_schedule second.old))
+        (turn_states first_turn.old second_turn.old first.old second.old) later).decision) }
+    ensures state { OnOk result
+        (turn_states first_turn.new second_turn.new first.new second.new
+        ≡ next_state (two and_then (node_schedule first.old) (node_schedule second.old))
+        (turn_states first_turn.old second_turn.old first.old second.old) later) }
+    ensures same { OnOk result
+        ((node_schedule first.new ≡ node_schedule first.old)
+        × (node_schedule second.new ≡ node_schedule second.old)) }
+    ensures firsts { OnOk result
+        ((node_firsts first.new ≡ node_firsts first.old)
+        × (node_firsts second.new ≡ node_firsts second.old)) }
+    ensures begins { OnOk result
+        ((first_turn.new.begins ≡ first_turn.old.begins)
+        × (second_turn.new.begins ≡ second_turn.old.begins)) }
 {
     let (left, begins) = first_part_decisions(alloc, first_turn, first, later)?;
     let right = second_part_decisions(alloc, second_turn, second, later)?;
@@ -245,11 +291,29 @@ fn first_part_decisions(
     later: u64,
 ) -> Result<(Decisions, bool), AllocError>
     requires firsts { KnowsFirsts part.old }
-    ensures decision { IfOk result (λ r. r.0 ≡ (answers_if turn.old.is_on (left_range (next_range (node_schedule part.old) (part_state turn.old part.old) later))).decision) }
-    ensures stops { IfOk result (λ r. r.1 ≡ (turn.old.is_on && (next_range (node_schedule part.old) (part_state turn.old part.old) later).decision.stops)) }
-    ensures on { OnOk result (turn.new.is_on ≡ (turn.old.is_on && may_go_on (next_range (node_schedule part.old) (part_state turn.old part.old) later).decision)) }
+    ensures decision { IfOk result (λ r.
+        r.0
+        ≡ (answers_if turn.old.is_on
+        (left_range
+        (next_range (node_schedule part.old) (part_state turn.old part.old)
+        later))).decision) }
+    ensures stops { IfOk result (λ r.
+        r.1
+        ≡ (turn.old.is_on
+        && (next_range (node_schedule part.old) (part_state turn.old part.old)
+        later).decision.stops)) }
+    ensures on { OnOk result
+        (turn.new.is_on
+        ≡ (turn.old.is_on
+        && may_go_on
+        (next_range (node_schedule part.old) (part_state turn.old part.old)
+        later).decision)) }
     ensures begins { OnOk result (turn.new.begins ≡ turn.old.begins) }
-    ensures state { OnOk result (part_state turn.new part.new ≡ (if turn.old.is_on then next_state (node_schedule part.old) (part_state turn.old part.old) later else part_state turn.old part.old)) }
+    ensures state { OnOk result
+        (part_state turn.new part.new
+        ≡ (if turn.old.is_on
+        then next_state (node_schedule part.old) (part_state turn.old part.old) later
+        else part_state turn.old part.old)) }
     ensures same { OnOk result (node_schedule part.new ≡ node_schedule part.old) }
     ensures firsts { OnOk result (node_firsts part.new ≡ node_firsts part.old) }
 {
@@ -275,10 +339,19 @@ fn second_part_decisions(
     later: u64,
 ) -> Result<Decisions, AllocError>
     requires firsts { KnowsFirsts part.old }
-    ensures decision { IfOk result (λ d. d ≡ (answers_if turn.old.is_on (right_range (next_range (node_schedule part.old) (part_state turn.old part.old) later))).decision) }
+    ensures decision { IfOk result (λ d.
+        d
+        ≡ (answers_if turn.old.is_on
+        (right_range
+        (next_range (node_schedule part.old) (part_state turn.old part.old)
+        later))).decision) }
     ensures on { OnOk result (turn.new.is_on ≡ turn.old.is_on) }
     ensures begins { OnOk result (turn.new.begins ≡ turn.old.begins) }
-    ensures state { OnOk result (part_state turn.new part.new ≡ (if turn.old.is_on then next_state (node_schedule part.old) (part_state turn.old part.old) later else part_state turn.old part.old)) }
+    ensures state { OnOk result
+        (part_state turn.new part.new
+        ≡ (if turn.old.is_on
+        then next_state (node_schedule part.old) (part_state turn.old part.old) later
+        else part_state turn.old part.old)) }
     ensures same { OnOk result (node_schedule part.new ≡ node_schedule part.old) }
     ensures firsts { OnOk result (node_firsts part.new ≡ node_firsts part.old) }
 {
@@ -293,7 +366,9 @@ fn second_part_decisions(
 // The first step of the second of two parts in turn, if it may begin.
 fn begin_decisions(begins: bool, turn: &mut Turn) -> Decisions
     ensures decision { result ≡ (if begins then turn.old.begins else no_decision) }
-    ensures turn { turn.new ≡ turn_of (turn.old.is_on || begins) turn.old.begins (fresh_added begins turn.old.is_on turn.old.fresh) }
+    ensures turn { turn.new
+        ≡ turn_of (turn.old.is_on || begins) turn.old.begins
+        (fresh_added begins turn.old.is_on turn.old.fresh) }
 {
     *turn = turn.add_first(begins);
     if begins {

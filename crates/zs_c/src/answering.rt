@@ -59,7 +59,9 @@ pub(crate) fn told(
     reply: &mut Reply,
     out: &mut [u8],
 ) -> Result<u32, Refusal>
-    ensures ok { IfOk result (λ number. (t : Schedule) (h : History) → IsAnswer t h stepped.now → TellsAnswer t h number reply.new out.old out.new) }
+    ensures ok { IfOk result (λ number.
+        (t : Schedule) (h : History) → IsAnswer t h stepped.now
+        → TellsAnswer t h number reply.new out.old out.new) }
     ensures told { IfOk result (λ number. number ≤ 1) }
     ensures err { IfErr result (λ why. why ≡ Memory) }
     ensures kept { OnErr result (out.new ≡ out.old) }

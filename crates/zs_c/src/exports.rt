@@ -50,7 +50,8 @@ pub extern "C" fn zs_answer(
     reply: &mut Reply,
     out: &mut [u8],
 ) -> u32
-    ensures answered { result ≤ 1 → IsAnswered text.now (pairs_of seen.now) result reply.new out.old out.new }
+    ensures answered { result ≤ 1
+        → IsAnswered text.now (pairs_of seen.now) result reply.new out.old out.new }
     ensures refused { 1 < result → IsRefused text.now (pairs_of seen.now) result reply.new }
     ensures kept { 1 < result → out.new ≡ out.old }
 {
@@ -123,7 +124,8 @@ pub extern "C" fn zs_state_size(alloc: Global, text: &[u8], size: &mut u64, at: 
 pub extern "C" fn zs_begin(alloc: Global, text: &[u8], state: &mut [u64], at: &mut u64) -> u32
     ensures begun { result ≡ 0 → IsBegun text.now state.old state.new }
     ensures nowhere { result ≡ 0 → at.new ≡ 0 }
-    ensures refused { 0 < result → IsRefusedFor (IsBeginRefusal text.now (length state.old)) result at.new }
+    ensures refused { 0 < result
+        → IsRefusedFor (IsBeginRefusal text.now (length state.old)) result at.new }
     ensures kept { 0 < result → state.new ≡ state.old }
 {
     match fitting_words(alloc, text, state) {
@@ -151,7 +153,8 @@ pub extern "C" fn zs_step(
     reply: &mut Reply,
     out: &mut [u8],
 ) -> u32
-    ensures stepped { result ≤ 1 → IsStepped text.now state.old state.new moment input result reply.new out.old out.new }
+    ensures stepped { result ≤ 1
+        → IsStepped text.now state.old state.new moment input result reply.new out.old out.new }
     ensures refused { 1 < result → IsNotStepped text.now state.old moment result reply.new }
     ensures stays { 1 < result → state.new ≡ state.old }
     ensures kept { 1 < result → out.new ≡ out.old }

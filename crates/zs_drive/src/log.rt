@@ -268,8 +268,10 @@ impl Log {
     // The last attempt has this end, or none.
     fn set_end(&mut self, ended: Option<Ended>)
         requires last { 0 < log_count self.old }
-        ensures ended { (others : List AttemptedValue) (last : AttemptedValue) → IsLog self.old (others ++ last ∷ [])
-            → IsLog self.new (others ++ record { begun = last.begun; ended = ended_of ended } ∷ []) }
+        ensures ended { (others : List AttemptedValue) (last : AttemptedValue)
+            → IsLog self.old (others ++ last ∷ [])
+            → IsLog self.new
+            (others ++ record { begun = last.begun; ended = ended_of ended } ∷ []) }
         ensures keeps { keeping_of self.new ≡ keeping_of self.old }
         ensures count { log_count self.new ≡ log_count self.old }
         ensures full { IsFull self.new → IsFull self.old }
@@ -290,8 +292,10 @@ impl Log {
     /// Ends the last attempt.
     pub fn end(&mut self, ended: Ended)
         requires last { 0 < log_count self.old }
-        ensures ended { (others : List AttemptedValue) (last : AttemptedValue) → IsLog self.old (others ++ last ∷ [])
-            → IsLog self.new (others ++ record { begun = last.begun; ended = ended_of (Some ended) } ∷ []) }
+        ensures ended { (others : List AttemptedValue) (last : AttemptedValue)
+            → IsLog self.old (others ++ last ∷ [])
+            → IsLog self.new
+            (others ++ record { begun = last.begun; ended = ended_of (Some ended) } ∷ []) }
         ensures keeps { keeping_of self.new ≡ keeping_of self.old }
     {
         self.set_end(Some(ended));
@@ -302,9 +306,16 @@ impl Log {
     pub fn restart(&mut self, ended: Ended, spare: &mut Out) -> Result<(), DriveFault>
         requires last { 0 < log_count self.old }
         requires few { log_count self.old + 1 < 2 ^ 64 }
-        ensures restarted { OnOk result ((others : List AttemptedValue) (s : ℕ) → IsLog self.old (others ++ record { begun = s; ended = None } ∷ [])
-            → IsLog self.new (others ++ record { begun = s; ended = ended_of (Some ended) } ∷ record { begun = ended.at; ended = None } ∷ [])) }
-        ensures same { OnErr result ((others : List AttemptedValue) (s : ℕ) → IsLog self.old (others ++ record { begun = s; ended = None } ∷ [])
+        ensures restarted { OnOk result
+            ((others : List AttemptedValue) (s : ℕ)
+            → IsLog self.old (others ++ record { begun = s; ended = None } ∷ [])
+            → IsLog self.new
+            (others ++ record { begun = s; ended = ended_of (Some ended) }
+            ∷ record { begun = ended.at; ended = None }
+            ∷ [])) }
+        ensures same { OnErr result
+            ((others : List AttemptedValue) (s : ℕ)
+            → IsLog self.old (others ++ record { begun = s; ended = None } ∷ [])
             → IsLog self.new (others ++ record { begun = s; ended = None } ∷ [])) }
         ensures full { OnErr result (IsFull self.old) }
         ensures keeps { keeping_of self.new ≡ keeping_of self.old }

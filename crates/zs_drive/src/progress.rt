@@ -159,11 +159,17 @@ impl Progress {
     // Steps the schedule after an outcome. If that fails, only the schedule's state may be lost.
     fn ask(&mut self, outcome: Outcome) -> Result<(Out, Decision), DriveFault>
         requires past { last_seen self.old.compiled ≤ self.old.seen }
-        ensures rest { self.new ≡ record self.old { compiled = self.new.compiled; spare = self.new.spare } }
+        ensures rest { self.new
+            ≡ record self.old { compiled = self.new.compiled; spare = self.new.spare } }
         ensures term { compiled_term self.new.compiled ≡ compiled_term self.old.compiled }
-        ensures stands { OnOk result ((h : History) → StandsFor self.old.compiled h → StandsFor self.new.compiled ((self.old.seen, number_of outcome) ∷ h)) }
-        ensures answered { IfOk result (λ step. (h : History) → StandsFor self.old.compiled h
-            → answer (output_of step.0) step.1 ≡ answer_of (compiled_schedule self.old.compiled) ((self.old.seen, number_of outcome) ∷ h)) }
+        ensures stands { OnOk result
+            ((h : History) → StandsFor self.old.compiled h
+            → StandsFor self.new.compiled ((self.old.seen, number_of outcome) ∷ h)) }
+        ensures answered { IfOk result (λ step.
+            (h : History) → StandsFor self.old.compiled h
+            → answer (output_of step.0) step.1
+            ≡ answer_of (compiled_schedule self.old.compiled)
+            ((self.old.seen, number_of outcome) ∷ h)) }
     {
         let spare = replace(&mut self.spare, Out::Num(0));
         let stepped = self.compiled.step_over(self.seen, number(outcome), spare)?;
@@ -209,7 +215,9 @@ impl Progress {
         requires state { WasAsked self.old outcome }
         requires running { HasRunTo self.old.seen outcome self.old.phase }
         requires goes_on { ending_by_outcome self.old.mode outcome ≡ None }
-        requires answer { answer (output_of out) decision ≡ answer_of (compiled_schedule self.old.compiled) ((self.old.seen, number_of outcome) ∷ history_after (attempts_of self.old)) }
+        requires answer { answer (output_of out) decision
+            ≡ answer_of (compiled_schedule self.old.compiled)
+            ((self.old.seen, number_of outcome) ∷ history_after (attempts_of self.old)) }
         requires script { IsScript self.old.script }
         ensures ok { OnOk result (Advances self.old self.new) }
         ensures err { OnErr result (Stays self.old self.new) }
@@ -236,11 +244,13 @@ impl Progress {
     fn end_attempt(&mut self, outcome: Outcome, step: Option<(Out, Decision)>, phase: Phase)
         requires progress { IsProgress self.old }
         requires running { HasRunTo self.old.seen outcome self.old.phase }
-        ensures rest { self.new ≡ record self.old { log = self.new.log; phase = phase; polls = self.old.polls + 1 } }
+        ensures rest { self.new
+            ≡ record self.old { log = self.new.log; phase = phase; polls = self.old.polls + 1 } }
         ensures keeps { keeping_of self.new.log ≡ keeping_of self.old.log }
         ensures ended { (others : List AttemptedValue) (s : ℕ)
             → IsLog self.old.log (others ++ record { begun = s; ended = None } ∷ [])
-            → IsLog self.new.log (others ++ ended_attempt s self.old.seen outcome (step_of step) ∷ []) }
+            → IsLog self.new.log
+            (others ++ ended_attempt s self.old.seen outcome (step_of step) ∷ []) }
     {
         let at = self.seen;
         self.log.end(Ended { at, outcome, step });
@@ -257,16 +267,27 @@ impl Progress {
     ) -> Result<(), DriveFault>
         requires progress { IsProgress self.old }
         requires running { HasRunTo self.old.seen outcome self.old.phase }
-        ensures rest { OnOk result (self.new ≡ record self.old {
-          log = self.new.log;
-          spare = self.new.spare;
-          phase = Phase.Running (record { outcome = next.outcome; end = saturated (self.old.seen + next.ms); seen = self.old.seen });
-          polls = self.old.polls + 1;
-        }) }
+        ensures rest { OnOk result
+            (self.new
+            ≡ record self.old {
+              log = self.new.log;
+              spare = self.new.spare;
+              phase = Phase.Running
+                  (record {
+                    outcome = next.outcome;
+                    end = saturated (self.old.seen + next.ms);
+                    seen = self.old.seen;
+                  });
+              polls = self.old.polls + 1;
+            }) }
         ensures keeps { keeping_of self.new.log ≡ keeping_of self.old.log }
-        ensures ended { OnOk result ((others : List AttemptedValue) (s : ℕ)
+        ensures ended { OnOk result
+            ((others : List AttemptedValue) (s : ℕ)
             → IsLog self.old.log (others ++ record { begun = s; ended = None } ∷ [])
-            → IsLog self.new.log (others ++ ended_attempt s self.old.seen outcome (step_of (Some step)) ∷ record { begun = self.old.seen; ended = None } ∷ [])) }
+            → IsLog self.new.log
+            (others ++ ended_attempt s self.old.seen outcome (step_of (Some step))
+            ∷ record { begun = self.old.seen; ended = None }
+            ∷ [])) }
         ensures err { OnErr result (Stays self.old self.new) }
         ensures full { OnErr result (IsFull self.old.log) }
     {
@@ -284,12 +305,17 @@ impl Progress {
         requires progress { IsProgress self.old }
         requires state { HasState self.old }
         requires script { IsScript self.old.script }
-        ensures over { IsOver self.old.phase → (result ≡ Poll.Ready (Ok tt)) × IsSame self.old self.new }
-        ensures early { IsEarly self.old.seen self.old.phase → (result ≡ Poll.Pending) × IsSame self.old self.new }
+        ensures over { IsOver self.old.phase
+            → (result ≡ Poll.Ready (Ok tt)) × IsSame self.old self.new }
+        ensures early { IsEarly self.old.seen self.old.phase
+            → (result ≡ Poll.Pending) × IsSame self.old self.new }
         ensures due { IsDuePhase self.old.seen self.old.phase
-            → IfReady result (λ done. OnOk done (Advances self.old self.new) × OnErr done (StandsStill self.old self.new)) }
+            → IfReady result (λ done.
+            OnOk done (Advances self.old self.new)
+            × OnErr done (StandsStill self.old self.new)) }
         ensures answers { IsDuePhase self.old.seen self.old.phase → OnPending result ⊥ }
-        ensures refused { IfReady result (λ done. OnErr done (TakesMemory self.old.mode self.old.phase)) }
+        ensures refused { IfReady result (λ done.
+            OnErr done (TakesMemory self.old.mode self.old.phase)) }
         ensures armed { OnPending result (IsArmed cx.new) }
         ensures kept { Keeps cx.old cx.new }
     {

@@ -51,7 +51,16 @@ impl Task {
     /// Makes the task of a job, which has seen moment 0 and stores the record of each attempt. If
     /// memory runs out, it returns `Memory`, and the job is dropped.
     pub fn new(alloc: Global, number: u64, job: Job) -> Result<Task, DriveFault>
-        ensures made { IfOk result (λ task. task ≡ record { number = number; job = job_value job; keeps = Keeping.Records; moments = []; seen = 0; broken = false }) }
+        ensures made { IfOk result (λ task.
+            task
+            ≡ record {
+              number = number;
+              job = job_value job;
+              keeps = Keeping.Records;
+              moments = [];
+              seen = 0;
+              broken = false;
+            }) }
         ensures script { IfOk result (λ task. IsScript task.job.script) }
         ensures memory { IfErr result (λ fault. fault ≡ DriveFault.Memory) }
     {
@@ -60,7 +69,16 @@ impl Task {
 
     /// Makes a task that stores its attempts in this way.
     pub fn keeping(alloc: Global, number: u64, job: Job, keeps: Keeping) -> Result<Task, DriveFault>
-        ensures made { IfOk result (λ task. task ≡ record { number = number; job = job_value job; keeps = keeps; moments = []; seen = 0; broken = false }) }
+        ensures made { IfOk result (λ task.
+            task
+            ≡ record {
+              number = number;
+              job = job_value job;
+              keeps = keeps;
+              moments = [];
+              seen = 0;
+              broken = false;
+            }) }
         ensures script { IfOk result (λ task. IsScript task.job.script) }
         ensures memory { IfErr result (λ fault. fault ≡ DriveFault.Memory) }
     {
@@ -130,7 +148,8 @@ impl Task {
 
     /// The records of its attempts so far, in order: of all if it stores records, else of the last.
     pub fn records(&self) -> &[Attempted]
-        ensures attempts { map attempted_of result.now ≡ recorded_of self.now.keeps (current_timeline self.now).attempts }
+        ensures attempts { map attempted_of result.now
+            ≡ recorded_of self.now.keeps (current_timeline self.now).attempts }
         ensures moments { self.now.moments ≡ poll_moments (current_timeline self.now).attempts }
         ensures clock { AreTicks self.now.moments }
         ensures script { IsScript self.now.job.script }
@@ -140,14 +159,16 @@ impl Task {
 
     /// The lines of the attempts of which it stores no records.
     pub fn lines(&self) -> &str
-        ensures told { result.now ≡ attempts_lines 1 (told_of self.now.keeps (current_timeline self.now).attempts) }
+        ensures told { result.now
+            ≡ attempts_lines 1 (told_of self.now.keeps (current_timeline self.now).attempts) }
     {
         self.progress.log.lines()
     }
 
     /// The same lines, in the memory in which they are stored. The task is dropped.
     pub fn into_lines(self) -> String
-        ensures told { string_bytes result ≡ attempts_lines 1 (told_of self.keeps (current_timeline self).attempts) }
+        ensures told { string_bytes result
+            ≡ attempts_lines 1 (told_of self.keeps (current_timeline self).attempts) }
     {
         let Task {
             number: _,
@@ -160,7 +181,8 @@ impl Task {
 
     /// The number of attempts that these lines show.
     pub fn told_count(&self) -> u64
-        ensures value { result ≡ length (told_of self.now.keeps (current_timeline self.now).attempts) }
+        ensures value { result
+            ≡ length (told_of self.now.keeps (current_timeline self.now).attempts) }
         // At each tick at most one attempt begins.
         ensures few { length (current_timeline self.now).attempts ≤ max_tick + 1 }
     {
@@ -217,17 +239,22 @@ impl Future for Task {
     /// attempt if that is due too. If memory runs out, it returns `Memory`, and the task is broken.
     fn poll(&mut self, cx: &mut Context<'_>) -> Poll<Result<Ending, DriveFault>>
         ensures answered { MatchMemory result ⊤
-            ((self.old.broken ≡ false) × (self.new ≡ polled self.old) × (result ≡ reply_of (current_timeline self.new).ending)) }
+            ((self.old.broken ≡ false) × (self.new ≡ polled self.old)
+            × (result ≡ reply_of (current_timeline self.new).ending)) }
         ensures memory { MatchMemory result
-            (((self.old.broken ≡ true) ⊎ IsDue self.old) × (self.new ≡ record self.old { broken = true })) ⊤ }
-        ensures early { self.old.broken ≡ false → IsSomeAnd (current_timeline self.old).due (λ due. self.old.seen < due)
+            (((self.old.broken ≡ true) ⊎ IsDue self.old)
+            × (self.new ≡ record self.old { broken = true })) ⊤ }
+        ensures early { self.old.broken ≡ false
+            → IsSomeAnd (current_timeline self.old).due (λ due. self.old.seen < due)
             → (result ≡ Poll.Pending) × (self.new ≡ self.old) }
         ensures over { IfSome (current_timeline self.old).ending (λ ending.
             (result ≡ Poll.Ready (Ok ending)) × (self.new ≡ self.old)) }
         // A success of a retry and a failure of a repeat take no memory, so they are never lost.
-        ensures outcome { self.old.broken ≡ false → (ending : Ending) → EndsByOutcome self.old ending
+        ensures outcome { self.old.broken ≡ false → (ending : Ending)
+            → EndsByOutcome self.old ending
             → result ≡ Poll.Ready (Ok ending) }
-        ensures same { (self.new.number ≡ self.old.number) × (self.new.job ≡ self.old.job) × (self.new.seen ≡ self.old.seen) }
+        ensures same { (self.new.number ≡ self.old.number) × (self.new.job ≡ self.old.job)
+            × (self.new.seen ≡ self.old.seen) }
         ensures keeps { self.new.keeps ≡ self.old.keeps }
         ensures armed { OnPending result (IsArmed cx.new) }
         ensures kept { Keeps cx.old cx.new }

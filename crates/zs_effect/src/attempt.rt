@@ -28,7 +28,8 @@ impl Model for Attempt {
 impl Attempt {
     /// Starts an attempt at a moment in milliseconds. Its end saturates at 2^64 - 1.
     pub fn start(beat: Beat, now: u64) -> Attempt
-        ensures value { result ≡ record { outcome = beat.outcome; end = saturated (now + beat.ms); seen = now } }
+        ensures value { result
+            ≡ record { outcome = beat.outcome; end = saturated (now + beat.ms); seen = now } }
     {
         Attempt {
             outcome: beat.outcome,

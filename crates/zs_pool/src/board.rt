@@ -49,7 +49,8 @@ impl Model for Board {
 
     ghost Value = { BoardId };
 
-    ghost view = { λ b. record { queue = b.queue.table.shared.table_id; counter = b.counter; size = b.size } };
+    ghost view = { λ b.
+        record { queue = b.queue.table.shared.table_id; counter = b.counter; size = b.size } };
 }
 
 /// One thread's handle of a board: the right to claim batches.
@@ -70,7 +71,11 @@ impl Model for BoardPass {
 
     ghost coded = { Prim.hlevel (codes, e.the_row.coded) };
 
-    ghost view = { λ p. let v = p.queue.me.0.client in claimer (record { queue = p.queue.table_id; counter = p.seat.counter; size = length v.batches }) v.share v.batches v.taken p.none };
+    ghost view = { λ p.
+        let v = p.queue.me.0.client in
+        claimer
+        (record { queue = p.queue.table_id; counter = p.seat.counter; size = length v.batches })
+        v.share v.batches v.taken p.none };
 
     ghost invariant = { λ p. (p.queue.me.1 ≡ []) × IsFit p.queue.me.0.client p.seat p.none };
 }
@@ -110,7 +115,8 @@ impl Board {
     // Waits until the other claims have counted their batches.
     fn wait_for_all<R: Wait>(&self, rt: &R, seat: &mut CounterSeat)
         requires counter { seat.old.counter ≡ self.now.counter }
-        ensures same { (seat.new.counter ≡ seat.old.counter) × (seat.new.share ≡ seat.old.share) × (seat.new.count ≡ seat.old.count) }
+        ensures same { (seat.new.counter ≡ seat.old.counter) × (seat.new.share ≡ seat.old.share)
+            × (seat.new.count ≡ seat.old.count) }
         ensures all { self.now.size ≤ seat.new.seen }
     {
         for _ in rt.forever() {
@@ -126,7 +132,8 @@ impl Board {
     fn learn_all_taken(&self, pass: &mut BoardPass)
         requires board { pass.old.board ≡ self.now }
         ensures same { pass.new ≡ pass.old }
-        ensures whole { pass.old.share ≡ max_moment → pass.old.none ≡ true → IsPermutation (range_with_len 0 (length pass.old.batches)) pass.old.taken }
+        ensures whole { pass.old.share ≡ max_moment → pass.old.none ≡ true
+            → IsPermutation (range_with_len 0 (length pass.old.batches)) pass.old.taken }
     {
         self.queue.learn_as::<Takes>(&mut pass.queue);
         self.counter.look(&mut pass.seat);
@@ -139,15 +146,24 @@ impl Board {
 
         // The batch is unchanged, and later than everything that the pass took. After a `None`
         // there is no other.
-        ensures taken { IfSome result (λ b. (pass.old.none ≡ false) × (slice_get pass.old.batches b.number ≡ Some b) × All (λ k. k < b.number) pass.old.taken × (pass.new ≡ claimer self.now pass.old.share pass.old.batches (pass.old.taken ++ b.number ∷ []) false)) }
+        ensures taken { IfSome result (λ b.
+            (pass.old.none ≡ false) × (slice_get pass.old.batches b.number ≡ Some b)
+            × All (λ k. k < b.number) pass.old.taken
+            × (pass.new
+            ≡ claimer self.now pass.old.share pass.old.batches (pass.old.taken ++ b.number ∷ [])
+            false)) }
 
         // A pass with exclusive access takes the very next one.
-        ensures front { IfSome result (λ b. pass.old.share ≡ max_moment → b.number ≡ length pass.old.taken) }
+        ensures front { IfSome result (λ b.
+            pass.old.share ≡ max_moment → b.number ≡ length pass.old.taken) }
 
         // A `None` is noted, and changes nothing else.
-        ensures none { IfNone result (pass.new ≡ claimer self.now pass.old.share pass.old.batches pass.old.taken true) }
+        ensures none { IfNone result
+            (pass.new ≡ claimer self.now pass.old.share pass.old.batches pass.old.taken true) }
         // A pass with exclusive access has then taken each batch once.
-        ensures whole { IfNone result (pass.old.share ≡ max_moment → IsPermutation (range_with_len 0 (length pass.old.batches)) pass.old.taken) }
+        ensures whole { IfNone result
+            (pass.old.share ≡ max_moment
+            → IsPermutation (range_with_len 0 (length pass.old.batches)) pass.old.taken) }
     {
         if !pass.none {
             if let Some(batch) = self.queue.pop_as::<Takes, R>(rt, &mut pass.queue) {
@@ -171,7 +187,8 @@ impl Board {
     ) -> Result<(BoardPass, BoardPass), (BoardPass, PoolFault)>
         requires board { pass.board ≡ self.now }
         requires share { 2 ≤ pass.share }
-        ensures first { IfOk result (λ r. r.0 ≡ claimer self.now (pass.share - 1) pass.batches pass.taken pass.none) }
+        ensures first { IfOk result (λ r.
+            r.0 ≡ claimer self.now (pass.share - 1) pass.batches pass.taken pass.none) }
         ensures second { IfOk result (λ r. r.1 ≡ claimer self.now 1 pass.batches [] pass.none) }
         ensures memory { IfErr result (λ e. (e.0 ≡ pass) × (e.1 ≡ Memory)) }
 
@@ -188,8 +205,11 @@ impl Board {
     pub fn join<R>(&self, _rt: &R, mut pass: BoardPass, other: BoardPass) -> BoardPass
         requires pass { pass.board ≡ self.now }
         requires other { other.board ≡ self.now }
-        ensures joined { result ≡ claimer self.now (pass.share + other.share) pass.batches (pass.taken ++ other.taken) (pass.none || other.none) }
-        ensures whole { result.share ≡ max_moment → result.none ≡ true → IsPermutation (range_with_len 0 (length result.batches)) result.taken }
+        ensures joined { result
+            ≡ claimer self.now (pass.share + other.share) pass.batches (pass.taken ++ other.taken)
+            (pass.none || other.none) }
+        ensures whole { result.share ≡ max_moment → result.none ≡ true
+            → IsPermutation (range_with_len 0 (length result.batches)) result.taken }
     {
         let BoardPass { queue, seat, none } = other;
         self.queue.absorb::<Sharing>(&mut pass.queue, queue);
@@ -210,7 +230,8 @@ impl Board {
         requires board { pass.board ≡ self }
         requires whole { pass.share ≡ max_moment }
         // The pass took the first batches, each once, and after a `None` all of them.
-        ensures taken { IsPermutation (range_with_len 0 (length pass.taken)) pass.taken × (length pass.taken ≤ length pass.batches) }
+        ensures taken { IsPermutation (range_with_len 0 (length pass.taken)) pass.taken
+            × (length pass.taken ≤ length pass.batches) }
         ensures all { pass.none ≡ true → length pass.taken ≡ length pass.batches }
         // The others are returned in order.
         ensures left { IfOk result (λ v. v.items ≡ drop (length pass.taken) pass.batches) }
@@ -231,7 +252,8 @@ fn drain<R: Wait>(
 ) -> Result<Vec<Batch>, PoolFault>
     requires pass { IsPassOf queue.now pass.old }
     requires whole { (view pass.old).share ≡ max_moment }
-    ensures left { let v = view pass.old in IfOk result (λ left. left.items ≡ drop (length v.taken) v.batches) }
+    ensures left { let v = view pass.old in IfOk result (λ left.
+        left.items ≡ drop (length v.taken) v.batches) }
     ensures memory { IfErr result (λ e. e ≡ Memory) }
 {
     let mut left = Vec::new(alloc);

@@ -41,7 +41,9 @@ impl Model for Polled {
 impl Polled {
     /// Whether the poll of a task ran out of memory, and broke the task.
     pub fn broken(&self) -> bool
-        ensures value { IsTrue result ↔ ((k : ℕ) × (t : TaskValue) × (slice_get self.entry.now.tasks k ≡ Some t) × (t.broken ≡ true)) }
+        ensures value { IsTrue result
+            ↔ ((k : ℕ) × (t : TaskValue) × (slice_get self.entry.now.tasks k ≡ Some t)
+            × (t.broken ≡ true)) }
         // Each task has seen the moment, and was polled then or is broken.
         ensures saw { AllSaw self.entry.now.now self.entry.now.tasks }
     {
@@ -50,7 +52,9 @@ impl Polled {
 
     // Returns the tasks, or `Memory` if one is broken.
     pub(crate) fn into_tasks(self) -> Result<Tasks, PoolFault>
-        ensures tasks { IfOk result (λ v. (now : ℕ) (before : List TaskValue) → AllZip (IsPolled now) before self.tasks → listed v ≡ map (polled_at now) before) }
+        ensures tasks { IfOk result (λ v.
+            (now : ℕ) (before : List TaskValue) → AllZip (IsPolled now) before self.tasks
+            → listed v ≡ map (polled_at now) before) }
         ensures memory { IfErr result (λ e. e ≡ Memory) }
     {
         if self.broken() {

@@ -55,7 +55,9 @@ impl Model for ShelfPass {
 
     ghost coded = { Prim.hlevel (codes, e.the_row.coded) };
 
-    ghost view = { λ p. let v = p.queue.me.0.client in shelver p.queue.table_id v.share v.put v.taken };
+    ghost view = { λ p.
+        let v = p.queue.me.0.client in
+        shelver p.queue.table_id v.share v.put v.taken };
 
     ghost invariant = { λ p. (p.queue.me.1 ≡ []) × (0 < p.queue.me.0.client.share) };
 }
@@ -80,11 +82,15 @@ impl Shelf {
         message: Polled,
     ) -> Result<(), (Polled, PoolFault)>
         requires shelf { pass.old.shelf ≡ self.now }
-        ensures ok { OnOk result (pass.new ≡ shelver self.now pass.old.share (pass.old.put ++ message ∷ []) pass.old.taken) }
+        ensures ok { OnOk result
+            (pass.new
+            ≡ shelver self.now pass.old.share (pass.old.put ++ message ∷ []) pass.old.taken) }
         ensures full { IfErr result (λ e. (e.0 ≡ message) × (e.1 ≡ Full) × (pass.new ≡ pass.old)) }
 
         // With exclusive access, the shelf is full only if `capacity` batches are queued.
-        ensures no_room { IfErr result (λ _. pass.old.share ≡ max_moment → length pass.old.put ≡ length pass.old.taken + self.now.slots) }
+        ensures no_room { IfErr result (λ _.
+            pass.old.share ≡ max_moment
+            → length pass.old.put ≡ length pass.old.taken + self.now.slots) }
     {
         let Err(message) = self.queue.push_as::<Puts, R>(rt, &mut pass.queue, message) else {
             return Ok(());
@@ -95,11 +101,13 @@ impl Shelf {
     /// Takes the front batch, or returns `None` if the shelf was empty.
     pub fn take<R: Wait>(&self, rt: &R, pass: &mut ShelfPass) -> Option<Polled>
         requires shelf { pass.old.shelf ≡ self.now }
-        ensures taken { IfSome result (λ p. pass.new ≡ shelver self.now pass.old.share pass.old.put (pass.old.taken ++ p ∷ [])) }
+        ensures taken { IfSome result (λ p.
+            pass.new ≡ shelver self.now pass.old.share pass.old.put (pass.old.taken ++ p ∷ [])) }
         ensures none { IfNone result (pass.new ≡ pass.old) }
 
         // With exclusive access, it is empty only if the pass took everything that it put.
-        ensures empty { IfNone result (pass.old.share ≡ max_moment → IsPermutation pass.old.put pass.old.taken) }
+        ensures empty { IfNone result
+            (pass.old.share ≡ max_moment → IsPermutation pass.old.put pass.old.taken) }
     {
         self.queue.pop_as::<Takes, R>(rt, &mut pass.queue)
     }
@@ -113,7 +121,8 @@ impl Shelf {
     ) -> Result<(ShelfPass, ShelfPass), (ShelfPass, PoolFault)>
         requires shelf { pass.shelf ≡ self.now }
         requires share { 2 ≤ pass.share }
-        ensures first { IfOk result (λ r. r.0 ≡ shelver self.now (pass.share - 1) pass.put pass.taken) }
+        ensures first { IfOk result (λ r.
+            r.0 ≡ shelver self.now (pass.share - 1) pass.put pass.taken) }
         ensures second { IfOk result (λ r. r.1 ≡ shelver self.now 1 [] []) }
         ensures memory { IfErr result (λ e. (e.0 ≡ pass) × (e.1 ≡ Memory)) }
 
@@ -128,7 +137,9 @@ impl Shelf {
     pub fn join<R>(&self, _rt: &R, mut pass: ShelfPass, other: ShelfPass) -> ShelfPass
         requires pass { pass.shelf ≡ self.now }
         requires other { other.shelf ≡ self.now }
-        ensures joined { result ≡ shelver self.now (pass.share + other.share) (pass.put ++ other.put) (pass.taken ++ other.taken) }
+        ensures joined { result
+            ≡ shelver self.now (pass.share + other.share) (pass.put ++ other.put)
+            (pass.taken ++ other.taken) }
     {
         let ShelfPass { queue } = other;
         self.queue.absorb::<Sharing>(&mut pass.queue, queue);
@@ -161,7 +172,8 @@ fn drain<R: Wait>(
 ) -> Result<Vec<Polled>, PoolFault>
     requires pass { IsPassOf queue.now pass.old }
     requires whole { (view pass.old).share ≡ max_moment }
-    ensures left { let v = view pass.old in IfOk result (λ left. IsPermutation v.put (v.taken ++ left.items)) }
+    ensures left { let v = view pass.old in IfOk result (λ left.
+        IsPermutation v.put (v.taken ++ left.items)) }
     ensures memory { IfErr result (λ e. e ≡ Memory) }
 {
     let mut left = Vec::new(alloc);

@@ -32,7 +32,8 @@ impl Model for Tally {
 
     ghost view = { λ t. t.table.shared.table_id };
 
-    ghost invariant = { λ t. (t.table.shared.table_id.words ≡ 1) × (t.table.shared.table_id.slots ≡ 0) };
+    ghost invariant = { λ t.
+        (t.table.shared.table_id.words ≡ 1) × (t.table.shared.table_id.slots ≡ 0) };
 }
 
 /// One thread's handle of a tally: the right to count, at most `left` times.
@@ -48,7 +49,13 @@ impl Model for TallySeat {
 
     ghost Value = { Seating };
 
-    ghost view = { λ s. record { tally = s.seat.table_id; count = s.seat.me.0.count; allowance = s.seat.me.0.allowance; seen = s.seat.me.0.seen } };
+    ghost view = { λ s.
+        record {
+          tally = s.seat.table_id;
+          count = s.seat.me.0.count;
+          allowance = s.seat.me.0.allowance;
+          seen = s.seat.me.0.seen;
+        } };
 
     ghost invariant = { λ s. (s.seat.me.1 ≡ []) × (s.left ≡ s.seat.me.0.allowance) };
 }
@@ -57,7 +64,8 @@ impl Tally {
     /// Makes a count of 0, and its first seat, which may count 18,446,744,073,709,551,615 times.
     /// Fails only with `Memory`.
     pub fn new(alloc: Global) -> Result<(Tally, TallySeat), PoolFault>
-        ensures ok { IfOk result (λ t. t.1 ≡ record { tally = t.0; count = 0; allowance = max_moment; seen = 0 }) }
+        ensures ok { IfOk result (λ t.
+            t.1 ≡ record { tally = t.0; count = 0; allowance = max_moment; seen = 0 }) }
         ensures memory { IfErr result (λ e. e ≡ Memory) }
     {
         let (table, seat) = Table::of_words(alloc, &[0], &())?;
@@ -72,7 +80,13 @@ impl Tally {
     pub fn count(&self, seat: &mut TallySeat)
         requires tally { seat.old.tally ≡ self.now }
         requires left { 1 ≤ seat.old.allowance }
-        ensures counted { seat.new ≡ record { tally = self.now; count = seat.old.count + 1; allowance = seat.old.allowance - 1; seen = seat.old.seen } }
+        ensures counted { seat.new
+            ≡ record {
+              tally = self.now;
+              count = seat.old.count + 1;
+              allowance = seat.old.allowance - 1;
+              seen = seat.old.seen;
+            } }
     {
         self.table.shared.fetch_add::<Counts>(&mut seat.seat, 0, 1);
         seat.left -= 1;
@@ -86,7 +100,13 @@ impl Tally {
         ensures rising { seat.old.seen ≤ result }
         // There is room for all counts that the seat may still make.
         ensures within { result + seat.old.allowance ≤ max_moment }
-        ensures kept { seat.new ≡ record { tally = self.now; count = seat.old.count; allowance = seat.old.allowance; seen = result } }
+        ensures kept { seat.new
+            ≡ record {
+              tally = self.now;
+              count = seat.old.count;
+              allowance = seat.old.allowance;
+              seen = result;
+            } }
     {
         self.table.shared.load::<Sees>(&mut seat.seat, 0)
     }
@@ -102,8 +122,15 @@ impl Tally {
     pub(crate) fn split_off(&self, seat: &mut TallySeat, n: u64) -> TallySeat
         requires tally { seat.old.tally ≡ self.now }
         requires left { n ≤ seat.old.allowance }
-        ensures first { seat.new ≡ record { tally = self.now; count = seat.old.count; allowance = seat.old.allowance - n; seen = seat.old.seen } }
-        ensures second { result ≡ record { tally = self.now; count = 0; allowance = n; seen = seat.old.seen } }
+        ensures first { seat.new
+            ≡ record {
+              tally = self.now;
+              count = seat.old.count;
+              allowance = seat.old.allowance - n;
+              seen = seat.old.seen;
+            } }
+        ensures second { result
+            ≡ record { tally = self.now; count = 0; allowance = n; seen = seat.old.seen } }
     {
         let words = &self.table.shared;
         // The split takes no argument, so the amount is noted in the seat's view: a word that is
@@ -121,7 +148,13 @@ impl Tally {
     pub(crate) fn absorb(&self, seat: &mut TallySeat, other: TallySeat)
         requires seat { seat.old.tally ≡ self.now }
         requires other { other.tally ≡ self.now }
-        ensures joined { seat.new ≡ record { tally = self.now; count = seat.old.count + other.count; allowance = seat.old.allowance + other.allowance; seen = max seat.old.seen other.seen } }
+        ensures joined { seat.new
+            ≡ record {
+              tally = self.now;
+              count = seat.old.count + other.count;
+              allowance = seat.old.allowance + other.allowance;
+              seen = max seat.old.seen other.seen;
+            } }
     {
         let TallySeat { seat: theirs, left } = other;
         let words = &self.table.shared;
@@ -135,8 +168,15 @@ impl Tally {
     pub fn split(&self, mut seat: TallySeat, n: u64) -> (TallySeat, TallySeat)
         requires tally { seat.tally ≡ self.now }
         requires left { n ≤ seat.allowance }
-        ensures first { result.0 ≡ record { tally = self.now; count = seat.count; allowance = seat.allowance - n; seen = seat.seen } }
-        ensures second { result.1 ≡ record { tally = self.now; count = 0; allowance = n; seen = seat.seen } }
+        ensures first { result.0
+            ≡ record {
+              tally = self.now;
+              count = seat.count;
+              allowance = seat.allowance - n;
+              seen = seat.seen;
+            } }
+        ensures second { result.1
+            ≡ record { tally = self.now; count = 0; allowance = n; seen = seat.seen } }
     {
         let other = self.split_off(&mut seat, n);
         (seat, other)
@@ -146,7 +186,13 @@ impl Tally {
     pub fn join(&self, mut seat: TallySeat, other: TallySeat) -> TallySeat
         requires seat { seat.tally ≡ self.now }
         requires other { other.tally ≡ self.now }
-        ensures joined { result ≡ record { tally = self.now; count = seat.count + other.count; allowance = seat.allowance + other.allowance; seen = max seat.seen other.seen } }
+        ensures joined { result
+            ≡ record {
+              tally = self.now;
+              count = seat.count + other.count;
+              allowance = seat.allowance + other.allowance;
+              seen = max seat.seen other.seen;
+            } }
     {
         self.absorb(&mut seat, other);
         seat

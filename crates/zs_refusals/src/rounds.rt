@@ -16,7 +16,8 @@ const TASKS: u64 = 2;
 // Makes two tasks of the plan's job, due at 0.
 fn due_tasks(alloc: Global, plan: &str) -> Result<Vec<Task>, Ended>
     ensures few { IfOk result (λ tasks. length tasks.items ≡ 2) }
-    ensures rising { IfOk result (λ tasks. IsStrictlyIncreasing (map (λ task. task.number) tasks.items)) }
+    ensures rising { IfOk result (λ tasks.
+        IsStrictlyIncreasing (map (λ task. task.number) tasks.items)) }
     ensures pollable { IfOk result (λ tasks. All (IsPollable 0) tasks.items) }
 {
     let first = due_task(alloc, plan, 0)?;

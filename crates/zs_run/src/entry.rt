@@ -15,7 +15,9 @@ use zs_effect::{Beat, Outcome};
 
 // Returns the outcome of an attempt, by the values at `ok` and `err`: exactly one of them.
 fn outcome_of(ok: Option<&Value>, err: Option<&Value>) -> Option<Outcome>
-    ensures value { result ≡ outcome_of (option_map (λ v. view v.now) ok.entry) (option_map (λ v. view v.now) err.entry) }
+    ensures value { result
+        ≡ outcome_of (option_map (λ v. view v.now) ok.entry)
+        (option_map (λ v. view v.now) err.entry) }
 {
     match (ok, err) {
         (Some(ok), None) => Some(Outcome::Good(ok.as_u64()?)),

@@ -41,14 +41,17 @@ fn mode_of(text: &str) -> Option<Mode>
 // Whether a job and the entries of its script have no other key.
 #[tactic(auto, using(crate::proofs::Trees::list_all_map))]
 fn has_known_keys(job: &Value, entries: &[Value]) -> bool
-    ensures value { result ≡ (has_only_keys job_keys (view job.now) && list_all (has_only_keys entry_keys) (map view entries.now)) }
+    ensures value { result
+        ≡ (has_only_keys job_keys (view job.now)
+        && list_all (has_only_keys entry_keys) (map view entries.now)) }
 {
     has_only_keys(job, &["name", "mode", "schedule", "start", "script"]) && have_known_keys(entries)
 }
 
 // The schedule of the job with this number.
 fn schedule_of(alloc: Global, number: u64, text: &str) -> Result<Checked, PlanFault>
-    ensures value { Gives schedule_of result (passed_on (faults.Schedule number) (verdict_of text.now)) }
+    ensures value { Gives schedule_of result
+        (passed_on (faults.Schedule number) (verdict_of text.now)) }
 {
     match zs_term::read(alloc, text) {
         Ok(schedule) => Ok(schedule),
@@ -60,7 +63,8 @@ fn schedule_of(alloc: Global, number: u64, text: &str) -> Result<Checked, PlanFa
 // The script of the job with this number.
 #[tactic(auto, using(crate::proofs::ScriptLemmas::script_passes, crate::proofs::ScriptLemmas::script_fails))]
 fn script_of(number: u64, beats: Vec<Beat>) -> Result<Script, PlanFault>
-    ensures value { Gives (λ s. s) result (passed_on (faults.Script number) (script_of beats.items)) }
+    ensures value { Gives (λ s. s) result
+        (passed_on (faults.Script number) (script_of beats.items)) }
 {
     match Script::new(beats) {
         Ok(script) => Ok(script),
@@ -76,7 +80,8 @@ pub(crate) fn job_of(
     names: &BTreeSet<String>,
     value: &Value,
 ) -> Result<Job, PlanFault>
-    ensures value { (earlier : List (List ℕ)) → KnowsNames names.now earlier → Gives job_record result (job_of number earlier (view value.now)) }
+    ensures value { (earlier : List (List ℕ)) → KnowsNames names.now earlier
+        → Gives job_record result (job_of number earlier (view value.now)) }
 {
     let parts = JobParts::of(value).ok_or(PlanFault::Shape { job: Some(number) })?;
     let beats = beats_of(alloc, number, parts.entries)?;
@@ -109,7 +114,8 @@ fn take_job(
     names: &BTreeSet<String>,
     value: Value,
 ) -> Result<Job, PlanFault>
-    ensures value { (earlier : List (List ℕ)) → KnowsNames names.now earlier → Gives job_record result (job_of number earlier (view value)) }
+    ensures value { (earlier : List (List ℕ)) → KnowsNames names.now earlier
+        → Gives job_record result (job_of number earlier (view value)) }
 {
     job_of(alloc, number, names, &value)
 }
@@ -121,7 +127,9 @@ pub fn add_job(
     jobs: &mut Vec<Job>,
     job: Job,
 ) -> Result<(), PlanFault>
-    ensures names { OnOk result ((earlier : List (List ℕ)) → KnowsNames names.old earlier → KnowsNames names.new (earlier ++ (job_record job).name ∷ [])) }
+    ensures names { OnOk result
+        ((earlier : List (List ℕ)) → KnowsNames names.old earlier
+        → KnowsNames names.new (earlier ++ (job_record job).name ∷ [])) }
     ensures jobs { OnOk result (jobs.new.items ≡ jobs.old.items ++ job ∷ []) }
     ensures err { IfErr result (λ fault. fault ≡ PlanFault.Memory) }
 {
@@ -134,7 +142,8 @@ pub fn add_job(
 /// in the cache. The names so far are in a set, so that each is looked up in short time.
 pub(crate) fn jobs_of(alloc: Global, values: Vec<Value>) -> Result<Vec<Job>, PlanFault>
     requires room { length values.items < 2 ^ 64 }
-    ensures jobs { Gives (λ jobs. map job_record jobs.items) result (jobs_of 0 [] (map view values.items)) }
+    ensures jobs { Gives (λ jobs. map job_record jobs.items) result
+        (jobs_of 0 [] (map view values.items)) }
     ensures count { IfOk result (λ jobs. length jobs.items ≡ length values.items) }
 {
     let mut jobs = Vec::new(alloc);

@@ -49,7 +49,9 @@ pub(crate) fn add_name(
     names: &mut BTreeSet<String>,
     name: &str,
 ) -> Result<(), AllocError>
-    ensures known { OnOk result ((earlier : List (List ℕ)) → KnowsNames names.old earlier → KnowsNames names.new (earlier ++ name.now ∷ [])) }
+    ensures known { OnOk result
+        ((earlier : List (List ℕ)) → KnowsNames names.old earlier
+        → KnowsNames names.new (earlier ++ name.now ∷ [])) }
 {
     let copy = String::from_str(alloc, name)?;
     match names.insert(copy) {

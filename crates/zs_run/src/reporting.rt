@@ -18,7 +18,9 @@ use zs_term::{Out, append_out};
 // Adds the lines of attempts, of which the first has this number.
 fn push_attempts(text: &mut String, from: u64, attempts: &[Attempted]) -> Result<(), AllocError>
     requires few { from + length attempts.now < 2 ^ 64 }
-    ensures text { OnOk result (string_bytes text.new ≡ string_bytes text.old ++ attempts_lines from (map attempted_of attempts.now)) }
+    ensures text { OnOk result
+        (string_bytes text.new
+        ≡ string_bytes text.old ++ attempts_lines from (map attempted_of attempts.now)) }
 {
     let mut number = from;
     for attempt in attempts {
@@ -30,7 +32,9 @@ fn push_attempts(text: &mut String, from: u64, attempts: &[Attempted]) -> Result
 
 // Adds the lines of the attempts of a task.
 fn push_task(text: &mut String, task: &Task) -> Result<(), AllocError>
-    ensures text { OnOk result (string_bytes text.new ≡ string_bytes text.old ++ attempts_lines 1 (current_timeline task.now).attempts) }
+    ensures text { OnOk result
+        (string_bytes text.new
+        ≡ string_bytes text.old ++ attempts_lines 1 (current_timeline task.now).attempts) }
 {
     text.push_str(task.lines())?;
     push_attempts(text, task.told_count() + 1, task.records())
@@ -38,7 +42,8 @@ fn push_task(text: &mut String, task: &Task) -> Result<(), AllocError>
 
 // How the last attempt of a task ended, if it has.
 fn last_end(task: &Task) -> Option<&Ended>
-    ensures value { ended_of (option_copied result) ≡ last_ended (current_timeline task.now).attempts }
+    ensures value { ended_of (option_copied result)
+        ≡ last_ended (current_timeline task.now).attempts }
 {
     match task.records().last() {
         Some(attempt) => attempt.ended.as_ref(),
@@ -58,7 +63,8 @@ fn last_moment(task: &Task) -> u64
 
 // Adds the output of the step after an attempt, if the schedule was stepped.
 fn push_output(text: &mut String, step: &Option<(Out, Decision)>) -> Result<(), AllocError>
-    ensures text { OnOk result (string_bytes text.new ≡ string_bytes text.old ++ step_output (step_of step.now)) }
+    ensures text { OnOk result
+        (string_bytes text.new ≡ string_bytes text.old ++ step_output (step_of step.now)) }
 {
     match step {
         None => Ok(()),
@@ -68,7 +74,9 @@ fn push_output(text: &mut String, step: &Option<(Out, Decision)>) -> Result<(), 
 
 // Adds the output of the last step.
 fn push_last_output(text: &mut String, task: &Task) -> Result<(), AllocError>
-    ensures text { OnOk result (string_bytes text.new ≡ string_bytes text.old ++ last_output (current_timeline task.now).attempts) }
+    ensures text { OnOk result
+        (string_bytes text.new
+        ≡ string_bytes text.old ++ last_output (current_timeline task.now).attempts) }
 {
     match last_end(task) {
         Some(ended) => push_output(text, &ended.step),
@@ -78,7 +86,9 @@ fn push_last_output(text: &mut String, task: &Task) -> Result<(), AllocError>
 
 // Adds how a job ended.
 fn push_ending(text: &mut String, task: &Task, ending: Ending) -> Result<(), AllocError>
-    ensures text { OnOk result (string_bytes text.new ≡ string_bytes text.old ++ ending_text (current_timeline task.now).attempts ending) }
+    ensures text { OnOk result
+        (string_bytes text.new
+        ≡ string_bytes text.old ++ ending_text (current_timeline task.now).attempts ending) }
 {
     match ending {
         Ending::Succeeded(value) => write!(text, "succeeded {value}"),
@@ -92,15 +102,19 @@ fn push_ending(text: &mut String, task: &Task, ending: Ending) -> Result<(), All
 
 // Adds the last line of a job that did not end.
 fn push_unfinished(text: &mut String, horizon: u64, polls: u64) -> Result<(), AllocError>
-    ensures text { OnOk result (string_bytes text.new ≡ string_bytes text.old ++ end_line horizon [] None polls) }
+    ensures text { OnOk result
+        (string_bytes text.new ≡ string_bytes text.old ++ end_line horizon [] None polls) }
 {
     writeln!(text, "end unfinished at {horizon} polls {polls}")
 }
 
 // Adds the last line of a job.
 fn push_end(text: &mut String, horizon: u64, task: &Task) -> Result<(), AllocError>
-    ensures text { OnOk result (string_bytes text.new ≡ string_bytes text.old
-        ++ end_line horizon (current_timeline task.now).attempts (current_timeline task.now).ending (length task.now.moments)) }
+    ensures text { OnOk result
+        (string_bytes text.new
+        ≡ string_bytes text.old
+        ++ end_line horizon (current_timeline task.now).attempts
+        (current_timeline task.now).ending (length task.now.moments)) }
 {
     let polls = task.polls();
     match task.ending() {
@@ -126,7 +140,9 @@ fn mode_name(mode: Mode) -> &'static str
 
 // Adds the first line of a job.
 fn push_head(text: &mut String, task: &Task) -> Result<(), AllocError>
-    ensures text { OnOk result (string_bytes text.new ≡ string_bytes text.old ++ head_line task.now.job.name task.now.job.mode) }
+    ensures text { OnOk result
+        (string_bytes text.new
+        ≡ string_bytes text.old ++ head_line task.now.job.name task.now.job.mode) }
 {
     let name = task.name();
     let mode = mode_name(task.mode());
@@ -135,7 +151,9 @@ fn push_head(text: &mut String, task: &Task) -> Result<(), AllocError>
 
 /// Adds the lines of a job.
 pub(crate) fn push_job(text: &mut String, horizon: u64, task: &Task) -> Result<(), AllocError>
-    ensures text { OnOk result (string_bytes text.new ≡ string_bytes text.old ++ job_lines horizon (task_report task.now)) }
+    ensures text { OnOk result
+        (string_bytes text.new
+        ≡ string_bytes text.old ++ job_lines horizon (task_report task.now)) }
 {
     push_head(text, task)?;
     push_task(text, task)?;
@@ -159,7 +177,9 @@ pub(crate) fn into_job(alloc: Global, horizon: u64, task: Task) -> Result<String
 
 // Adds the lines of jobs.
 fn push_jobs(text: &mut String, horizon: u64, tasks: &[Task]) -> Result<(), AllocError>
-    ensures text { OnOk result (string_bytes text.new ≡ string_bytes text.old ++ flat_map (job_lines horizon) (map task_report tasks.now)) }
+    ensures text { OnOk result
+        (string_bytes text.new
+        ≡ string_bytes text.old ++ flat_map (job_lines horizon) (map task_report tasks.now)) }
 {
     for task in tasks {
         push_job(text, horizon, task)?;
@@ -176,7 +196,10 @@ pub(crate) fn push_total(text: &mut String, polls: u64) -> Result<(), AllocError
 
 /// The report of what jobs did up to the horizon.
 pub fn report(alloc: Global, answer: &Answer) -> Result<String, AllocError>
-    ensures text { IfOk result (λ text. string_bytes text ≡ report_text answer.now.horizon (map task_report answer.now.tasks.items) answer.now.polls) }
+    ensures text { IfOk result (λ text.
+        string_bytes text
+        ≡ report_text answer.now.horizon (map task_report answer.now.tasks.items)
+        answer.now.polls) }
 {
     let mut text = String::new(alloc);
     push_jobs(&mut text, answer.horizon, answer.tasks.as_slice())?;

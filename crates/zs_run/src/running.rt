@@ -26,7 +26,12 @@ const MAX_READ: usize = 16_777_217;
 // The plan that the reader gives.
 fn read_source<R: Source>(alloc: Global, reader: &mut R) -> Result<Plan, RunFault>
     requires clear { R.mark reader.old ≡ false }
-    ensures reads { Reads result (record { before = R.remaining reader.old; left = R.remaining reader.new; failed = R.mark reader.new }) }
+    ensures reads { Reads result
+        (record {
+          before = R.remaining reader.old;
+          left = R.remaining reader.new;
+          failed = R.mark reader.new;
+        }) }
     ensures few { IfOk result (λ plan. length plan.jobs.items ≤ max_jobs) }
     ensures pulls { R.pulls reader.new ≤ R.pulls reader.old + max_read }
 {
@@ -75,9 +80,17 @@ pub fn run<T: Threads + Wait + Sync, G: Gate, R: Source, W: Drain>(
 
     // Success and each fault, by the reader, the writer, and whether the writer was called.
     ensures ends { Ends result
-        (record { before = R.remaining reader.old; left = R.remaining reader.new; failed = R.mark reader.new })
-        (record { before = W.contents writer.old; taken = W.contents writer.new; failed = W.mark writer.new; flushed = W.flushed writer.new })
-        (writer.new ≡ writer.old) }
+        (record {
+          before = R.remaining reader.old;
+          left = R.remaining reader.new;
+          failed = R.mark reader.new;
+        })
+        (record {
+          before = W.contents writer.old;
+          taken = W.contents writer.new;
+          failed = W.mark writer.new;
+          flushed = W.flushed writer.new;
+        }) (writer.new ≡ writer.old) }
     // At most one read for each byte of the longest plan, and one more.
     ensures pulls { R.pulls reader.new ≤ R.pulls reader.old + max_read }
 {

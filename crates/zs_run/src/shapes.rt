@@ -56,7 +56,8 @@ fn wholes_of(alloc: Global, items: &[Value]) -> Result<Vec<u64>, PlanFault>
 
 // The whole numbers of what has to be a list.
 fn wholes_in(alloc: Global, value: &Value) -> Result<Vec<u64>, PlanFault>
-    ensures value { Gives (λ numbers. numbers.items) result (demand_some (as_wholes (view value.now)) (faults.Shape None)) }
+    ensures value { Gives (λ numbers. numbers.items) result
+        (demand_some (as_wholes (view value.now)) (faults.Shape None)) }
 {
     let items = as_list(value).ok_or(PlanFault::Shape { job: None })?;
     wholes_of(alloc, items)
@@ -74,8 +75,10 @@ impl AskedTicks {
         horizon: Option<&Value>,
         ticks: Option<&Value>,
     ) -> Result<AskedTicks, PlanFault>
-        ensures value { Gives asked_view result (demand_some
-            (ticks_asked (option_map (λ v. view v.now) horizon.entry) (option_map (λ v. view v.now) ticks.entry)) (faults.Shape None)) }
+        ensures value { Gives asked_view result
+            (demand_some
+            (ticks_asked (option_map (λ v. view v.now) horizon.entry)
+            (option_map (λ v. view v.now) ticks.entry)) (faults.Shape None)) }
     {
         match (horizon, ticks) {
             (Some(horizon), None) => {
@@ -103,7 +106,8 @@ impl AskedTicks {
 
     /// The clock of these ticks, if they are valid.
     pub(crate) fn into_clock(self) -> Option<Clock>
-        ensures value { result ≡ (if is_clock (asked_view self) then Some (asked_view self) else None) }
+        ensures value { result
+            ≡ (if is_clock (asked_view self) then Some (asked_view self) else None) }
     {
         match self {
             AskedTicks::EveryMs(last) => Clock::every_ms(last),

@@ -25,7 +25,8 @@ pub(crate) fn read_up_to<R: Source>(
 ) -> Result<(), InputFault>
     requires clear { R.mark reader.old ≡ false }
     requires empty { bytes.old.items ≡ [] }
-    ensures ok { OnOk result (ReadsUpTo limit (R.remaining reader.old) (R.remaining reader.new) bytes.new.items) }
+    ensures ok { OnOk result
+        (ReadsUpTo limit (R.remaining reader.old) (R.remaining reader.new) bytes.new.items) }
     ensures marks { IsTrue (R.mark reader.new) ↔ IsErrOf result InputFault.Read }
     ensures pulls { R.pulls reader.new ≤ R.pulls reader.old + limit }
 {
@@ -52,7 +53,8 @@ pub fn write_all<W: Drain>(writer: &mut W, bytes: &[u8]) -> Result<(), usize>
     ensures ok { OnOk result (Appends (W.contents writer.old) (W.contents writer.new) bytes.now) }
     ensures flushed { OnOk result (W.flushed writer.new ≡ true) }
     ensures within { IfErr result (λ sent. sent ≤ length bytes.now) }
-    ensures err { IfErr result (λ sent. Appends (W.contents writer.old) (W.contents writer.new) (take sent bytes.now)) }
+    ensures err { IfErr result (λ sent.
+        Appends (W.contents writer.old) (W.contents writer.new) (take sent bytes.now)) }
     ensures marks { W.mark writer.new ≡ is_err result }
 {
     let mut sent = 0;

@@ -46,7 +46,8 @@ pub(crate) fn list<'v>(value: &'v Value, key: &str) -> Option<&'v [Value]>
 /// read.
 #[tactic(auto, using(crate::proofs::Trees::list_of_view))]
 pub(crate) fn take_list(alloc: Global, value: &mut Value, key: &str) -> Option<Vec<Value>>
-    ensures value { option_map (λ vs. map view vs.items) result ≡ find_list key.now (view value.old) }
+    ensures value { option_map (λ vs. map view vs.items) result
+        ≡ find_list key.now (view value.old) }
 {
     match value.get_mut(key)?.as_array_mut() {
         Some(items) => Some(mem::replace(items, Vec::new(alloc))),
@@ -74,7 +75,9 @@ fn is_among(known: &[&str], key: &str) -> bool
 
 // Whether each key is in the list.
 fn keys_are_among(members: &Map<String, Value>, known: &[&str]) -> bool
-    ensures value { result ≡ list_all (λ k. is_one_of (map (λ k. k.now) known.now) (string_bytes k)) (keys members.now) }
+    ensures value { result
+        ≡ list_all (λ k. is_one_of (map (λ k. k.now) known.now) (string_bytes k))
+        (keys members.now) }
 {
     members.keys().all(|key| is_among(known, key.as_str()))
 }

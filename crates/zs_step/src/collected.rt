@@ -38,7 +38,9 @@ impl Collected {
         decision: Decision,
     ) -> Result<Out, AllocError>
         ensures before { IfOk result (λ r. output_of r ≡ listed (collected_outputs self.old)) }
-        ensures kept { OnOk result (collected_outputs self.new ≡ collect_if (is_next decision) (collected_outputs self.old) (output_of out)) }
+        ensures kept { OnOk result
+            (collected_outputs self.new
+            ≡ collect_if (is_next decision) (collected_outputs self.old) (output_of out)) }
     {
         self.join(alloc)?;
         let before = self.list.share(alloc)?;
@@ -50,7 +52,8 @@ impl Collected {
 
     // Appends the last output to the list.
     fn join(&mut self, alloc: Global) -> Result<(), AllocError>
-        ensures joined { OnOk result (outputs_of (outs_list self.new.list) ≡ collected_outputs self.old) }
+        ensures joined { OnOk result
+            (outputs_of (outs_list self.new.list) ≡ collected_outputs self.old) }
         ensures none { OnOk result (self.new.last ≡ None) }
     {
         match self.last.take() {

@@ -31,7 +31,8 @@ type Answer = (Out, Decision);
 #[cycle(evaluation)]
 fn evaluate(alloc: Global, term: &Term, history: Pairs<'_>) -> Result<Answer, AllocError>
     requires some { 0 < length history.now }
-    ensures value { IfOk result (λ r. answer (output_of r.0) r.1 ≡ answer_of (schedule_of term.now) (history_of history.now)) }
+    ensures value { IfOk result (λ r.
+        answer (output_of r.0) r.1 ≡ answer_of (schedule_of term.now) (history_of history.now)) }
     ensures succeeds { is_bare (schedule_of term.now) ≡ true → IsOk result }
 {
     let now = last_moment(history);
@@ -93,7 +94,10 @@ fn in_turn(
     history: Pairs<'_>,
 ) -> Result<Answer, AllocError>
     requires some { 0 < length history.now }
-    ensures value { IfOk result (λ r. answer (output_of r.0) r.1 ≡ answer_of (two and_then (schedule_of first.now) (schedule_of second.now)) (history_of history.now)) }
+    ensures value { IfOk result (λ r.
+        answer (output_of r.0) r.1
+        ≡ answer_of (two and_then (schedule_of first.now) (schedule_of second.now))
+        (history_of history.now)) }
 {
     match first_done(alloc, first, history)? {
         None => {
@@ -118,7 +122,10 @@ fn while_output(
     history: Pairs<'_>,
 ) -> Result<Answer, AllocError>
     requires some { 0 < length history.now }
-    ensures value { IfOk result (λ r. answer (output_of r.0) r.1 ≡ answer_of (over (schedule_of part.now) (while_output pick test)) (history_of history.now)) }
+    ensures value { IfOk result (λ r.
+        answer (output_of r.0) r.1
+        ≡ answer_of (over (schedule_of part.now) (while_output pick test))
+        (history_of history.now)) }
     ensures succeeds { is_bare (schedule_of part.now) ≡ true → IsOk result }
 {
     let x = evaluate(alloc, part, history)?;
@@ -130,7 +137,9 @@ fn while_output(
 #[cycle(evaluation)]
 fn collecting(alloc: Global, part: &Term, history: Pairs<'_>) -> Result<Answer, AllocError>
     requires some { 0 < length history.now }
-    ensures value { IfOk result (λ r. answer (output_of r.0) r.1 ≡ answer_of (over (schedule_of part.now) collect_all) (history_of history.now)) }
+    ensures value { IfOk result (λ r.
+        answer (output_of r.0) r.1
+        ≡ answer_of (over (schedule_of part.now) collect_all) (history_of history.now)) }
 {
     let last = evaluate(alloc, part, history)?;
     let items = outputs_before(alloc, part, history)?;
@@ -147,7 +156,9 @@ fn since_last_reset(
     history: Pairs<'_>,
 ) -> Result<Answer, AllocError>
     requires some { 0 < length history.now }
-    ensures value { IfOk result (λ r. answer (output_of r.0) r.1 ≡ answer_of (over (schedule_of part.now) (reset_when pick test)) (history_of history.now)) }
+    ensures value { IfOk result (λ r.
+        answer (output_of r.0) r.1
+        ≡ answer_of (over (schedule_of part.now) (reset_when pick test)) (history_of history.now)) }
     ensures succeeds { is_bare (schedule_of part.now) ≡ true → IsOk result }
 {
     let start = reset_start(alloc, part, pick, test, history)?;
@@ -161,14 +172,16 @@ fn pair_answers(
     second: Out,
     decision: Decision,
 ) -> Result<Answer, AllocError>
-    ensures value { IfOk result (λ r. answer (output_of r.0) r.1 ≡ answer (pair (output_of first) (output_of second)) decision) }
+    ensures value { IfOk result (λ r.
+        answer (output_of r.0) r.1 ≡ answer (pair (output_of first) (output_of second)) decision) }
 {
     Ok((make_pair(alloc, first, second)?, decision))
 }
 
 // Stops unless a test passed.
 fn only_if(from: Answer, passed: bool) -> Answer
-    ensures value { answer (output_of result.0) result.1 ≡ answer (output_of from.0) (only_if passed from.1) }
+    ensures value { answer (output_of result.0) result.1
+        ≡ answer (output_of from.0) (only_if passed from.1) }
 {
     let (out, decision) = from;
     (out, decision.only_if(passed))
@@ -176,7 +189,8 @@ fn only_if(from: Answer, passed: bool) -> Answer
 
 // Applies a function to the output.
 fn map_answer(from: Answer, func: Func) -> Answer
-    ensures value { answer (output_of result.0) result.1 ≡ answer (applied func (output_of from.0)) from.1 }
+    ensures value { answer (output_of result.0) result.1
+        ≡ answer (applied func (output_of from.0)) from.1 }
 {
     let (out, decision) = from;
     (func.apply(out), decision)
@@ -185,7 +199,8 @@ fn map_answer(from: Answer, func: Func) -> Answer
 // Returns the number of earlier steps, with a decision.
 fn count_answer(history: Pairs<'_>, decision: Decision) -> Answer
     requires some { 0 < length history.now }
-    ensures value { answer (output_of result.0) result.1 ≡ answer (number (saturated (length (earlier (history_of history.now))))) decision }
+    ensures value { answer (output_of result.0) result.1
+        ≡ answer (number (saturated (length (earlier (history_of history.now))))) decision }
 {
     (Out::Num(steps_before(history)), decision)
 }
@@ -220,7 +235,9 @@ fn decision_of(answer: Answer) -> Decision
 
 // Appends the output of a step that continues.
 fn collect(items: &mut Vec<Out>, answer: Answer) -> Result<(), AllocError>
-    ensures value { OnOk result (outputs_of items.new.items ≡ collect_if (is_next answer.1) (outputs_of items.old.items) (output_of answer.0)) }
+    ensures value { OnOk result
+        (outputs_of items.new.items
+        ≡ collect_if (is_next answer.1) (outputs_of items.old.items) (output_of answer.0)) }
 {
     let (out, decision) = answer;
     if decision.is_next() {
@@ -232,8 +249,12 @@ fn collect(items: &mut Vec<Out>, answer: Answer) -> Result<(), AllocError>
 // Finds the index of the first pair at which a schedule is done.
 #[cycle(evaluation)]
 fn first_done(alloc: Global, term: &Term, history: Pairs<'_>) -> Result<Option<usize>, AllocError>
-    ensures none { IfOk result (λ k. IfNone k (from_done (answer_of (schedule_of term.now)) (history_of history.now) ≡ None)) }
-    ensures some { IfOk result (λ k. IfSome k (λ i. from_done (answer_of (schedule_of term.now)) (history_of history.now) ≡ Some (history_of (drop i history.now)))) }
+    ensures none { IfOk result (λ k.
+        IfNone k (from_done (answer_of (schedule_of term.now)) (history_of history.now) ≡ None)) }
+    ensures some { IfOk result (λ k.
+        IfSome k (λ i.
+        from_done (answer_of (schedule_of term.now)) (history_of history.now)
+        ≡ Some (history_of (drop i history.now)))) }
     ensures within { IfOk result (λ k. IfSome k (λ i. i < length history.now)) }
 {
     for i in 0..history.len() {
@@ -267,7 +288,9 @@ fn reset_start(
     history: Pairs<'_>,
 ) -> Result<usize, AllocError>
     requires some { 0 < length history.now }
-    ensures since { IfOk result (λ i. since_reset (answer_of (schedule_of term.now)) pick test (history_of history.now) ≡ history_of (drop i history.now)) }
+    ensures since { IfOk result (λ i.
+        since_reset (answer_of (schedule_of term.now)) pick test (history_of history.now)
+        ≡ history_of (drop i history.now)) }
     ensures within { IfOk result (λ i. i < length history.now) }
     ensures succeeds { is_bare (schedule_of term.now) ≡ true → IsOk result }
 {
@@ -293,7 +316,9 @@ fn is_passed(answer: Answer, pick: Pick, test: Test) -> bool
 #[cycle(evaluation)]
 fn outputs_before(alloc: Global, term: &Term, history: Pairs<'_>) -> Result<Vec<Out>, AllocError>
     requires some { 0 < length history.now }
-    ensures value { IfOk result (λ v. outputs_of v.items ≡ collected (answer_of (schedule_of term.now)) (earlier (history_of history.now))) }
+    ensures value { IfOk result (λ v.
+        outputs_of v.items
+        ≡ collected (answer_of (schedule_of term.now)) (earlier (history_of history.now))) }
 {
     let mut items = Vec::new(alloc);
     for i in 0..history.len() - 1 {
@@ -314,8 +339,10 @@ pub fn plain(
 ) -> Result<(Out, Decision), StepFault>
     requires some { 0 < length history.now }
     requires order { IsInOrder (history_of history.now) }
-    ensures answered { IfOk result (λ r. answer (output_of r.0) r.1 ≡ answer_of (schedule_of checked.now) (history_of history.now)) }
-    ensures kinded { IfOk result (λ r. (a : OutputKind) → kind_of (schedule_of checked.now) ≡ Some a → HasKind (output_of r.0) a) }
+    ensures answered { IfOk result (λ r.
+        answer (output_of r.0) r.1 ≡ answer_of (schedule_of checked.now) (history_of history.now)) }
+    ensures kinded { IfOk result (λ r.
+        (a : OutputKind) → kind_of (schedule_of checked.now) ≡ Some a → HasKind (output_of r.0) a) }
     // A schedule that makes no pair, no side of a choice and no list needs no memory.
     ensures succeeds { is_bare (schedule_of checked.now) ≡ true → IsOk result }
 {

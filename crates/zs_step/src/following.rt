@@ -21,7 +21,10 @@ pub fn follow(
 ) -> Result<Vec<Stepped>, StepFault>
     requires order { IsInOrder (history_of pairs.now) }
     ensures len { IfOk result (λ v. vec_len v ≡ length pairs.now) }
-    ensures ok { IfOk result (λ v. (j : ℕ) (d : Stepped) → j < length pairs.now → IsAnswer (schedule_of checked) (history_of (take (j + 1) pairs.now)) (slice_index_or v.items j d)) }
+    ensures ok { IfOk result (λ v.
+        (j : ℕ) (d : Stepped) → j < length pairs.now
+        → IsAnswer (schedule_of checked) (history_of (take (j + 1) pairs.now))
+        (slice_index_or v.items j d)) }
 {
     let mut compiled = Compiled::new(alloc, checked)?;
     let mut answers = Vec::new(alloc);

@@ -21,26 +21,36 @@ ghost use Rattle.zs_step.specs.Laws.{GoesOnThroughout, IsFromFirstDone, IsNextBo
 /// determines the result from there on.
 pub fn second_part_begins_where_the_first_is_done()
     // The search finds exactly the part from the first done step on.
-    ensures found { (a : Schedule) (h part : History) → (from_done (answer_of a) h ≡ Some part) ↔ IsFromFirstDone (answer_of a) h part }
-    ensures none { (a : Schedule) (h : History) → (from_done (answer_of a) h ≡ None) ↔ GoesOnThroughout (answer_of a) h }
+    ensures found { (a : Schedule) (h part : History) → (from_done (answer_of a) h ≡ Some part)
+        ↔ IsFromFirstDone (answer_of a) h part }
+    ensures none { (a : Schedule) (h : History) → (from_done (answer_of a) h ≡ None)
+        ↔ GoesOnThroughout (answer_of a) h }
     // The result from that step on, and before it.
-    ensures second { (a b : Schedule) (h part : History) → IsFromFirstDone (answer_of a) h part → answer_of (two and_then a b) h ≡ answer (right (answer_of b part).output) (answer_of b part).decision }
-    ensures first { (a b : Schedule) (h : History) → GoesOnThroughout (answer_of a) h → answer_of (two and_then a b) h ≡ answer (left (answer_of a h).output) (answer_of a h).decision }
+    ensures second { (a b : Schedule) (h part : History) → IsFromFirstDone (answer_of a) h part
+        → answer_of (two and_then a b) h
+        ≡ answer (right (answer_of b part).output) (answer_of b part).decision }
+    ensures first { (a b : Schedule) (h : History) → GoesOnThroughout (answer_of a) h
+        → answer_of (two and_then a b) h
+        ≡ answer (left (answer_of a h).output) (answer_of a h).decision }
 {}
 
 /// `recurs(k)` returns what `forever.whileOutput(< k)` returns.
 pub fn recurs_is_forever_below_its_limit()
-    ensures value { (k : ℕ) (h : History) → k ≤ max_moment → answer_of (leaf (recurs k)) h ≡ answer_of (over (leaf forever) (while_output Whole (record { cmp = Lt; than = k }))) h }
+    ensures value { (k : ℕ) (h : History) → k ≤ max_moment
+        → answer_of (leaf (recurs k)) h
+        ≡ answer_of (over (leaf forever) (while_output Whole (record { cmp = Lt; than = k }))) h }
 {}
 
 /// A schedule never continues at a moment before that of its step.
 pub fn decisions_are_not_in_the_past()
-    ensures value { (t : Schedule) (h : History) → last_moment h ≤ max_moment → IsNotBefore (last_moment h) (answer_of t h).decision }
+    ensures value { (t : Schedule) (h : History) → last_moment h ≤ max_moment
+        → IsNotBefore (last_moment h) (answer_of t h).decision }
 {}
 
 /// Every output of a schedule has its kind, so every pick and every function fits.
 pub fn outputs_have_kinds()
-    ensures value { (t : Schedule) (a : OutputKind) (h : History) → kind_of t ≡ Some a → HasKind (answer_of t h).output a }
+    ensures value { (t : Schedule) (a : OutputKind) (h : History) → kind_of t ≡ Some a
+        → HasKind (answer_of t h).output a }
 {}
 
 /// The visits of a step are at most the schedule's weight, however long its history is.
@@ -51,26 +61,39 @@ pub fn visits_are_at_most_the_weight()
 /// The part of `resetWhen` counts from the last step that reset it, or from the first step if none
 /// did.
 pub fn a_part_counts_from_its_last_reset()
-    ensures reset { (s : Schedule) (k : Pick) (t : Test) (later before : History) (p : ℕ × ℕ) → resets_at (answer_of s) k t (p ∷ before) ≡ true → IsWithoutReset (answer_of s) k t later (p ∷ before) → since_reset (answer_of s) k t (later ++ p ∷ before) ≡ later ++ p ∷ [] }
-    ensures none { (s : Schedule) (k : Pick) (t : Test) (h : History) → IsWithoutReset (answer_of s) k t h [] → since_reset (answer_of s) k t h ≡ h }
+    ensures reset { (s : Schedule) (k : Pick) (t : Test) (later before : History) (p : ℕ × ℕ)
+        → resets_at (answer_of s) k t (p ∷ before) ≡ true
+        → IsWithoutReset (answer_of s) k t later (p ∷ before)
+        → since_reset (answer_of s) k t (later ++ p ∷ before) ≡ later ++ p ∷ [] }
+    ensures none { (s : Schedule) (k : Pick) (t : Test) (h : History)
+        → IsWithoutReset (answer_of s) k t h []
+        → since_reset (answer_of s) k t h ≡ h }
 {}
 
 /// `windowed(n)` continues at the least boundary after its step. A boundary is the first moment
 /// plus a whole number of periods.
 pub fn a_window_ends_at_the_next_boundary()
-    ensures value { (n x : ℕ) (h : History) → 1 ≤ n → IsInOrder h → IsNextBoundary n (first_moment h) (last_moment h) x → (answer_of (leaf (windowed n)) h).decision ≡ Next (saturated x) }
+    ensures value { (n x : ℕ) (h : History) → 1 ≤ n → IsInOrder h
+        → IsNextBoundary n (first_moment h) (last_moment h) x
+        → (answer_of (leaf (windowed n)) h).decision ≡ Next (saturated x) }
 {}
 
 /// `fixed(n)` continues at the least boundary after its step, or at once if the step is more than a
 /// period after the run before it.
 pub fn a_fixed_run_is_at_the_next_boundary()
     // At the first step, at a later step that is in time, and at a late one.
-    ensures first { (n x : ℕ) (p : ℕ × ℕ) → 1 ≤ n → IsNextBoundary n p.0 p.0 x → (answer_of (leaf (fixed n)) (p ∷ [])).decision ≡ Next (saturated x) }
-    ensures value { (n x : ℕ) (p q : ℕ × ℕ) (h : History) → 1 ≤ n → IsInOrder (p ∷ (q ∷ h)) → p.0 ≤ next_run n (q ∷ h) + n → IsNextBoundary n (first_moment (q ∷ h)) p.0 x → (answer_of (leaf (fixed n)) (p ∷ (q ∷ h))).decision ≡ Next (saturated x) }
-    ensures behind { (n : ℕ) (p q : ℕ × ℕ) (h : History) → next_run n (q ∷ h) + n < p.0 → (answer_of (leaf (fixed n)) (p ∷ (q ∷ h))).decision ≡ Next p.0 }
+    ensures first { (n x : ℕ) (p : ℕ × ℕ) → 1 ≤ n → IsNextBoundary n p.0 p.0 x
+        → (answer_of (leaf (fixed n)) (p ∷ [])).decision ≡ Next (saturated x) }
+    ensures value { (n x : ℕ) (p q : ℕ × ℕ) (h : History) → 1 ≤ n → IsInOrder (p ∷ (q ∷ h))
+        → p.0 ≤ next_run n (q ∷ h) + n
+        → IsNextBoundary n (first_moment (q ∷ h)) p.0 x
+        → (answer_of (leaf (fixed n)) (p ∷ (q ∷ h))).decision ≡ Next (saturated x) }
+    ensures behind { (n : ℕ) (p q : ℕ × ℕ) (h : History) → next_run n (q ∷ h) + n < p.0
+        → (answer_of (leaf (fixed n)) (p ∷ (q ∷ h))).decision ≡ Next p.0 }
 {}
 
 /// The number of words of a schedule's state is the same after any steps.
 pub fn a_state_has_as_many_words_at_any_step()
-    ensures value { (t : Schedule) (h g : History) → length (state_words t h) ≡ length (state_words t g) }
+    ensures value { (t : Schedule) (h g : History)
+        → length (state_words t h) ≡ length (state_words t g) }
 {}

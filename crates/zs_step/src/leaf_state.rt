@@ -68,8 +68,11 @@ impl LeafState {
     // Takes one more step: returns its output and its decision.
     pub(crate) fn step(&mut self, now: u64, input: u64) -> (u64, Decision)
         ensures same { state_leaf self.new ≡ state_leaf self.old }
-        ensures answered { (h : History) → LeafRepresents self.old h → answer (number result.0) result.1 ≡ leaf_answer (state_leaf self.old) ((now, input) ∷ h) }
-        ensures stands { (h : History) → LeafRepresents self.old h → LeafRepresents self.new ((now, input) ∷ h) }
+        ensures answered { (h : History) → LeafRepresents self.old h
+            → answer (number result.0) result.1
+            ≡ leaf_answer (state_leaf self.old) ((now, input) ∷ h) }
+        ensures stands { (h : History) → LeafRepresents self.old h
+            → LeafRepresents self.new ((now, input) ∷ h) }
     {
         match self {
             LeafState::Forever { steps } => (count(steps), Decision::Next(now)),
@@ -197,7 +200,8 @@ pub(crate) fn leaf_of(term: &Term) -> LeafState
 
 // Reads the first word, or 0 if there is none, and returns the words after it.
 pub(crate) fn take<'a>(number: &mut u64, words: &'a [u64]) -> &'a [u64]
-    ensures first { (w : ℕ) (rest : List ℕ) → words.now ≡ w ∷ rest → (number.new ≡ w) × (result.now ≡ rest) }
+    ensures first { (w : ℕ) (rest : List ℕ) → words.now ≡ w ∷ rest
+        → (number.new ≡ w) × (result.now ≡ rest) }
 {
     match words.split_first() {
         Some((first, rest)) => {
@@ -213,7 +217,8 @@ pub(crate) fn take<'a>(number: &mut u64, words: &'a [u64]) -> &'a [u64]
 
 // Reads the number of steps and the moment of the first one, and returns the words after them.
 fn take_past<'a>(past: &mut Past, words: &'a [u64]) -> &'a [u64]
-    ensures both { (m n : ℕ) (rest : List ℕ) → words.now ≡ m ∷ (n ∷ rest) → (past.new.steps ≡ m) × (past.new.first ≡ n) × (result.now ≡ rest) }
+    ensures both { (m n : ℕ) (rest : List ℕ) → words.now ≡ m ∷ (n ∷ rest)
+        → (past.new.steps ≡ m) × (past.new.first ≡ n) × (result.now ≡ rest) }
 {
     let rest = take(&mut past.steps, words);
     take(&mut past.first, rest)
@@ -222,7 +227,9 @@ fn take_past<'a>(past: &mut Past, words: &'a [u64]) -> &'a [u64]
 // Reads a leaf's state from words, and returns the words after it.
 pub(crate) fn load_leaf<'a>(leaf: &mut LeafState, words: &'a [u64]) -> &'a [u64]
     ensures same { state_leaf leaf.new ≡ state_leaf leaf.old }
-    ensures stands { (h : History) (rest : List ℕ) → words.now ≡ leaf_words (state_leaf leaf.old) h ++ rest → LeafRepresents leaf.new h × (result.now ≡ rest) }
+    ensures stands { (h : History) (rest : List ℕ)
+        → words.now ≡ leaf_words (state_leaf leaf.old) h ++ rest
+        → LeafRepresents leaf.new h × (result.now ≡ rest) }
 {
     match leaf {
         LeafState::Forever { steps } => take(steps, words),
@@ -246,8 +253,12 @@ pub(crate) fn load_leaf<'a>(leaf: &mut LeafState, words: &'a [u64]) -> &'a [u64]
 
 // Appends the words of a leaf's state.
 pub(crate) fn save_leaf(leaf: &LeafState, words: &mut Vec<u64>) -> Result<(), AllocError>
-    ensures ok { OnOk result ((h : History) → LeafRepresents leaf.now h → words.new.items ≡ words.old.items ++ leaf_words (state_leaf leaf.now) h) }
-    ensures len { OnOk result (length words.new.items ≡ length words.old.items + length (leaf_words (state_leaf leaf.now) [])) }
+    ensures ok { OnOk result
+        ((h : History) → LeafRepresents leaf.now h
+        → words.new.items ≡ words.old.items ++ leaf_words (state_leaf leaf.now) h) }
+    ensures len { OnOk result
+        (length words.new.items
+        ≡ length words.old.items + length (leaf_words (state_leaf leaf.now) [])) }
 {
     match leaf {
         LeafState::Forever { steps } => Ok(words.push(*steps)?),

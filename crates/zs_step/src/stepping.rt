@@ -33,7 +33,9 @@ pub(crate) struct Step {
 // Steps a schedule, and counts its visits. The output reuses the memory of a spare one if it fits.
 pub(crate) fn step_node(state: &mut State, step: &Step, spare: Out) -> Result<Stepped, AllocError>
     requires within { weight (state_schedule state.old) < 2 ^ 64 }
-    ensures ok { IfOk result (λ r. StepsTo state.old state.new step.now.moment step.now.input (answer (output_of r.out) r.decision) r.visits) }
+    ensures ok { IfOk result (λ r.
+        StepsTo state.old state.new step.now.moment step.now.input
+        (answer (output_of r.out) r.decision) r.visits) }
     ensures same { state_schedule state.new ≡ state_schedule state.old }
     ensures succeeds { is_bare (state_schedule state.old) ≡ true → IsOk result }
 {
@@ -54,8 +56,10 @@ pub(crate) fn step_node(state: &mut State, step: &Step, spare: Out) -> Result<St
 fn step_into(state: &mut State, step: &Step, visits: &mut u64, out: &mut Out) -> Turn
     // The contract of each node: its result, its visits and new state, its unchanged schedule.
     requires within { visits.old + weight (state_schedule state.old) < 2 ^ 64 }
-    ensures answers { IfSome (decided result) (λ d. Answers state.old step.now.moment step.now.input (answer (output_of out.new) d)) }
-    ensures counts { IfSome (decided result) (λ d. CountsOn state.old state.new step.now.moment step.now.input (visits.old + 1) visits.new) }
+    ensures answers { IfSome (decided result) (λ d.
+        Answers state.old step.now.moment step.now.input (answer (output_of out.new) d)) }
+    ensures counts { IfSome (decided result) (λ d.
+        CountsOn state.old state.new step.now.moment step.now.input (visits.old + 1) visits.new) }
     ensures same { state_schedule state.new ≡ state_schedule state.old }
     ensures succeeds { is_bare (state_schedule state.old) ≡ true → IsSome (decided result) }
 {
@@ -112,8 +116,11 @@ fn side_box(alloc: Global, out: &mut Out) -> Option<Box<Out>> {
 
 // Steps a schedule without parts.
 fn step_leaf(leaf: &mut LeafState, step: &Step, out: &mut Out) -> Turn
-    ensures answers { IfSome (decided result) (λ d. Answers (Leaf leaf.old) step.now.moment step.now.input (answer (output_of out.new) d)) }
-    ensures counts { (n : _) → IfSome (decided result) (λ d. CountsOn (Leaf leaf.old) (Leaf leaf.new) step.now.moment step.now.input n n) }
+    ensures answers { IfSome (decided result) (λ d.
+        Answers (Leaf leaf.old) step.now.moment step.now.input (answer (output_of out.new) d)) }
+    ensures counts { (n : _)
+        → IfSome (decided result) (λ d.
+        CountsOn (Leaf leaf.old) (Leaf leaf.new) step.now.moment step.now.input n n) }
     ensures same { state_leaf leaf.new ≡ state_leaf leaf.old }
     ensures succeeds { IsSome (decided result) }
 {
@@ -132,10 +139,19 @@ fn step_both(
     visits: &mut u64,
     out: &mut Out,
 ) -> Turn
-    requires within { visits.old + weight (state_schedule first.old) + weight (state_schedule second.old) < 2 ^ 64 }
-    ensures answers { (p q : _) → IfSome (decided result) (λ d. Answers (Both' p first.old q second.old) step.now.moment step.now.input (answer (output_of out.new) d)) }
-    ensures counts { (p q : _) → IfSome (decided result) (λ d. CountsOn (Both' p first.old q second.old) (Both' p first.new q second.new) step.now.moment step.now.input visits.old visits.new) }
-    ensures same { (state_schedule first.new ≡ state_schedule first.old) × (state_schedule second.new ≡ state_schedule second.old) }
+    requires within { visits.old + weight (state_schedule first.old)
+        + weight (state_schedule second.old)
+        < 2 ^ 64 }
+    ensures answers { (p q : _)
+        → IfSome (decided result) (λ d.
+        Answers (Both' p first.old q second.old) step.now.moment step.now.input
+        (answer (output_of out.new) d)) }
+    ensures counts { (p q : _)
+        → IfSome (decided result) (λ d.
+        CountsOn (Both' p first.old q second.old) (Both' p first.new q second.new)
+        step.now.moment step.now.input visits.old visits.new) }
+    ensures same { (state_schedule first.new ≡ state_schedule first.old)
+        × (state_schedule second.new ≡ state_schedule second.old) }
 {
     let Some((mut a, mut b)) = pair_boxes(step.alloc, out) else {
         return Turn::Refused;
@@ -160,10 +176,19 @@ fn step_either(
     visits: &mut u64,
     out: &mut Out,
 ) -> Turn
-    requires within { visits.old + weight (state_schedule first.old) + weight (state_schedule second.old) < 2 ^ 64 }
-    ensures answers { (p q : _) → IfSome (decided result) (λ d. Answers (Either' p first.old q second.old) step.now.moment step.now.input (answer (output_of out.new) d)) }
-    ensures counts { (p q : _) → IfSome (decided result) (λ d. CountsOn (Either' p first.old q second.old) (Either' p first.new q second.new) step.now.moment step.now.input visits.old visits.new) }
-    ensures same { (state_schedule first.new ≡ state_schedule first.old) × (state_schedule second.new ≡ state_schedule second.old) }
+    requires within { visits.old + weight (state_schedule first.old)
+        + weight (state_schedule second.old)
+        < 2 ^ 64 }
+    ensures answers { (p q : _)
+        → IfSome (decided result) (λ d.
+        Answers (Either' p first.old q second.old) step.now.moment step.now.input
+        (answer (output_of out.new) d)) }
+    ensures counts { (p q : _)
+        → IfSome (decided result) (λ d.
+        CountsOn (Either' p first.old q second.old) (Either' p first.new q second.new)
+        step.now.moment step.now.input visits.old visits.new) }
+    ensures same { (state_schedule first.new ≡ state_schedule first.old)
+        × (state_schedule second.new ≡ state_schedule second.old) }
 {
     let Some((mut a, mut b)) = pair_boxes(step.alloc, out) else {
         return Turn::Refused;
@@ -189,10 +214,20 @@ fn step_and_then(
     visits: &mut u64,
     out: &mut Out,
 ) -> Turn
-    requires within { visits.old + weight (state_schedule first.old) + weight (state_schedule second.old) < 2 ^ 64 }
-    ensures answers { (p q : _) → IfSome (decided result) (λ d. Answers (AndThen' done.old p first.old q second.old) step.now.moment step.now.input (answer (output_of out.new) d)) }
-    ensures counts { (p q : _) → IfSome (decided result) (λ d. CountsOn (AndThen' done.old p first.old q second.old) (AndThen' done.new p first.new q second.new) step.now.moment step.now.input visits.old visits.new) }
-    ensures same { (state_schedule first.new ≡ state_schedule first.old) × (state_schedule second.new ≡ state_schedule second.old) }
+    requires within { visits.old + weight (state_schedule first.old)
+        + weight (state_schedule second.old)
+        < 2 ^ 64 }
+    ensures answers { (p q : _)
+        → IfSome (decided result) (λ d.
+        Answers (AndThen' done.old p first.old q second.old) step.now.moment step.now.input
+        (answer (output_of out.new) d)) }
+    ensures counts { (p q : _)
+        → IfSome (decided result) (λ d.
+        CountsOn (AndThen' done.old p first.old q second.old)
+        (AndThen' done.new p first.new q second.new) step.now.moment step.now.input
+        visits.old visits.new) }
+    ensures same { (state_schedule first.new ≡ state_schedule first.old)
+        × (state_schedule second.new ≡ state_schedule second.old) }
 {
     let Some(mut part) = side_box(step.alloc, out) else {
         return Turn::Refused;
@@ -222,8 +257,14 @@ fn step_while_input(
     out: &mut Out,
 ) -> Turn
     requires within { visits.old + weight (state_schedule part.old) < 2 ^ 64 }
-    ensures answers { (p : _) → IfSome (decided result) (λ d. Answers (WhileInput' p part.old test) step.now.moment step.now.input (answer (output_of out.new) d)) }
-    ensures counts { (p : _) → IfSome (decided result) (λ d. CountsOn (WhileInput' p part.old test) (WhileInput' p part.new test) step.now.moment step.now.input visits.old visits.new) }
+    ensures answers { (p : _)
+        → IfSome (decided result) (λ d.
+        Answers (WhileInput' p part.old test) step.now.moment step.now.input
+        (answer (output_of out.new) d)) }
+    ensures counts { (p : _)
+        → IfSome (decided result) (λ d.
+        CountsOn (WhileInput' p part.old test) (WhileInput' p part.new test) step.now.moment
+        step.now.input visits.old visits.new) }
     ensures same { state_schedule part.new ≡ state_schedule part.old }
     ensures succeeds { is_bare (state_schedule part.old) ≡ true → IsSome (decided result) }
 {
@@ -244,8 +285,14 @@ fn step_while_output(
     out: &mut Out,
 ) -> Turn
     requires within { visits.old + weight (state_schedule part.old) < 2 ^ 64 }
-    ensures answers { (p : _) → IfSome (decided result) (λ d. Answers (WhileOutput' p part.old pick test) step.now.moment step.now.input (answer (output_of out.new) d)) }
-    ensures counts { (p : _) → IfSome (decided result) (λ d. CountsOn (WhileOutput' p part.old pick test) (WhileOutput' p part.new pick test) step.now.moment step.now.input visits.old visits.new) }
+    ensures answers { (p : _)
+        → IfSome (decided result) (λ d.
+        Answers (WhileOutput' p part.old pick test) step.now.moment step.now.input
+        (answer (output_of out.new) d)) }
+    ensures counts { (p : _)
+        → IfSome (decided result) (λ d.
+        CountsOn (WhileOutput' p part.old pick test) (WhileOutput' p part.new pick test)
+        step.now.moment step.now.input visits.old visits.new) }
     ensures same { state_schedule part.new ≡ state_schedule part.old }
     ensures succeeds { is_bare (state_schedule part.old) ≡ true → IsSome (decided result) }
 {
@@ -266,8 +313,14 @@ fn step_collect_all(
     out: &mut Out,
 ) -> Turn
     requires within { visits.old + weight (state_schedule part.old) < 2 ^ 64 }
-    ensures answers { (p : _) → IfSome (decided result) (λ d. Answers (CollectAll' p part.old kept.old) step.now.moment step.now.input (answer (output_of out.new) d)) }
-    ensures counts { (p : _) → IfSome (decided result) (λ d. CountsOn (CollectAll' p part.old kept.old) (CollectAll' p part.new kept.new) step.now.moment step.now.input visits.old visits.new) }
+    ensures answers { (p : _)
+        → IfSome (decided result) (λ d.
+        Answers (CollectAll' p part.old kept.old) step.now.moment step.now.input
+        (answer (output_of out.new) d)) }
+    ensures counts { (p : _)
+        → IfSome (decided result) (λ d.
+        CountsOn (CollectAll' p part.old kept.old) (CollectAll' p part.new kept.new)
+        step.now.moment step.now.input visits.old visits.new) }
     ensures same { state_schedule part.new ≡ state_schedule part.old }
 {
     let mut last = Out::Num(0);
@@ -287,8 +340,14 @@ fn step_collect_all(
 #[cycle(stepping)]
 fn step_map(part: &mut State, func: Func, step: &Step, visits: &mut u64, out: &mut Out) -> Turn
     requires within { visits.old + weight (state_schedule part.old) < 2 ^ 64 }
-    ensures answers { (p : _) → IfSome (decided result) (λ d. Answers (Map' p part.old func) step.now.moment step.now.input (answer (output_of out.new) d)) }
-    ensures counts { (p : _) → IfSome (decided result) (λ d. CountsOn (Map' p part.old func) (Map' p part.new func) step.now.moment step.now.input visits.old visits.new) }
+    ensures answers { (p : _)
+        → IfSome (decided result) (λ d.
+        Answers (Map' p part.old func) step.now.moment step.now.input
+        (answer (output_of out.new) d)) }
+    ensures counts { (p : _)
+        → IfSome (decided result) (λ d.
+        CountsOn (Map' p part.old func) (Map' p part.new func) step.now.moment step.now.input
+        visits.old visits.new) }
     ensures same { state_schedule part.new ≡ state_schedule part.old }
     ensures succeeds { is_bare (state_schedule part.old) ≡ true → IsSome (decided result) }
 {
@@ -309,8 +368,14 @@ fn step_map(part: &mut State, func: Func, step: &Step, visits: &mut u64, out: &m
 #[cycle(stepping)]
 fn step_first(part: &mut State, step: &Step, visits: &mut u64, out: &mut Out) -> Turn
     requires within { visits.old + weight (state_schedule part.old) < 2 ^ 64 }
-    ensures answers { (p : _) → IfSome (decided result) (λ d. Answers (Map' p part.old Func.First) step.now.moment step.now.input (answer (output_of out.new) d)) }
-    ensures counts { (p : _) → IfSome (decided result) (λ d. CountsOn (Map' p part.old Func.First) (Map' p part.new Func.First) step.now.moment step.now.input visits.old visits.new) }
+    ensures answers { (p : _)
+        → IfSome (decided result) (λ d.
+        Answers (Map' p part.old Func.First) step.now.moment step.now.input
+        (answer (output_of out.new) d)) }
+    ensures counts { (p : _)
+        → IfSome (decided result) (λ d.
+        CountsOn (Map' p part.old Func.First) (Map' p part.new Func.First) step.now.moment
+        step.now.input visits.old visits.new) }
     ensures same { state_schedule part.new ≡ state_schedule part.old }
     ensures succeeds { is_bare (state_schedule part.old) ≡ true → IsSome (decided result) }
 {
@@ -341,10 +406,20 @@ fn first_of_both(
     visits: &mut u64,
     out: &mut Out,
 ) -> Turn
-    requires within { visits.old + 1 + weight (state_schedule first.old) + weight (state_schedule second.old) < 2 ^ 64 }
-    ensures answers { (p q r : _) → IfSome (decided result) (λ d. Answers (Map' r (Both' p first.old q second.old) Func.First) step.now.moment step.now.input (answer (output_of out.new) d)) }
-    ensures counts { (p q r : _) → IfSome (decided result) (λ d. CountsOn (Map' r (Both' p first.old q second.old) Func.First) (Map' r (Both' p first.new q second.new) Func.First) step.now.moment step.now.input visits.old visits.new) }
-    ensures same { (state_schedule first.new ≡ state_schedule first.old) × (state_schedule second.new ≡ state_schedule second.old) }
+    requires within { visits.old + 1 + weight (state_schedule first.old)
+        + weight (state_schedule second.old)
+        < 2 ^ 64 }
+    ensures answers { (p q r : _)
+        → IfSome (decided result) (λ d.
+        Answers (Map' r (Both' p first.old q second.old) Func.First) step.now.moment
+        step.now.input (answer (output_of out.new) d)) }
+    ensures counts { (p q r : _)
+        → IfSome (decided result) (λ d.
+        CountsOn (Map' r (Both' p first.old q second.old) Func.First)
+        (Map' r (Both' p first.new q second.new) Func.First) step.now.moment
+        step.now.input visits.old visits.new) }
+    ensures same { (state_schedule first.new ≡ state_schedule first.old)
+        × (state_schedule second.new ≡ state_schedule second.old) }
 {
     *visits += 1;
     let Some(x) = step_into(first, step, visits, out).decision() else {
@@ -368,8 +443,14 @@ fn step_reset_when(
     out: &mut Out,
 ) -> Turn
     requires within { visits.old + 2 * weight (state_schedule part.old) < 2 ^ 64 }
-    ensures answers { (p : _) → IfSome (decided result) (λ d. Answers (ResetWhen' p part.old pick test) step.now.moment step.now.input (answer (output_of out.new) d)) }
-    ensures counts { (p : _) → IfSome (decided result) (λ d. CountsOn (ResetWhen' p part.old pick test) (ResetWhen' p part.new pick test) step.now.moment step.now.input visits.old visits.new) }
+    ensures answers { (p : _)
+        → IfSome (decided result) (λ d.
+        Answers (ResetWhen' p part.old pick test) step.now.moment step.now.input
+        (answer (output_of out.new) d)) }
+    ensures counts { (p : _)
+        → IfSome (decided result) (λ d.
+        CountsOn (ResetWhen' p part.old pick test) (ResetWhen' p part.new pick test)
+        step.now.moment step.now.input visits.old visits.new) }
     ensures same { state_schedule part.new ≡ state_schedule part.old }
     ensures succeeds { is_bare (state_schedule part.old) ≡ true → IsSome (decided result) }
 {
@@ -388,8 +469,10 @@ fn step_reset_when(
 #[cycle(stepping)]
 fn step_unread(state: &mut State, step: &Step, visits: &mut u64) -> Turn
     requires within { visits.old + weight (state_schedule state.old) < 2 ^ 64 }
-    ensures decides { IfSome (decided result) (λ d. Decides state.old step.now.moment step.now.input d) }
-    ensures counts { IfSome (decided result) (λ d. CountsOn state.old state.new step.now.moment step.now.input (visits.old + 1) visits.new) }
+    ensures decides { IfSome (decided result) (λ d.
+        Decides state.old step.now.moment step.now.input d) }
+    ensures counts { IfSome (decided result) (λ d.
+        CountsOn state.old state.new step.now.moment step.now.input (visits.old + 1) visits.new) }
     ensures same { state_schedule state.new ≡ state_schedule state.old }
     ensures succeeds { is_bare (state_schedule state.old) ≡ true → IsSome (decided result) }
 {
@@ -411,8 +494,10 @@ fn step_unread(state: &mut State, step: &Step, visits: &mut u64) -> Turn
 #[inline(never)]
 fn step_and_drop(state: &mut State, step: &Step, visits: &mut u64) -> Turn
     requires within { visits.old + weight (state_schedule state.old) < 2 ^ 64 }
-    ensures decides { IfSome (decided result) (λ d. Decides state.old step.now.moment step.now.input d) }
-    ensures counts { IfSome (decided result) (λ d. CountsOn state.old state.new step.now.moment step.now.input (visits.old + 1) visits.new) }
+    ensures decides { IfSome (decided result) (λ d.
+        Decides state.old step.now.moment step.now.input d) }
+    ensures counts { IfSome (decided result) (λ d.
+        CountsOn state.old state.new step.now.moment step.now.input (visits.old + 1) visits.new) }
     ensures same { state_schedule state.new ≡ state_schedule state.old }
     ensures succeeds { is_bare (state_schedule state.old) ≡ true → IsSome (decided result) }
 {
@@ -423,10 +508,18 @@ fn step_and_drop(state: &mut State, step: &Step, visits: &mut u64) -> Turn
 // Returns the decision of two parts that both have to continue.
 #[cycle(stepping)]
 fn unread_both(first: &mut State, second: &mut State, step: &Step, visits: &mut u64) -> Turn
-    requires within { visits.old + 1 + weight (state_schedule first.old) + weight (state_schedule second.old) < 2 ^ 64 }
-    ensures decides { (p q : _) → IfSome (decided result) (λ d. Decides (Both' p first.old q second.old) step.now.moment step.now.input d) }
-    ensures counts { (p q : _) → IfSome (decided result) (λ d. CountsOn (Both' p first.old q second.old) (Both' p first.new q second.new) step.now.moment step.now.input (visits.old + 1) visits.new) }
-    ensures same { (state_schedule first.new ≡ state_schedule first.old) × (state_schedule second.new ≡ state_schedule second.old) }
+    requires within { visits.old + 1 + weight (state_schedule first.old)
+        + weight (state_schedule second.old)
+        < 2 ^ 64 }
+    ensures decides { (p q : _)
+        → IfSome (decided result) (λ d.
+        Decides (Both' p first.old q second.old) step.now.moment step.now.input d) }
+    ensures counts { (p q : _)
+        → IfSome (decided result) (λ d.
+        CountsOn (Both' p first.old q second.old) (Both' p first.new q second.new)
+        step.now.moment step.now.input (visits.old + 1) visits.new) }
+    ensures same { (state_schedule first.new ≡ state_schedule first.old)
+        × (state_schedule second.new ≡ state_schedule second.old) }
 {
     *visits += 1;
     let Some(x) = step_unread(first, step, visits).decision() else {
@@ -442,10 +535,18 @@ fn unread_both(first: &mut State, second: &mut State, step: &Step, visits: &mut 
 // Returns the decision of two parts of which one has to continue.
 #[cycle(stepping)]
 fn unread_either(first: &mut State, second: &mut State, step: &Step, visits: &mut u64) -> Turn
-    requires within { visits.old + 1 + weight (state_schedule first.old) + weight (state_schedule second.old) < 2 ^ 64 }
-    ensures decides { (p q : _) → IfSome (decided result) (λ d. Decides (Either' p first.old q second.old) step.now.moment step.now.input d) }
-    ensures counts { (p q : _) → IfSome (decided result) (λ d. CountsOn (Either' p first.old q second.old) (Either' p first.new q second.new) step.now.moment step.now.input (visits.old + 1) visits.new) }
-    ensures same { (state_schedule first.new ≡ state_schedule first.old) × (state_schedule second.new ≡ state_schedule second.old) }
+    requires within { visits.old + 1 + weight (state_schedule first.old)
+        + weight (state_schedule second.old)
+        < 2 ^ 64 }
+    ensures decides { (p q : _)
+        → IfSome (decided result) (λ d.
+        Decides (Either' p first.old q second.old) step.now.moment step.now.input d) }
+    ensures counts { (p q : _)
+        → IfSome (decided result) (λ d.
+        CountsOn (Either' p first.old q second.old) (Either' p first.new q second.new)
+        step.now.moment step.now.input (visits.old + 1) visits.new) }
+    ensures same { (state_schedule first.new ≡ state_schedule first.old)
+        × (state_schedule second.new ≡ state_schedule second.old) }
 {
     *visits += 1;
     let Some(x) = step_unread(first, step, visits).decision() else {
@@ -462,8 +563,13 @@ fn unread_either(first: &mut State, second: &mut State, step: &Step, visits: &mu
 #[cycle(stepping)]
 fn unread_while_input(part: &mut State, test: Test, step: &Step, visits: &mut u64) -> Turn
     requires within { visits.old + 1 + weight (state_schedule part.old) < 2 ^ 64 }
-    ensures decides { (p : _) → IfSome (decided result) (λ d. Decides (WhileInput' p part.old test) step.now.moment step.now.input d) }
-    ensures counts { (p : _) → IfSome (decided result) (λ d. CountsOn (WhileInput' p part.old test) (WhileInput' p part.new test) step.now.moment step.now.input (visits.old + 1) visits.new) }
+    ensures decides { (p : _)
+        → IfSome (decided result) (λ d.
+        Decides (WhileInput' p part.old test) step.now.moment step.now.input d) }
+    ensures counts { (p : _)
+        → IfSome (decided result) (λ d.
+        CountsOn (WhileInput' p part.old test) (WhileInput' p part.new test) step.now.moment
+        step.now.input (visits.old + 1) visits.new) }
     ensures same { state_schedule part.new ≡ state_schedule part.old }
     ensures succeeds { is_bare (state_schedule part.old) ≡ true → IsSome (decided result) }
 {
@@ -479,8 +585,13 @@ fn unread_while_input(part: &mut State, test: Test, step: &Step, visits: &mut u6
 #[cycle(stepping)]
 fn unread_map(part: &mut State, _func: Func, step: &Step, visits: &mut u64) -> Turn
     requires within { visits.old + 1 + weight (state_schedule part.old) < 2 ^ 64 }
-    ensures decides { (p : _) → IfSome (decided result) (λ d. Decides (Map' p part.old _func) step.now.moment step.now.input d) }
-    ensures counts { (p : _) → IfSome (decided result) (λ d. CountsOn (Map' p part.old _func) (Map' p part.new _func) step.now.moment step.now.input (visits.old + 1) visits.new) }
+    ensures decides { (p : _)
+        → IfSome (decided result) (λ d.
+        Decides (Map' p part.old _func) step.now.moment step.now.input d) }
+    ensures counts { (p : _)
+        → IfSome (decided result) (λ d.
+        CountsOn (Map' p part.old _func) (Map' p part.new _func) step.now.moment
+        step.now.input (visits.old + 1) visits.new) }
     ensures same { state_schedule part.new ≡ state_schedule part.old }
     ensures succeeds { is_bare (state_schedule part.old) ≡ true → IsSome (decided result) }
 {

@@ -48,10 +48,15 @@ pub fn step_words(
     requires flat { KeepsNoList (schedule_of checked.now) }
     requires order { slice_index_or words.now 0 0 ≤ now }
     // The result is that of every history whose state these words are, with this step.
-    ensures answered { IfOk result (λ r. (h : History) → KeepsState (schedule_of checked.now) h words.now → IsAnswer (schedule_of checked.now) ((now, input) ∷ h) r.0) }
+    ensures answered { IfOk result (λ r.
+        (h : History) → KeepsState (schedule_of checked.now) h words.now
+        → IsAnswer (schedule_of checked.now) ((now, input) ∷ h) r.0) }
     // The new words are the state of that history with this step.
-    ensures stands { IfOk result (λ r. (h : History) → KeepsState (schedule_of checked.now) h words.now → r.1.items ≡ state_words (schedule_of checked.now) ((now, input) ∷ h)) }
-    ensures len { IfOk result (λ r. length r.1.items ≡ length (state_words (schedule_of checked.now) [])) }
+    ensures stands { IfOk result (λ r.
+        (h : History) → KeepsState (schedule_of checked.now) h words.now
+        → r.1.items ≡ state_words (schedule_of checked.now) ((now, input) ∷ h)) }
+    ensures len { IfOk result (λ r.
+        length r.1.items ≡ length (state_words (schedule_of checked.now) [])) }
 {
     let mut state = load_state(alloc, checked, words)?;
     let step = Step {
@@ -86,7 +91,10 @@ fn collects_nothing(term: &Term) -> bool
 fn load_state(alloc: Global, checked: &Checked, words: &[u64]) -> Result<State, AllocError>
     ensures made_of { IfOk result (λ s. state_schedule s ≡ schedule_of checked.now) }
     ensures small { IfOk result (λ s. weight (state_schedule s) ≤ 1000) }
-    ensures stands { IfOk result (λ s. (h : History) → KeepsNoList (schedule_of checked.now) → KeepsState (schedule_of checked.now) h words.now → Represents s h) }
+    ensures stands { IfOk result (λ s.
+        (h : History) → KeepsNoList (schedule_of checked.now)
+        → KeepsState (schedule_of checked.now) h words.now
+        → Represents s h) }
 {
     let mut state = state_of(alloc, checked.term())?;
     let mut last = 0;
@@ -97,7 +105,9 @@ fn load_state(alloc: Global, checked: &Checked, words: &[u64]) -> Result<State, 
 // Reads a state from words, and returns the words after it.
 fn load<'a>(state: &mut State, words: &'a [u64]) -> &'a [u64]
     ensures same { state_schedule state.new ≡ state_schedule state.old }
-    ensures stands { (h : History) (rest : List ℕ) → KeepsNoList (state_schedule state.old) → words.now ≡ words_of (state_schedule state.old) h ++ rest → Represents state.new h × (result.now ≡ rest) }
+    ensures stands { (h : History) (rest : List ℕ) → KeepsNoList (state_schedule state.old)
+        → words.now ≡ words_of (state_schedule state.old) h ++ rest
+        → Represents state.new h × (result.now ≡ rest) }
 {
     match state {
         State::Leaf(leaf) => load_leaf(leaf, words),
@@ -130,8 +140,11 @@ fn load<'a>(state: &mut State, words: &'a [u64]) -> &'a [u64]
 
 // Returns the words of a state and the last moment. A first part that is done is reset.
 fn save_state(alloc: Global, last: u64, state: &mut State) -> Result<Vec<u64>, AllocError>
-    ensures ok { IfOk result (λ v. (h : History) → KeepsNoList (state_schedule state.old) → Represents state.old h → v.items ≡ last ∷ words_of (state_schedule state.old) h) }
-    ensures len { IfOk result (λ v. length v.items ≡ length (state_words (state_schedule state.old) [])) }
+    ensures ok { IfOk result (λ v.
+        (h : History) → KeepsNoList (state_schedule state.old) → Represents state.old h
+        → v.items ≡ last ∷ words_of (state_schedule state.old) h) }
+    ensures len { IfOk result (λ v.
+        length v.items ≡ length (state_words (state_schedule state.old) [])) }
 {
     let mut words = Vec::new(alloc);
     words.push(last)?;
@@ -141,8 +154,12 @@ fn save_state(alloc: Global, last: u64, state: &mut State) -> Result<Vec<u64>, A
 
 // Appends the words of a state. A first part that is done is reset.
 fn save(alloc: Global, state: &mut State, words: &mut Vec<u64>) -> Result<(), AllocError>
-    ensures ok { OnOk result ((h : History) → KeepsNoList (state_schedule state.old) → Represents state.old h → words.new.items ≡ words.old.items ++ words_of (state_schedule state.old) h) }
-    ensures len { OnOk result (length words.new.items ≡ length words.old.items + length (words_of (state_schedule state.old) [])) }
+    ensures ok { OnOk result
+        ((h : History) → KeepsNoList (state_schedule state.old) → Represents state.old h
+        → words.new.items ≡ words.old.items ++ words_of (state_schedule state.old) h) }
+    ensures len { OnOk result
+        (length words.new.items
+        ≡ length words.old.items + length (words_of (state_schedule state.old) [])) }
 {
     match state {
         State::Leaf(leaf) => save_leaf(leaf, words),

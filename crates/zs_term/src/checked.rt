@@ -40,7 +40,9 @@ impl Model for Checked {
 
     ghost view = { λ c. c.term };
 
-    ghost invariant = { λ c. IsSchedule (schedule_of c.term) × (kind_of (schedule_of c.term) ≡ Some (output_kind_of c.kind)) };
+    ghost invariant = { λ c.
+        IsSchedule (schedule_of c.term)
+        × (kind_of (schedule_of c.term) ≡ Some (output_kind_of c.kind)) };
 }
 
 impl Checked {
@@ -76,9 +78,13 @@ pub fn check(alloc: Global, term: Term) -> Result<Checked, TermFault>
 
     ensures err { IfErr result (IsTermCause (schedule_of term)) }
     ensures too_big { result ≡ Err TermFault.TooBig ↔ is_within_limits (schedule_of term) ≡ false }
-    ensures bad_factor { result ≡ Err TermFault.BadFactor ↔ ((is_within_limits (schedule_of term) ≡ true) × (has_factors (schedule_of term) ≡ false)) }
+    ensures bad_factor { result ≡ Err TermFault.BadFactor
+        ↔ ((is_within_limits (schedule_of term) ≡ true)
+        × (has_factors (schedule_of term) ≡ false)) }
     // Once more, by the definition that computes.
-    ensures verdict { MatchResult result (λ checked. checked_as (schedule_of term) ≡ Ok (schedule_of checked)) (λ fault. fault ≢ TermFault.Memory → checked_as (schedule_of term) ≡ Err fault) }
+    ensures verdict { MatchResult result (λ checked.
+        checked_as (schedule_of term) ≡ Ok (schedule_of checked)) (λ fault.
+        fault ≢ TermFault.Memory → checked_as (schedule_of term) ≡ Err fault) }
     // Only a kind that has parts takes memory.
     ensures memory { result ≡ Err TermFault.Memory → takes_memory (schedule_of term) ≡ true }
 {
@@ -98,7 +104,9 @@ pub(crate) fn check_small(alloc: Global, term: Term) -> Result<Checked, TermFaul
     ensures err { IfErr result (IsTermCause (schedule_of term)) }
     ensures small { result ≢ Err TermFault.TooBig }
     ensures bad_factor { result ≡ Err TermFault.BadFactor ↔ has_factors (schedule_of term) ≡ false }
-    ensures verdict { MatchResult result (λ checked. checked_as (schedule_of term) ≡ Ok (schedule_of checked)) (λ fault. fault ≢ TermFault.Memory → checked_as (schedule_of term) ≡ Err fault) }
+    ensures verdict { MatchResult result (λ checked.
+        checked_as (schedule_of term) ≡ Ok (schedule_of checked)) (λ fault.
+        fault ≢ TermFault.Memory → checked_as (schedule_of term) ≡ Err fault) }
     ensures memory { result ≡ Err TermFault.Memory → takes_memory (schedule_of term) ≡ true }
 {
     match kind_in(alloc, &term) {
@@ -111,10 +119,12 @@ pub(crate) fn check_small(alloc: Global, term: Term) -> Result<Checked, TermFaul
 fn kind_in(alloc: Global, term: &Term) -> Result<Kind, TermFault>
     requires within { is_within_limits (schedule_of term.now) ≡ true }
     ensures schedule { IfOk result (λ kind. IsSchedule (schedule_of term.now)) }
-    ensures kind { IfOk result (λ kind. kind_of (schedule_of term.now) ≡ Some (output_kind_of kind)) }
+    ensures kind { IfOk result (λ kind.
+        kind_of (schedule_of term.now) ≡ Some (output_kind_of kind)) }
     ensures err { IfErr result (IsTermCause (schedule_of term.now)) }
     ensures small { result ≢ Err TermFault.TooBig }
-    ensures bad_factor { result ≡ Err TermFault.BadFactor ↔ has_factors (schedule_of term.now) ≡ false }
+    ensures bad_factor { result ≡ Err TermFault.BadFactor
+        ↔ has_factors (schedule_of term.now) ≡ false }
     ensures memory { result ≡ Err TermFault.Memory → takes_memory (schedule_of term.now) ≡ true }
 {
     if !has_factors(term) {
@@ -162,7 +172,9 @@ fn give_up(term: Term) {
 // `(a op (b op c))`.
 #[tactic(auto, using(crate::proofs::Sizes::steps_positive))]
 fn turn_over(left: Box<Term>, right: Box<Term>) -> Term
-    ensures less { steps_to_give_up (schedule_of result) < 2 * steps_to_give_up (schedule_of left.value) + steps_to_give_up (schedule_of right.value) }
+    ensures less { steps_to_give_up (schedule_of result)
+        < 2 * steps_to_give_up (schedule_of left.value)
+        + steps_to_give_up (schedule_of right.value) }
 {
     let mut left = left;
     match replace(&mut *left, Term::Forever) {

@@ -210,7 +210,8 @@ impl Counted {
 impl Infix {
     /// Returns the term over two parts.
     pub fn of(self, left: Box<Term>, right: Box<Term>) -> Term
-        ensures value { schedule_of result ≡ two (infix_pairing self) (schedule_of left.value) (schedule_of right.value) }
+        ensures value { schedule_of result
+            ≡ two (infix_pairing self) (schedule_of left.value) (schedule_of right.value) }
     {
         match self {
             Infix::Both => Term::Both(left, right),
@@ -223,7 +224,8 @@ impl Infix {
 impl Subject {
     /// Returns the term with this test over a part.
     pub fn of(self, term: Box<Term>, test: Test) -> Term
-        ensures value { schedule_of result ≡ over (schedule_of term.value) (test_modifier self test) }
+        ensures value { schedule_of result
+            ≡ over (schedule_of term.value) (test_modifier self test) }
     {
         match self {
             Subject::Input => Term::WhileInput(term, test),

@@ -38,7 +38,9 @@ fn join_kinds(
     first: Option<Kind>,
     second: Option<Kind>,
 ) -> Result<Option<Kind>, AllocError>
-    ensures value { IfOk result (λ k. found_kind_of k ≡ joined (pairing_kind (infix_pairing form)) (found_kind_of first) (found_kind_of second)) }
+    ensures value { IfOk result (λ k.
+        found_kind_of k
+        ≡ joined (pairing_kind (infix_pairing form)) (found_kind_of first) (found_kind_of second)) }
 {
     match (first, second) {
         (Some(x), Some(y)) => {

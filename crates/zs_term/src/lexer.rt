@@ -227,7 +227,8 @@ fn is_padded(digits: &[u8]) -> bool
 #[tactic(auto, using(crate::proofs::Lexing::all_digits, crate::proofs::Lexing::some_digits))]
 fn number(bytes: &[u8]) -> Option<Found>
     requires digit { is_ascii_digit (slice_index bytes.now 0) ≡ true }
-    ensures value { MatchOption result (number_at bytes.now ≡ None) (λ found. IsFoundAs (number_at bytes.now) bytes.now found) }
+    ensures value { MatchOption result (number_at bytes.now ≡ None) (λ found.
+        IsFoundAs (number_at bytes.now) bytes.now found) }
 {
     let digits = digits(bytes);
     if is_padded(digits) {
@@ -254,7 +255,8 @@ fn word_at(bytes: &[u8]) -> Found
 // Returns the symbol at the front; of two that fit, the longer one.
 fn symbol(bytes: &[u8]) -> Option<Found>
     requires some { 0 < length bytes.now }
-    ensures value { MatchOption result (symbol_at bytes.now ≡ None) (λ found. IsFoundAs (symbol_at bytes.now) bytes.now found) }
+    ensures value { MatchOption result (symbol_at bytes.now ≡ None) (λ found.
+        IsFoundAs (symbol_at bytes.now) bytes.now found) }
 {
     let first = bytes[0];
     let second = if 1 < bytes.len() { bytes[1] } else { 0 };
@@ -274,7 +276,8 @@ fn symbol(bytes: &[u8]) -> Option<Found>
 // Returns the token at the front.
 fn token_at(bytes: &[u8]) -> Option<Found>
     requires some { 0 < length bytes.now }
-    ensures value { MatchOption result (token_at bytes.now ≡ None) (λ found. IsFoundAs (token_at bytes.now) bytes.now found) }
+    ensures value { MatchOption result (token_at bytes.now ≡ None) (λ found.
+        IsFoundAs (token_at bytes.now) bytes.now found) }
 {
     let first = bytes[0];
     if first.is_ascii_alphabetic() {

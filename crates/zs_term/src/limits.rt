@@ -33,8 +33,10 @@ pub(crate) fn weight_within(term: &Term) -> u64
 // Returns the number of nodes that remain of `nodes`, if the term has no more of them and no more
 // levels than `levels`.
 fn room_left(term: &Term, levels: u64, nodes: u64) -> Option<u64>
-    ensures room { IfSome result (λ r. (r + weight (schedule_of term.now) ≡ nodes) × (depth (schedule_of term.now) ≤ levels)) }
-    ensures none { IfNone result ((levels < depth (schedule_of term.now)) ⊎ (nodes < weight (schedule_of term.now))) }
+    ensures room { IfSome result (λ r.
+        (r + weight (schedule_of term.now) ≡ nodes) × (depth (schedule_of term.now) ≤ levels)) }
+    ensures none { IfNone result
+        ((levels < depth (schedule_of term.now)) ⊎ (nodes < weight (schedule_of term.now))) }
 {
     if levels == 0 || nodes == 0 {
         return None;

@@ -23,7 +23,8 @@ pub fn write_out(alloc: Global, out: &Out) -> Result<String, NoMemory>
 
 /// Appends the text of an output to a text. If that fails, the text is unchanged.
 pub fn append_out(text: &mut String, out: &Out) -> Result<(), NoMemory>
-    ensures ok { OnOk result (string_bytes text.new ≡ string_bytes text.old ++ output_text (output_of out.now)) }
+    ensures ok { OnOk result
+        (string_bytes text.new ≡ string_bytes text.old ++ output_text (output_of out.now)) }
     ensures err { OnErr result (string_bytes text.new ≡ string_bytes text.old) }
     // The text so far stays at the front in any case.
     ensures kept { IsBeginning (string_bytes text.old) (string_bytes text.new) }
@@ -40,7 +41,8 @@ pub fn append_out(text: &mut String, out: &Out) -> Result<(), NoMemory>
 #[tactic(auto, using(crate::proofs::Texts::begins_with_itself, crate::proofs::Texts::begins_pushed, crate::proofs::Texts::begins_both))]
 #[cycle(texts)]
 fn push_out(text: &mut String, out: &Out) -> Result<(), NoMemory>
-    ensures ok { OnOk result (string_bytes text.new ≡ string_bytes text.old ++ output_text (output_of out.now)) }
+    ensures ok { OnOk result
+        (string_bytes text.new ≡ string_bytes text.old ++ output_text (output_of out.now)) }
     ensures kept { IsBeginning (string_bytes text.old) (string_bytes text.new) }
 {
     match out {
@@ -84,7 +86,9 @@ pub fn append_number(text: &mut String, n: u64) -> Result<(), NoMemory>
 #[tactic(auto, using(crate::proofs::Texts::begins_with_itself, crate::proofs::Texts::begins_pushed, crate::proofs::Texts::begins_both))]
 #[cycle(texts)]
 fn append_list(text: &mut String, outs: &Outs) -> Result<(), NoMemory>
-    ensures ok { OnOk result (string_bytes text.new ≡ string_bytes text.old ++ outputs_text (outputs_of (outs_list outs.now))) }
+    ensures ok { OnOk result
+        (string_bytes text.new
+        ≡ string_bytes text.old ++ outputs_text (outputs_of (outs_list outs.now))) }
     ensures kept { IsBeginning (string_bytes text.old) (string_bytes text.new) }
 {
     match &outs.storage {
@@ -97,7 +101,8 @@ fn append_list(text: &mut String, outs: &Outs) -> Result<(), NoMemory>
 #[tactic(auto, using(crate::proofs::Texts::begins_with_itself, crate::proofs::Texts::begins_pushed, crate::proofs::Texts::begins_both))]
 #[cycle(texts)]
 fn append_items(text: &mut String, items: &[Out]) -> Result<(), NoMemory>
-    ensures ok { OnOk result (string_bytes text.new ≡ string_bytes text.old ++ outputs_text (outputs_of items.now)) }
+    ensures ok { OnOk result
+        (string_bytes text.new ≡ string_bytes text.old ++ outputs_text (outputs_of items.now)) }
     ensures kept { IsBeginning (string_bytes text.old) (string_bytes text.new) }
 {
     for (i, item) in items.iter().enumerate() {

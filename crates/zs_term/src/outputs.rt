@@ -89,7 +89,9 @@ impl Outs {
     /// Appends an output. The list is changed in place if no other list shares its memory, else
     /// copied.
     pub fn push(&mut self, alloc: Global, out: Out) -> Result<(), AllocError>
-        ensures pushed { OnOk result (outputs_of (outs_list self.new) ≡ with_last (outputs_of (outs_list self.old)) (output_of out)) }
+        ensures pushed { OnOk result
+            (outputs_of (outs_list self.new)
+            ≡ with_last (outputs_of (outs_list self.old)) (output_of out)) }
     {
         match &mut self.storage {
             Storage::Own(items) => push_own(items, out),
@@ -101,7 +103,8 @@ impl Outs {
 // Appends an output to a list with private memory.
 #[tactic(auto, using(crate::proofs::Values::outputs_of_push))]
 fn push_own(items: &mut Vec<Out>, out: Out) -> Result<(), AllocError>
-    ensures pushed { OnOk result (outputs_of items.new.items ≡ with_last (outputs_of items.old.items) (output_of out)) }
+    ensures pushed { OnOk result
+        (outputs_of items.new.items ≡ with_last (outputs_of items.old.items) (output_of out)) }
 {
     items.push(out)?;
     Ok(())
@@ -109,7 +112,9 @@ fn push_own(items: &mut Vec<Out>, out: Out) -> Result<(), AllocError>
 
 // Appends an output to a list with shared memory.
 fn push_shared(shared: &mut Arc<Vec<Out>>, alloc: Global, out: Out) -> Result<(), AllocError>
-    ensures pushed { OnOk result (outputs_of (arc_value shared.new).items ≡ with_last (outputs_of (arc_value shared.old).items) (output_of out)) }
+    ensures pushed { OnOk result
+        (outputs_of (arc_value shared.new).items
+        ≡ with_last (outputs_of (arc_value shared.old).items) (output_of out)) }
 {
     if let Some(items) = Arc::get_mut(shared) {
         return push_own(items, out);

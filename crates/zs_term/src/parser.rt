@@ -89,7 +89,8 @@ fn behind_base(
     base: Option<u64>,
     mark: Mark,
 ) -> Result<Option<Mode>, AllocError>
-    ensures value { IfOk result (λ next. option_map mode_of next ≡ base_mark (keep build) base mark) }
+    ensures value { IfOk result (λ next.
+        option_map mode_of next ≡ base_mark (keep build) base mark) }
 {
     match mark {
         Mark::Close => {
@@ -108,7 +109,8 @@ fn behind_dot(
     part: Part,
     mark: Mark,
 ) -> Result<Option<Mode>, AllocError>
-    ensures value { IfOk result (λ next. option_map mode_of next ≡ dot_mark (keep build) (kept_of part) mark) }
+    ensures value { IfOk result (λ next.
+        option_map mode_of next ≡ dot_mark (keep build) (kept_of part) mark) }
 {
     match mark {
         Mark::CollectAllWord => {
@@ -164,7 +166,8 @@ fn func_or_scale(
     part: Part,
     mark: Mark,
 ) -> Result<Option<Mode>, AllocError>
-    ensures value { IfOk result (λ next. option_map mode_of next ≡ map_mark (keep build) (kept_of part) mark) }
+    ensures value { IfOk result (λ next.
+        option_map mode_of next ≡ map_mark (keep build) (kept_of part) mark) }
 {
     match mark {
         Mark::PieceWord(piece) => {
@@ -218,7 +221,9 @@ fn join_behind(
     part: Part,
     mark: Mark,
 ) -> Result<Option<Mode>, AllocError>
-    ensures value { IfOk result (λ next. option_map (λ m. at (stack_of frames.new) (mode_of m)) next ≡ join_mark (keep build) (stack_of frames.old) (kept_of part) mark) }
+    ensures value { IfOk result (λ next.
+        option_map (λ m. at (stack_of frames.new) (mode_of m)) next
+        ≡ join_mark (keep build) (stack_of frames.old) (kept_of part) mark) }
 {
     if 0 < frames.bare {
         return match mark {
@@ -252,7 +257,8 @@ fn within_form(
     mode: Mode,
     mark: Mark,
 ) -> Result<Option<Mode>, AllocError>
-    ensures value { IfOk result (λ next. option_map mode_of next ≡ inner_mark (keep build) (mode_of mode) mark) }
+    ensures value { IfOk result (λ next.
+        option_map mode_of next ≡ inner_mark (keep build) (mode_of mode) mark) }
 {
     match mode {
         Mode::Opening(form) => Ok(on_open(Mode::Counting(form), mark)),
@@ -283,7 +289,9 @@ pub fn after_mark(
     mode: Mode,
     mark: Mark,
 ) -> Result<Option<Mode>, AllocError>
-    ensures value { IfOk result (λ next. option_map (λ m. at (stack_of frames.new) (mode_of m)) next ≡ step_mark (keep build) (stack_of frames.old) (mode_of mode) mark) }
+    ensures value { IfOk result (λ next.
+        option_map (λ m. at (stack_of frames.new) (mode_of m)) next
+        ≡ step_mark (keep build) (stack_of frames.old) (mode_of mode) mark) }
 {
     match mode {
         Mode::Start => match mark {
@@ -308,7 +316,10 @@ pub fn after_number(
     mode: Mode,
     value: Option<u64>,
 ) -> Result<Option<Mode>, AllocError>
-    ensures value { (fs : _) → IfOk result (λ next. option_map (λ m. at fs (mode_of m)) next ≡ step_number (keep build) fs (mode_of mode) value) }
+    ensures value { (fs : _)
+        → IfOk result (λ next.
+        option_map (λ m. at fs (mode_of m)) next
+        ≡ step_number (keep build) fs (mode_of mode) value) }
 {
     match mode {
         Mode::Counting(form) => {

@@ -82,7 +82,8 @@ impl Part {
 
     /// Joins two parts by an operator.
     pub fn join(alloc: Global, form: Infix, left: Part, right: Part) -> Result<Part, AllocError>
-        ensures value { IfOk result (λ part. kept_of part ≡ keep_join form (kept_of left) (kept_of right)) }
+        ensures value { IfOk result (λ part.
+            kept_of part ≡ keep_join form (kept_of left) (kept_of right)) }
     {
         let depth = left.depth.max(right.depth).saturating_add(1);
         let weight = left.weight.saturating_add(right.weight).saturating_add(1);
@@ -107,7 +108,8 @@ impl Part {
         cmp: Cmp,
         value: Option<u64>,
     ) -> Result<Part, AllocError>
-        ensures value { IfOk result (λ whole. kept_of whole ≡ keep_test (kept_of part) subject cmp value) }
+        ensures value { IfOk result (λ whole.
+            kept_of whole ≡ keep_test (kept_of part) subject cmp value) }
     {
         let depth = part.depth.saturating_add(1);
         let weight = subject.weight_over(part.weight);
@@ -165,7 +167,8 @@ impl Part {
         scale: Scale,
         value: Option<u64>,
     ) -> Result<Part, AllocError>
-        ensures value { IfOk result (λ whole. kept_of whole ≡ keep_scale (kept_of part) scale value) }
+        ensures value { IfOk result (λ whole.
+            kept_of whole ≡ keep_scale (kept_of part) scale value) }
     {
         let depth = part.depth.saturating_add(1);
         let weight = part.weight.saturating_add(1);

@@ -16,9 +16,11 @@ use std::alloc::{AllocError, Global};
 
 /// Returns the one canonical spelling of a schedule. `read` returns the schedule again.
 pub fn write(alloc: Global, checked: &Checked) -> Result<String, NoMemory>
-    ensures ok { IfOk result (λ text. string_bytes text ≡ canonical_text (schedule_of checked.now)) }
+    ensures ok { IfOk result (λ text.
+        string_bytes text ≡ canonical_text (schedule_of checked.now)) }
     // Reading the text returns the schedule.
-    ensures read_again { IfOk result (λ text. SpellsSchedule (string_bytes text) (schedule_of checked.now)) }
+    ensures read_again { IfOk result (λ text.
+        SpellsSchedule (string_bytes text) (schedule_of checked.now)) }
 {
     let mut text = String::new(alloc);
     let term = checked.term();
@@ -30,7 +32,8 @@ pub fn write(alloc: Global, checked: &Checked) -> Result<String, NoMemory>
 // Appends the canonical spelling of a term.
 #[cycle(spelling)]
 fn append(text: &mut String, term: &Term) -> Result<(), AllocError>
-    ensures text { OnOk result (string_bytes text.new ≡ string_bytes text.old ++ canonical_text (schedule_of term.now)) }
+    ensures text { OnOk result
+        (string_bytes text.new ≡ string_bytes text.old ++ canonical_text (schedule_of term.now)) }
 {
     match term.shape() {
         Shape::Plain(form) => text.push_str(form.word()),
@@ -55,7 +58,11 @@ fn append(text: &mut String, term: &Term) -> Result<(), AllocError>
 // Appends two terms with an operator between them.
 #[cycle(spelling)]
 fn append_infix(text: &mut String, a: &Term, operator: &str, b: &Term) -> Result<(), AllocError>
-    ensures text { OnOk result (string_bytes text.new ≡ string_bytes text.old ++ infix_text (canonical_text (schedule_of a.now)) operator.now (canonical_text (schedule_of b.now))) }
+    ensures text { OnOk result
+        (string_bytes text.new
+        ≡ string_bytes text.old
+        ++ infix_text (canonical_text (schedule_of a.now)) operator.now
+        (canonical_text (schedule_of b.now))) }
 {
     text.push_str("(")?;
     append(text, a)?;
@@ -66,7 +73,8 @@ fn append_infix(text: &mut String, a: &Term, operator: &str, b: &Term) -> Result
 
 // Appends a word and a number in parentheses.
 fn append_number(text: &mut String, word: &str, number: u64) -> Result<(), AllocError>
-    ensures text { OnOk result (string_bytes text.new ≡ string_bytes text.old ++ number_text word.now number) }
+    ensures text { OnOk result
+        (string_bytes text.new ≡ string_bytes text.old ++ number_text word.now number) }
 {
     text.push_str(word)?;
     text.push_str("(")?;
@@ -75,7 +83,8 @@ fn append_number(text: &mut String, word: &str, number: u64) -> Result<(), Alloc
 
 // Appends an `exponential`.
 fn append_exponential(text: &mut String, base: u64, factor: u64) -> Result<(), AllocError>
-    ensures text { OnOk result (string_bytes text.new ≡ string_bytes text.old ++ leaf_text (exponential base factor)) }
+    ensures text { OnOk result
+        (string_bytes text.new ≡ string_bytes text.old ++ leaf_text (exponential base factor)) }
 {
     append_exponential_word(text)?;
     write!(text, "{base}, ")?;
@@ -137,7 +146,9 @@ fn reset_when_word() -> &'static str
 
 // Appends the modifier with a test that follows a schedule.
 fn append_tested(text: &mut String, subject: Subject, test: Test) -> Result<(), AllocError>
-    ensures text { OnOk result (string_bytes text.new ≡ string_bytes text.old ++ modifier_text (test_modifier subject test)) }
+    ensures text { OnOk result
+        (string_bytes text.new
+        ≡ string_bytes text.old ++ modifier_text (test_modifier subject test)) }
 {
     match subject {
         Subject::Input => {
@@ -161,7 +172,9 @@ fn append_tested(text: &mut String, subject: Subject, test: Test) -> Result<(), 
 
 // Appends a word and a pick with its test.
 fn append_picked(text: &mut String, word: &str, pick: Pick, test: Test) -> Result<(), AllocError>
-    ensures text { OnOk result (string_bytes text.new ≡ string_bytes text.old ++ (word.now ++ (pick_text pick ++ test_text test))) }
+    ensures text { OnOk result
+        (string_bytes text.new
+        ≡ string_bytes text.old ++ (word.now ++ (pick_text pick ++ test_text test))) }
 {
     text.push_str(word)?;
     text.push_str(pick_text(pick))?;
@@ -170,7 +183,9 @@ fn append_picked(text: &mut String, word: &str, pick: Pick, test: Test) -> Resul
 
 // Appends `.map` with a function.
 fn append_map(text: &mut String, func: Func) -> Result<(), AllocError>
-    ensures text { OnOk result (string_bytes text.new ≡ string_bytes text.old ++ (codes ".map(" ++ (func_text func ++ codes ")"))) }
+    ensures text { OnOk result
+        (string_bytes text.new
+        ≡ string_bytes text.old ++ (codes ".map(" ++ (func_text func ++ codes ")"))) }
 {
     text.push_str(".map(")?;
     append_func(text, func)?;

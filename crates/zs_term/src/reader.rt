@@ -29,7 +29,10 @@ fn after_lexeme(
     mode: Mode,
     lexeme: Lexeme,
 ) -> Result<Option<Mode>, AllocError>
-    ensures value { (t : Token) → IsLexeme lexeme t → IfOk result (λ next. option_map (λ m. at (stack_of frames.new) (mode_of m)) next ≡ step (keep build) (Some (at (stack_of frames.old) (mode_of mode))) t) }
+    ensures value { (t : Token) → IsLexeme lexeme t
+        → IfOk result (λ next.
+        option_map (λ m. at (stack_of frames.new) (mode_of m)) next
+        ≡ step (keep build) (Some (at (stack_of frames.old) (mode_of mode))) t) }
 {
     match lexeme {
         Lexeme::Mark(mark) => after_mark(alloc, build, frames, mode, mark),
@@ -53,7 +56,9 @@ fn huge_behind(huge: Option<u64>, place: usize, lexeme: Lexeme) -> Option<u64>
 // Returns the whole term that was read, if no form is open.
 #[tactic(auto, using(crate::proofs::Stacks::stack_empty))]
 fn finish(frames: &Frames, mode: Mode) -> Option<Part>
-    ensures value { MatchOption result ((a : Kept) → at (stack_of frames.now) (mode_of mode) ≢ at [] (after a)) (λ part. at (stack_of frames.now) (mode_of mode) ≡ at [] (after (kept_of part))) }
+    ensures value { MatchOption result
+        ((a : Kept) → at (stack_of frames.now) (mode_of mode) ≢ at [] (after a)) (λ part.
+        at (stack_of frames.now) (mode_of mode) ≡ at [] (after (kept_of part))) }
 {
     if 0 < frames.bare || !frames.joined.is_empty() {
         return None;
@@ -171,7 +176,8 @@ pub fn read(alloc: Global, text: &str) -> Result<Checked, TermFault>
     ensures ok { IfOk result (λ checked. SpellsSchedule text.now (schedule_of checked)) }
     ensures err { IfErr result (IsCause text.now) }
     // Once more, by the definition that computes: `verdict_of` determines the result.
-    ensures verdict { MatchResult result (λ checked. verdict_of text.now ≡ Ok (schedule_of checked)) (λ fault. (fault ≡ Memory → ⊥) → verdict_of text.now ≡ Err fault) }
+    ensures verdict { MatchResult result (λ checked. verdict_of text.now ≡ Ok (schedule_of checked))
+        (λ fault. (fault ≡ Memory → ⊥) → verdict_of text.now ≡ Err fault) }
 {
     judge(alloc, text)
 }

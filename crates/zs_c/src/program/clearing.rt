@@ -11,7 +11,8 @@ use crate::program::node::{Node, Rule, Sizes, behind, front, read_node};
 // Makes the words of a code's state those before any step.
 #[cycle(clearing)]
 pub(crate) fn clear(code: &[u64], words: &mut [u64], levels: u64)
-    ensures clears { (t : Schedule) → IsCode t code.now levels → length words.old ≡ held_size t → words.new ≡ held_of t [] }
+    ensures clears { (t : Schedule) → IsCode t code.now levels → length words.old ≡ held_size t
+        → words.new ≡ held_of t [] }
 {
     if levels == 0 {
         return;
@@ -35,7 +36,9 @@ pub(crate) fn clear(code: &[u64], words: &mut [u64], levels: u64)
 // The same of two parts.
 #[cycle(clearing)]
 fn clear_parts(code: &[u64], words: &mut [u64], sizes: Sizes, levels: u64)
-    ensures clears { (a b : Schedule) → IsParts a b sizes code.now levels → length words.old ≡ held_size a + held_size b → words.new ≡ held_of a [] ++ held_of b [] }
+    ensures clears { (a b : Schedule) → IsParts a b sizes code.now levels
+        → length words.old ≡ held_size a + held_size b
+        → words.new ≡ held_of a [] ++ held_of b [] }
 {
     let (rest, size, state) = (behind(code, 3), sizes.code as usize, sizes.state as usize);
     if state <= words.len() {
@@ -46,7 +49,8 @@ fn clear_parts(code: &[u64], words: &mut [u64], sizes: Sizes, levels: u64)
 
 // The same of a leaf.
 fn clear_leaf(rule: Rule, words: &mut [u64])
-    ensures clears { length words.old ≡ length (leaf_held (rule_leaf rule) []) → words.new ≡ leaf_held (rule_leaf rule) [] }
+    ensures clears { length words.old ≡ length (leaf_held (rule_leaf rule) [])
+        → words.new ≡ leaf_held (rule_leaf rule) [] }
 {
     match rule {
         Rule::Identity => set_word(words, 0, 0),
@@ -72,7 +76,8 @@ fn clear_leaf(rule: Rule, words: &mut [u64])
 
 // Writes the first two words.
 fn put_two(words: &mut [u64], first: u64, second: u64)
-    ensures puts { (x y : ℕ) (rest : List ℕ) → words.old ≡ x ∷ (y ∷ rest) → words.new ≡ first ∷ (second ∷ rest) }
+    ensures puts { (x y : ℕ) (rest : List ℕ) → words.old ≡ x ∷ (y ∷ rest)
+        → words.new ≡ first ∷ (second ∷ rest) }
 {
     set_word(words, 0, first);
     set_word(words, 1, second);

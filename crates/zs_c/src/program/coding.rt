@@ -121,7 +121,13 @@ fn write_code(term: &Term, code: &mut Vec<u64>) -> Result<(), AllocError>
 #[cycle(coding)]
 fn write_parts(tag: u64, a: &Term, b: &Term, code: &mut Vec<u64>) -> Result<(), AllocError>
     requires small { weight (schedule_of a.now) + weight (schedule_of b.now) ≤ 1000 }
-    ensures ok { OnOk result (code.new.items ≡ code.old.items ++ (tag ∷ (length (code_of (schedule_of a.now)) ∷ (held_size (schedule_of a.now) ∷ (code_of (schedule_of a.now) ++ code_of (schedule_of b.now)))))) }
+    ensures ok { OnOk result
+        (code.new.items
+        ≡ code.old.items
+        ++ (tag
+        ∷ (length (code_of (schedule_of a.now))
+        ∷ (held_size (schedule_of a.now)
+        ∷ (code_of (schedule_of a.now) ++ code_of (schedule_of b.now)))))) }
 {
     code.extend_from_slice(&[tag, code_size(a), state_size(a)])?;
     write_code(a, code)?;

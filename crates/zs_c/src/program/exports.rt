@@ -44,7 +44,8 @@ pub extern "C" fn zs_program_size(
 pub extern "C" fn zs_compile(alloc: Global, text: &[u8], program: &mut [u64], at: &mut u64) -> u32
     ensures compiled { result ≡ 0 → IsCompiled text.now program.old program.new }
     ensures nowhere { result ≡ 0 → at.new ≡ 0 }
-    ensures refused { 0 < result → IsRefusedFor (IsCompileRefusal text.now (length program.old)) result at.new }
+    ensures refused { 0 < result
+        → IsRefusedFor (IsCompileRefusal text.now (length program.old)) result at.new }
     ensures kept { 0 < result → program.new ≡ program.old }
 {
     match fitting_program(alloc, text, program) {
@@ -64,7 +65,8 @@ pub extern "C" fn zs_compile(alloc: Global, text: &[u8], program: &mut [u64], at
 /// no memory.
 #[unsafe(no_mangle)]
 pub extern "C" fn zs_program_begin(program: &[u64], state: &mut [u64]) -> u32
-    ensures begun { result ≡ 0 → (t : Schedule) → IsProgram program.now t → IsProgramBegun t state.old state.new }
+    ensures begun { result ≡ 0 → (t : Schedule) → IsProgram program.now t
+        → IsProgramBegun t state.old state.new }
     ensures refused { 0 < result → IsDeniedFor (IsUnfit program.now state.old) result }
     ensures kept { 0 < result → state.new ≡ state.old }
 {
@@ -88,7 +90,8 @@ pub extern "C" fn zs_program_step(
     reply: &mut Reply,
     out: &mut [u8],
 ) -> u32
-    ensures stepped { result ≤ 1 → (t : Schedule) → IsProgram program.now t → IsProgramStepped t state.old state.new moment input result reply.new out.old out.new }
+    ensures stepped { result ≤ 1 → (t : Schedule) → IsProgram program.now t
+        → IsProgramStepped t state.old state.new moment input result reply.new out.old out.new }
     ensures refused { 1 < result → IsDeniedFor (IsDenied program.now state.old moment) result }
     ensures nothing { 1 < result → reply.new ≡ record { next = 0; size = 0; visits = 0; at = 0 } }
     ensures stays { 1 < result → state.new ≡ state.old }

@@ -6,5 +6,6 @@ ghost use Rattle.zs_c.specs.Program.{IsProgram};
 
 /// Words are the program of one schedule at most.
 pub fn one_schedule()
-    ensures law { (program : List ℕ) (t u : Schedule) → IsProgram program t → IsProgram program u → t ≡ u }
+    ensures law { (program : List ℕ) (t u : Schedule) → IsProgram program t → IsProgram program u
+        → t ≡ u }
 {}

@@ -21,8 +21,10 @@ pub(crate) struct Step {
 
 // One step of a leaf.
 pub(crate) fn step_leaf(rule: Rule, words: &mut [u64], step: &Step) -> Decision
-    ensures held { (h : History) → words.old ≡ leaf_held (rule_leaf rule) h → words.new ≡ leaf_held (rule_leaf rule) ((step.now.moment, step.now.input) ∷ h) }
-    ensures decides { (h : History) → words.old ≡ leaf_held (rule_leaf rule) h → result ≡ (leaf_answer (rule_leaf rule) ((step.now.moment, step.now.input) ∷ h)).decision }
+    ensures held { (h : History) → words.old ≡ leaf_held (rule_leaf rule) h
+        → words.new ≡ leaf_held (rule_leaf rule) ((step.now.moment, step.now.input) ∷ h) }
+    ensures decides { (h : History) → words.old ≡ leaf_held (rule_leaf rule) h
+        → result ≡ (leaf_answer (rule_leaf rule) ((step.now.moment, step.now.input) ∷ h)).decision }
 {
     let now = step.moment;
     match rule {
@@ -73,8 +75,10 @@ pub(crate) fn step_leaf(rule: Rule, words: &mut [u64], step: &Step) -> Decision
 
 // One step of `fixed`, whatever its input.
 fn step_fixed(period: u64, words: &mut [u64], now: u64) -> Decision
-    ensures held { (h : History) (input : ℕ) → words.old ≡ leaf_held (fixed period) h → words.new ≡ leaf_held (fixed period) ((now, input) ∷ h) }
-    ensures decides { (h : History) (input : ℕ) → words.old ≡ leaf_held (fixed period) h → result ≡ Next (next_run period ((now, input) ∷ h)) }
+    ensures held { (h : History) (input : ℕ) → words.old ≡ leaf_held (fixed period) h
+        → words.new ≡ leaf_held (fixed period) ((now, input) ∷ h) }
+    ensures decides { (h : History) (input : ℕ) → words.old ≡ leaf_held (fixed period) h
+        → result ≡ Next (next_run period ((now, input) ∷ h)) }
 {
     let (before, first) = count_from(words, now);
     let run = if before == 0 {
@@ -99,7 +103,8 @@ pub(crate) fn set_word(words: &mut [u64], at: usize, word: u64)
 // Counts a step in the second word: the output is how many there were before it.
 #[inline(always)]
 fn count(words: &mut [u64]) -> u64
-    ensures counted { (o n : ℕ) (rest : List ℕ) → words.old ≡ o ∷ (n ∷ rest) → words.new ≡ n ∷ (saturated (n + 1) ∷ rest) }
+    ensures counted { (o n : ℕ) (rest : List ℕ) → words.old ≡ o ∷ (n ∷ rest)
+        → words.new ≡ n ∷ (saturated (n + 1) ∷ rest) }
     ensures before { (o n : ℕ) (rest : List ℕ) → words.old ≡ o ∷ (n ∷ rest) → result ≡ n }
 {
     let before = word(words, 1);
@@ -110,9 +115,11 @@ fn count(words: &mut [u64]) -> u64
 
 // The same, with the moment of the first step in the third word, which is answered too.
 fn count_from(words: &mut [u64], now: u64) -> (u64, u64)
-    ensures counted { (o n m : ℕ) (rest : List ℕ) → words.old ≡ o ∷ (n ∷ (m ∷ rest)) → words.new ≡ n ∷ (saturated (n + 1) ∷ ((if nat_eq n 0 then now else m) ∷ rest)) }
+    ensures counted { (o n m : ℕ) (rest : List ℕ) → words.old ≡ o ∷ (n ∷ (m ∷ rest))
+        → words.new ≡ n ∷ (saturated (n + 1) ∷ ((if nat_eq n 0 then now else m) ∷ rest)) }
     ensures before { (o n m : ℕ) (rest : List ℕ) → words.old ≡ o ∷ (n ∷ (m ∷ rest)) → result.0 ≡ n }
-    ensures first { (o n m : ℕ) (rest : List ℕ) → words.old ≡ o ∷ (n ∷ (m ∷ rest)) → result.1 ≡ (if nat_eq n 0 then now else m) }
+    ensures first { (o n m : ℕ) (rest : List ℕ) → words.old ≡ o ∷ (n ∷ (m ∷ rest))
+        → result.1 ≡ (if nat_eq n 0 then now else m) }
 {
     let before = count(words);
     if before == 0 {
@@ -124,7 +131,8 @@ fn count_from(words: &mut [u64], now: u64) -> (u64, u64)
 // Puts an output and the delay of the next step, and waits for the output.
 #[inline(always)]
 fn wait(words: &mut [u64], delay: u64, next: u64, now: u64) -> Decision
-    ensures put { (o x : ℕ) (rest : List ℕ) → words.old ≡ o ∷ (x ∷ rest) → words.new ≡ delay ∷ (next ∷ rest) }
+    ensures put { (o x : ℕ) (rest : List ℕ) → words.old ≡ o ∷ (x ∷ rest)
+        → words.new ≡ delay ∷ (next ∷ rest) }
     ensures waits { result ≡ Next (saturated (now + delay)) }
 {
     set_word(words, 0, delay);

@@ -16,8 +16,10 @@ use itoa::Buffer;
 // where it ends.
 #[cycle(texts)]
 pub(crate) fn put_output(place: Place<'_>, room: &mut [u8], at: usize) -> usize
-    ensures text { (o : Output) → PlaceTells place.entry o → at + length (output_text o) < 2 ^ 64 → room.new ≡ written_at at (output_text o) room.old }
-    ensures end { (o : Output) → PlaceTells place.entry o → at + length (output_text o) < 2 ^ 64 → result ≡ at + length (output_text o) }
+    ensures text { (o : Output) → PlaceTells place.entry o → at + length (output_text o) < 2 ^ 64
+        → room.new ≡ written_at at (output_text o) room.old }
+    ensures end { (o : Output) → PlaceTells place.entry o → at + length (output_text o) < 2 ^ 64
+        → result ≡ at + length (output_text o) }
 {
     if place.levels == 0 {
         return at;
@@ -43,8 +45,12 @@ pub(crate) fn put_output(place: Place<'_>, room: &mut [u8], at: usize) -> usize
 #[inline(always)]
 #[cycle(texts)]
 fn put_pair(first: Place<'_>, second: Place<'_>, room: &mut [u8], at: usize) -> usize
-    ensures text { (x y : Output) → PlaceTells first.entry x → PlaceTells second.entry y → at + length (output_text (pair x y)) < 2 ^ 64 → room.new ≡ written_at at (output_text (pair x y)) room.old }
-    ensures end { (x y : Output) → PlaceTells first.entry x → PlaceTells second.entry y → at + length (output_text (pair x y)) < 2 ^ 64 → result ≡ at + length (output_text (pair x y)) }
+    ensures text { (x y : Output) → PlaceTells first.entry x → PlaceTells second.entry y
+        → at + length (output_text (pair x y)) < 2 ^ 64
+        → room.new ≡ written_at at (output_text (pair x y)) room.old }
+    ensures end { (x y : Output) → PlaceTells first.entry x → PlaceTells second.entry y
+        → at + length (output_text (pair x y)) < 2 ^ 64
+        → result ≡ at + length (output_text (pair x y)) }
 {
     let start = put_byte(b'(', room, at);
     let comma = put_output(first, room, start);
@@ -56,8 +62,14 @@ fn put_pair(first: Place<'_>, second: Place<'_>, room: &mut [u8], at: usize) -> 
 // Writes the text of a side.
 #[cycle(texts)]
 fn put_side(side: &[u8], part: Place<'_>, room: &mut [u8], at: usize) -> usize
-    ensures text { (o : Output) → PlaceTells part.entry o → at + length (side.now ++ (output_text o ++ codes ")")) < 2 ^ 64 → room.new ≡ written_at at (side.now ++ (output_text o ++ codes ")")) room.old }
-    ensures end { (o : Output) → PlaceTells part.entry o → at + length (side.now ++ (output_text o ++ codes ")")) < 2 ^ 64 → result ≡ at + length (side.now ++ (output_text o ++ codes ")")) }
+    ensures text { (o : Output) → PlaceTells part.entry o
+        → at + length (side.now ++ (output_text o ++ codes ")")) < 2 ^ 64
+        → room.new ≡ written_at at (side.now ++ (output_text o ++ codes ")")) room.old }
+    ensures end { (o : Output) → PlaceTells part.entry o
+        → at
+        + length
+        (side.now ++ (output_text o ++ codes ")")) < 2 ^ 64 → result ≡ at + length (side.now
+        ++ (output_text o ++ codes ")")) }
 {
     put_behind(room, at, side);
     let end = put_output(part, room, at.saturating_add(side.len()));

@@ -82,7 +82,9 @@ pub(crate) fn run_step(
 ) -> u32
     requires fits { opened.state + 2 ≤ length state.old }
     ensures told { result ≤ 1 }
-    ensures stepped { (t : Schedule) → Opens opened.entry t → IsProgramStepped t state.old state.new step.now.moment step.now.input result reply.new out.old out.new }
+    ensures stepped { (t : Schedule) → Opens opened.entry t
+        → IsProgramStepped t state.old state.new step.now.moment step.now.input result reply.new
+        out.old out.new }
 {
     let mut visits = 0;
     let words = &mut state[2..opened.state + 2];
@@ -106,8 +108,12 @@ pub(crate) fn run_step(
 // bytes it has.
 #[inline(always)]
 fn put_text(code: &[u64], words: &[u64], out: &mut [u8]) -> u64
-    ensures text { (t : Schedule) (h : History) → IsCode t code.now 64 → weight t ≤ 1000 → words.now ≡ held_of t h → out.new ≡ written (output_text (answer_of t h).output) out.old }
-    ensures size { (t : Schedule) (h : History) → IsCode t code.now 64 → weight t ≤ 1000 → words.now ≡ held_of t h → result ≡ length (output_text (answer_of t h).output) }
+    ensures text { (t : Schedule) (h : History) → IsCode t code.now 64 → weight t ≤ 1000
+        → words.now ≡ held_of t h
+        → out.new ≡ written (output_text (answer_of t h).output) out.old }
+    ensures size { (t : Schedule) (h : History) → IsCode t code.now 64 → weight t ≤ 1000
+        → words.now ≡ held_of t h
+        → result ≡ length (output_text (answer_of t h).output) }
 {
     let place = Place {
         code,

@@ -29,7 +29,10 @@ pub(crate) fn step_code(
     step: &Step,
     visits: &mut u64,
 ) -> Decision
-    ensures steps { (t : Schedule) (h : History) → IsCode t code.now levels → visits.old + weight t ≤ MAX_VISITS → words.old ≡ held_of t h → StepsCode t h words.new step.now.moment step.now.input result visits.old visits.new }
+    ensures steps { (t : Schedule) (h : History) → IsCode t code.now levels
+        → visits.old + weight t ≤ MAX_VISITS
+        → words.old ≡ held_of t h
+        → StepsCode t h words.new step.now.moment step.now.input result visits.old visits.new }
 {
     if levels == 0 || *visits >= MAX_VISITS {
         return Decision::Stop;
@@ -70,7 +73,8 @@ pub(crate) fn step_code(
 
 // Whether the output of a part's last step passes a test.
 fn has_passed(code: &[u64], words: &[u64], levels: u64, pick: Pick, test: Test) -> bool
-    ensures value { (o : Output) → Tells code.now words.now levels o → result ≡ passes test (picked pick o) }
+    ensures value { (o : Output) → Tells code.now words.now levels o
+        → result ≡ passes test (picked pick o) }
 {
     let place = Place {
         code,
@@ -91,7 +95,11 @@ fn step_parts(
     step: &Step,
     visits: &mut u64,
 ) -> (Decision, Decision)
-    ensures steps { (a b : Schedule) (h : History) → IsParts a b sizes code.now levels → visits.old + weight a + weight b ≤ MAX_VISITS → words.old ≡ held_of a h ++ held_of b h → StepsBoth a b h words.new step.now.moment step.now.input result.0 result.1 visits.old visits.new }
+    ensures steps { (a b : Schedule) (h : History) → IsParts a b sizes code.now levels
+        → visits.old + weight a + weight b ≤ MAX_VISITS
+        → words.old ≡ held_of a h ++ held_of b h
+        → StepsBoth a b h words.new step.now.moment step.now.input result.0 result.1 visits.old
+        visits.new }
 {
     let (rest, size, state) = (behind(code, 3), sizes.code as usize, sizes.state as usize);
     if words.len() < state {
@@ -118,7 +126,10 @@ fn step_and_then(
     step: &Step,
     visits: &mut u64,
 ) -> Decision
-    ensures steps { (a b : Schedule) (h : History) → IsParts a b sizes code.now levels → visits.old + weight a + weight b ≤ MAX_VISITS → words.old ≡ held_of (two and_then a b) h → StepsThen a b h words.new step.now.moment step.now.input result visits.old visits.new }
+    ensures steps { (a b : Schedule) (h : History) → IsParts a b sizes code.now levels
+        → visits.old + weight a + weight b ≤ MAX_VISITS
+        → words.old ≡ held_of (two and_then a b) h
+        → StepsThen a b h words.new step.now.moment step.now.input result visits.old visits.new }
 {
     let (rest, size, state) = (behind(code, 3), sizes.code as usize, sizes.state as usize);
     if words.len() <= state {

@@ -23,7 +23,9 @@ mod tally;
 
 // Makes a retry that fails after 5 ms, and succeeds 5 ms later.
 fn new_task(alloc: Global, number: u64) -> Result<Task, Fail>
-    ensures new { IfOk result (λ task. (task.number ≡ number) × (task.moments ≡ []) × (task.seen ≡ 0) × (task.broken ≡ false) × (task.job.start ≡ 0)) }
+    ensures new { IfOk result (λ task.
+        (task.number ≡ number) × (task.moments ≡ []) × (task.seen ≡ 0) × (task.broken ≡ false)
+        × (task.job.start ≡ 0)) }
 {
     let job = job_of(alloc, retried("a", 0))?;
     Ok(Task::new(alloc, number, job)?)
@@ -33,7 +35,8 @@ fn new_task(alloc: Global, number: u64) -> Result<Task, Fail>
 fn new_tasks(alloc: Global, count: u64, now: u64) -> Result<Vec<Task>, Fail>
     requires now { now ≤ max_tick }
     ensures count { IfOk result (λ tasks. length tasks.items ≡ count) }
-    ensures rising { IfOk result (λ tasks. IsStrictlyIncreasing (map (λ task. task.number) tasks.items)) }
+    ensures rising { IfOk result (λ tasks.
+        IsStrictlyIncreasing (map (λ task. task.number) tasks.items)) }
     ensures pollable { IfOk result (λ tasks. All (IsPollable now) tasks.items) }
 {
     let mut tasks = Vec::new(alloc);

@@ -39,7 +39,13 @@ impl Model for CounterSeat {
 
     ghost Value = { Counting };
 
-    ghost view = { λ s. record { counter = s.seat.table_id; share = s.seat.me.0.share; count = s.seat.me.0.count; seen = s.seat.me.0.seen } };
+    ghost view = { λ s.
+        record {
+          counter = s.seat.table_id;
+          share = s.seat.me.0.share;
+          count = s.seat.me.0.count;
+          seen = s.seat.me.0.seen;
+        } };
 
     ghost invariant = { λ s. s.seat.me.1 ≡ [] };
 }
@@ -47,7 +53,8 @@ impl Model for CounterSeat {
 impl Counter {
     /// Makes a count of 0, and its first seat.
     pub fn new(alloc: Global) -> Result<(Counter, CounterSeat), AllocError>
-        ensures ok { IfOk result (λ t. t.1 ≡ record { counter = t.0; share = max_moment; count = 0; seen = 0 }) }
+        ensures ok { IfOk result (λ t.
+            t.1 ≡ record { counter = t.0; share = max_moment; count = 0; seen = 0 }) }
     {
         let (table, seat) = Table::of_words(alloc, &[0], &())?;
         Ok((Counter { table }, CounterSeat { seat }))
@@ -57,7 +64,13 @@ impl Counter {
     pub fn add(&self, seat: &mut CounterSeat)
         requires counter { seat.old.counter ≡ self.now }
         requires share { 0 < seat.old.share }
-        ensures added { seat.new ≡ record { counter = self.now; share = seat.old.share; count = seat.old.count + 1; seen = seat.old.seen } }
+        ensures added { seat.new
+            ≡ record {
+              counter = self.now;
+              share = seat.old.share;
+              count = seat.old.count + 1;
+              seen = seat.old.seen;
+            } }
     {
         self.table.shared.fetch_add::<Adds>(&mut seat.seat, 0, 1);
     }
@@ -66,7 +79,13 @@ impl Counter {
     /// that it saw.
     pub fn look(&self, seat: &mut CounterSeat) -> u64
         requires counter { seat.old.counter ≡ self.now }
-        ensures seen { seat.new ≡ record { counter = self.now; share = seat.old.share; count = seat.old.count; seen = max seat.old.seen result } }
+        ensures seen { seat.new
+            ≡ record {
+              counter = self.now;
+              share = seat.old.share;
+              count = seat.old.count;
+              seen = max seat.old.seen result;
+            } }
         ensures settled { seat.old.share ≡ max_moment → seat.old.seen ≤ seat.old.count }
     {
         self.table.shared.load::<Looks>(&mut seat.seat, 0)
@@ -76,8 +95,15 @@ impl Counter {
     pub fn split(&self, seat: &mut CounterSeat) -> CounterSeat
         requires counter { seat.old.counter ≡ self.now }
         requires share { 2 ≤ seat.old.share }
-        ensures first { seat.new ≡ record { counter = self.now; share = seat.old.share - 1; count = seat.old.count; seen = seat.old.seen } }
-        ensures second { result ≡ record { counter = self.now; share = 1; count = 0; seen = seat.old.seen } }
+        ensures first { seat.new
+            ≡ record {
+              counter = self.now;
+              share = seat.old.share - 1;
+              count = seat.old.count;
+              seen = seat.old.seen;
+            } }
+        ensures second { result
+            ≡ record { counter = self.now; share = 1; count = 0; seen = seat.old.seen } }
     {
         CounterSeat {
             seat: self.table.shared.split_seat::<Sharing>(&mut seat.seat),
@@ -88,7 +114,13 @@ impl Counter {
     pub fn join(&self, seat: &mut CounterSeat, other: CounterSeat)
         requires counter { (seat.old.counter ≡ self.now) × (other.counter ≡ self.now) }
         requires share { 0 < seat.old.share }
-        ensures joined { seat.new ≡ record { counter = self.now; share = seat.old.share + other.share; count = seat.old.count + other.count; seen = max seat.old.seen other.seen } }
+        ensures joined { seat.new
+            ≡ record {
+              counter = self.now;
+              share = seat.old.share + other.share;
+              count = seat.old.count + other.count;
+              seen = max seat.old.seen other.seen;
+            } }
     {
         let CounterSeat { seat: theirs } = other;
         self.table

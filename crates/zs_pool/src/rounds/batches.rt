@@ -68,7 +68,8 @@ pub fn in_order(
     requires count { count ≡ length batches.now.value.items }
     requires each { All (IsPollAmong now batches.now.value.items) messages.items }
     requires whole { IsPermutation (range_with_len 0 count) (numbers_of messages.items) }
-    ensures tasks { IfOk result (λ v. v.items ≡ map (polled_at now) (tasks_of batches.now.value.items)) }
+    ensures tasks { IfOk result (λ v.
+        v.items ≡ map (polled_at now) (tasks_of batches.now.value.items)) }
     ensures memory { IfErr result (λ e. e ≡ Memory) }
 {
     let slots = place_batches(alloc, now, batches, count, messages)?;

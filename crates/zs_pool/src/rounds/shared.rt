@@ -37,12 +37,29 @@ impl<'s, G> Shared<'s, G> {
         requires of { IsOf self rights }
         requires shares { (2 ≤ rights.board_pass.share) × (2 ≤ rights.shelf_pass.share) }
         requires tasks { self.tasks ≤ rights.seat.allowance }
-        ensures board_pass { result.0.board_pass ≡ claimer self.entry.board.now (rights.board_pass.share - 1) rights.board_pass.batches rights.board_pass.taken rights.board_pass.none }
-        ensures shelf_pass { result.0.shelf_pass ≡ shelver self.entry.shelf.now (rights.shelf_pass.share - 1) rights.shelf_pass.put rights.shelf_pass.taken }
-        ensures seat { result.0.seat ≡ record { tally = self.entry.tally.now; count = rights.seat.count; allowance = rights.seat.allowance - self.entry.tasks; seen = rights.seat.seen } }
-        ensures own_board_pass { result.1.board_pass ≡ claimer self.entry.board.now 1 rights.board_pass.batches [] rights.board_pass.none }
+        ensures board_pass { result.0.board_pass
+            ≡ claimer self.entry.board.now (rights.board_pass.share - 1) rights.board_pass.batches
+            rights.board_pass.taken rights.board_pass.none }
+        ensures shelf_pass { result.0.shelf_pass
+            ≡ shelver self.entry.shelf.now (rights.shelf_pass.share - 1) rights.shelf_pass.put
+            rights.shelf_pass.taken }
+        ensures seat { result.0.seat
+            ≡ record {
+              tally = self.entry.tally.now;
+              count = rights.seat.count;
+              allowance = rights.seat.allowance - self.entry.tasks;
+              seen = rights.seat.seen;
+            } }
+        ensures own_board_pass { result.1.board_pass
+            ≡ claimer self.entry.board.now 1 rights.board_pass.batches [] rights.board_pass.none }
         ensures own_shelf_pass { result.1.shelf_pass ≡ shelver self.entry.shelf.now 1 [] [] }
-        ensures own_seat { result.1.seat ≡ record { tally = self.entry.tally.now; count = 0; allowance = self.entry.tasks; seen = rights.seat.seen } }
+        ensures own_seat { result.1.seat
+            ≡ record {
+              tally = self.entry.tally.now;
+              count = 0;
+              allowance = self.entry.tasks;
+              seen = rights.seat.seen;
+            } }
     {
         let Ok((board_pass, own_board_pass)) = self.board.split(rt, alloc, rights.board_pass) else {
             unreachable!()
@@ -68,9 +85,21 @@ impl<'s, G> Shared<'s, G> {
     pub fn join<R>(self, rt: &R, rights: Rights, other: Rights) -> Rights
         requires of { IsOf self rights }
         requires other { IsOf self other }
-        ensures board_pass { result.board_pass ≡ claimer self.entry.board.now (rights.board_pass.share + other.board_pass.share) rights.board_pass.batches (rights.board_pass.taken ++ other.board_pass.taken) (rights.board_pass.none || other.board_pass.none) }
-        ensures shelf_pass { result.shelf_pass ≡ shelver self.entry.shelf.now (rights.shelf_pass.share + other.shelf_pass.share) (rights.shelf_pass.put ++ other.shelf_pass.put) (rights.shelf_pass.taken ++ other.shelf_pass.taken) }
-        ensures seat { result.seat ≡ record { tally = self.entry.tally.now; count = rights.seat.count + other.seat.count; allowance = rights.seat.allowance + other.seat.allowance; seen = max rights.seat.seen other.seat.seen } }
+        ensures board_pass { result.board_pass
+            ≡ claimer self.entry.board.now (rights.board_pass.share + other.board_pass.share)
+            rights.board_pass.batches (rights.board_pass.taken ++ other.board_pass.taken)
+            (rights.board_pass.none || other.board_pass.none) }
+        ensures shelf_pass { result.shelf_pass
+            ≡ shelver self.entry.shelf.now (rights.shelf_pass.share + other.shelf_pass.share)
+            (rights.shelf_pass.put ++ other.shelf_pass.put)
+            (rights.shelf_pass.taken ++ other.shelf_pass.taken) }
+        ensures seat { result.seat
+            ≡ record {
+              tally = self.entry.tally.now;
+              count = rights.seat.count + other.seat.count;
+              allowance = rights.seat.allowance + other.seat.allowance;
+              seen = max rights.seat.seen other.seat.seen;
+            } }
     {
         Rights {
             board_pass: self.board.join(rt, rights.board_pass, other.board_pass),

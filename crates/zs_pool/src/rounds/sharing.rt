@@ -41,8 +41,10 @@ impl<'s, G: Gate> Shared<'s, G> {
     fn collect<R: Wait>(self, rt: &R, pass: &mut ShelfPass, messages: &mut Vec<Polled>)
         requires shelf { pass.old.shelf ≡ self.shelf.now }
         requires messages { pass.old.taken ≡ messages.old.items }
-        requires room { (length messages.old.items ≤ self.batches) × (self.batches ≤ vec_capacity messages.old) }
-        ensures pass { (pass.new.shelf ≡ self.entry.shelf.now) × (pass.new.share ≡ pass.old.share) × (pass.new.put ≡ pass.old.put) }
+        requires room { (length messages.old.items ≤ self.batches)
+            × (self.batches ≤ vec_capacity messages.old) }
+        ensures pass { (pass.new.shelf ≡ self.entry.shelf.now) × (pass.new.share ≡ pass.old.share)
+            × (pass.new.put ≡ pass.old.put) }
         ensures messages { pass.new.taken ≡ messages.new.items }
     {
         let mut empty = 0;
@@ -71,7 +73,8 @@ impl<'s, G: Gate> Shared<'s, G> {
         rights: Rights,
     ) -> Result<Collected, PoolFault>
         requires first { IsFirst self helpers rights }
-        ensures whole { IfOk result (λ c. IsWhole self.entry.moment rights c.served.rights c.served.overflow c.messages.items) }
+        ensures whole { IfOk result (λ c.
+            IsWhole self.entry.moment rights c.served.rights c.served.overflow c.messages.items) }
         ensures fault { IfErr result (λ e. e ≢ Full) }
     {
         let mut messages = Vec::with_capacity(alloc, self.batches)?;
@@ -92,7 +95,8 @@ fn run_scoped<G: Gate, R: Threads + Wait + Sync>(
     rights: Rights,
 ) -> Result<Collected, PoolFault>
     requires first { IsFirst shared helpers rights }
-    ensures whole { IfOk result (λ c. IsWhole shared.entry.moment rights c.served.rights c.served.overflow c.messages.items) }
+    ensures whole { IfOk result (λ c.
+        IsWhole shared.entry.moment rights c.served.rights c.served.overflow c.messages.items) }
     ensures fault { IfErr result (λ e. e ≢ Full) }
 {
     let moment = shared.moment;
@@ -100,8 +104,18 @@ fn run_scoped<G: Gate, R: Threads + Wait + Sync>(
         thread::scope_env(),
         rt,
         move |scope| -> Result<Collected, PoolFault>
-            requires first { IsFirst (record { gate = shared.gate; board = shared.board; shelf = shared.shelf; tally = shared.tally; moment = moment; tasks = shared.tasks; batches = shared.batches }) helpers rights }
-            ensures whole { IfOk result (λ c. IsWhole moment rights c.served.rights c.served.overflow c.messages.items) }
+            requires first { IsFirst
+                (record {
+                  gate = shared.gate;
+                  board = shared.board;
+                  shelf = shared.shelf;
+                  tally = shared.tally;
+                  moment = moment;
+                  tasks = shared.tasks;
+                  batches = shared.batches;
+                }) helpers rights }
+            ensures whole { IfOk result (λ c.
+                IsWhole moment rights c.served.rights c.served.overflow c.messages.items) }
             ensures fault { IfErr result (λ e. e ≢ Full) }
         { Shared { moment, ..shared }.run(rt, scope, alloc, helpers, rights) },
     )
@@ -135,8 +149,10 @@ pub fn poll_shared<'s, G: Gate, R: Threads + Wait + Sync>(
     requires numbered { AreNumbered work.batches.items }
     requires pollable { AllPollable now work.batches.items }
     ensures each { IfOk result (λ v. All (IsPollAmong now work.batches.items) v.items) }
-    ensures whole { IfOk result (λ v. IsPermutation (range_with_len 0 (length work.batches.items)) (numbers_of v.items)) }
-    ensures counted { IfOk result (λ _. HasCounted seat.old (length (tasks_of work.batches.items)) seat.new) }
+    ensures whole { IfOk result (λ v.
+        IsPermutation (range_with_len 0 (length work.batches.items)) (numbers_of v.items)) }
+    ensures counted { IfOk result (λ _.
+        HasCounted seat.old (length (tasks_of work.batches.items)) seat.new) }
     ensures fault { IfErr result (λ e. e ≢ Full) }
 {
     let size = work.batches.len();

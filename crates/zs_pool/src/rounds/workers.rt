@@ -39,7 +39,8 @@ pub struct WorkerPromise {
 impl Promise<Served> for WorkerPromise {
     ghost use Rattle.zs_pool.specs.Shares.{IsSame, HasServed};
 
-    ghost kept_by = { λ p s. IsSame p.rights.value s.rights × HasServed p.moment p.rights.value s.rights s.overflow };
+    ghost kept_by = { λ p s.
+        IsSame p.rights.value s.rights × HasServed p.moment p.rights.value s.rights s.overflow };
 }
 
 // A started worker.
@@ -116,7 +117,8 @@ impl<'s, G: Gate> Shared<'s, G> {
         rights: Rights,
     ) -> Result<Worker, PoolFault>
         requires ready { IsReady self rights }
-        ensures started { IfOk result (λ w. (w.promise.moment ≡ self.entry.moment) × (w.promise.rights.value ≡ rights)) }
+        ensures started { IfOk result (λ w.
+            (w.promise.moment ≡ self.entry.moment) × (w.promise.rights.value ≡ rights)) }
         ensures fault { IfErr result (λ e. e ≡ NoThread) }
     {
         let promise = WorkerPromise {
@@ -126,8 +128,18 @@ impl<'s, G: Gate> Shared<'s, G> {
         let shared = self;
         let moment = self.moment;
         let run = move || -> Served
-            requires ready { IsReady (record { gate = shared.gate; board = shared.board; shelf = shared.shelf; tally = shared.tally; moment = moment; tasks = shared.tasks; batches = shared.batches }) rights }
-            ensures served { IsSame rights result.rights × HasServed moment rights result.rights result.overflow }
+            requires ready { IsReady
+                (record {
+                  gate = shared.gate;
+                  board = shared.board;
+                  shelf = shared.shelf;
+                  tally = shared.tally;
+                  moment = moment;
+                  tasks = shared.tasks;
+                  batches = shared.batches;
+                }) rights }
+            ensures served { IsSame rights result.rights
+                × HasServed moment rights result.rights result.overflow }
         { Shared { moment, ..shared }.serve(rt, alloc, rights) };
         Ok(scope.spawn_with(promise, run)?)
     }
@@ -142,11 +154,19 @@ impl<'s, G: Gate> Shared<'s, G> {
         mut rights: Rights,
     ) -> Result<(Rights, Vec<Worker>), PoolFault>
         requires first { IsFirst self count rights }
-        ensures board_pass { IfOk result (λ s. s.0.board_pass ≡ claimer self.entry.board.now (max_moment - count) rights.board_pass.batches [] false) }
-        ensures shelf_pass { IfOk result (λ s. s.0.shelf_pass ≡ shelver self.entry.shelf.now (max_moment - count) [] []) }
-        ensures seat { IfOk result (λ s. (s.0.seat.tally ≡ self.entry.tally.now) × (s.0.seat.count ≡ rights.seat.count) × (s.0.seat.allowance + rooms count self.entry.tasks ≡ rights.seat.allowance)) }
-        ensures count { IfOk result (λ s. (length s.1.items ≡ count) × (allowed s.1.items ≡ rooms count self.entry.tasks)) }
-        ensures each { IfOk result (λ s. All (Promised self.entry rights.board_pass.batches) s.1.items) }
+        ensures board_pass { IfOk result (λ s.
+            s.0.board_pass
+            ≡ claimer self.entry.board.now (max_moment - count) rights.board_pass.batches []
+            false) }
+        ensures shelf_pass { IfOk result (λ s.
+            s.0.shelf_pass ≡ shelver self.entry.shelf.now (max_moment - count) [] []) }
+        ensures seat { IfOk result (λ s.
+            (s.0.seat.tally ≡ self.entry.tally.now) × (s.0.seat.count ≡ rights.seat.count)
+            × (s.0.seat.allowance + rooms count self.entry.tasks ≡ rights.seat.allowance)) }
+        ensures count { IfOk result (λ s.
+            (length s.1.items ≡ count) × (allowed s.1.items ≡ rooms count self.entry.tasks)) }
+        ensures each { IfOk result (λ s.
+            All (Promised self.entry rights.board_pass.batches) s.1.items) }
         ensures fault { IfErr result (λ e. e ≢ Full) }
     {
         let mut workers = Vec::with_capacity(alloc, count)?;
@@ -174,10 +194,18 @@ impl<'s, G: Gate> Shared<'s, G> {
         requires each { All (Promised self served.rights.board_pass.batches) workers.items }
         ensures of { IsOf self.entry result.rights }
         ensures batches { result.rights.board_pass.batches ≡ served.rights.board_pass.batches }
-        ensures shares { (result.rights.board_pass.share ≡ served.rights.board_pass.share + length workers.items) × (result.rights.shelf_pass.share ≡ served.rights.shelf_pass.share + length workers.items) }
+        ensures shares { (result.rights.board_pass.share
+            ≡ served.rights.board_pass.share + length workers.items)
+            × (result.rights.shelf_pass.share
+            ≡ served.rights.shelf_pass.share + length workers.items) }
         ensures taken { result.rights.shelf_pass.taken ≡ served.rights.shelf_pass.taken }
-        ensures part { (first room : ℕ) → IfOk served.overflow (λ ps. IsPart self.entry.moment served.rights.board_pass.batches first room (allowed workers.items) served.rights ps.items)
-            → IfOk result.overflow (λ ps. IsPart self.entry.moment served.rights.board_pass.batches first room 0 result.rights ps.items) }
+        ensures part { (first room : ℕ)
+            → IfOk served.overflow (λ ps.
+            IsPart self.entry.moment served.rights.board_pass.batches first room
+            (allowed workers.items) served.rights ps.items)
+            → IfOk result.overflow (λ ps.
+            IsPart self.entry.moment served.rights.board_pass.batches first room 0
+            result.rights ps.items) }
     {
         for worker in workers {
             let more = worker.join(rt);

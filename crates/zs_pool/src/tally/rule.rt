@@ -78,7 +78,8 @@ impl Join<Tallied> for Sharing {
     ghost use Rattle.std.specs.Prelude.{◌+◌, max};
     ghost use Rattle.zs_pool.specs.Tally.{tallied};
 
-    ghost both = { λ v w. tallied (v.count + w.count) (v.allowance + w.allowance) (max v.seen w.seen) 0 };
+    ghost both = { λ v w.
+        tallied (v.count + w.count) (v.allowance + w.allowance) (max v.seen w.seen) 0 };
 
     ghost spent = { tallied 0 0 0 0 };
 }
