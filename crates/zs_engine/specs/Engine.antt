@@ -9,8 +9,8 @@ use Rattle.zs_engine.specs.declared.engine.Engine.{Engine}
 use Rattle.zs_engine.specs.Times.{ticks_of}
 use Rattle.zs_engine.specs.Rounds.{Rests, Begins, jobs_in}
 
--- The ticks of the engine's clock rise up to its horizon, a round may poll all of its jobs, and only
--- its seat counts.
+-- The ticks of the engine's clock rise up to its horizon, one round may poll all of its jobs, and
+-- only its seat counts.
 pub record Runs (engine : Engine) : Type 0 where
   pub few : length (jobs_in engine.slots.items) ≤ max_tasks
   pub rising : AreTicks (ticks_of engine.clock)
