@@ -8,7 +8,7 @@ use Rattle.zs_c.specs.declared.program.node.Rule.{Rule}
 use Rattle.zs_c.specs.Code.{leaf_held}
 use Rattle.zs_c.specs.Node.{rule_leaf}
 
--- what putting the first two words does
+-- the effect of writing the first two words
 abbrev pub Puts : List ℕ → List ℕ → ℕ → ℕ → Type 0
 Puts old new a b = (x y : ℕ) (rest : List ℕ) → old ≡ x ∷ (y ∷ rest) → new ≡ a ∷ (b ∷ rest)
 
@@ -58,7 +58,7 @@ exponential-new b f small = sym (ap (λ k. k ∷ (k ∷ [])) (no-power b f small
 pub fibonacci-new : (n : ℕ) → n < 2 ^ 64 → 0 ∷ (0 ∷ (n ∷ [])) ≡ leaf_held (fibonacci n) []
 fibonacci-new n small = sym (ap (λ k. k ∷ (k ∷ (saturated (n * 1) ∷ []))) (no-times n) ∙ ap (λ k. 0 ∷ (0 ∷ (k ∷ []))) (one-time n small))
 
--- a leaf that is read of a rule
+-- a leaf that a rule represents
 pub rule-clears : (r s : Rule) (old new : List ℕ) → r ≡ s → (length old ≡ length (leaf_held (rule_leaf s) []) → new ≡ leaf_held (rule_leaf s) []) →
     length old ≡ length (leaf_held (rule_leaf r) []) → new ≡ leaf_held (rule_leaf r) []
 rule-clears r s old new is clears sized =

@@ -37,11 +37,11 @@ part-code m s code levels k whole sized = record {
   deep = omega (arith, whole.deep);
 }
 
--- two lists behind one another
+-- two lists, one after the other
 both-lengths : (xs ys us vs : List ℕ) → length xs ≡ length us → length ys ≡ length vs → length (xs ++ ys) ≡ length (us ++ vs)
 both-lengths xs ys us vs first second = omega (arith, length-append xs ys, length-append us vs, first, second)
 
--- whichever part is on
+-- whichever part is active
 sequel-lengths : (o p : Option History) (x y : History → List ℕ) (h g : History) → ((k l : History) → length (x k) ≡ length (x l)) →
     ((k l : History) → length (y k) ≡ length (y l)) → length (sequel_words o x y h) ≡ length (sequel_words p x y g)
 sequel-lengths None None x y h g first second = ap (λ n. suc n) (both-lengths (x h) (y []) (x g) (y []) (first h g) refl)
@@ -49,7 +49,7 @@ sequel-lengths None (Some l) x y h g first second = ap (λ n. suc n) (both-lengt
 sequel-lengths (Some k) None x y h g first second = ap (λ n. suc n) (both-lengths (x []) (y k) (x g) (y []) (first [] g) (second k []))
 sequel-lengths (Some k) (Some l) x y h g first second = ap (λ n. suc n) (both-lengths (x []) (y k) (x []) (y l) refl (second k l))
 
--- a state has as many words behind any steps
+-- a state has the same number of words after any steps
 pub held-length : (t : Schedule) (h g : History) → length (held_of t h) ≡ length (held_of t g)
 held-length (leaf (plain Forever)) h g = refl
 held-length (leaf (counted Recurs k)) h g = refl

@@ -1,4 +1,4 @@
--- What a step of a leaf makes of the words that it is held in.
+-- The effect of a leaf's step on the words of its state.
 use Rattle.std.proofs.Common.{◌≡◌, ℕ, suc, ◌+◌, ◌-◌, ◌*◌, ◌^◌, min, Bool, false, List, [], ◌∷◌, length, refl, sym, ap, ◌∙◌, subst, arith}
 use Rattle.std.specs.Prelude.{nat_eq, if◌then◌else◌, slice_set}
 use Rattle.std.proofs.lemmas.Bool.{ne_eqb}
@@ -15,14 +15,14 @@ use Rattle.zs_c.specs.Node.{rule_leaf, word_at}
 count-turn : (n : ℕ) → saturated (saturated n + 1) ≡ saturated (suc n)
 count-turn n = omega arith
 
--- the first moment is kept from the first step on
+-- the first moment is stored from the first step on
 pub first-turn : (h : History) (p : ℕ × ℕ) → (if nat_eq (saturated (length h)) 0 then p.0 else first_moment h) ≡ first_moment (p ∷ h)
 first-turn [] p = refl
 first-turn (q ∷ h) p =
     let none : nat_eq (saturated (length (q ∷ h))) 0 ≡ false = ne_eqb (saturated (length (q ∷ h))) 0 (λ e. absurd (omega (arith, e))) in
     ap (λ (b : Bool). if b then p.0 else first_moment (q ∷ h)) none
 
--- what counting a step makes of the words
+-- the effect of counting a step on the words
 abbrev pub Counts : List ℕ → List ℕ → Type 0
 Counts old new = (o n : ℕ) (rest : List ℕ) → old ≡ o ∷ (n ∷ rest) → new ≡ n ∷ (saturated (n + 1) ∷ rest)
 
@@ -32,7 +32,7 @@ pub count-held : (h : History) (o : ℕ) (old new : List ℕ) → old ≡ o ∷ 
 count-held h o old new held counts =
     counts o (saturated (length h)) [] held ∙ ap (λ k. saturated (length h) ∷ (k ∷ [])) (count-turn (length h))
 
--- what counting a step and keeping the first moment makes of the words
+-- the effect of counting a step and storing the first moment on the words
 abbrev pub CountsFrom : ℕ → List ℕ → List ℕ → Type 0
 CountsFrom now old new = (o n m : ℕ) (rest : List ℕ) → old ≡ o ∷ (n ∷ (m ∷ rest)) → new ≡ n ∷ (saturated (n + 1) ∷ ((if nat_eq n 0 then now else m) ∷ rest))
 
@@ -44,7 +44,7 @@ from-held h o now input rest old new held counts =
     ∙ ap (λ k. saturated (length h) ∷ (k ∷ ((if nat_eq (saturated (length h)) 0 then now else first_moment h) ∷ rest))) (count-turn (length h))
     ∙ ap (λ m. saturated (length h) ∷ (saturated (suc (length h)) ∷ (m ∷ rest))) (first-turn h (now, input))
 
--- the first moment of a leaf that is begun by this step, and of one that was begun
+-- the first moment of a leaf that begins at this step, and of one that began before
 pub first-new : (now n m r : ℕ) → r ≡ now → n ≡ 0 → r ≡ (if nat_eq n 0 then now else m)
 first-new now n m r is none = is ∙ sym (ap (λ k. if nat_eq k 0 then now else m) none)
 
@@ -69,7 +69,7 @@ elapsed-held h o now input first r old mid new held counts is since begun =
     is ∙ ap (λ w. slice_set w 0 r) (from-held h o now input [] old mid held counts)
     ∙ ap (λ k. k ∷ (saturated (suc (length h)) ∷ (first_moment ((now, input) ∷ h) ∷ []))) (since ∙ ap (λ f. now - f) begun)
 
--- the words of a leaf that is read of a rule
+-- the words of a leaf that a rule represents
 pub rule-held : (r s : Rule) (old new : List ℕ) (h g : History) → r ≡ s → (old ≡ leaf_held (rule_leaf s) h → new ≡ leaf_held (rule_leaf s) g) →
     old ≡ leaf_held (rule_leaf r) h → new ≡ leaf_held (rule_leaf r) g
 rule-held r s old new h g is step held =

@@ -1,4 +1,4 @@
--- A schedule that keeps no list answers none: no output has a list in it.
+-- A schedule that stores no list returns none: no output has a list in it.
 use Rattle.std.proofs.Common.{◌≡◌, Option, Some, None, refl}
 use Rattle.zs_term.specs.Output.{Output, number, pair, left, right, listed, size_in, applied}
 use Rattle.zs_term.specs.Schedule.{Schedule, leaf, two, over, plain, counted, exponential, both, either, and_then, while_input, while_output, collect_all, mapped, reset_when}
@@ -26,7 +26,7 @@ no-items (left a) free = refl
 no-items (right a) free = refl
 no-items (listed xs) free = absurd free
 
--- a function makes none
+-- a function makes no list
 first-free : (o : Output) → Listless o → Listless (applied First o)
 first-free (number n) free = tt
 first-free (pair a b) free = free.0
@@ -57,12 +57,12 @@ applied-free (Const n) o free = tt
 applied-free (Add n) o free = tt
 applied-free (Mul n) o free = tt
 
--- whichever part is on
+-- whichever part is active
 sequel-free : (o : Option History) (x : Answer) (y : History → Answer) → Listless x.output → ((g : History) → Listless (y g).output) → Listless (sequel_of o x y).output
 sequel-free None x y first second = first
 sequel-free (Some g) x y first second = second g
 
--- an answer of a schedule that keeps no list
+-- a result of a schedule that stores no list
 pub answer-free : (t : Schedule) (h : History) → KeepsNoList t → Listless (answer_of t h).output
 answer-free (leaf (plain Forever)) h flat = tt
 answer-free (leaf (plain Identity)) h flat = tt

@@ -1,4 +1,4 @@
--- What a node does by what its parts do: before any step, and at one.
+-- The effect of a node by the effects of its parts: before any step, and at one.
 use Rattle.std.proofs.Common.{◌≡◌, ℕ, suc, ◌+◌, ◌-◌, ◌≤◌, Bool, true, false, ◌⊎◌, inl, inr, List, [], ◌∷◌, ◌++◌, length, drop, refl, sym, ap, ◌∙◌, subst, arith}
 use Rattle.std.proofs.lemmas.List.{length-append}
 use Rattle.zs_term.specs.Output.{Output, passes, picked}
@@ -22,11 +22,11 @@ use Rattle.zs_c.proofs.Codes.{first-code, second-code, part-code, held-length}
 use Rattle.zs_c.proofs.Nodes.{read-node}
 use Rattle.zs_c.proofs.StepLemmas.{both-steps, either-steps, then-steps, while_input-steps, while_output-steps, mapped-steps, reset-stays, reset-begins, reset-room}
 
--- a code that is read as a node is that of a schedule which is made of it
+-- a code that is read as a node is that of a schedule with this node at its root
 pub coded-node : (t : Schedule) (code : List ℕ) (levels : ℕ) (n m : Node) → IsCode t code levels → n ≡ node_at code → n ≡ m → IsNode m t
 coded-node t code levels n m coded read is = subst (λ x. IsNode x t) is (read-node t code n read coded.is coded.flat)
 
--- the same code elsewhere
+-- the same code at another place
 pub code-at : (t : Schedule) (code other : List ℕ) (levels : ℕ) → code ≡ other → IsCode t other levels → IsCode t code levels
 code-at t code other levels is coded = record { is = is ∙ coded.is; flat = coded.flat; deep = coded.deep }
 
@@ -40,11 +40,11 @@ parts-of p a b code levels n coded sized =
     let size : n.code ≡ (sizes_of a).code = ap (λ (z : Sizes). z.code) sized in
     record { sizes = sized; first = first-code p a b code levels n.code coded size; second = second-code p a b code levels n.code coded size }
 
--- what clearing the words of a code does
+-- the effect of clearing the words of a code
 abbrev pub Clears : Schedule → List ℕ → List ℕ → Type 0
 Clears t old new = length old ≡ held_size t → new ≡ held_of t []
 
--- the same of a schedule that is another one
+-- the same for an equal schedule
 pub clears-as : (t u : Schedule) (old new : List ℕ) → t ≡ u → Clears u old new → Clears t old new
 clears-as t u old new is clears = subst (λ x. Clears x old new) (sym is) clears
 
@@ -65,7 +65,7 @@ together-clears t code old new levels n s coded read is parts =
           clears-as t (two either m.0 m.1) old new m.2 (λ z. parts m.0 m.1 (parts-of either m.0 m.1 code levels s c m.3) (both-size m.0 m.1 old z))
     ]
 
--- the parts of a code that is read as `andThenEither`, behind their first word
+-- the parts of a code that is read as `andThenEither`, after their first word
 then-size : (a b : Schedule) (n : ℕ) → n ≡ suc (length (held_of a [] ++ held_of b [])) → n ≡ suc (held_size a + held_size b)
 then-size a b n sized = omega (arith, sized, length-append (held_of a []) (held_of b []))
 
@@ -109,12 +109,12 @@ four-clears t code other old new levels n coded read at is part =
           (part m.0 (code-at m.0 other (drop 4 code) (levels - 1) at (part-code (reset_when e.0 e.1) m.0 code levels 4 c refl)))
     ]
 
--- what clearing a leaf does
+-- the effect of clearing a leaf
 pub leaf-clears : (t : Schedule) (code old new : List ℕ) (levels : ℕ) (n : Node) (r : Rule) → IsCode t code levels → n ≡ node_at code → n ≡ Leaf r →
     (length old ≡ length (leaf_held (rule_leaf r) []) → new ≡ leaf_held (rule_leaf r) []) → Clears t old new
 leaf-clears t code old new levels n r coded read is clears = clears-as t (leaf (rule_leaf r)) old new (coded-node t code levels n (Leaf r) coded read is) clears
 
--- a step of a schedule that is another one
+-- a step of an equal schedule
 steps-as : (t u : Schedule) (h : History) (words : List ℕ) (now input : ℕ) (d : Decision) (before after : ℕ) → t ≡ u →
     StepsCode u h words now input d before after → StepsCode t h words now input d before after
 steps-as t u h words now input d before after is steps = subst (λ x. StepsCode x h words now input d before after) (sym is) steps
@@ -134,7 +134,7 @@ leaf-node t h code old new levels now input d before after n r coded read is hel
     let first : old ≡ leaf_held (rule_leaf r) h = held ∙ ap (λ x. held_of x h) m in
     steps-as t (leaf (rule_leaf r)) h new now input d before after m (record { held = steps h first; decides = decides h first; visited = counted })
 
--- what a step of both parts is, by their code
+-- the step of both parts, by their code
 abbrev pub PartsStep : Sizes → List ℕ → ℕ → ℕ → List ℕ → List ℕ → ℕ → ℕ → Decision → Decision → ℕ → ℕ → Type 0
 PartsStep s code levels most old new now input x y before after =
     (a b : Schedule) (g : History) → IsParts a b s code levels → before + weight a + weight b ≤ most → old ≡ held_of a g ++ held_of b g →
@@ -177,7 +177,7 @@ then-node t h code old new levels now input d before after most n s coded read i
     (then-steps m.0 m.1 h new now input d before after
     (parts m.0 m.1 h (parts-of and_then m.0 m.1 code levels s c m.3) (omega (arith, fits)) (held ∙ ap (λ z. held_of z h) m.2)))
 
--- what a step of a part is, by its code
+-- the step of a part, by its code
 abbrev pub PartSteps : List ℕ → ℕ → ℕ → List ℕ → List ℕ → ℕ → ℕ → Decision → ℕ → ℕ → Type 0
 PartSteps code levels most old new now input d before after =
     (s : Schedule) (g : History) → IsCode s code levels → before + weight s ≤ most → old ≡ held_of s g → StepsCode s g new now input d before after

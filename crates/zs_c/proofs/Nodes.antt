@@ -49,7 +49,7 @@ func-word (Mul n) = refl
 pub pick-test-over : (f : Pick → Test → Schedule) (k : Pick) (t : Test) → f (pick_of (pick_word k)) (test_of (cmp_word t.cmp) t.than) ≡ f k t
 pick-test-over f k t = ap (λ x. f x (test_of (cmp_word t.cmp) t.than)) (pick-word k) ∙ ap (f k) (test-word t)
 
--- what the code of a schedule is read as is what the schedule is made of
+-- the code of a schedule is read as the node at the schedule's root
 pub code-node : (t : Schedule) → KeepsNoList t → IsNode (node_at (code_of t)) t
 unfolding node_at rule_at
 code-node (leaf (plain PlainForever)) flat = refl
@@ -71,6 +71,6 @@ code-node (over s (mapped f)) flat = (s, ap (λ x. over s (mapped x)) (sym (func
 code-node (over s (reset_when k t)) flat = (s, sym (pick-test-over (λ x y. over s (reset_when x y)) k t))
 code-node (over s collect_all) flat = absurd flat.0
 
--- words that are a schedule's code are read as what it is made of
+-- the same for words that are a schedule's code
 pub read-node : (t : Schedule) (code : List ℕ) (n : Node) → n ≡ node_at code → code ≡ code_of t → KeepsNoList t → IsNode n t
 read-node t code n is coded flat = subst (λ x. IsNode x t) (sym (is ∙ ap node_at coded)) (code-node t flat)

@@ -1,15 +1,15 @@
--- Texts one behind the other in a room, from any place on.
+-- Texts one after the other in a buffer, from any index on.
 use Rattle.std.proofs.Common.{◌≡◌, ℕ, zero, suc, List, [], ◌∷◌, ◌++◌, ◌+◌, length, refl, sym, ap, ◌∙◌, append_assoc, length-append, arith}
 use Rattle.zs_c.specs.Told.{written}
 use Rattle.zs_c.specs.Rooms.{written_at}
 use Rattle.zs_c.proofs.Rooms.{written_behind}
 
--- in no room
+-- in an empty buffer
 written_none : (x : List ℕ) → written x [] ≡ []
 written_none [] = refl
 written_none (b ∷ x) = refl
 
--- a text behind another, which was written before
+-- a text after another, which was written before
 pub written_at-twice : (at : ℕ) (x y room : List ℕ) → written_at (at + length x) y (written_at at x room) ≡ written_at at (x ++ y) room
 written_at-twice zero x y room = let e : zero + length x ≡ length x = omega arith in ap (λ n. written_at n y (written x room)) e ∙ written_behind x y room
 written_at-twice (suc at) x y [] =
@@ -19,12 +19,12 @@ written_at-twice (suc at) x y (b ∷ room) =
     let e : suc at + length x ≡ suc (at + length x) = omega arith in
     ap (λ n. written_at n y (b ∷ written_at at x room)) e ∙ ap (λ r. b ∷ r) (written_at-twice at x y room)
 
--- one more text, behind where the texts before it end
+-- one more text, from the end of the texts before it on
 next-written : (at n : ℕ) (x y r s t : List ℕ) → s ≡ written_at at x r → n ≡ at + length x → t ≡ written_at n y s → t ≡ written_at at (x ++ y) r
 next-written at n x y r s t first ends second =
     second ∙ ap (λ k. written_at k y s) ends ∙ ap (λ w. written_at (at + length x) y w) first ∙ written_at-twice at x y r
 
--- five texts, one behind the other, where each ends
+-- five texts, one after the other, each from the end of the one before
 pub five-written : (at e1 e2 e3 e4 : ℕ) (a b c d e r r1 r2 r3 r4 r5 : List ℕ) → r1 ≡ written_at at a r → e1 ≡ at + length a → r2 ≡ written_at e1 b r1 → e2 ≡ e1 + length b →
     r3 ≡ written_at e2 c r2 → e3 ≡ e2 + length c → r4 ≡ written_at e3 d r3 → e4 ≡ e3 + length d → r5 ≡ written_at e4 e r4 →
     r5 ≡ written_at at (a ++ (b ++ (c ++ (d ++ e)))) r
@@ -39,7 +39,7 @@ five-written at e1 e2 e3 e4 a b c d e r r1 r2 r3 r4 r5 w1 n1 w2 n2 w3 n3 w4 n4 w
     let same : (((a ++ b) ++ c) ++ d) ++ e ≡ a ++ (b ++ (c ++ (d ++ e))) = simp append_assoc in
     five ∙ ap (λ w. written_at at w r) same
 
--- three of them
+-- three texts
 pub three-written : (at e1 e2 : ℕ) (a b c r r1 r2 r3 : List ℕ) → r1 ≡ written_at at a r → e1 ≡ at + length a → r2 ≡ written_at e1 b r1 → e2 ≡ e1 + length b →
     r3 ≡ written_at e2 c r2 → r3 ≡ written_at at (a ++ (b ++ c)) r
 three-written at e1 e2 a b c r r1 r2 r3 w1 n1 w2 n2 w3 =

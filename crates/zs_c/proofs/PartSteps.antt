@@ -1,4 +1,4 @@
--- Steps of two parts in the words that both have.
+-- Steps of two parts in the words of both.
 use Rattle.std.proofs.Common.{◌≡◌, ℕ, suc, ◌+◌, ◌-◌, ◌<◌, ◌≤◌, true, false, List, [], ◌∷◌, ◌++◌, length, take, drop, refl, sym, ap, ◌∙◌, arith}
 use Rattle.std.proofs.lemmas.List.{length-append}
 use Rattle.std.specs.Prelude.{slice_set}
@@ -21,13 +21,13 @@ pub parts-fit : (a b : Schedule) (h : History) (ws : List ℕ) (n : ℕ) → n �
 parts-fit a b h ws n sized held few =
     omega (arith, sized, few, ap length held, length-append (held_of a h) (held_of b h), held-length a h [])
 
--- and those of two parts in turn are more
+-- and those of `andThenEither` have one more
 pub then-fit : (a b : Schedule) (h : History) (ws : List ℕ) (n : ℕ) → n ≡ held_size a → ws ≡ held_of (two and_then a b) h → length ws ≤ n → ⊥
 then-fit a b h ws n sized held few =
     let size : length ws ≡ suc (length (held_of a [] ++ held_of b [])) = ap length held ∙ held-length (two and_then a b) h [] in
     omega (arith, sized, few, size, length-append (held_of a []) (held_of b []))
 
--- the words of a part that was stepped are as many
+-- a step doesn't change the number of words of a part
 pub stepped-size : (t : Schedule) (h : History) (new : List ℕ) (now input n : ℕ) (d : Decision) (before after : ℕ) → n ≡ held_size t →
     StepsCode t h new now input d before after → length new ≡ n
 stepped-size t h new now input n d before after sized s = ap length s.held ∙ held-length t ((now, input) ∷ h) [] ∙ sym sized
@@ -50,17 +50,17 @@ parts-steps a b h ws xn yn now input n x y before between after most sized held 
       visited = omega (arith, p.visited, q.visited);
     }
 
--- a decision that isn't to go on
+-- a decision that isn't to continue
 pub stops : (d : Decision) → ((n : ℕ) → d ≡ Next n → ⊥) → is_next d ≡ false
 stops Stop never = refl
 stops (Next n) never = absurd (never n refl)
 
--- the step of a part whose visits are counted from as many
+-- the step of a part whose visits are counted from an equal number
 from-same : (t : Schedule) (h : History) (words : List ℕ) (now input : ℕ) (d : Decision) (before other after : ℕ) → before ≡ other →
     StepsCode t h words now input d before after → StepsCode t h words now input d other after
 from-same t h words now input d before other after same s = record { held = s.held; decides = s.decides; visited = omega (arith, s.visited, same) }
 
--- the first part is on, and goes on
+-- the first part is active, and continues
 pub then-goes : (a b : Schedule) (h : History) (ws xn : List ℕ) (now input n : ℕ) (x : Decision) (before after most : ℕ) →
     n ≡ held_size a → ws ≡ held_of (two and_then a b) h → before + weight a + weight b ≤ most → word_at ws 0 ≡ 0 →
     (take (n + 1 - 1) (drop 1 ws) ≡ held_of a h → before + weight a ≤ most → StepsCode a h xn now input x before after) → is_next x ≡ true →
@@ -71,7 +71,7 @@ then-goes a b h ws xn now input n x before after most sized held room zeroed fir
     let p = first (then-first-arg ws (held_of a h) (held_of b []) 0 n on.1 size) (omega (arith, room)) in
     then-goes-on a b h xn (put_mid 1 (n + 1 - 1) ws xn) now input x before after on.0 p next (then-first-new ws (held_of a h) (held_of b []) xn 0 n on.1 size)
 
--- the first part is on, and done at this step
+-- the first part is active, and done at this step
 pub then-done : (a b : Schedule) (h : History) (ws xn cn words yn : List ℕ) (now input n : ℕ) (x d : Decision) (before between joined after most : ℕ) →
     n ≡ held_size a → ws ≡ held_of (two and_then a b) h → before + weight a + weight b ≤ most → word_at ws 0 ≡ 0 →
     (take (n + 1 - 1) (drop 1 ws) ≡ held_of a h → before + weight a ≤ most → StepsCode a h xn now input x before between) → is_next x ≡ false →
@@ -94,7 +94,7 @@ then-done a b h ws xn cn words yn now input n x d before between joined after mo
     then-turns a b h xn yn (put_mid (n + 1) (length words - (n + 1)) words yn) now input x d before between after on.0 p stop q
     (then-second-new words cn (held_of b []) yn 1 n there long ∙ ap (λ (z : List ℕ). 1 ∷ (z ++ yn)) cleared)
 
--- the second part is on
+-- the second part is active
 pub then-on : (a b : Schedule) (h : History) (ws words yn : List ℕ) (now input n : ℕ) (d : Decision) (before joined after most : ℕ) →
     n ≡ held_size a → ws ≡ held_of (two and_then a b) h → before + weight a + weight b ≤ most → (word_at ws 0 ≡ 0 → ⊥) → words ≡ ws → joined ≡ before →
     ((g : History) → take (length words - (n + 1)) (drop (n + 1) words) ≡ held_of b g → joined + weight b ≤ most → StepsCode b g yn now input d joined after) →

@@ -4,7 +4,7 @@ use Rattle.std.specs.Prelude.{slice_set}
 use Rattle.std.proofs.Math.Seq.{take-append_seam, drop-append_seam}
 use borrow.Rule.Slice.PartMut.{put_mid}
 
--- nothing behind all words
+-- nothing after all words
 pub drop-whole : (n : ℕ) (ws : List ℕ) → length ws ≤ n → drop n ws ≡ []
 drop-whole zero [] le = refl
 drop-whole (suc n) [] le = refl
@@ -23,18 +23,18 @@ pub append-nothing : (ws : List ℕ) → ws ++ [] ≡ ws
 append-nothing [] = refl
 append-nothing (w ∷ ws) = ap (λ (xs : List ℕ). w ∷ xs) (append-nothing ws)
 
--- all words from a place on are overwritten
+-- all words from an index on are overwritten
 pub put-rest : (n k : ℕ) (xs ys : List ℕ) → length xs ≤ n + k → put_mid n k xs ys ≡ take n xs ++ ys
 put-rest n k xs ys le =
     let rest : length (drop n xs) ≤ k = omega (arith, le, length-drop n xs) in
     ap (λ z. take n xs ++ (ys ++ z)) (drop-whole k (drop n xs) rest) ∙ ap (λ z. take n xs ++ z) (append-nothing ys)
 
--- the first word is set, and all behind it are overwritten
+-- the first word is set, and all words after it are overwritten
 pub put-behind-first : (ws rest : List ℕ) (w : ℕ) → 1 ≤ length ws → put_mid 1 (length (slice_set ws 0 w) - 1) (slice_set ws 0 w) rest ≡ w ∷ rest
 put-behind-first [] rest w some = absurd (omega (arith, some))
 put-behind-first (x ∷ ws) rest w some = put-rest 1 (length (w ∷ ws) - 1) (w ∷ ws) rest (omega arith)
 
--- how many words are behind the first
+-- the number of words after the first
 pub length-behind-first : (ws : List ℕ) (w n : ℕ) → length ws ≡ suc n → length (take (length (slice_set ws 0 w) - 1) (drop 1 (slice_set ws 0 w))) ≡ n
 length-behind-first [] w n sized = absurd (omega (arith, sized))
 length-behind-first (x ∷ ws) w n sized = ap length (take-whole (length (w ∷ ws) - 1) ws (omega arith)) ∙ omega (arith, sized)
@@ -57,7 +57,7 @@ parts-new ws xn yn n kept =
     let whole = xn ++ drop n ws in
     put-rest n (length whole - n) whole yn (omega arith) ∙ ap (λ k. take k whole ++ yn) (sym kept) ∙ ap (λ z. z ++ yn) (take-append_seam xn (drop n ws))
 
--- two pieces behind a first word
+-- two pieces after a first word
 pub then-first-arg : (words xs ys : List ℕ) (w n : ℕ) → words ≡ w ∷ (xs ++ ys) → n ≡ length xs → take (n + 1 - 1) (drop 1 words) ≡ xs
 then-first-arg words xs ys w n is sized =
     let e : n + 1 - 1 ≡ n = omega arith in

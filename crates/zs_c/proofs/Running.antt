@@ -21,7 +21,7 @@ use Rattle.zs_c.specs.Told.{written}
 use Rattle.zs_c.proofs.Codes.{held-length}
 use Rattle.zs_c.proofs.TextBounds.{AllFit, text-bound}
 
--- what a test of two parts says of each
+-- each part of a true conjunction
 and-first : (a b : Bool) → (a && b) ≡ true → a ≡ true
 and-first true b e = refl
 and-first false b e = e
@@ -45,7 +45,7 @@ weight-within t within = at-most (weight t) 1000 (and-second (nat_le (depth t) 6
 pub opened-code : (o : Opened) (t : Schedule) → Opens o t → IsCode t o.code.now 64
 opened-code o t opens = record { is = opens.code; flat = opens.flat; deep = depth-within t opens.within }
 
--- words that fit 64 bits, each by its place
+-- words that fit 64 bits, each by its index
 abbrev pub EachFits : List ℕ → Type 0
 EachFits ws = (i : ℕ) → Fits w64 (get_or ws i 0)
 
@@ -61,7 +61,7 @@ short-text t h code words coded light held code_fits words_fit =
     let second : AllFit (held_of t h) = subst AllFit held (all-fit words words_fit) in
     omega (arith, text-bound t h coded.flat first second, light)
 
--- the words of a state, behind its check word and its last moment
+-- the words of a state, after its check word and its last moment
 state-arg : (old xs more : List ℕ) (a b n : ℕ) → old ≡ a ∷ (b ∷ (xs ++ more)) → n ≡ length xs → take (n + 2 - 2) (drop 2 old) ≡ xs
 state-arg old xs more a b n is sized =
     let e : n + 2 - 2 ≡ n = omega arith in
@@ -74,7 +74,7 @@ state-new old xs more ys a b n now is sized =
     ap (λ k. slice_set (put_mid 2 k old ys) 1 now) e ∙ ap (λ (v : List ℕ). slice_set (put_mid 2 n v ys) 1 now) is
     ∙ ap (λ (z : List ℕ). a ∷ (now ∷ (ys ++ z))) (ap (λ k. drop k (xs ++ more)) sized ∙ drop-append_seam xs more)
 
--- the words behind a state stay
+-- the words after a state are unchanged
 behind-rest : (n now : ℕ) (old ys : List ℕ) → n + 2 ≤ length old → length ys ≡ n →
     drop (suc (suc n)) (slice_set (put_mid 2 n old ys) 1 now) ≡ drop (suc (suc n)) old
 behind-rest n now [] ys fits sized = absurd (omega (arith, fits))
@@ -87,7 +87,7 @@ state-behind n now old ys fits sized =
     let e : n + 2 - 2 ≡ n = omega arith in
     ap (λ k. drop (suc (suc n)) (slice_set (put_mid 2 k old ys) 1 now)) e ∙ behind-rest n now old ys fits sized
 
--- a step of the words of a state, and what is told of it
+-- a step of the words of a state, and what it returns
 pub program-stepped : (t : Schedule) (old ys room out : List ℕ) (now input n number next size visits : ℕ) (d : Decision) →
     n ≡ held_size t → n + 2 ≤ length old → length ys ≡ n →
     ((h : History) → take (n + 2 - 2) (drop 2 old) ≡ held_of t h → StepsCode t h ys now input d 0 visits) →
@@ -116,7 +116,7 @@ program-stepped t old ys room out now input n number next size visits d sized fi
           ∙ ap (λ k. drop (suc (suc k)) old) sized;
     }
 
--- the words of a state, as many as a program's state has, and those that were written over them
+-- the words of a program's state, by their number, and the words that are written over them
 arg-length : (n : ℕ) (old : List ℕ) → n + 2 ≤ length old → length (take (n + 2 - 2) (drop 2 old)) ≡ n
 arg-length n old fits = omega (arith, fits, length-take (n + 2 - 2) (drop 2 old), length-drop 2 old)
 

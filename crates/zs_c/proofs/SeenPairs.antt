@@ -7,7 +7,7 @@ use Rattle.zs_step.proofs.AnswersInTurn.{order-at}
 use Rattle.zs_c.specs.declared.seen.Seen.{Seen}
 use Rattle.zs_c.specs.Pairs.{pair_of, pairs_of}
 
--- a step to read past an end with
+-- a default for reads past the end
 abbrev pub nothing_seen : Seen
 nothing_seen = record { moment = 0; input = 0 }
 
@@ -30,7 +30,7 @@ pub order-more : (xs : List Seen) (i : ℕ) → i < length xs → last_moment (h
     IsInOrder (history_of (take i (pairs_of xs))) → IsInOrder (history_of (take (i + 1) (pairs_of xs)))
 order-more xs i lt later order = subst IsInOrder (sym (history-more xs i lt)) (later, order)
 
--- where no moment falls, each is at or past the one before it
+-- if no moment falls, each is at or after the one before it
 pub order-seen : (xs : List Seen) (i : ℕ) → i < length xs → IsInOrder (history_of (pairs_of xs)) →
     last_moment (history_of (take i (pairs_of xs))) ≤ (get_or xs i nothing_seen).moment
 order-seen xs i lt order =

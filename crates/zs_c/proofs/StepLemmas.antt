@@ -1,4 +1,4 @@
--- What the steps of its parts make of an operator's step.
+-- The step of an operator, by the steps of its parts.
 use Rattle.std.proofs.Common.{◌≡◌, ℕ, ◌+◌, ◌*◌, ◌≤◌, Bool, true, false, Option, Some, None, List, [], ◌∷◌, ◌++◌, length, take, drop, refl, sym, ap, ◌∙◌, arith}
 use Rattle.std.proofs.Math.Seq.{take-append_seam, drop-append_seam}
 use Rattle.zs_term.specs.Output.{passes, picked}
@@ -17,7 +17,7 @@ use Rattle.zs_c.specs.Node.{word_at}
 use Rattle.zs_c.specs.Steps.{StepsCode, StepsBoth, StepsThen}
 use Rattle.zs_c.proofs.Codes.{held-length}
 
--- the words of two parts, whatever each of them saw
+-- the words of two parts, whatever the history of each
 pub first-held : (a b : Schedule) (h g : History) (words : List ℕ) (n : ℕ) → words ≡ held_of a h ++ held_of b g → n ≡ held_size a → take n words ≡ held_of a h
 first-held a b h g words n held sized =
     ap (λ k. take k words) (sized ∙ held-length a [] h) ∙ ap (take (length (held_of a h))) held ∙ take-append_seam (held_of a h) (held_of b g)
@@ -44,7 +44,7 @@ either-steps a b h words now input x y d before after s e = record {
   visited = omega (arith, s.visited);
 }
 
--- a step of `andThenEither`, whose own visit was counted before
+-- a step of `andThenEither`, whose visit was counted before
 pub then-steps : (a b : Schedule) (h : History) (words : List ℕ) (now input : ℕ) (d : Decision) (before after : ℕ) →
     StepsThen a b h words now input d (before + 1) after → StepsCode (two and_then a b) h words now input d before after
 then-steps a b h words now input d before after s = record {
@@ -77,7 +77,7 @@ pub mapped-steps : (s : Schedule) (f : Func) (h : History) (words : List ℕ) (n
     StepsCode s h words now input d (before + 1) after → StepsCode (over s (mapped f)) h words now input d before after
 mapped-steps s f h words now input d before after p = record { held = p.held; decides = p.decides; visited = omega (arith, p.visited) }
 
--- whether the part of a `.resetWhen` begins anew at this step
+-- whether the part of a `.resetWhen` is reset at this step
 abbrev resets : Schedule → Pick → Test → ℕ × ℕ → History → Bool
 resets s k t p g = passes t (picked k (answer_of s (p ∷ g)).output)
 
@@ -96,7 +96,7 @@ reset-stays s k t h words now input d before after p stays =
       visited = omega (arith, p.visited, counted);
     }
 
--- a step of `.resetWhen` that resets: the part is stepped once more, from its beginning
+-- a step of `.resetWhen` that resets: the part is reset and stepped once more
 pub reset-begins : (s : Schedule) (k : Pick) (t : Test) (h : History) (first words : List ℕ) (now input : ℕ) (x d : Decision) (before between after : ℕ) →
     StepsCode s (since_reset (answer_of s) k t h) first now input x (before + 1) between →
     resets s k t (now, input) (since_reset (answer_of s) k t h) ≡ true →
@@ -112,12 +112,12 @@ reset-begins s k t h first words now input x d before between after p passed q =
       visited = omega (arith, p.visited, q.visited, counted);
     }
 
--- the second step of a reset is within the visits that are left
+-- the second step of a reset is within the remaining visits
 pub reset-room : (s : Schedule) (g : History) (words : List ℕ) (now input : ℕ) (d : Decision) (before between most : ℕ) →
     StepsCode s g words now input d (before + 1) between → before + (1 + 2 * weight s) ≤ most → between + weight s ≤ most
 reset-room s g words now input d before between most p room = omega (arith, p.visited, visits-le s ((now, input) ∷ g), room)
 
--- what the first word of two parts in turn tells
+-- the meaning of the first word of `andThenEither`
 pub first-is-on : (o : Option History) (x y : History → List ℕ) (h : History) (words : List ℕ) → words ≡ sequel_words o x y h → word_at words 0 ≡ 0 →
     (o ≡ None) × (words ≡ 0 ∷ (x h ++ y []))
 first-is-on None x y h words is zeroed = (refl, is)
@@ -128,17 +128,17 @@ pub second-is-on : (o : Option History) (x y : History → List ℕ) (h : Histor
 second-is-on None x y h words is other = let none : word_at words 0 ≡ 0 = ap (λ w. word_at w 0) is in absurd (other none)
 second-is-on (Some g) x y h words is other = (g, refl, is)
 
--- one more step of two parts in turn
+-- one more step of `andThenEither`
 from_done-next : (a : Schedule) (h : History) (p : ℕ × ℕ) (o : Option History) (x : Decision) (b : Bool) → from_done (answer_of a) h ≡ o →
     x ≡ (answer_of a (p ∷ h)).decision → is_next x ≡ b → from_done (answer_of a) (p ∷ h) ≡ done_from o p b
 from_done-next a h p o x b before is next =
     ap (λ k. done_from k p (is_next (answer_of a (p ∷ h)).decision)) before ∙ ap (done_from o p) (ap is_next (sym is) ∙ next)
 
--- what two parts in turn are behind one more step, by which of them is on before and then
+-- the words of `andThenEither`, by the part that is active
 abbrev turned : Schedule → Schedule → Option History → History → List ℕ
 turned a b o h = sequel_words o (held_of a) (held_of b) h
 
--- the first part goes on
+-- the first part continues
 pub then-goes-on : (a b : Schedule) (h : History) (first words : List ℕ) (now input : ℕ) (x : Decision) (before after : ℕ) →
     from_done (answer_of a) h ≡ None → StepsCode a h first now input x before after → is_next x ≡ true → words ≡ 0 ∷ (first ++ held_of b []) →
     StepsThen a b h words now input x before after
@@ -171,7 +171,7 @@ then-turns a b h first second words now input x d before between after none p st
       visited = omega (arith, p.visited, q.visited, counted);
     }
 
--- the second part is on
+-- the second part is active
 pub then-second : (a b : Schedule) (h g : History) (second words : List ℕ) (now input : ℕ) (d : Decision) (before after : ℕ) →
     from_done (answer_of a) h ≡ Some g → StepsCode b g second now input d before after → words ≡ 1 ∷ (held_of a [] ++ second) →
     StepsThen a b h words now input d before after

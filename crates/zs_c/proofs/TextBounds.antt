@@ -23,7 +23,7 @@ abbrev pub AllFit : List ℕ → Type 0
 AllFit [] = Unit {0}
 AllFit (w ∷ ws) = (w < 2 ^ 64) × AllFit ws
 
--- of two lists behind one another
+-- of two lists, one after the other
 pub fit-first : (xs ys : List ℕ) → AllFit (xs ++ ys) → AllFit xs
 fit-first [] ys all = tt
 fit-first (x ∷ xs) ys all = (all.0, fit-first xs ys all.1)
@@ -78,7 +78,7 @@ leaf-text (counted Linear n) h all = digits-few _ all.0
 leaf-text (counted Windowed n) h all = digits-few _ all.0
 leaf-text (exponential b f) h all = digits-few _ all.0
 
--- a function's answer is no longer than what it takes, or a number
+-- the result of a function is no longer than its argument, or a number
 applied-text : (f : Func) (o : Output) (x : ℕ) → Listless o → func_number f < 2 ^ 64 → length (output_text o) ≤ x → 20 ≤ x → length (output_text (applied f o)) ≤ x
 applied-text First o x free small short some = omega (arith, first-text o, short)
 applied-text Second o x free small short some = omega (arith, second-text o, short)
@@ -89,13 +89,13 @@ applied-text (Const n) o x free small short some = omega (arith, digits-few n sm
 applied-text (Add n) o x free small short some = omega (arith, digits-few (saturated (number_in o + n)) (omega arith))
 applied-text (Mul n) o x free small short some = omega (arith, digits-few (saturated (number_in o * n)) (omega arith))
 
--- whichever part is on
+-- whichever part is active
 sequel-text : (o : Option History) (a : Answer) (b : History → Answer) (x y : ℕ) → (o ≡ None → length (output_text a.output) ≤ x) →
     ((g : History) → o ≡ Some g → length (output_text (b g).output) ≤ y) → length (output_text (sequel_of o a b).output) ≤ 8 + x + y
 sequel-text None a b x y first second = let short = first refl in simp length-append (omega (arith, short))
 sequel-text (Some g) a b x y first second = let short = second g refl in simp length-append (omega (arith, short))
 
--- the text of an output of a schedule whose words and whose state fit 64 bits
+-- the text of an output of a schedule whose words of code and of state fit 64 bits
 pub text-bound : (t : Schedule) (h : History) → KeepsNoList t → AllFit (code_of t) → AllFit (held_of t h) → length (output_text (answer_of t h).output) ≤ 32 * weight t
 text-bound (leaf l) h flat coded held = omega (arith, leaf-text l h held)
 text-bound (two both a b) h flat coded held =

@@ -1,4 +1,4 @@
--- A program is that of one schedule: of what a code begins with, only one schedule can be the code.
+-- A program is that of one schedule: at most one schedule that stores no list has a given code.
 use Rattle.std.proofs.Common.{◌≡◌, ℕ, List, ◌++◌, length, take, drop, get_or, refl, sym, ap, ◌∙◌, subst}
 use Rattle.std.proofs.Math.Seq.{take-append_seam, drop-append_seam}
 use Rattle.zs_term.specs.Schedule.{Schedule, Pairing, Modifier, leaf, two, over, plain, counted, exponential, both, either, and_then, while_input, while_output, collect_all, mapped, reset_when}
@@ -10,7 +10,7 @@ use Rattle.zs_c.specs.Node.{rule_at, node_at, IsNode}
 use Rattle.zs_c.specs.Program.{program_of, IsProgram}
 use Rattle.zs_c.proofs.Nodes.{read-node, test-word, func-word, pick-test-over}
 
--- what a schedule is made of whose code is that of another one
+-- the root of a schedule whose code is that of another one
 other-node : (t u : Schedule) → KeepsNoList u → code_of t ≡ code_of u → IsNode (node_at (code_of t)) u
 other-node t u flat same = read-node u (code_of t) (node_at (code_of t)) refl same flat
 
@@ -27,13 +27,13 @@ second-same p q a b c d same =
     sym (drop-append_seam (code_of a) (code_of b)) ∙ ap (drop (length (code_of a))) (ap (drop 3) same) ∙ ap (λ n. drop n (code_of c ++ code_of d)) size
     ∙ drop-append_seam (code_of c) (code_of d)
 
--- the parts under two operators with as many words
+-- the parts under two operators with the same number of words
 part-same : (m k : Modifier) (s r : Schedule) (n : ℕ) → n ≡ length (modifier_code m) → n ≡ length (modifier_code k) → code_of (over s m) ≡ code_of (over r k) → code_of s ≡ code_of r
 part-same m k s r n first second same =
     sym (drop-append_seam (modifier_code m) (code_of s)) ∙ ap (λ i. drop i (code_of (over s m))) (sym first) ∙ ap (drop n) same
     ∙ ap (λ i. drop i (code_of (over r k))) second ∙ drop-append_seam (modifier_code k) (code_of r)
 
--- the code of one schedule alone
+-- a code is that of one schedule alone
 pub code-once : (t u : Schedule) → KeepsNoList t → KeepsNoList u → code_of t ≡ code_of u → t ≡ u
 unfolding node_at rule_at
 code-once (leaf (plain Forever)) u flat other same = sym (other-node (leaf (plain Forever)) u other same)
@@ -97,6 +97,6 @@ same-code t u more rest e =
     sym (take-append_seam (code_of t) more) ∙ ap (take (length (code_of t))) codes ∙ ap (λ n. take n (code_of u ++ rest)) size
     ∙ take-append_seam (code_of u) rest
 
--- words are the program of one schedule at most
+-- words are the program of at most one schedule
 pub program-once : (program : List ℕ) (t u : Schedule) → IsProgram program t → IsProgram program u → t ≡ u
 program-once program t u first second = code-once t u first.flat second.flat (same-code t u first.more second.more (sym first.is ∙ second.is))

@@ -1,4 +1,4 @@
--- What the words of a node tell of its output.
+-- The output of a node, read from the words of its state.
 use Rattle.std.proofs.Common.{◌≡◌, ℕ, ◌-◌, List, [], ◌∷◌, ◌++◌, take, drop, refl, ap, ◌∙◌}
 use Rattle.zs_term.specs.Output.{Output, pair, left, right, applied}
 use Rattle.zs_term.specs.Schedule.{Schedule, two, over, both, either, and_then, while_input, while_output, mapped, reset_when}
@@ -46,11 +46,11 @@ either-tells a b h code words levels n o coded sized held is =
     let size : n.code ≡ (sizes_of a).code = ap (λ (z : Sizes). z.code) sized in
     (is, parts-tell a b h code words levels n sized (first-code either a b code levels n.code coded size) (second-code either a b code levels n.code coded size) held)
 
--- the words of two parts behind their first word
+-- the words of two parts after their first word
 tail-of : (w : ℕ) (words rest : List ℕ) → words ≡ w ∷ rest → drop 1 words ≡ rest
 tail-of w words rest is = ap (drop 1) is
 
--- the output of `andThenEither` while the first part is on
+-- the output of `andThenEither` while the first part is active
 pub left-tells : (a b : Schedule) (h : History) (code words : List ℕ) (levels : ℕ) (n : Sizes) (o : Output) → IsCode (two and_then a b) code levels →
     n ≡ sizes_of a → words ≡ held_of (two and_then a b) h → o ≡ (answer_of (two and_then a b) h).output → word_at words 0 ≡ 0 →
     (o ≡ left (answer_of a h).output) × Tells (take n.code (drop 3 code)) (take n.state (drop 1 words)) (levels - 1) (answer_of a h).output
@@ -88,7 +88,7 @@ right-tells a b h code words levels n o coded sized held is other =
       },
     )
 
--- the words of a part under an operator that answers as its part does, or a function of it
+-- the words of a part under an operator that returns its part's output, or a function of it
 pub while_input-tells : (s : Schedule) (x : Test) (h : History) (code words : List ℕ) (levels : ℕ) (o : Output) → IsCode (over s (while_input x)) code levels →
     words ≡ held_of (over s (while_input x)) h → o ≡ (answer_of (over s (while_input x)) h).output → Tells (drop 3 code) words (levels - 1) o
 while_input-tells s x h code words levels o coded held is =

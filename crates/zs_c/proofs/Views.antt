@@ -1,4 +1,4 @@
--- A view shows the output that the words of a place tell, by the node of its code.
+-- A view shows the output that the words of a place represent, by the node of its code.
 use Rattle.std.proofs.Common.{◌≡◌, ◌⊎◌, ℕ, ◌-◌, List, take, drop, inl, inr, refl, sym, ap, ◌∙◌, subst, arith}
 use Rattle.zs_term.specs.Output.{Output, number, number_in, applied, size_in}
 use Rattle.zs_term.specs.Schedule.{Schedule, Leaf, leaf, two, over, plain, counted, exponential, both, either, and_then, while_input, while_output, mapped, reset_when}
@@ -23,7 +23,7 @@ use Rattle.zs_c.proofs.Nodes.{read-node}
 use Rattle.zs_c.proofs.Listless.{answer-free, no-items}
 use Rattle.zs_c.proofs.ViewLemmas.{TellsParts, both-tells, either-tells, left-tells, right-tells, while_input-tells, while_output-tells, reset_when-tells, mapped-tells}
 
--- the same of equal words
+-- the same for equal words
 pub tells-at : (code other words others : List ℕ) (n m : ℕ) (o : Output) → code ≡ other → words ≡ others → n ≡ m → Tells other others m o → Tells code words n o
 tells-at code other words others n m o coded worded same t = record {
   term = t.term;
@@ -37,17 +37,17 @@ tells-at code other words others n m o coded worded same t = record {
 pub no-levels : (code words : List ℕ) (levels : ℕ) (o : Output) → levels ≡ 0 → Tells code words levels o → ⊥
 no-levels code words levels o none t = omega (arith, t.coded.deep, none, depth-positive t.term)
 
--- the node of a code is what the schedule is made of
+-- the node of a code is at the root of the schedule
 pub told-node : (code words : List ℕ) (levels : ℕ) (o : Output) (n m : Node) → n ≡ node_at code → n ≡ m → (t : Tells code words levels o) → IsNode m t.term
 told-node code words levels o n m read is t = subst (λ x. IsNode x t.term) is (read-node t.term code n read t.coded.is t.coded.flat)
 
--- the same, of the schedule that it then is
+-- the same, for an equal schedule
 pub told-as : (code words : List ℕ) (levels : ℕ) (o : Output) (t : Tells code words levels o) (u : Schedule) → t.term ≡ u →
     IsCode u code levels × (words ≡ held_of u t.history) × (o ≡ (answer_of u t.history).output)
 told-as code words levels o t u is =
     (subst (λ x. IsCode x code levels) is t.coded, t.held ∙ ap (λ x. held_of x t.history) is, t.output ∙ ap (λ x. (answer_of x t.history).output) is)
 
--- a leaf answers a number
+-- a leaf's output is a number
 leaf-number : (l : Leaf) (h : History) → (leaf_answer l h).output ≡ number (number_in (leaf_answer l h).output)
 leaf-number (plain PlainForever) h = refl
 leaf-number (plain PlainIdentity) h = refl
@@ -69,7 +69,7 @@ leaf-shows r code words levels w o n read is first t =
     let same : word_at words 0 ≡ number_in (leaf_answer (rule_leaf r) h).output = ap (λ x. word_at x 0) u.1 in
     u.2 ∙ leaf-number (rule_leaf r) h ∙ ap number (sym (first ∙ same))
 
--- two places that are the parts of one, whose words begin at a place
+-- two places that are the parts of one, and whose words begin at an index
 pub record ArePartsOf (s : Sizes) (p a b : Place) (at : ℕ) : Type 0 where
   pub first_code : a.code.now ≡ take s.code (drop 3 p.code.now)
   pub second_code : b.code.now ≡ drop s.code (drop 3 p.code.now)
@@ -78,7 +78,7 @@ pub record ArePartsOf (s : Sizes) (p a b : Place) (at : ℕ) : Type 0 where
   pub first_levels : a.levels ≡ p.levels - 1
   pub second_levels : b.levels ≡ p.levels - 1
 
--- both places tell outputs
+-- both places represent outputs
 parts-told : (s : Sizes) (p a b : Place) (x y : Output) → ArePartsOf s p a b 0 → TellsParts s p.code.now p.words.now p.levels x y → PlaceTells a x × PlaceTells b y
 parts-told s p a b x y are t = (
   tells-at a.code.now (take s.code (drop 3 p.code.now)) a.words.now (take s.state p.words.now) a.levels (p.levels - 1) x are.first_code are.first_words are.first_levels t.first,
@@ -114,7 +114,7 @@ pair-shows s p a b o n read is are t = elim is [
   | inr w ↦ either-shows s p a b o n read w are t
 ]
 
--- the first part of `andThenEither`, while it is on
+-- the first part of `andThenEither`, while it is active
 pub left-shows : (s : Sizes) (p a b : Place) (o : Output) (n : Node) → n ≡ node_at p.code.now → n ≡ AndThen s → ArePartsOf s p a b 1 → word_at p.words.now 0 ≡ 0 →
     PlaceTells p o → Shows (Left a) o
 left-shows s p a b o n read is are zeroed t =
@@ -147,7 +147,7 @@ pub record IsPartOf (p a : Place) (at : ℕ) : Type 0 where
   pub words : a.words.now ≡ p.words.now
   pub levels : a.levels ≡ p.levels - 1
 
--- the part of an operator that answers as its part does
+-- the part of an operator that returns its part's output
 pub while_input-part : (x : Test) (p a : Place) (o : Output) (n : Node) → n ≡ node_at p.code.now → n ≡ WhileInput x → IsPartOf p a 3 → PlaceTells p o → PlaceTells a o
 while_input-part x p a o n read is part t =
     let node = told-node p.code.now p.words.now p.levels o n (WhileInput x) read is t in
@@ -169,7 +169,7 @@ reset_when-part k x p a o n read is part t =
     tells-at a.code.now (drop 4 p.code.now) a.words.now p.words.now a.levels (p.levels - 1) o part.code part.words part.levels
     (reset_when-tells node.0 k x t.history p.code.now p.words.now p.levels o u.0 u.1 u.2)
 
--- the part of `.map`, and what is made of its output
+-- the part of `.map`, and the function of its output
 pub mapped-part : (f : Func) (p a : Place) (o : Output) (n : Node) → n ≡ node_at p.code.now → n ≡ Map f → IsPartOf p a 3 → PlaceTells p o →
     (x : Output) × (o ≡ applied f x) × PlaceTells a x
 mapped-part f p a o n read is part t =
@@ -179,6 +179,6 @@ mapped-part f p a o n read is part t =
     let x = (answer_of node.0 t.history).output in
     (x, w.0, tells-at a.code.now (drop 3 p.code.now) a.words.now p.words.now a.levels (p.levels - 1) x part.code part.words part.levels w.1)
 
--- no output that words tell has items
+-- no output that words represent has items
 pub told-size : (code words : List ℕ) (levels : ℕ) (o : Output) → Tells code words levels o → size_in o ≡ 0
 told-size code words levels o t = ap size_in t.output ∙ no-items (answer_of t.term t.history).output (answer-free t.term t.history t.coded.flat)

@@ -1,4 +1,4 @@
--- What `zs_bounds` tells C: the bounds of the schedule that the text spells, and that they hold.
+-- What `zs_bounds` returns to C: the bounds of the schedule that the text spells. They hold.
 use Rattle.std.specs.Prelude.{◌≡◌, ℕ, List, Option, Some, None}
 use Rattle.zs_term.specs.Schedule.{Schedule}
 use Rattle.zs_term.specs.Causes.{SpellsSchedule}
@@ -12,7 +12,7 @@ abbrev pub has_bound : Option ℕ → ℕ
 has_bound None = 0
 has_bound (Some n) = 1
 
--- a bound, or 0
+-- a bound, or 0 if there is none
 abbrev pub bound_told : Option ℕ → ℕ
 bound_told None = 0
 bound_told (Some n) = n
@@ -29,11 +29,12 @@ bounds_told b = record {
   total = bound_told b.total;
 }
 
--- nothing is told
+-- no bounds: every field is 0
 abbrev pub no_bounds_told : BoundsTold
 no_bounds_told = record { seen = 0; least = 0; has_most = 0; most = 0; longest = 0; has_total = 0; total = 0 }
 
--- The text spells a schedule, and its bounds of at most so many steps are told. They hold for every history that a driver can make.
+-- The text spells a schedule, and these are its bounds over at most `steps` steps. They hold for
+-- every history that a driver can make.
 pub record IsBounded (text : List ℕ) (steps : ℕ) (r : BoundsTold) : Type 0 where
   pub term : Schedule
   pub spelled : SpellsSchedule text term

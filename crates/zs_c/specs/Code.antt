@@ -1,6 +1,7 @@
--- A schedule as words: each node before its parts, as a tag and its numbers. An operator between two schedules has the sizes of
--- the first behind its tag: the words of its code, and those of its state. `one_schedule` of `src/program/laws.rt` says that
--- words are the program of one schedule at most.
+-- A schedule as words: each node before its parts, as a tag and its numbers. An operator between
+-- two schedules has the sizes of the first after its tag: the number of words of its code, and of
+-- its state. `one_schedule` of `src/program/laws.rt` states that words are the program of at most
+-- one schedule.
 use Rattle.std.specs.Prelude.{◌≡◌, ℕ, ◌≤◌, List, [], ◌∷◌, ◌++◌, length}
 use Rattle.zs_term.specs.Output.{number_in}
 use Rattle.zs_term.specs.Schedule.{Schedule, leaf, two, over, Leaf, plain, counted, exponential, Pairing, both, either, and_then, Modifier, while_input, while_output, collect_all, mapped, reset_when, depth}
@@ -16,7 +17,7 @@ use Rattle.zs_step.specs.History.{History}
 use Rattle.zs_step.specs.Answer.{answer_of, leaf_answer, from_done, since_reset}
 use Rattle.zs_step.specs.Words.{leaf_words, sequel_words, KeepsNoList}
 
--- the words of a leaf's state: its last output, and what the next step has to know
+-- the words of a leaf's state: its last output, and what the next step needs to know
 abbrev pub leaf_held : Leaf → History → List ℕ
 leaf_held l h = number_in (leaf_answer l h).output ∷ leaf_words l h
 
@@ -32,7 +33,7 @@ held_of (over s collect_all) h = held_of s h
 held_of (over s (mapped f)) h = held_of s h
 held_of (over s (reset_when k t)) h = held_of s (since_reset (answer_of s) k t h)
 
--- how many words the state of a schedule has
+-- the number of words of a schedule's state
 abbrev pub held_size : Schedule → ℕ
 held_size t = length (held_of t [])
 
@@ -105,7 +106,7 @@ code_of (leaf l) = leaf_code l
 code_of (two p a b) = pairing_tag p ∷ (length (code_of a) ∷ (held_size a ∷ (code_of a ++ code_of b)))
 code_of (over s m) = modifier_code m ++ code_of s
 
--- words are the code of a schedule that keeps no list and is no deeper than so many levels
+-- words are the code of a schedule that stores no list and is at most `levels` deep
 pub record IsCode (t : Schedule) (code : List ℕ) (levels : ℕ) : Type 0 where
   pub is : code ≡ code_of t
   pub flat : KeepsNoList t

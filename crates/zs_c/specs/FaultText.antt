@@ -1,8 +1,9 @@
--- The texts of the numbers that `include/zsched.h` names, in English, and the version of the library.
+-- The texts of the numbers that `include/zsched.h` names, in English, and the version of the
+-- library.
 use Rattle.std.specs.Prelude.{ℕ, Bool, List, [], ◌++◌, codes, nat_eq, ◌||◌, if◌then◌else◌}
 use Rattle.std.specs.Fmt.{decimal}
 
--- the words of a number; none where the number is no fault
+-- the text of a number without a place, empty if the number is no fault
 abbrev pub fault_words : ℕ → List ℕ
 fault_words n =
     if nat_eq n 2 then codes "a schedule answers once it has seen a step"
@@ -21,14 +22,15 @@ fault_words n =
     else if nat_eq n 16 then codes "window is 0"
     else []
 
--- whether the place beside a number is a byte of the text
+-- whether the place that goes with a number is a byte of the text
 abbrev pub has_byte : ℕ → Bool
 has_byte n = nat_eq n 4 || (nat_eq n 11 || nat_eq n 13)
 
--- the text of a number and the place beside it
+-- the text of a number and the place that goes with it
 abbrev pub fault_text : ℕ → ℕ → List ℕ
 fault_text n at = if has_byte n then fault_words n ++ (codes " at byte " ++ decimal at) else fault_words n
 
--- the version: a million times the first of its numbers, a thousand times the second, and the third
+-- the version: a million times the first of its numbers, plus a thousand times the second, plus the
+-- third
 abbrev pub version_number : ℕ
 version_number = 2000

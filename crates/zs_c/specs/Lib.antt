@@ -1,4 +1,4 @@
--- What the clauses of callers name, and so what has to be believed.
+-- Named by public clauses: a reader who relies on a clause has to believe what it names.
 pub mod Pairs
 pub mod Numbers
 pub mod Refusals
@@ -9,7 +9,7 @@ pub mod FaultText
 pub mod Code
 pub mod Program
 pub mod Programs
--- What the bodies keep: private contracts alone name these.
+-- Named by private contracts only.
 pub mod Node
 pub mod Opened
 pub mod Rooms

@@ -1,5 +1,5 @@
--- How words are read as a node: by their tag, whatever is behind it. `proofs/Nodes.antt` shows that the code of a schedule is read
--- as its node.
+-- How words are read as a node: by their tag, whatever follows it. `proofs/Nodes.antt` proves that
+-- the code of a schedule is read as its node.
 use Rattle.std.specs.Prelude.{◌≡◌, ℕ, ◌==◌, if◌then◌else◌, List, length, take, drop, slice_index_or}
 use Rattle.zs_term.specs.Schedule.{Schedule, leaf, two, over, Leaf as LeafRule, exponential, forever, identity, elapsed, recurs, spaced, fixed, fibonacci, linear, windowed, both, either, and_then, while_input, while_output, mapped, reset_when}
 use Rattle.zs_term.specs.declared.term.Cmp.{Cmp}
@@ -38,11 +38,11 @@ func_of w n =
     if w == 0 then First else (if w == 1 then Second else (if w == 2 then Size else (if w == 3 then Merge else
     (if w == 4 then Const n else (if w == 5 then Add n else Mul n)))))
 
--- the sizes behind an operator's tag
+-- the sizes after an operator's tag
 abbrev pub sizes_at : List ℕ → Sizes
 sizes_at code = record { code = word_at code 1; state = word_at code 2 }
 
--- the leaf of a tag and the words from it on
+-- the leaf of a tag and the words after it
 unfoldable pub rule_at : List ℕ → Rule
 rule_at code =
     let w = word_at code 0 in
@@ -51,7 +51,7 @@ rule_at code =
     (if w == 7 then Fibonacci (word_at code 1) else (if w == 8 then Linear (word_at code 1) else
     (if w == 9 then Windowed (word_at code 1) else (if w == 10 then Exponential (word_at code 1) (word_at code 2) else Forever))))))))
 
--- the node of a tag and the words from it on
+-- the node of a tag and the words after it
 unfoldable pub node_at : List ℕ → Node
 node_at code =
     let w = word_at code 0 in
@@ -65,7 +65,7 @@ node_at code =
 abbrev pub sizes_of : Schedule → Sizes
 sizes_of a = record { code = length (code_of a); state = held_size a }
 
--- the leaf that a rule is read of
+-- the leaf that a rule represents
 abbrev pub rule_leaf : Rule → LeafRule
 rule_leaf Forever = forever
 rule_leaf Identity = identity
@@ -78,7 +78,7 @@ rule_leaf (Linear n) = linear n
 rule_leaf (Windowed n) = windowed n
 rule_leaf (Exponential b f) = exponential b f
 
--- what a node's schedule is made of
+-- a schedule with this node at its root
 abbrev pub IsNode : Node → Schedule → Type 0
 IsNode (Leaf r) t = t ≡ leaf (rule_leaf r)
 IsNode (Both n) t = (a : Schedule) × (b : Schedule) × (t ≡ two both a b) × (n ≡ sizes_of a)
@@ -89,7 +89,7 @@ IsNode (WhileOutput k x) t = (s : Schedule) × (t ≡ over s (while_output k x))
 IsNode (Map f) t = (s : Schedule) × (t ≡ over s (mapped f))
 IsNode (ResetWhen k x) t = (s : Schedule) × (t ≡ over s (reset_when k x))
 
--- the sizes and the code of an operator are those of two schedules, which are no deeper than so many levels
+-- the sizes and the code of an operator are those of two schedules, each at most `levels` deep
 pub record IsParts (a b : Schedule) (n : Sizes) (code : List ℕ) (levels : ℕ) : Type 0 where
   pub sizes : n ≡ sizes_of a
   pub first : IsCode a (take n.code (drop 3 code)) levels

@@ -1,4 +1,5 @@
--- The numbers by which C knows a decision or a refusal, as `include/zsched.h` names them, and the places beside them.
+-- The numbers of decisions and errors for C, as `include/zsched.h` names them, and the places that
+-- go with them.
 use Rattle.std.specs.Prelude.{ℕ}
 use Rattle.zs_term.specs.declared.fault.TermFault.{TermFault}
 use Rattle.zs_term.specs.declared.fault.TermFault.TheVariants.{NoTerm, TooBig, BadNumber, BadFactor, NoKind, BadWindow, Memory as TermMemory}
@@ -12,7 +13,7 @@ abbrev pub decision_number : Decision → ℕ
 decision_number (Next moment) = 0
 decision_number Stop = 1
 
--- the moment at which a decision goes on, or 0
+-- the moment at which a decision continues, or 0
 abbrev pub next_moment : Decision → ℕ
 next_moment (Next moment) = moment
 next_moment Stop = 0
@@ -37,7 +38,7 @@ fault_place NoKind = 0
 fault_place BadWindow = 0
 fault_place TermMemory = 0
 
--- the number of a refusal
+-- the number of an error
 abbrev pub refusal_number : Refusal → ℕ
 refusal_number NoPair = 2
 refusal_number (Falls at) = 3
@@ -47,7 +48,7 @@ refusal_number KeepsList = 6
 refusal_number NoRoom = 7
 refusal_number (Text fault) = fault_number fault
 
--- the byte or the pair at which a refusal shows, or 0
+-- the byte or the pair at which an error shows, or 0
 abbrev pub refusal_place : Refusal → ℕ
 refusal_place NoPair = 0
 refusal_place (Falls at) = at

@@ -1,4 +1,4 @@
--- What an opened program is that of: for private contracts alone.
+-- The schedule of an opened program: for private contracts alone.
 use Rattle.std.specs.Prelude.{◌≡◌, true}
 use Rattle.zs_term.specs.Schedule.{Schedule, is_within_limits}
 use Rattle.zs_step.specs.Words.{KeepsNoList}

@@ -1,4 +1,5 @@
--- A schedule as a program: a version, a check word over what is behind it, the sizes of its code and of its state, and its code.
+-- A schedule as a program: a version, a check word of the words after it, the sizes of its code and
+-- of its state, and its code.
 use Rattle.std.specs.Prelude.{◌≡◌, ℕ, ◌+◌, ◌*◌, ◌%◌, ◌^◌, true, List, ◌∷◌, ◌++◌, length, fold}
 use Rattle.zs_term.specs.Schedule.{Schedule, is_within_limits}
 use Rattle.zs_step.specs.History.{History, last_moment}
@@ -6,19 +7,20 @@ use Rattle.zs_step.specs.Words.{KeepsNoList}
 use Rattle.zs_c.specs.declared.program.opening.TheConstants.{PROGRAM_VERSION, CHECK_FACTOR}
 use Rattle.zs_c.specs.Code.{code_of, held_of, held_size}
 
--- a check word with one more word
+-- a check word after one more word
 abbrev pub check_more : ℕ → ℕ → ℕ
 check_more check word = ((check * CHECK_FACTOR) % 2 ^ 64 + word) % 2 ^ 64
 
--- The check word over some words. A word that is changed alone always changes it, since the factor is odd.
+-- The check word of some words. If exactly one word changes, the check word changes, because the
+-- factor is odd.
 unfoldable pub check_word : List ℕ → ℕ
 check_word words = fold check_more 0 words
 
--- what is behind the check word of a program
+-- the words after the check word of a program
 abbrev pub body_of : Schedule → List ℕ
 body_of t = length (code_of t) ∷ (held_size t ∷ code_of t)
 
--- the check word of a schedule's program, which its states begin with
+-- the check word of a schedule's program, with which its states begin
 abbrev pub program_check : Schedule → ℕ
 program_check t = check_word (body_of t)
 
@@ -26,17 +28,18 @@ program_check t = check_word (body_of t)
 abbrev pub program_of : Schedule → List ℕ
 program_of t = PROGRAM_VERSION ∷ (program_check t ∷ body_of t)
 
--- words begin with the program of a schedule, which keeps no list and is within the limits of texts
+-- words begin with the program of a schedule that stores no list and is within the limits of texts
 pub record IsProgram (program : List ℕ) (t : Schedule) : Type 0 where
   pub more : List ℕ
   pub is : program ≡ program_of t ++ more
   pub flat : KeepsNoList t
   pub within : is_within_limits t ≡ true
 
--- the state of a program behind a history: its check word, the last moment, and what the schedule has to remember
+-- the state of a program after a history: its check word, the last moment, and the words of the
+-- schedule's state
 abbrev pub program_state : Schedule → History → List ℕ
 program_state t h = program_check t ∷ (last_moment h ∷ held_of t h)
 
--- words begin with the state of a schedule's program behind a history
+-- words begin with the state of a schedule's program after a history
 abbrev pub KeepsProgramState : Schedule → History → List ℕ → Type 0
 KeepsProgramState t h words = (more : List ℕ) × (words ≡ program_state t h ++ more)

@@ -1,5 +1,6 @@
--- What the calls over a program tell C. A program is words that begin with those of a schedule, and is that of one schedule alone.
--- Of other words nothing is told but why a call is refused.
+-- What the calls over a program return to C. A program is words that begin with those of a
+-- schedule, and is that of one schedule alone. For other words, nothing is stated but why a call
+-- fails.
 use Rattle.std.specs.Prelude.{◌≡◌, ◌≢◌, ℕ, ◌<◌, List, [], ◌∷◌, ◌++◌, length, drop, slice_index_or}
 use Rattle.zs_term.specs.Schedule.{Schedule}
 use Rattle.zs_step.specs.History.{History}
@@ -19,7 +20,7 @@ denial_number NoRoom = 7
 denial_number NoProgram = 8
 denial_number OtherState = 9
 
--- the text spells a schedule whose program and whose state have so many words
+-- the text spells a schedule, and these are the numbers of words of its program and of its state
 pub record IsProgramSized (text : List ℕ) (size state_size : ℕ) : Type 0 where
   pub term : Schedule
   pub spelled : SpellsFlat text term
@@ -32,7 +33,8 @@ pub record OutgrowsProgram (text : List ℕ) (room : ℕ) : Type 0 where
   pub spelled : SpellsFlat text term
   pub over : room < length (program_of term)
 
--- Its schedule has no program for this; or the program has more words than the room.
+-- Why a text isn't compiled: for a reason of `IsSizeRefusal`; or its program has more words than
+-- the buffer.
 abbrev pub IsCompileRefusal : List ℕ → ℕ → Refusal → Type 0
 IsCompileRefusal text room RefusalNoRoom = OutgrowsProgram text room
 IsCompileRefusal text room KeepsList = IsSizeRefusal text KeepsList
@@ -48,7 +50,8 @@ pub record IsNewProgram (text words : List ℕ) : Type 0 where
   pub spelled : SpellsFlat text term
   pub is : words ≡ program_of term
 
--- the text spells a schedule, and words begin with its program; those behind it stay
+-- The text spells a schedule, and words begin with its program. Words after the program are
+-- unchanged.
 pub record IsCompiled (text old new : List ℕ) : Type 0 where
   pub term : Schedule
   pub spelled : SpellsFlat text term
@@ -62,26 +65,27 @@ IsUnfit program state NoRoom = (t : Schedule) → IsProgram program t → length
 IsUnfit program state OtherState = ⊥
 IsUnfit program state Falls = ⊥
 
--- Why it isn't stepped: for one of these; the words are another program's state; or the moment is below the last one, which is
--- their second.
+-- Why a program isn't stepped: for one of these reasons; or the words are another program's state;
+-- or the moment is below the last one, which is their second word.
 abbrev pub IsDenied : List ℕ → List ℕ → ℕ → Denial → Type 0
 IsDenied program state now NoProgram = IsUnfit program state NoProgram
 IsDenied program state now NoRoom = IsUnfit program state NoRoom
 IsDenied program state now OtherState = (t : Schedule) → IsProgram program t → slice_index_or state 0 0 ≢ program_check t
 IsDenied program state now Falls = now < slice_index_or state 1 0
 
--- a number tells why a program isn't begun, or not stepped
+-- a number is that of a reason that holds why a program isn't begun, or not stepped
 pub record IsDeniedFor (Holds : Denial → Type 0) (n : ℕ) : Type 0 where
   pub why : Denial
   pub is_so : Holds why
   pub numbered : n ≡ denial_number why
 
--- a program's state before any step, over the front of words
+-- a program's state before any step, written to the front of words
 pub record IsProgramBegun (t : Schedule) (old new : List ℕ) : Type 0 where
   pub begun : new ≡ program_state t [] ++ drop (length (program_state t [])) old
 
--- Its answer at one more step is told, behind each history whose state the words were; from then on they are the state behind that
--- step. Those behind the state stay, whatever the words were.
+-- The result of one more step is returned, for each history whose state the words were. The new
+-- words are the state after that step. Words after the state are unchanged, whatever the words
+-- were.
 pub record IsProgramStepped (t : Schedule) (old new : List ℕ) (now input number : ℕ) (r : Reply) (room out : List ℕ) : Type 0 where
   pub answer : (h : History) → KeepsProgramState t h old → TellsAnswer t ((now, input) ∷ h) number r room out
   pub state : (h : History) → KeepsProgramState t h old → KeepsProgramState t ((now, input) ∷ h) new

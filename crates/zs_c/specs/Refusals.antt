@@ -1,4 +1,4 @@
--- Why a text is refused, and why its schedule has no answer to a list of pairs.
+-- Why a text is rejected, and why its schedule has no result for a list of pairs.
 use Rattle.std.specs.Prelude.{◌≡◌, ℕ, List, [], Err}
 use Rattle.std.specs.Str.{IsUtf8}
 use Rattle.std.specs.Str.Lossy.{utf8_valid_len}
@@ -13,7 +13,8 @@ use Rattle.zs_c.specs.Pairs.{FallsFirstAt}
 abbrev pub SpellsSome : List ℕ → Type 0
 SpellsSome text = (t : Schedule) × SpellsSchedule text t
 
--- The text is refused for this: it isn't UTF-8 from this byte on; or it is, and this is its one fault; or memory ran out.
+-- Why a text is rejected: it isn't UTF-8 from this byte on; or it is, and this is its one fault; or
+-- memory ran out.
 abbrev pub IsTextRefusal : List ℕ → Refusal → Type 0
 IsTextRefusal text (NotUtf8 at) = (IsUtf8 text → ⊥) × (at ≡ utf8_valid_len text)
 IsTextRefusal text (Text fault) = IsUtf8 text × (verdict_of text ≡ Err fault)
@@ -23,7 +24,8 @@ IsTextRefusal text (Falls at) = ⊥
 IsTextRefusal text KeepsList = ⊥
 IsTextRefusal text NoRoom = ⊥
 
--- The text is refused for this; or it spells a schedule, and there is no pair or the moments fall.
+-- Why there is no result: the text is rejected; or it spells a schedule, and there is no pair or
+-- the moments fall.
 abbrev pub IsRefusal : List ℕ → List (ℕ × ℕ) → Refusal → Type 0
 IsRefusal text pairs NoPair = SpellsSome text × (pairs ≡ [])
 IsRefusal text pairs (Falls at) = SpellsSome text × FallsFirstAt pairs at

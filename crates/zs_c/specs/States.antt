@@ -1,5 +1,6 @@
--- What the calls over a state in the caller's memory tell C. Such a state is words that begin with those of a schedule behind a
--- history. Of other words nothing is told but why a call is refused.
+-- What the calls over a state in the caller's memory return to C. Such a state is words that begin
+-- with those of a schedule after a history. For other words, nothing is stated but why a call
+-- fails.
 use Rattle.std.specs.Prelude.{◌≡◌, ℕ, ◌<◌, ◌≤◌, List, [], ◌∷◌, ◌++◌, length, drop, slice_index_or}
 use Rattle.zs_term.specs.Schedule.{Schedule}
 use Rattle.zs_term.specs.Causes.{SpellsSchedule}
@@ -14,16 +15,16 @@ use Rattle.zs_c.specs.Numbers.{refusal_number, refusal_place}
 use Rattle.zs_c.specs.Refusals.{IsTextRefusal}
 use Rattle.zs_c.specs.Told.{TellsAnswer}
 
--- the text spells a schedule that keeps no list
+-- the text spells a schedule that stores no list
 pub record SpellsFlat (text : List ℕ) (t : Schedule) : Type 0 where
   pub spelled : SpellsSchedule text t
   pub flat : KeepsNoList t
 
--- the text spells some schedule that keeps no list
+-- the text spells some schedule that stores no list
 abbrev pub SpellsSomeFlat : List ℕ → Type 0
 SpellsSomeFlat text = (t : Schedule) × SpellsFlat text t
 
--- the text spells a schedule that keeps a list
+-- the text spells a schedule that stores a list
 pub record SpellsListed (text : List ℕ) : Type 0 where
   pub term : Schedule
   pub spelled : SpellsSchedule text term
@@ -35,7 +36,7 @@ pub record Outgrows (text : List ℕ) (room : ℕ) : Type 0 where
   pub spelled : SpellsFlat text term
   pub over : room < length (state_words term [])
 
--- The text is refused for this; or it spells a schedule that keeps a list.
+-- Why there is no state: the text is rejected; or it spells a schedule that stores a list.
 abbrev pub IsSizeRefusal : List ℕ → Refusal → Type 0
 IsSizeRefusal text KeepsList = SpellsListed text
 IsSizeRefusal text (NotUtf8 at) = IsTextRefusal text (NotUtf8 at)
@@ -45,7 +46,8 @@ IsSizeRefusal text NoPair = ⊥
 IsSizeRefusal text (Falls at) = ⊥
 IsSizeRefusal text NoRoom = ⊥
 
--- Its schedule has no state for this; or the state has no room in so many words.
+-- Why a state isn't begun: for a reason of `IsSizeRefusal`; or the state has more than `room`
+-- words.
 abbrev pub IsBeginRefusal : List ℕ → ℕ → Refusal → Type 0
 IsBeginRefusal text room NoRoom = Outgrows text room
 IsBeginRefusal text room KeepsList = IsSizeRefusal text KeepsList
@@ -55,8 +57,9 @@ IsBeginRefusal text room Memory = IsSizeRefusal text Memory
 IsBeginRefusal text room NoPair = ⊥
 IsBeginRefusal text room (Falls at) = ⊥
 
--- Its schedule has no state for this; or it has one, and the moment is below the last one of the
--- words, which is their first; or it isn't below that, and the words are too few.
+-- Why a state isn't stepped: for a reason of `IsSizeRefusal`; or, if the text's schedule has a
+-- state, for one of two others. Either the moment is below the last moment, which is the first
+-- word; or it isn't, and the words are too few.
 abbrev pub IsStepRefusal : List ℕ → List ℕ → ℕ → Refusal → Type 0
 IsStepRefusal text words now (Falls at) = SpellsSomeFlat text × (now < slice_index_or words 0 0) × (at ≡ 0)
 IsStepRefusal text words now NoRoom = (slice_index_or words 0 0 ≤ now) × Outgrows text (length words)
@@ -66,7 +69,7 @@ IsStepRefusal text words now (Text fault) = IsSizeRefusal text (Text fault)
 IsStepRefusal text words now Memory = IsSizeRefusal text Memory
 IsStepRefusal text words now NoPair = ⊥
 
--- the text spells a schedule whose state has so many words behind any steps
+-- the text spells a schedule, and this is the number of words of its state after any steps
 pub record IsSized (text : List ℕ) (size : ℕ) : Type 0 where
   pub term : Schedule
   pub spelled : SpellsFlat text term
@@ -78,14 +81,16 @@ pub record IsNew (text words : List ℕ) : Type 0 where
   pub spelled : SpellsFlat text term
   pub is : words ≡ state_words term []
 
--- the text spells a schedule, and words begin with its state before any step; those behind that state stay
+-- The text spells a schedule, and words begin with its state before any step. Words after that
+-- state are unchanged.
 pub record IsBegun (text old new : List ℕ) : Type 0 where
   pub term : Schedule
   pub spelled : SpellsFlat text term
   pub begun : new ≡ state_words term [] ++ drop (length (state_words term [])) old
 
--- The text spells a schedule, and its answer at one more step is told, behind each history whose state the words tell; from then on
--- they tell the state behind that step. Those behind the state stay, whatever the words tell.
+-- The text spells a schedule, and the result of one more step is returned, for each history whose
+-- state the words represent. The new words represent the state after that step. Words after the
+-- state are unchanged, whatever the words represent.
 pub record IsStepped (text old new : List ℕ) (now input number : ℕ) (r : Reply) (room out : List ℕ) : Type 0 where
   pub term : Schedule
   pub spelled : SpellsFlat text term
@@ -93,7 +98,7 @@ pub record IsStepped (text old new : List ℕ) (now input number : ℕ) (r : Rep
   pub state : (h : History) → KeepsState term h old → KeepsState term ((now, input) ∷ h) new
   pub behind : drop (length (state_words term [])) new ≡ drop (length (state_words term [])) old
 
--- the same of a step's answer and of the state's words alone, which fit in those before
+-- the same for a step's result and for the words of the state alone, which fit in the old words
 pub record StepsOn (text old : List ℕ) (now input : ℕ) (r : Stepped) (words : List ℕ) : Type 0 where
   pub term : Schedule
   pub spelled : SpellsFlat text term
@@ -102,14 +107,14 @@ pub record StepsOn (text old : List ℕ) (now input : ℕ) (r : Stepped) (words 
   pub answer : (h : History) → KeepsState term h old → IsAnswer term ((now, input) ∷ h) r
   pub state : (h : History) → KeepsState term h old → words ≡ state_words term ((now, input) ∷ h)
 
--- a number tells why there is no state, or why it isn't begun
+-- a number and a place are those of a reason that holds
 pub record IsRefusedFor (Holds : Refusal → Type 0) (n : ℕ) (place : ℕ) : Type 0 where
   pub why : Refusal
   pub is_so : Holds why
   pub numbered : n ≡ refusal_number why
   pub placed : place ≡ refusal_place why
 
--- a number and a reply tell why a step is refused
+-- a number and a reply are those of a reason why a step fails
 pub record IsNotStepped (text words : List ℕ) (now n : ℕ) (r : Reply) : Type 0 where
   pub why : Refusal
   pub is_so : IsStepRefusal text words now why

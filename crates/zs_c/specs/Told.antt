@@ -1,4 +1,4 @@
--- What the calls tell C: an answer of the schedule that the text spells, or a refusal.
+-- What the calls return to C: a result of the schedule that the text spells, or an error.
 use Rattle.std.specs.Prelude.{◌≡◌, ℕ, ◌<◌, List, ◌++◌, length, take, drop}
 use Rattle.zs_term.specs.Schedule.{Schedule}
 use Rattle.zs_term.specs.Causes.{SpellsSchedule}
@@ -13,11 +13,12 @@ use Rattle.zs_c.specs.declared.reply.Reply.{Reply}
 use Rattle.zs_c.specs.Numbers.{decision_number, next_moment, refusal_number, refusal_place}
 use Rattle.zs_c.specs.Refusals.{IsTextRefusal, IsRefusal}
 
--- a room with a text over its front, as far as that fits
+-- a buffer with a text written to its front, as far as the text fits
 abbrev pub written : List ℕ → List ℕ → List ℕ
 written text room = take (length room) text ++ drop (length text) room
 
--- a number, a reply and what is now in a room tell the answer of a schedule at the last step of a history
+-- A number, a reply and the new content of a buffer are the result of a schedule at the last step
+-- of a history.
 pub record TellsAnswer (t : Schedule) (h : History) (number : ℕ) (r : Reply) (room out : List ℕ) : Type 0 where
   pub decision : number ≡ decision_number (answer_of t h).decision
   pub next : r.next ≡ next_moment (answer_of t h).decision
@@ -26,7 +27,8 @@ pub record TellsAnswer (t : Schedule) (h : History) (number : ℕ) (r : Reply) (
   pub visited : r.visits ≡ visits t h
   pub at : r.at ≡ 0
 
--- the text spells a schedule, the pairs are in order, and its answer at the last of them is told
+-- The text spells a schedule, and the pairs are in order. The schedule's result at the last pair is
+-- returned.
 pub record IsAnswered (text : List ℕ) (pairs : List (ℕ × ℕ)) (number : ℕ) (r : Reply) (room out : List ℕ) : Type 0 where
   pub term : Schedule
   pub spelled : SpellsSchedule text term
@@ -34,21 +36,21 @@ pub record IsAnswered (text : List ℕ) (pairs : List (ℕ × ℕ)) (number : �
   pub order : IsInOrder (history_of pairs)
   pub answer : TellsAnswer term (history_of pairs) number r room out
 
--- a number and a reply tell why there is no answer
+-- a number and a reply are those of a reason why there is no result
 pub record IsRefused (text : List ℕ) (pairs : List (ℕ × ℕ)) (n : ℕ) (r : Reply) : Type 0 where
   pub why : Refusal
   pub is_so : IsRefusal text pairs why
   pub numbered : n ≡ refusal_number why
   pub place : r ≡ record { next = 0; size = 0; visits = 0; at = refusal_place why }
 
--- a number and a place tell why a text is no schedule
+-- a number and a place are those of a reason why a text is rejected
 pub record IsTextRefused (text : List ℕ) (n at : ℕ) : Type 0 where
   pub why : Refusal
   pub is_so : IsTextRefusal text why
   pub numbered : n ≡ refusal_number why
   pub place : at ≡ refusal_place why
 
--- a step's answer is that of the schedule of the text at the last of the pairs, which are in order
+-- a step's result is that of the schedule of the text at the last of the pairs, which are in order
 pub record HasAnswer (text : List ℕ) (pairs : List (ℕ × ℕ)) (r : Stepped) : Type 0 where
   pub term : Schedule
   pub spelled : SpellsSchedule text term

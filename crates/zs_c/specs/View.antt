@@ -1,4 +1,4 @@
--- What a step's output is seen as, straight from the words of a state: for private contracts alone.
+-- Views of a step's output, read from the words of a state: for private contracts alone.
 use Rattle.std.specs.Prelude.{◌≡◌, ℕ, ◌<◌, List}
 use Rattle.zs_term.specs.Schedule.{Schedule}
 use Rattle.zs_term.specs.Output.{Output, number, pair, left, right}
@@ -9,7 +9,8 @@ use Rattle.zs_c.specs.declared.program.outputs.View.{View}
 use Rattle.zs_c.specs.declared.program.outputs.View.TheVariants.{Number, Pair, Left, Right}
 use Rattle.zs_c.specs.Code.{IsCode, held_of}
 
--- Words tell an output: they are the state of a code's schedule behind some history, and it is the output of the answer there.
+-- Words represent an output: they are the state of a code's schedule after some history, and it is
+-- the output of the result there.
 pub record Tells (code words : List ℕ) (levels : ℕ) (o : Output) : Type 0 where
   pub term : Schedule
   pub history : History
@@ -17,7 +18,7 @@ pub record Tells (code words : List ℕ) (levels : ℕ) (o : Output) : Type 0 wh
   pub held : words ≡ held_of term history
   pub output : o ≡ (answer_of term history).output
 
--- the same of a place
+-- the same for a place
 abbrev pub PlaceTells : Place → Output → Type 0
 PlaceTells p o = Tells p.code.now p.words.now p.levels o
 
@@ -28,7 +29,7 @@ Shows (Pair a b) o = (x : Output) × (y : Output) × (o ≡ pair x y) × PlaceTe
 Shows (Left a) o = (x : Output) × (o ≡ left x) × PlaceTells a x
 Shows (Right b) o = (y : Output) × (o ≡ right y) × PlaceTells b y
 
--- the places of a view have less levels than this
+-- the places of a view have fewer levels than this
 abbrev pub IsLower : View → ℕ → Type 0
 IsLower (Number n) levels = Unit {0}
 IsLower (Pair a b) levels = (a.levels < levels) × (b.levels < levels)

@@ -1,4 +1,4 @@
-// The schedule of a text, and its answer to a list of pairs.
+//! Reads the schedule of a text, and steps it through a list of pairs.
 
 ghost use Rattle.std.specs.Prelude.{◌≡◌, ◌≤◌, IfOk, IfErr, OnErr};
 ghost use Rattle.zs_term.specs.Schedule.{Schedule, schedule_of};
@@ -20,7 +20,7 @@ use std::alloc::Global;
 use zs_step::{Decision, Stepped};
 use zs_term::{Checked, TermFault};
 
-// The schedule that a text spells.
+// Reads the schedule that a text spells.
 pub(crate) fn schedule_in(alloc: Global, text: &[u8]) -> Result<Checked, Refusal>
     ensures ok { IfOk result (λ checked. SpellsSchedule text.now (schedule_of checked)) }
     ensures err { IfErr result (IsTextRefusal text.now) }
@@ -37,7 +37,7 @@ pub(crate) fn schedule_in(alloc: Global, text: &[u8]) -> Result<Checked, Refusal
     }
 }
 
-// The answer at the last pair of a text's schedule.
+// Returns the result of a text's schedule at the last pair.
 pub(crate) fn answered(alloc: Global, text: &[u8], seen: &[Seen]) -> Result<Stepped, Refusal>
     ensures ok { IfOk result (HasAnswer text.now (pairs_of seen.now)) }
     ensures err { IfErr result (IsRefusal text.now (pairs_of seen.now)) }
@@ -52,7 +52,8 @@ pub(crate) fn answered(alloc: Global, text: &[u8], seen: &[Seen]) -> Result<Step
     }
 }
 
-// Writes an answer down: the number of its decision, or want of memory, and then nothing is written.
+// Writes a result to `reply` and `out`, and returns the number of its decision. Fails only with
+// `Memory`, and then `out` is unchanged.
 pub(crate) fn told(
     alloc: Global,
     stepped: &Stepped,
@@ -80,7 +81,7 @@ pub(crate) fn told(
     Ok(number)
 }
 
-// The number of a decision, and the moment at which it goes on, or 0.
+// Returns the number of a decision, and the moment at which the schedule continues, or 0.
 fn decided(decision: Decision) -> (u32, u64)
     ensures number { result.0 ≡ decision_number decision }
     ensures told { result.0 ≤ 1 }

@@ -1,4 +1,4 @@
-// What a schedule does for every input, as C reads it.
+//! What a schedule does for every input, as C reads it.
 
 ghost use Rattle.std.specs.Prelude.{◌≡◌, IfOk, IfErr};
 ghost use Rattle.zs_c.specs.Bounded.{IsBounded, bounds_told, has_bound, bound_told, no_bounds_told};
@@ -13,24 +13,24 @@ use zs_bounds::Bounds;
 #[repr(C)]
 #[derive(Drop)]
 pub struct BoundsTold {
-    /// The number of steps that were looked at.
+    /// The number of steps that were examined.
     pub seen: u64,
     /// No step before this one is the last.
     pub least: u64,
-    /// 1 where there is a most, else 0.
+    /// 1 if `most` is a bound, else 0.
     pub has_most: u64,
     /// The step at which the schedule is done at the latest.
     pub most: u64,
-    /// The longest wait after a step that was looked at, in milliseconds.
+    /// The longest wait after a step that was examined, in milliseconds.
     pub longest: u64,
-    /// 1 where there is a total, else 0.
+    /// 1 if `total` is a bound, else 0.
     pub has_total: u64,
-    /// At most so many milliseconds of waiting in all.
+    /// All waits of a run together take at most this, in milliseconds.
     pub total: u64,
 }
 
 impl BoundsTold {
-    // Bounds as C reads them.
+    // Converts bounds to the form that C reads.
     pub(crate) fn of(bounds: Bounds) -> BoundsTold
         ensures value { result ≡ bounds_told bounds }
     {
@@ -45,7 +45,7 @@ impl BoundsTold {
         }
     }
 
-    // No bounds at all.
+    // Returns no bounds: every field is 0.
     pub(crate) fn nothing() -> BoundsTold
         ensures value { result ≡ no_bounds_told }
     {
@@ -61,7 +61,7 @@ impl BoundsTold {
     }
 }
 
-// The bounds of a text's schedule, of at most so many steps.
+// Returns the bounds of a text's schedule, over at most `steps` steps.
 pub(crate) fn bounds_in(alloc: Global, text: &[u8], steps: u64) -> Result<BoundsTold, Refusal>
     ensures ok { IfOk result (IsBounded text.now steps) }
     ensures err { IfErr result (IsTextRefusal text.now) }
@@ -71,7 +71,7 @@ pub(crate) fn bounds_in(alloc: Global, text: &[u8], steps: u64) -> Result<Bounds
     Ok(BoundsTold::of(bounds))
 }
 
-// Whether there is a bound: 1 or 0.
+// Returns 1 if there is a bound, else 0.
 fn has_bound(bound: Option<u64>) -> u64
     ensures value { result ≡ has_bound bound }
 {
@@ -81,7 +81,7 @@ fn has_bound(bound: Option<u64>) -> u64
     }
 }
 
-// A bound, or 0.
+// Returns a bound, or 0 if there is none.
 fn bound_told(bound: Option<u64>) -> u64
     ensures value { result ≡ bound_told bound }
 {

@@ -1,4 +1,4 @@
-// The functions that C calls.
+//! The functions that C calls.
 
 ghost use Rattle.std.specs.Prelude.{◌≡◌, ◌<◌, ◌≤◌, length};
 ghost use Rattle.zs_c.specs.Bounded.{IsBounded, no_bounds_told};
@@ -20,7 +20,8 @@ use crate::texts::{fault_words, has_byte};
 use itoa::Buffer;
 use std::alloc::Global;
 
-/// Whether a text spells a schedule: 0, or the number of the reason why not, and the byte at which that shows.
+/// Checks whether a text spells a schedule. Returns 0 if it does, else the number of the reason.
+/// Sets `at` to the byte at which a fault shows, or to 0.
 #[unsafe(no_mangle)]
 pub extern "C" fn zs_check(alloc: Global, text: &[u8], at: &mut u64) -> u32
     ensures spelled { result ≡ 0 → SpellsSome text.now }
@@ -39,9 +40,9 @@ pub extern "C" fn zs_check(alloc: Global, text: &[u8], at: &mut u64) -> u32
     }
 }
 
-/// The answer of the schedule that a text spells at the last of the pairs `seen`, the oldest first: 0 where it goes on,
-/// 1 where it is done, or the number of the reason why there is no answer. Of the output's text as many bytes are
-/// written as fit.
+/// Steps the schedule that a text spells through the pairs `seen`, oldest first. Returns 0 if the
+/// schedule continues after the last pair, 1 if it is done, else the number of an error. Writes the
+/// text of the last output to `out`, as far as it fits. After an error `out` is unchanged.
 #[unsafe(no_mangle)]
 pub extern "C" fn zs_answer(
     alloc: Global,
@@ -66,8 +67,9 @@ pub extern "C" fn zs_answer(
     why.number()
 }
 
-/// What the schedule of a text does for every input and every duration of attempts, where so many steps are looked at, at
-/// most: 0, or the number of the reason why that isn't known, and the byte at which that shows.
+/// Returns in `bounds` what the schedule of a text does for every input and every duration of
+/// attempts. At most `steps` steps are examined. Returns 0, or the number of an error, and sets
+/// `at` to the byte at which a fault shows, or to 0. After an error all fields of `bounds` are 0.
 #[unsafe(no_mangle)]
 pub extern "C" fn zs_bounds(
     alloc: Global,
@@ -95,8 +97,8 @@ pub extern "C" fn zs_bounds(
     }
 }
 
-/// The number of words that the state of a text's schedule has: 0, or the number of the reason why it has none, and the
-/// byte at which that shows.
+/// Sets `size` to the number of words of the state of a text's schedule. Returns 0, or the number
+/// of an error, and then `size` is 0. Sets `at` to the byte at which a fault shows, or to 0.
 #[unsafe(no_mangle)]
 pub extern "C" fn zs_state_size(alloc: Global, text: &[u8], size: &mut u64, at: &mut u64) -> u32
     ensures sized { result ≡ 0 → IsSized text.now size.new }
@@ -118,8 +120,9 @@ pub extern "C" fn zs_state_size(alloc: Global, text: &[u8], size: &mut u64, at: 
     }
 }
 
-/// Writes the state of a text's schedule before any step over the front of words: 0, or the number of the reason why
-/// not, and the byte at which that shows.
+/// Writes the state of a text's schedule before any step to the first words of `state`. Returns 0,
+/// or the number of an error, and sets `at` to the byte at which a fault shows, or to 0. After an
+/// error `state` is unchanged.
 #[unsafe(no_mangle)]
 pub extern "C" fn zs_begin(alloc: Global, text: &[u8], state: &mut [u64], at: &mut u64) -> u32
     ensures begun { result ≡ 0 → IsBegun text.now state.old state.new }
@@ -141,8 +144,9 @@ pub extern "C" fn zs_begin(alloc: Global, text: &[u8], state: &mut [u64], at: &m
     }
 }
 
-/// The answer of a text's schedule at one more step, whose state words tell: 0 where it goes on, 1 where it is done, or
-/// the number of the reason why there is no answer. The words then tell the state behind that step.
+/// Steps a text's schedule once, from the state that `state` represents. Returns 0 if the schedule
+/// continues, 1 if it is done, else the number of an error. The words then represent the state
+/// after that step. After an error `state` and `out` are unchanged.
 #[unsafe(no_mangle)]
 pub extern "C" fn zs_step(
     alloc: Global,
@@ -173,8 +177,8 @@ pub extern "C" fn zs_step(
     refusal.number()
 }
 
-/// Writes the text of a number and of the place beside it over the front of a room, as far as it fits, and answers how many
-/// bytes it has; none where the number is no fault.
+/// Writes the text of a number, and of the place that goes with it, to the front of `out`, as far
+/// as it fits. Returns the length of the text in bytes: 0 if the number is no fault.
 #[unsafe(no_mangle)]
 pub extern "C" fn zs_fault_text(number: u32, at: u64, out: &mut [u8]) -> u64
     ensures size { result ≡ length (fault_text number at) }
@@ -193,7 +197,8 @@ pub extern "C" fn zs_fault_text(number: u32, at: u64, out: &mut [u8]) -> u64
     (words.len() + place.len() + digits.len()) as u64
 }
 
-/// The version of the library: a million times the first of its numbers, a thousand times the second, and the third.
+/// The version of the library: a million times the first of its numbers, plus a thousand times the
+/// second, plus the third.
 #[unsafe(no_mangle)]
 pub extern "C" fn zs_version() -> u32
     ensures value { result ≡ version_number }
@@ -201,7 +206,7 @@ pub extern "C" fn zs_version() -> u32
     2_000
 }
 
-// The reply of a refusal.
+// Returns the reply for an error: its place, and 0 in all other fields.
 fn refused_at(why: Refusal) -> Reply
     ensures value { result ≡ record { next = 0; size = 0; visits = 0; at = refusal_place why } }
 {

@@ -1,4 +1,4 @@
-// The last answer to a list of moments and inputs.
+//! The result of a schedule at the last pair of a list of moments and inputs.
 
 ghost use Rattle.std.specs.Prelude.{◌≡◌, ◌<◌, length, IfOk, IfErr, IfSome, IfNone};
 ghost use Rattle.zs_term.specs.Schedule.{schedule_of};
@@ -13,7 +13,7 @@ use std::alloc::Global;
 use zs_step::{Compiled, Stepped};
 use zs_term::Checked;
 
-// The first pair whose moment is below that of the pair before it.
+// Returns the index of the first pair whose moment is below that of the pair before it.
 pub(crate) fn first_fall(seen: &[Seen]) -> Option<u64>
     ensures none { IfNone result (IsInOrder (history_of (pairs_of seen.now))) }
     ensures some { IfSome result (FallsFirstAt (pairs_of seen.now)) }
@@ -28,7 +28,8 @@ pub(crate) fn first_fall(seen: &[Seen]) -> Option<u64>
     None
 }
 
-// The answer at the last pair, by a new `Compiled` that is stepped once for each.
+// Returns the result at the last pair: steps a new `Compiled` once for each pair. Fails only with
+// `Memory`.
 pub(crate) fn last_answer(
     alloc: Global,
     checked: Checked,

@@ -1,10 +1,12 @@
-//! Schedules as a library for C, and so for all that calls C.
+//! Schedules as a library for C, and for every language that calls C.
 //!
-//! No call keeps anything: the state of a schedule is the list of the moments and inputs that it has seen, and that list
-//! is the caller's. `zs_check` tells whether a text is a schedule, and `zs_answer` what that schedule answers at the last
-//! step of a list. `zs_begin` and `zs_step` have words of a fixed number in place of the list.
-//! `zs_bounds` tells what the schedule does for every input.
-//! `include/zsched.h` says how C calls them. Start with `specs/Told.antt`.
+//! No call stores anything. The state of a schedule is the list of the moments and inputs that it
+//! has seen, and the caller stores that list. `zs_check` returns whether a text is a schedule.
+//! `zs_answer` returns the result of that schedule at the last step of a list. `zs_begin` and
+//! `zs_step` use a fixed number of words in place of the list. `zs_bounds` returns what the
+//! schedule does for every input.
+//!
+//! `include/zsched.h` says how C calls them. Begin with `specs/Told.antt`.
 #![tactic(auto)]
 
 mod answering;

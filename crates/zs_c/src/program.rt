@@ -1,4 +1,4 @@
-// Schedules that are written into words once, and stepped over words.
+//! Schedules that are compiled to words once, and stepped from those words.
 
 mod clearing;
 mod coding;

@@ -1,4 +1,4 @@
-// Why a call has no answer, and the numbers by which C knows that.
+//! Why a call fails, and the number of each reason for C.
 
 ghost use Rattle.std.specs.Prelude.{◌≡◌};
 ghost use Rattle.zs_c.specs.Numbers.{fault_number, fault_place, refusal_number, refusal_place};
@@ -8,7 +8,7 @@ use std::alloc::AllocError;
 use zs_step::StepFault;
 use zs_term::TermFault;
 
-/// Why there is no answer.
+/// Why a call fails.
 #[derive(Clone, Copy)]
 pub(crate) enum Refusal {
     /// No pair was given.
@@ -19,7 +19,7 @@ pub(crate) enum Refusal {
     NotUtf8 { at: u64 },
     /// Memory ran out.
     Memory,
-    /// The schedule keeps a list, for which words have no place.
+    /// The schedule stores a list, which words can't represent.
     KeepsList,
     /// The words are fewer than the schedule's state has.
     NoRoom,
@@ -28,7 +28,7 @@ pub(crate) enum Refusal {
 }
 
 impl Refusal {
-    // The number by which C knows it.
+    // Returns its number for C.
     pub(crate) fn number(self) -> u32
         ensures value { result ≡ refusal_number self }
     {
@@ -43,7 +43,7 @@ impl Refusal {
         }
     }
 
-    // The byte or the pair at which it shows.
+    // Returns the byte or the pair at which it shows, or 0.
     pub(crate) fn place(self) -> u64
         ensures value { result ≡ refusal_place self }
     {
@@ -55,7 +55,7 @@ impl Refusal {
     }
 }
 
-// The number of a text's fault.
+// Returns the number of a text's fault.
 fn number_of(fault: TermFault) -> u32
     ensures value { result ≡ fault_number fault }
 {
@@ -70,7 +70,7 @@ fn number_of(fault: TermFault) -> u32
     }
 }
 
-// The byte at which a text's fault shows.
+// Returns the byte at which a text's fault shows, or 0.
 fn place_of(fault: TermFault) -> u64
     ensures value { result ≡ fault_place fault }
 {

@@ -1,15 +1,15 @@
-// What a call tells beside its number.
+//! What a call returns besides its number.
 
-/// The answer of a schedule at a step, or the place of what was refused. A field that says nothing is 0.
+/// The result of a schedule at a step, or the place of an error. A field that says nothing is 0.
 #[repr(C)]
 #[derive(Drop)]
 pub struct Reply {
-    /// The moment from which the schedule goes on, in milliseconds.
+    /// The moment at which the schedule continues, in milliseconds.
     pub next: u64,
     /// The number of bytes of the output's text.
     pub size: u64,
     /// The number of nodes that the step visited.
     pub visits: u64,
-    /// The byte of the text, or the pair of the list, at which a refusal shows, from 0.
+    /// The byte of the text, or the pair of the list, at which an error shows, from 0.
     pub at: u64,
 }

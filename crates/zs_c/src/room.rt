@@ -1,9 +1,9 @@
-// Texts and words in rooms that C gives.
+//! Writes texts and words to buffers of the caller.
 
 ghost use Rattle.std.specs.Prelude.{◌≡◌, ◌≤◌, ◌++◌, length, take, drop};
 ghost use Rattle.zs_c.specs.Told.{written};
 
-// Writes a text over the front of a room, as far as it fits.
+// Writes a text to the front of a buffer, as far as it fits.
 pub(crate) fn put(room: &mut [u8], text: &[u8])
     ensures front { room.new ≡ written text.now room.old }
 {
@@ -11,7 +11,7 @@ pub(crate) fn put(room: &mut [u8], text: &[u8])
     room[..fitting].copy_from_slice(&text[..fitting]);
 }
 
-// Writes a text behind the first bytes of a room, as far as it fits.
+// Writes a text after the first bytes of a buffer, as far as it fits.
 pub(crate) fn put_behind(room: &mut [u8], first: usize, text: &[u8])
     ensures behind { room.new ≡ take first room.old ++ written text.now (drop first room.old) }
 {
@@ -20,7 +20,7 @@ pub(crate) fn put_behind(room: &mut [u8], first: usize, text: &[u8])
     }
 }
 
-// Writes words over the front of a room that holds them.
+// Writes words to the front of a buffer that has at least their length.
 pub(crate) fn put_words(room: &mut [u64], words: &[u64])
     requires fits { length words.now ≤ length room.old }
     ensures front { room.new ≡ words.now ++ drop (length words.now) room.old }

@@ -1,4 +1,4 @@
-// The steps that a schedule has seen, as C gives them.
+//! The steps that a schedule has seen, as C gives them.
 
 /// What a schedule saw at one step.
 #[repr(C)]

@@ -1,4 +1,4 @@
-// The state of a schedule as words in the caller's memory.
+//! The state of a schedule as words in the caller's memory.
 
 ghost use Rattle.std.specs.Prelude.{◌≤◌, length, IfOk, IfErr};
 ghost use Rattle.zs_term.specs.Schedule.{schedule_of};
@@ -10,7 +10,7 @@ use std::alloc::Global;
 use zs_step::{Stepped, keeps_no_list, step_words};
 use zs_term::Checked;
 
-// The schedule of a text, which keeps no list.
+// Reads the schedule of a text. Fails if the schedule stores a list.
 pub(crate) fn flat_schedule_in(alloc: Global, text: &[u8]) -> Result<Checked, Refusal>
     ensures ok { IfOk result (λ checked. SpellsFlat text.now (schedule_of checked)) }
     ensures err { IfErr result (IsSizeRefusal text.now) }
@@ -22,7 +22,7 @@ pub(crate) fn flat_schedule_in(alloc: Global, text: &[u8]) -> Result<Checked, Re
     Ok(checked)
 }
 
-// The words of a text's schedule before any step.
+// Returns the words of a text's schedule before any step.
 pub(crate) fn new_words(alloc: Global, text: &[u8]) -> Result<Vec<u64>, Refusal>
     ensures ok { IfOk result (λ v. IsNew text.now v.items) }
     ensures err { IfErr result (IsSizeRefusal text.now) }
@@ -31,7 +31,7 @@ pub(crate) fn new_words(alloc: Global, text: &[u8]) -> Result<Vec<u64>, Refusal>
     Ok(zs_step::new_words(alloc, &checked)?)
 }
 
-// The same, where a room holds them.
+// The same, if they fit in `room`.
 pub(crate) fn fitting_words(alloc: Global, text: &[u8], room: &[u64]) -> Result<Vec<u64>, Refusal>
     ensures ok { IfOk result (λ v. IsNew text.now v.items) }
     ensures fits { IfOk result (λ v. length v.items ≤ length room.now) }
@@ -44,7 +44,8 @@ pub(crate) fn fitting_words(alloc: Global, text: &[u8], room: &[u64]) -> Result<
     Ok(words)
 }
 
-// The answer of a text's schedule at one more step, and the words of its state from then on.
+// Steps a text's schedule once, from the words of its state. Returns the result, and the words of
+// the state after that step.
 pub(crate) fn stepped(
     alloc: Global,
     text: &[u8],

@@ -1,9 +1,9 @@
-// The texts of the numbers that C is told.
+//! The texts of the numbers that calls return to C.
 
 ghost use Rattle.std.specs.Prelude.{◌≡◌};
 ghost use Rattle.zs_c.specs.FaultText.{fault_words, has_byte};
 
-// The words of a number; none where the number is no fault.
+// Returns the text of a number, or an empty text if the number is no fault.
 pub(crate) fn fault_words(number: u32) -> &'static str
     ensures value { result.now ≡ fault_words number }
 {
@@ -26,7 +26,7 @@ pub(crate) fn fault_words(number: u32) -> &'static str
     }
 }
 
-// Whether the place beside a number is a byte of the text.
+// Whether the place that goes with a number is a byte of the text.
 pub(crate) fn has_byte(number: u32) -> bool
     ensures value { result ≡ has_byte number }
 {

@@ -1,4 +1,4 @@
-// The words of a state before any step.
+//! The words of a state before any step.
 
 ghost use Rattle.std.specs.Prelude.{◌≡◌, ℕ, ◌+◌, List, [], ◌∷◌, ◌++◌, length};
 ghost use Rattle.zs_term.specs.Schedule.{Schedule};
@@ -8,7 +8,7 @@ ghost use Rattle.zs_c.specs.Node.{rule_leaf, IsParts};
 use crate::program::leaf::set_word;
 use crate::program::node::{Node, Rule, Sizes, behind, front, read_node};
 
-// Makes the words of a code's state those before any step.
+// Resets the words of a code's state to those before any step.
 #[cycle(clearing)]
 pub(crate) fn clear(code: &[u64], words: &mut [u64], levels: u64)
     ensures clears { (t : Schedule) → IsCode t code.now levels → length words.old ≡ held_size t
@@ -33,7 +33,7 @@ pub(crate) fn clear(code: &[u64], words: &mut [u64], levels: u64)
     }
 }
 
-// The same of two parts.
+// The same for two parts.
 #[cycle(clearing)]
 fn clear_parts(code: &[u64], words: &mut [u64], sizes: Sizes, levels: u64)
     ensures clears { (a b : Schedule) → IsParts a b sizes code.now levels
@@ -47,7 +47,7 @@ fn clear_parts(code: &[u64], words: &mut [u64], sizes: Sizes, levels: u64)
     }
 }
 
-// The same of a leaf.
+// The same for a leaf.
 fn clear_leaf(rule: Rule, words: &mut [u64])
     ensures clears { length words.old ≡ length (leaf_held (rule_leaf rule) [])
         → words.new ≡ leaf_held (rule_leaf rule) [] }

@@ -1,4 +1,4 @@
-// Writes a term as a program.
+//! Writes a term as a program.
 
 ghost use Rattle.std.specs.Prelude.{◌≡◌, ◌+◌, ◌*◌, ◌≤◌, [], ◌∷◌, ◌++◌, length, IfOk, OnOk};
 ghost use Rattle.zs_term.specs.Schedule.{schedule_of, weight};
@@ -9,7 +9,7 @@ use crate::program::opening::{PROGRAM_VERSION, check_word};
 use std::alloc::{AllocError, Global};
 use zs_term::{Checked, Cmp, Func, Pick, Term};
 
-// The program of a schedule.
+// Returns the program of a schedule.
 pub(crate) fn new_program(alloc: Global, checked: &Checked) -> Result<Vec<u64>, AllocError>
     ensures ok { IfOk result (λ v. v.items ≡ program_of (schedule_of checked.now)) }
 {
@@ -23,7 +23,7 @@ pub(crate) fn new_program(alloc: Global, checked: &Checked) -> Result<Vec<u64>, 
     Ok(program)
 }
 
-// The number of words that the state of a term has.
+// Returns the number of words of the state of a term.
 pub(crate) fn state_size(term: &Term) -> u64
     requires small { weight (schedule_of term.now) ≤ 1000 }
     ensures value { result ≡ held_size (schedule_of term.now) }
@@ -48,7 +48,7 @@ pub(crate) fn state_size(term: &Term) -> u64
     }
 }
 
-// The number of words of a term's code.
+// Returns the number of words of a term's code.
 fn code_size(term: &Term) -> u64
     requires small { weight (schedule_of term.now) ≤ 1000 }
     ensures value { result ≡ length (code_of (schedule_of term.now)) }
@@ -74,7 +74,7 @@ fn code_size(term: &Term) -> u64
     }
 }
 
-// Writes the code of a term behind some words.
+// Appends the code of a term.
 #[cycle(coding)]
 fn write_code(term: &Term, code: &mut Vec<u64>) -> Result<(), AllocError>
     requires small { weight (schedule_of term.now) ≤ 1000 }
@@ -117,7 +117,7 @@ fn write_code(term: &Term, code: &mut Vec<u64>) -> Result<(), AllocError>
     }
 }
 
-// Writes the tag of an operator between two terms, the sizes of the first, and both.
+// Appends the tag of an operator between two terms, the sizes of the first, and the code of both.
 #[cycle(coding)]
 fn write_parts(tag: u64, a: &Term, b: &Term, code: &mut Vec<u64>) -> Result<(), AllocError>
     requires small { weight (schedule_of a.now) + weight (schedule_of b.now) ≤ 1000 }
@@ -134,7 +134,7 @@ fn write_parts(tag: u64, a: &Term, b: &Term, code: &mut Vec<u64>) -> Result<(), 
     write_code(b, code)
 }
 
-// The word of a comparison.
+// Returns the word of a comparison.
 fn cmp_word(cmp: Cmp) -> u64
     ensures value { result ≡ cmp_word cmp }
 {
@@ -148,7 +148,7 @@ fn cmp_word(cmp: Cmp) -> u64
     }
 }
 
-// The word of what a test reads.
+// Returns the word of what a test reads.
 fn pick_word(pick: Pick) -> u64
     ensures value { result ≡ pick_word pick }
 {
@@ -160,7 +160,7 @@ fn pick_word(pick: Pick) -> u64
     }
 }
 
-// The word of a function.
+// Returns the word of a function.
 fn func_word(func: Func) -> u64
     ensures value { result ≡ func_word func }
 {
@@ -175,7 +175,7 @@ fn func_word(func: Func) -> u64
     }
 }
 
-// The number of a function, or 0.
+// Returns the number of a function, or 0.
 fn func_number(func: Func) -> u64
     ensures value { result ≡ func_number func }
 {

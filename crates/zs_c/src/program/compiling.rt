@@ -1,4 +1,4 @@
-// The program of a text's schedule.
+//! The program of a text's schedule.
 
 ghost use Rattle.std.specs.Prelude.{◌≡◌, ◌≤◌, length, IfOk, IfErr};
 ghost use Rattle.zs_c.specs.States.{IsSizeRefusal};
@@ -9,7 +9,7 @@ use crate::refusal::Refusal;
 use crate::states::flat_schedule_in;
 use std::alloc::Global;
 
-// How many words the program of a text's schedule has, and how many its state.
+// Returns the number of words of the program of a text's schedule, and that of its state.
 pub(crate) fn sizes_in(alloc: Global, text: &[u8]) -> Result<(u64, u64), Refusal>
     ensures ok { IfOk result (λ r. IsProgramSized text.now r.0 r.1) }
     ensures err { IfErr result (IsSizeRefusal text.now) }
@@ -19,7 +19,7 @@ pub(crate) fn sizes_in(alloc: Global, text: &[u8]) -> Result<(u64, u64), Refusal
     Ok((program.len() as u64, state_size(checked.term()) + 2))
 }
 
-// The program of a text's schedule, where a room holds it.
+// Returns the program of a text's schedule, if it fits in `room`.
 pub(crate) fn fitting_program(alloc: Global, text: &[u8], room: &[u64]) -> Result<Vec<u64>, Refusal>
     ensures ok { IfOk result (λ v. IsNewProgram text.now v.items) }
     ensures fits { IfOk result (λ v. length v.items ≤ length room.now) }

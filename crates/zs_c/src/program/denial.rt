@@ -1,4 +1,4 @@
-// Why a program isn't begun or stepped.
+//! Why a program isn't begun or stepped.
 
 ghost use Rattle.std.specs.Prelude.{◌≡◌};
 ghost use Rattle.zs_c.specs.Programs.{denial_number};
@@ -17,7 +17,7 @@ pub(crate) enum Denial {
 }
 
 impl Denial {
-    // The number by which C knows it.
+    // Returns its number for C.
     pub(crate) fn number(self) -> u32
         ensures value { result ≡ denial_number self }
     {

@@ -1,4 +1,4 @@
-// The functions over programs that C calls.
+//! The functions over programs that C calls.
 
 ghost use Rattle.std.specs.Prelude.{◌≡◌, ◌<◌, ◌≤◌, length};
 ghost use Rattle.zs_term.specs.Schedule.{Schedule};
@@ -13,8 +13,9 @@ use crate::reply::Reply;
 use crate::room::put_words;
 use std::alloc::Global;
 
-/// How many words the program of a text's schedule has, and how many its state: 0, or the number of the reason why it has
-/// none, and the byte at which that shows.
+/// Sets `size` and `state_size` to the number of words of the program of a text's schedule, and of
+/// its state. Returns 0, or the number of an error, and sets `at` to the byte at which a fault
+/// shows, or to 0. After an error both sizes are 0.
 #[unsafe(no_mangle)]
 pub extern "C" fn zs_program_size(
     alloc: Global,
@@ -38,8 +39,9 @@ pub extern "C" fn zs_program_size(
     number
 }
 
-/// Writes the program of a text's schedule over the front of words: 0, or the number of the reason why not, and the byte at
-/// which that shows.
+/// Writes the program of a text's schedule to the first words of `program`. Returns 0, or the
+/// number of an error, and sets `at` to the byte at which a fault shows, or to 0. After an error
+/// `program` is unchanged.
 #[unsafe(no_mangle)]
 pub extern "C" fn zs_compile(alloc: Global, text: &[u8], program: &mut [u64], at: &mut u64) -> u32
     ensures compiled { result ≡ 0 → IsCompiled text.now program.old program.new }
@@ -61,8 +63,8 @@ pub extern "C" fn zs_compile(alloc: Global, text: &[u8], program: &mut [u64], at
     }
 }
 
-/// Writes the state of a program before any step over the front of words: 0, or the number of the reason why not. It takes
-/// no memory.
+/// Writes the state of a program before any step to the first words of `state`. Returns 0, or the
+/// number of an error. After an error `state` is unchanged. The call allocates no memory.
 #[unsafe(no_mangle)]
 pub extern "C" fn zs_program_begin(program: &[u64], state: &mut [u64]) -> u32
     ensures begun { result ≡ 0 → (t : Schedule) → IsProgram program.now t
@@ -79,8 +81,9 @@ pub extern "C" fn zs_program_begin(program: &[u64], state: &mut [u64]) -> u32
     }
 }
 
-/// The answer of a program at one more step, whose state words tell: 0 where it goes on, 1 where it is done, or the number
-/// of the reason why there is no answer. The words then tell the state behind that step. It takes no memory.
+/// Steps a program once, from the state that `state` represents. Returns 0 if the schedule
+/// continues, 1 if it is done, else the number of an error. The words then represent the state
+/// after that step. After an error `state` and `out` are unchanged. The call allocates no memory.
 #[unsafe(no_mangle)]
 pub extern "C" fn zs_program_step(
     program: &[u64],

@@ -1,4 +1,5 @@
-// One step of a leaf, in the words of its state: the output of its last step, and what the next one has to know.
+//! One step of a leaf, in the words of its state: the output of its last step, and what the next
+//! step needs to know.
 
 ghost use Rattle.std.specs.Prelude.{◌≡◌, ℕ, ◌+◌, List, [], ◌∷◌, length, nat_eq, if◌then◌else◌, slice_set};
 ghost use Rattle.zs_term.specs.Saturating.{saturated};
@@ -12,14 +13,14 @@ ghost use Rattle.zs_c.specs.Node.{rule_leaf};
 use crate::program::node::{Rule, word};
 use zs_step::Decision;
 
-// What each node is told of a step.
+// The moment and the input of a step.
 #[derive(Drop)]
 pub(crate) struct Step {
     pub(crate) moment: u64,
     pub(crate) input: u64,
 }
 
-// One step of a leaf.
+// Steps a leaf once.
 pub(crate) fn step_leaf(rule: Rule, words: &mut [u64], step: &Step) -> Decision
     ensures held { (h : History) → words.old ≡ leaf_held (rule_leaf rule) h
         → words.new ≡ leaf_held (rule_leaf rule) ((step.now.moment, step.now.input) ∷ h) }
@@ -73,7 +74,7 @@ pub(crate) fn step_leaf(rule: Rule, words: &mut [u64], step: &Step) -> Decision
     }
 }
 
-// One step of `fixed`, whatever its input.
+// Steps a `fixed` once, with any input.
 fn step_fixed(period: u64, words: &mut [u64], now: u64) -> Decision
     ensures held { (h : History) (input : ℕ) → words.old ≡ leaf_held (fixed period) h
         → words.new ≡ leaf_held (fixed period) ((now, input) ∷ h) }
@@ -90,7 +91,7 @@ fn step_fixed(period: u64, words: &mut [u64], now: u64) -> Decision
     Decision::Next(run)
 }
 
-// Writes a word, where there is one.
+// Writes a word, if there is one at this index.
 #[inline(always)]
 pub(crate) fn set_word(words: &mut [u64], at: usize, word: u64)
     ensures value { words.new ≡ slice_set words.old at word }
@@ -100,7 +101,8 @@ pub(crate) fn set_word(words: &mut [u64], at: usize, word: u64)
     }
 }
 
-// Counts a step in the second word: the output is how many there were before it.
+// Counts a step in the second word. Writes the number of steps before it to the first word, as the
+// output, and returns that number.
 #[inline(always)]
 fn count(words: &mut [u64]) -> u64
     ensures counted { (o n : ℕ) (rest : List ℕ) → words.old ≡ o ∷ (n ∷ rest)
@@ -113,7 +115,7 @@ fn count(words: &mut [u64]) -> u64
     before
 }
 
-// The same, with the moment of the first step in the third word, which is answered too.
+// The same, with the moment of the first step in the third word. Returns that moment too.
 fn count_from(words: &mut [u64], now: u64) -> (u64, u64)
     ensures counted { (o n m : ℕ) (rest : List ℕ) → words.old ≡ o ∷ (n ∷ (m ∷ rest))
         → words.new ≡ n ∷ (saturated (n + 1) ∷ ((if nat_eq n 0 then now else m) ∷ rest)) }
@@ -128,7 +130,7 @@ fn count_from(words: &mut [u64], now: u64) -> (u64, u64)
     (before, word(words, 2))
 }
 
-// Puts an output and the delay of the next step, and waits for the output.
+// Writes a delay as the output and `next` as the second word. Continues after the delay.
 #[inline(always)]
 fn wait(words: &mut [u64], delay: u64, next: u64, now: u64) -> Decision
     ensures put { (o x : ℕ) (rest : List ℕ) → words.old ≡ o ∷ (x ∷ rest)
@@ -140,7 +142,7 @@ fn wait(words: &mut [u64], delay: u64, next: u64, now: u64) -> Decision
     Decision::Next(now.saturating_add(delay))
 }
 
-// The end of the window that a moment lies in.
+// Returns the end of the window that contains a moment. A window of 0 ends at once.
 fn window_end(period: u64, first: u64, now: u64) -> u64
     ensures value { result ≡ window_end period first now }
 {
@@ -151,7 +153,7 @@ fn window_end(period: u64, first: u64, now: u64) -> u64
     now.saturating_add(period - late)
 }
 
-// The next run of a fixed period at a step after the first.
+// Returns the next run of a fixed period, at a step after the first.
 fn run_after(period: u64, first: u64, run: u64, now: u64) -> u64
     ensures value { result ≡ run_after period first run now }
 {

@@ -1,11 +1,11 @@
-// The nodes of a program: what the words of a code begin with.
+//! The nodes of a program, read from the front of a code.
 
 ghost use Rattle.std.specs.Prelude.{◌≡◌, take, drop};
 ghost use Rattle.zs_c.specs.Node.{word_at, sizes_at, cmp_of, test_of, pick_of, func_of, rule_at, node_at};
 
 use zs_term::{Cmp, Func, Pick, Test};
 
-// The sizes of an operator's first part: the words of its code, and those of its state.
+// The sizes of an operator's first part: the number of words of its code, and of its state.
 #[derive(Clone, Copy)]
 pub(crate) struct Sizes {
     pub(crate) code: u64,
@@ -27,7 +27,7 @@ pub(crate) enum Rule {
     Exponential(u64, u64),
 }
 
-// A leaf, or an operator with what its parts don't tell.
+// A leaf, or an operator without its parts.
 #[derive(Clone, Copy)]
 pub(crate) enum Node {
     Leaf(Rule),
@@ -40,7 +40,7 @@ pub(crate) enum Node {
     ResetWhen(Pick, Test),
 }
 
-// The node that a code begins with. Words that are no code are read as some node.
+// Reads the node at the front of a code. Words that are no code are read as some node.
 #[inline(always)]
 #[tactic(auto, unfolding(crate::specs::Node::node_at))]
 pub(crate) fn read_node(code: &[u64]) -> Node
@@ -64,7 +64,7 @@ pub(crate) fn read_node(code: &[u64]) -> Node
     }
 }
 
-// The leaf that a code is.
+// Reads the leaf at the front of a code.
 #[inline(always)]
 #[tactic(auto, unfolding(crate::specs::Node::rule_at))]
 fn read_rule(code: &[u64]) -> Rule
@@ -84,7 +84,7 @@ fn read_rule(code: &[u64]) -> Rule
     }
 }
 
-// A word, or 0 past the end.
+// Returns the word at an index, or 0 past the end.
 #[inline(always)]
 pub(crate) fn word(words: &[u64], at: usize) -> u64
     ensures value { result ≡ word_at words.now at }
@@ -92,7 +92,7 @@ pub(crate) fn word(words: &[u64], at: usize) -> u64
     if at < words.len() { words[at] } else { 0 }
 }
 
-// The words from a place on.
+// Returns the words from an index on.
 #[inline(always)]
 pub(crate) fn behind(words: &[u64], at: usize) -> &[u64]
     ensures value { result.now ≡ drop at words.now }
@@ -100,7 +100,7 @@ pub(crate) fn behind(words: &[u64], at: usize) -> &[u64]
     if at <= words.len() { &words[at..] } else { &[] }
 }
 
-// The first words.
+// Returns the first `size` words, or all words if there are fewer.
 #[inline(always)]
 pub(crate) fn front(words: &[u64], size: usize) -> &[u64]
     ensures value { result.now ≡ take size words.now }
@@ -112,7 +112,7 @@ pub(crate) fn front(words: &[u64], size: usize) -> &[u64]
     }
 }
 
-// The sizes behind an operator's tag.
+// Reads the sizes after an operator's tag.
 #[inline(always)]
 fn read_sizes(code: &[u64]) -> Sizes
     ensures value { result ≡ sizes_at code.now }
@@ -123,7 +123,7 @@ fn read_sizes(code: &[u64]) -> Sizes
     }
 }
 
-// A comparison with a number.
+// Reads a comparison with a number.
 #[inline(always)]
 fn read_test(word: u64, than: u64) -> Test
     ensures value { result ≡ test_of word than }
@@ -134,7 +134,7 @@ fn read_test(word: u64, than: u64) -> Test
     }
 }
 
-// A comparison.
+// Reads a comparison.
 #[inline(always)]
 fn read_cmp(word: u64) -> Cmp
     ensures value { result ≡ cmp_of word }
@@ -149,7 +149,7 @@ fn read_cmp(word: u64) -> Cmp
     }
 }
 
-// What a test reads.
+// Reads what a test reads.
 #[inline(always)]
 fn read_pick(word: u64) -> Pick
     ensures value { result ≡ pick_of word }
@@ -162,7 +162,7 @@ fn read_pick(word: u64) -> Pick
     }
 }
 
-// A function, whose number is 0 where it has none.
+// Reads a function. `n` is its number, if it has one.
 #[inline(always)]
 fn read_func(word: u64, n: u64) -> Func
     ensures value { result ≡ func_of word n }

@@ -1,4 +1,4 @@
-// Whether words are a program.
+//! Whether words are a program.
 
 ghost use Rattle.std.specs.Prelude.{◌≡◌, IfSome, IfNone};
 ghost use Rattle.zs_term.specs.Schedule.{Schedule};
@@ -8,10 +8,10 @@ ghost use Rattle.zs_c.specs.Opened.{Opens};
 /// The first word of each program: the version of its form.
 pub(crate) const PROGRAM_VERSION: u64 = 0x7a73_6368_6564_0001;
 
-/// By what a check word is multiplied before each word. It is odd.
+/// The factor of a check word before each word is added to it. It is odd.
 pub(crate) const CHECK_FACTOR: u64 = 0x9e37_79b9_7f4a_7c15;
 
-// A program's check word, how many words its state has behind the last moment, and its code.
+// A program's check word, the number of words of its state after the last moment, and its code.
 #[derive(Clone, Copy)]
 pub(crate) struct Opened<'a> {
     pub(crate) check: u64,
@@ -19,7 +19,7 @@ pub(crate) struct Opened<'a> {
     pub(crate) code: &'a [u64],
 }
 
-// The program that words begin with.
+// Opens the program at the front of words. Returns `None` if they begin with no program.
 #[inline(always)]
 pub(crate) fn open(program: &[u64]) -> Option<Opened<'_>>
     ensures some { IfSome result (λ o. (t : Schedule) → IsProgram program.now t → Opens o t) }
@@ -39,7 +39,7 @@ pub(crate) fn open(program: &[u64]) -> Option<Opened<'_>>
     })
 }
 
-// The check word over some words.
+// Returns the check word of some words.
 pub(crate) fn check_word(words: &[u64]) -> u64
     ensures value { result ≡ check_word words.now }
 {

@@ -1,4 +1,4 @@
-// The text of an output, straight from the words that tell it.
+//! The text of an output, written directly from the words that represent it.
 
 ghost use Rattle.std.specs.Prelude.{◌≡◌, ◌+◌, ◌^◌, ◌<◌, [], ◌∷◌, ◌++◌, codes, length};
 ghost use Rattle.std.specs.Fmt.{decimal};
@@ -12,8 +12,8 @@ use crate::program::outputs::{Place, View, part, parts, read_view};
 use crate::room::put_behind;
 use itoa::Buffer;
 
-// Writes the text of the output of a node's last step behind the first bytes of a room, as far as it fits, and answers
-// where it ends.
+// Writes the text of the output of a node's last step to `room` from byte `at` on, as far as it
+// fits. Returns the index at which the text ends.
 #[cycle(texts)]
 pub(crate) fn put_output(place: Place<'_>, room: &mut [u8], at: usize) -> usize
     ensures text { (o : Output) → PlaceTells place.entry o → at + length (output_text o) < 2 ^ 64
@@ -59,7 +59,7 @@ fn put_pair(first: Place<'_>, second: Place<'_>, room: &mut [u8], at: usize) -> 
     put_byte(b')', room, end)
 }
 
-// Writes the text of a side.
+// Writes the text of one side of a choice: `side`, the output and a bracket.
 #[cycle(texts)]
 fn put_side(side: &[u8], part: Place<'_>, room: &mut [u8], at: usize) -> usize
     ensures text { (o : Output) → PlaceTells part.entry o

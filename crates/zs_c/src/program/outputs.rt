@@ -1,4 +1,4 @@
-// The output of a node's last step, which the words of its state tell.
+//! The output of a node's last step, read from the words of its state.
 
 ghost use Rattle.std.specs.Prelude.{◌≡◌, ◌-◌, take, drop};
 ghost use Rattle.zs_term.specs.Output.{Output, number_in, picked, applied};
@@ -15,7 +15,7 @@ pub(crate) struct Place<'a> {
     pub(crate) levels: u64,
 }
 
-// An output: a number, or what it is made of.
+// An output: a number, or the places of its parts.
 #[derive(Clone, Copy)]
 pub(crate) enum View<'a> {
     Number(u64),
@@ -24,7 +24,7 @@ pub(crate) enum View<'a> {
     Right(Place<'a>),
 }
 
-// The output of a node's last step.
+// Reads the output of a node's last step.
 #[cycle(viewing)]
 pub(crate) fn read_view(place: Place<'_>) -> View<'_>
     ensures shows { (o : Output) → PlaceTells place.entry o → Shows result o }
@@ -53,7 +53,7 @@ pub(crate) fn read_view(place: Place<'_>) -> View<'_>
     }
 }
 
-// A function of a part's output.
+// Reads a function of a part's output.
 #[cycle(viewing)]
 fn read_mapped(func: Func, part: Place<'_>) -> View<'_>
     ensures shows { (o : Output) → PlaceTells part.entry o → Shows result (applied func o) }
@@ -80,7 +80,7 @@ fn read_mapped(func: Func, part: Place<'_>) -> View<'_>
     }
 }
 
-// The part of an operator, whose code begins at a place.
+// Returns the part of an operator. Its code begins at the index `at`.
 #[inline(always)]
 pub(crate) fn part(place: Place<'_>, at: usize) -> Place<'_>
     ensures code { result.code.now ≡ drop at place.entry.code.now }
@@ -94,7 +94,7 @@ pub(crate) fn part(place: Place<'_>, at: usize) -> Place<'_>
     }
 }
 
-// Both parts of an operator, whose words begin at a place.
+// Returns both parts of an operator. Their words begin at the index `at`.
 #[inline(always)]
 pub(crate) fn parts(place: Place<'_>, sizes: Sizes, at: usize) -> (Place<'_>, Place<'_>)
     ensures first_code { result.0.code.now ≡ take sizes.code (drop 3 place.entry.code.now) }
@@ -120,7 +120,7 @@ pub(crate) fn parts(place: Place<'_>, sizes: Sizes, at: usize) -> (Place<'_>, Pl
     (first, second)
 }
 
-// The number, or 0 of another output.
+// Returns the number of an output, or 0 if the output is no number.
 fn number_in(view: View<'_>) -> u64
     ensures value { (o : Output) → Shows view.entry o → result ≡ number_in o }
 {
@@ -130,7 +130,7 @@ fn number_in(view: View<'_>) -> u64
     }
 }
 
-// The number that a test reads.
+// Returns the number that a test reads.
 pub(crate) fn read_number(pick: Pick, place: Place<'_>) -> u64
     ensures value { (o : Output) → PlaceTells place.entry o → result ≡ picked pick o }
 {

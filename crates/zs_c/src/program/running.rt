@@ -1,4 +1,4 @@
-// A program over the words of its state.
+//! Begins and steps a program, in the words of its state.
 
 ghost use Rattle.std.specs.Prelude.{◌≡◌, ◌+◌, ◌≤◌, [], ◌∷◌, length, drop, slice_index_or, IfOk, IfErr};
 ghost use Rattle.zs_term.specs.OutputText.{output_text};
@@ -24,7 +24,7 @@ use zs_step::Decision;
 /// The greatest depth of a schedule.
 const MAX_DEPTH: u64 = 64;
 
-// A program, and that the words are no fewer than its state has.
+// Opens a program. Fails if the words are no program, or if `state` has fewer words than its state.
 #[inline(always)]
 pub(crate) fn fitting<'a>(program: &'a [u64], state: &[u64]) -> Result<Opened<'a>, Denial>
     ensures ok { IfOk result (λ o. (t : Schedule) → IsProgram program.now t → Opens o t) }
@@ -40,7 +40,8 @@ pub(crate) fn fitting<'a>(program: &'a [u64], state: &[u64]) -> Result<Opened<'a
     Ok(opened)
 }
 
-// The same, and that the words are a state of the program, whose last moment isn't later than this one.
+// The same for a step. Also fails if the words are another program's state, or if `moment` is below
+// the last moment.
 #[inline(always)]
 pub(crate) fn steppable<'a>(
     program: &'a [u64],
@@ -71,7 +72,8 @@ pub(crate) fn begin(opened: Opened<'_>, state: &mut [u64])
     clear(opened.code, &mut state[2..opened.state + 2], MAX_DEPTH);
 }
 
-// One step of a program: the number of its decision. The text of its output goes into the room, as far as it fits.
+// Steps a program once, and returns the number of its decision. Writes the text of its output to
+// `out`, as far as it fits.
 #[inline(always)]
 pub(crate) fn run_step(
     opened: Opened<'_>,
@@ -104,8 +106,8 @@ pub(crate) fn run_step(
     number
 }
 
-// Writes the text of the output of a state's last step over the front of a room, as far as it fits, and answers how many
-// bytes it has.
+// Writes the text of the output of a state's last step to the front of `out`, as far as it fits.
+// Returns the length of the text in bytes.
 #[inline(always)]
 fn put_text(code: &[u64], words: &[u64], out: &mut [u8]) -> u64
     ensures text { (t : Schedule) (h : History) → IsCode t code.now 64 → weight t ≤ 1000

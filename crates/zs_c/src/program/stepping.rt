@@ -1,4 +1,4 @@
-// One step of a code, over the words of its state.
+//! One step of a code, in the words of its state.
 
 ghost use Rattle.std.specs.Prelude.{◌≡◌, ℕ, ◌+◌, ◌≤◌, ◌++◌};
 ghost use Rattle.zs_term.specs.Output.{Output, passes, picked};
@@ -20,7 +20,7 @@ use zs_term::{Pick, Test};
 /// The greatest weight of a schedule, and so the most visits of a step.
 pub(crate) const MAX_VISITS: u64 = 1000;
 
-// One step of a node, in its words.
+// Steps a node once, in the words of its state.
 #[cycle(stepping)]
 pub(crate) fn step_code(
     code: &[u64],
@@ -84,7 +84,7 @@ fn has_passed(code: &[u64], words: &[u64], levels: u64, pick: Pick, test: Test) 
     test.passes(read_number(pick, place))
 }
 
-// One step of both parts.
+// Steps both parts once.
 #[inline(always)]
 #[cycle(stepping)]
 fn step_parts(
@@ -116,7 +116,8 @@ fn step_parts(
     (x, y)
 }
 
-// One step of the part that is on: the second begins at the step at which the first is done.
+// Steps the active part of an `andThenEither` once. The second part begins at the step at which the
+// first is done.
 #[cycle(stepping)]
 fn step_and_then(
     code: &[u64],
@@ -154,7 +155,7 @@ fn step_and_then(
     )
 }
 
-// The decision, or done where a test fails.
+// Returns the decision, or done if a test fails.
 #[inline(always)]
 fn only_if(passes: bool, decision: Decision) -> Decision
     ensures value { result ≡ only_if passes decision }
@@ -162,7 +163,7 @@ fn only_if(passes: bool, decision: Decision) -> Decision
     if passes { decision } else { Decision::Stop }
 }
 
-// Goes on where both do, at the later moment.
+// Continues at the later moment if both continue, else stops.
 #[inline(always)]
 fn later(first: Decision, second: Decision) -> Decision
     ensures value { result ≡ later_of first second }
@@ -176,7 +177,8 @@ fn later(first: Decision, second: Decision) -> Decision
     }
 }
 
-// Goes on where one of them does, at the earlier moment.
+// Continues at the earlier moment if both continue, at the one that there is if one does, else
+// stops.
 #[inline(always)]
 fn earlier(first: Decision, second: Decision) -> Decision
     ensures value { result ≡ earlier_of first second }

@@ -6,7 +6,7 @@ use Rattle.zs_c.specs.Told.{written}
 use Rattle.zs_c.proofs.Rooms.{written_thrice}
 use Rattle.zs_c.proofs.exports.zs_fault_text.Goals as goal
 
--- a number with a place: its words, and the place behind them
+-- a number with a place: its text, and the place after it
 pub returns-clause-text : goal.returns-clause-text
 returns-clause-text c =
     let a = c.as_bytes-words.result.now in

@@ -2,7 +2,7 @@ use Rattle.std.proofs.Common.{[], length, ap, ◌∙◌}
 use Rattle.zs_step.proofs.WordLengths.{state-length}
 use Rattle.zs_c.proofs.exports.zs_state_size.Goals as goal
 
--- there are as many words behind any steps as before them
+-- the number of words is the same after any steps
 pub returns-in-Ok-clause-sized : goal.returns-in-Ok-clause-sized
 returns-in-Ok-clause-sized c none =
     let new = c.in-Ok.ensures.ok in

@@ -3,7 +3,8 @@ use Rattle.std.proofs.lemmas.Slice.{drop-append-drop}
 use Rattle.zs_step.specs.Words.{state_words}
 use Rattle.zs_c.proofs.exports.zs_step.Goals as goal
 
--- what stands for each history of the words is told of one step more; the words behind the state stay
+-- the result of each history of the words, with one more step; the words after the state are
+-- unchanged
 pub returns-in-Ok-told-clause-stepped : goal.returns-in-Ok-told-clause-stepped
 returns-in-Ok-told-clause-stepped c small =
     let on = c.in-Ok.ensures.ok in

@@ -4,7 +4,8 @@ use Rattle.zs_c.specs.Code.{held_size}
 use Rattle.zs_c.proofs.Codes.{held-length}
 use Rattle.zs_c.proofs.program.compiling.sizes_in.Goals as goal
 
--- a program has the words of its schedule, and its state as many at any step
+-- a program has the words of its schedule, and its state has the same number of words after any
+-- steps
 pub returns-clause-ok : goal.returns-clause-ok
 returns-clause-ok c =
     let t = schedule_of c.in_ok-checked.checked in
