@@ -1,4 +1,4 @@
-"""The documents are in plain technical English, and so are the comments of the crates in DONE. Words that mean another
+"""The documents are in plain technical English, and so are the comments of the crates. Words that mean another
 thing here than elsewhere, or nothing, are counted, and long lines. Samples, and names in backquotes, are left out."""
 import pathlib
 import re
@@ -6,8 +6,7 @@ import unittest
 
 TOP = pathlib.Path(__file__).resolve().parents[2]
 PAGES = sorted([*TOP.glob("*.md"), *TOP.glob("docs/*.md"), *TOP.glob("crates/*/README.md")])
-DONE = "zs_term zs_run zs_step zs_effect zs_drive zs_agenda zs_pool zs_engine zs_low_tests zs_gates zs_engine_tests zs_tests zs_refusals zs_c".split()
-CODE = [it for crate in DONE for end in ("rt", "antt") for it in sorted(TOP.glob(f"crates/{crate}/[sp]*/**/*.{end}"))]
+CODE = sorted(it for end in ("rt", "antt") for it in TOP.glob(f"crates/*/[sp]*/**/*.{end}"))
 WIDTH, MOST = 100, 22000
 # What not to write, what to write, how often the first is right in all pages, and how often in comments if not never.
 WORDS = [

@@ -1,4 +1,4 @@
--- The answers of operators are within the ranges that their rules for ranges give.
+-- The results of operators are within the ranges that their rules for ranges give.
 use Rattle.std.proofs.Common.{◌≡◌, ℕ, ◌≤◌, Bool, true, false, Option, arith}
 use Rattle.zs_term.specs.Saturating.{max_moment}
 use Rattle.zs_term.specs.Output.{left, right, passes}
@@ -24,7 +24,7 @@ answer-right m a r q h = record {
   decision = decision-right m a.decision r.decision q.decision h.decision;
 }
 
--- answers that are there
+-- results under a fact that holds
 pub answers_if-in : (m : ℕ) (b : Bool) (a : Answer) (r : AnswerRange) → b ≡ true → IsAnswerIn m a r → IsAnswerIn m a (answers_if b r)
 answers_if-in m true a r e h = h
 answers_if-in m false a r e h = cc

@@ -1,4 +1,5 @@
--- When a range of states covers a history, as `Represents` says it of a state: what the next step needs to know of the steps so far.
+-- When a range of states covers a history, as `Represents` says it of a state: what the next step
+-- needs to know of the steps so far.
 use Rattle.std.proofs.Common.{◌≡◌, ℕ, ◌+◌, ◌≤◌, Bool, true, false, if◌then◌else◌, Option, Some, None, [], ◌∷◌, length, refl, sym, ap, subst, arith}
 use Rattle.zs_term.specs.Saturating.{saturated, max_moment}
 use Rattle.zs_term.specs.Output.{Output, Outputs, none, more, with_last, count, passes, picked}
@@ -19,7 +20,8 @@ use Rattle.zs_bounds.proofs.Spans.{in-hull_left}
 use Rattle.zs_bounds.proofs.Deciding.{next-may}
 use Rattle.zs_bounds.proofs.LeafRanges.{Counts}
 
--- The first part is on and covers the history; or the second is, and covers it from the first's end on.
+-- The first part is on and covers the history. Or the second is on, and covers it from the first's
+-- end on.
 abbrev pub TurnCovers : Bool → Bool → Option History → Type 0 → (History → Type 0) → Type 0
 TurnCovers first_on second_on None first second = (first_on ≡ true) × first
 TurnCovers first_on second_on (Some g) first second = (second_on ≡ true) × second g
@@ -92,7 +94,7 @@ count-collect : (b : Bool) (xs : Outputs) (x : Output) → count (collect_if b x
 count-collect true xs x = let e = count-with_last xs x in omega (arith, e)
 count-collect false xs x = omega arith
 
--- there are at most as many items as steps
+-- there are no more items than steps
 pub count-collected : (f : History → Answer) (h : History) → count (collected f h) ≤ length h
 count-collected f [] = omega arith
 count-collected f (p ∷ h) =
@@ -126,7 +128,7 @@ more_items-in m (Next y) a xs x n is h small =
 
 -- ---- parts of histories
 
--- the last moment of a part, where there is one
+-- the last moment of a part, if there is one
 abbrev moment_in : Option History → ℕ
 moment_in (Some g) = last_moment g
 moment_in None = 0
@@ -141,12 +143,12 @@ pub from_done-moment : (f : History → Answer) (h g : History) → from_done f 
 from_done-moment f [] g e = cc
 from_done-moment f (p ∷ h) g e = done_from-moment (from_done f h) p (is_next (f (p ∷ h)).decision) g e
 
--- a part has at most so many steps, where there is one
+-- a part has at most n steps, if there is one
 abbrev PartWithin : ℕ → Option History → Type 0
 PartWithin n (Some g) = length g ≤ n
 PartWithin n None = Unit {0}
 
--- the part from the first done step on is no longer, where there is one
+-- the part from the first done step on is no longer, if there is one
 done_from-length : (o : Option History) (p : ℕ × ℕ) (b : Bool) (h g : History) → ((k : History) → o ≡ Some k → length k ≤ length h) →
     done_from o p b ≡ Some g → length g ≤ length (p ∷ h)
 done_from-length (Some k) p b h g before e =

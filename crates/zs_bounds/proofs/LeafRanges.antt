@@ -1,4 +1,5 @@
--- The answers of leaves are within their ranges, by the number of steps and the time since the first one.
+-- The results of leaves are within their ranges, by the number of steps and the time since the
+-- first one.
 use Rattle.std.proofs.Common.{◌≡◌, ℕ, zero, suc, ◌+◌, ◌-◌, ◌*◌, ◌%◌, ◌^◌, ◌<◌, ◌≤◌, min, Bool, true, false, ◌||◌, nat_lt, nat_le, nat_eq, if◌then◌else◌, Some, None, [], ◌∷◌, length, refl, sym, subst, arith}
 use Rattle.std.proofs.Math.Nat.{pow-le-pow_right, mul-le-mul_left, mod-lt, mod-le}
 use Rattle.zs_term.specs.Saturating.{saturated, max_moment}
@@ -16,7 +17,7 @@ use Rattle.zs_bounds.specs.AnswerRange.{IsAnswerIn, leaf_range, delays, at_once,
 use Rattle.zs_bounds.proofs.Spans.{in-itself}
 use Rattle.zs_bounds.proofs.Outputs.{saturated-rises}
 
--- A history has so many steps, and so much time since the first one.
+-- The number of a history's steps, and the time since the first one, are within two spans.
 pub record Counts (n t : Span) (h : History) : Type 0 where
   pub some : 0 < length h
   pub steps : IsIn (length h) n
@@ -33,7 +34,7 @@ earlier-in n p h small h_in = record {
   high = omega (arith, h_in.high);
 }
 
--- the same, where it isn't cut
+-- the same, if it isn't cut
 earlier-exact : (n : Span) (p : ℕ × ℕ) (h : History) → IsIn (length (p ∷ h)) n → IsIn (length h) (earlier_steps n)
 earlier-exact n p h h_in = record {
   low = omega (arith, h_in.low);
@@ -153,7 +154,7 @@ window-in m (suc p) first tick =
     subst (λ c. (m + min 1 (suc p) ≤ (if c then m else saturated (m + suc p - (m - first) % suc p))) × ((if c then m else saturated (m + suc p - (m - first) % suc p)) ≤ m + suc p))
     (sym e) (omega (arith, some.0), some.1)
 
--- nothing is left of no time
+-- no time has no remainder
 no-rest : (m p : ℕ) → (m - m) % p ≡ 0
 no-rest m p = let le = mod-le (m - m) p in omega (arith, le)
 
@@ -214,7 +215,7 @@ elapsed-in n t h c = record {
   high = omega (arith, c.late);
 }
 
--- the answer of a leaf
+-- the result of a leaf
 pub leaf-in : (l : Leaf) (n t : Span) (p : ℕ × ℕ) (h : History) → has_factor l ≡ true → IsStep p → length (p ∷ h) ≤ max_moment → Counts n t (p ∷ h) →
     IsAnswerIn p.0 (leaf_answer l (p ∷ h)) (leaf_range l n t)
 leaf-in (plain Forever) n t p h factor step small c = record {

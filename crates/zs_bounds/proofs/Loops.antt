@@ -17,7 +17,7 @@ bounds_from-more : (s : Schedule) (n k : ℕ) (c : StateRange) (d : Decisions) (
     bounds_from s n c d passed b ≡ after_waits d.waits passed (with_step d b) (rest_of s k c (with_step d b))
 bounds_from-more s n k c d passed b is = ap (λ m. bounds_from s m c d passed b) is
 
--- no step is left
+-- no step remains
 pub loop_end : (s : Schedule) (steps k : ℕ) (c : StateRange) (d : Decisions) (passed : ℕ) (b : Bounds) → steps ≤ k →
     unended b ≡ bounds_from s (steps - k) c d passed b
 loop_end s steps k c d passed b le =
@@ -38,7 +38,7 @@ past-true x y lt = grind arith
 past-false : (x y : ℕ) → y ≤ x → nat_lt x y ≡ false
 past-false x y le = grind arith
 
--- a step after which the clock is over
+-- a step after which every clock has ended
 pub loop_past : (s : Schedule) (steps k : ℕ) (c : StateRange) (d : Decisions) (passed : ℕ) (b : Bounds) (w : Span) → k < steps → d.waits ≡ Some w →
     max_tick < passed + (w.low + 1) → with_step d b ≡ bounds_from s (steps - k) c d passed b
 loop_past s steps k c d passed b w lt some past =
@@ -60,7 +60,7 @@ loop_goes_on s steps k c d passed b w lt some within =
     ∙ ap (λ x. unless_past x (with_step d b) (λ _. rest_of s (steps - (k + 1)) c (with_step d b) (w.low + 1) (passed + (w.low + 1))))
     (past-false max_tick (passed + (w.low + 1)) within))
 
--- what a turn of the loop keeps
+-- what a turn of the loop leaves unchanged
 pub loop_keeps : (s t : Schedule) (steps k : ℕ) (c c' : StateRange) (d d' : Decisions) (passed later time : ℕ) (b b' all : Bounds) (w : Span) →
     k < steps → d.waits ≡ Some w → later ≡ min (w.low + 1) 18446744073709551615 → time ≡ min (passed + later) 18446744073709551615 →
     time ≤ max_tick → t ≡ s → c' ≡ next_state s c later → d' ≡ (next_range s c later).decision → b' ≡ with_step d b →

@@ -11,7 +11,7 @@ use Rattle.zs_bounds.specs.declared.span.Span.{Span}
 use Rattle.zs_bounds.specs.OutputRange.{OutputRange, nothing, numbers, pairs, sides, lists, anything, IsOutputIn, output_hull, number_span, first_range_in, second_range_in, size_span, picked_span, numbers_in, each_bound, merge_range, applied_range}
 use Rattle.zs_bounds.proofs.Spans.{IsNumberIn, in-hull_left, in-hull_right, in-itself}
 
--- every output is within the whole
+-- every output is within `anything`
 in-anything : (v : Output) → IsOutputIn v anything
 in-anything (number n) = tt
 in-anything (pair x y) = tt

@@ -77,7 +77,7 @@ power_cut b f k n d le some is cut =
     let rises = power-rises b f some k n le in
     omega (arith, rises, is, cut)
 
--- a factor of 2 or more passes the greatest number within 64 turns
+-- a factor of 2 or more exceeds the greatest number within 64 turns
 pub power_large : (b f n d : ℕ) → 0 < b → 1 < f → 63 < n → d ≡ 18446744073709551615 → d ≡ saturated (b * f ^ n)
 power_large b f n d some many long is =
     let twos : 2 ^ 64 ≤ 2 ^ n = pow-le-pow_right {n = 2} (omega arith) {i = 64} {j = n} (omega arith) in

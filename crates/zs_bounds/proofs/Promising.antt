@@ -51,7 +51,7 @@ driven-small s p h driven =
 below-or : (n m : ℕ) → n ≤ m → (n < m) ⊎ (n ≡ m)
 below-or n m le = grind arith
 
--- where no history has one step more than so many, none has more
+-- if no history has n + 2 steps, none has more than n + 1
 none-longer : (s : Schedule) (n : ℕ) → ((p q : ℕ × ℕ) (h : History) → IsDriven s (p ∷ (q ∷ h)) → length (q ∷ h) ≡ suc n → ⊥) → (h : History) → IsDriven s h →
     length h ≤ suc n
 none-longer s n never [] driven = absurd driven
@@ -63,19 +63,20 @@ none-longer s n never (p ∷ (q ∷ h)) driven =
       | inr e ↦ absurd (never p q h driven e)
     ]
 
--- ---- what is known after so many steps
+-- ---- what is known after n steps
 
--- One history: the states cover it, its last decision is among some, and so much time has passed.
+-- One history: the states cover it, its last decision is among some, and at least some time has
+-- passed.
 pub record ReachesOn (s : Schedule) (c : StateRange) (d : Decisions) (passed : ℕ) (h : History) : Type 0 where
   pub covers : Covers s c h
   pub decides : IsDecisionIn (last_moment h) (answer_of s h).decision d
   pub late : passed ≤ last_moment h
 
--- every history of so many steps
+-- every history of n steps
 abbrev pub Reaches : Schedule → ℕ → StateRange → Decisions → ℕ → Type 0
 Reaches s n c d passed = (h : History) → IsDriven s h → length h ≡ n → ReachesOn s c d passed h
 
--- bounds of so many steps at most hold
+-- bounds of at most n steps hold
 pub record HoldsUpTo (s : Schedule) (n : ℕ) (b : Bounds) : Type 0 where
   pub seen : b.seen ≡ n
   pub small : b.least ≤ suc n
@@ -108,7 +109,7 @@ least-stops : (b : Bool) (least n : ℕ) → least ≤ suc n → suc n < (if b &
 least-stops true least n small lt = omega arith
 least-stops false least n small lt = omega arith
 
--- the least step at which it may stop, after one more: it moved only where that step goes on for sure
+-- the least step at which it may stop, after one more: it moved only if that step goes on for sure
 least-cases : (seen least n : ℕ) (stops : Bool) → seen ≡ n → least ≤ suc n →
     suc n < (if nat_lt seen least && not stops then saturated (least + 1) else least) → stops ≡ false
 least-cases seen least n true e small lt = absurd (least-stops (nat_lt seen least) least n small lt)
@@ -128,7 +129,7 @@ least-small : (b : Bool) (least n : ℕ) → least ≤ suc n → (if b then satu
 least-small true least n small = omega arith
 least-small false least n small = omega arith
 
--- a history of so many steps or one more
+-- a history of at most n steps, or of one more
 up_to-or : (k n : ℕ) → k ≤ suc n → (k ≤ n) ⊎ (k ≡ suc n)
 up_to-or k n le = grind arith
 
@@ -186,14 +187,14 @@ lets-later m x (Next y) waits w a h e lets =
     let wait : IsAfter m w y = subst (λ v. IsWaitIn m v y) e h in
     omega (arith, wait.low, lets)
 
--- no later step, where the last one may not go on
+-- no later step, if the last one may not go on
 none-goes_on : (s : Schedule) (n : ℕ) (c : StateRange) (d : Decisions) (passed : ℕ) → Reaches s (suc n) c d passed → d.waits ≡ None →
     (p q : ℕ × ℕ) (h : History) → IsDriven s (p ∷ (q ∷ h)) → length (q ∷ h) ≡ suc n → ⊥
 none-goes_on s n c d passed reaches e p q h driven long =
     let stop = stop-only q.0 (answer_of s (q ∷ h)).decision d (reaches (q ∷ h) driven.2 long).decides e in
     subst (λ x. LetsEndAt x p.0) stop driven.1
 
--- nor where it would be past the clock
+-- nor if it would be past the clock
 none-in_time : (s : Schedule) (n : ℕ) (c : StateRange) (d : Decisions) (passed : ℕ) (w : Span) → Reaches s (suc n) c d passed → d.waits ≡ Some w →
     max_tick < passed + (w.low + 1) → (p q : ℕ × ℕ) (h : History) → IsDriven s (p ∷ (q ∷ h)) → length (q ∷ h) ≡ suc n → ⊥
 none-in_time s n c d passed w reaches e past p q h driven long =
@@ -285,7 +286,7 @@ after-promises s n c d passed b None rest holds reaches is promised =
 after-promises s n c d passed b (Some w) rest holds reaches is promised =
     waits-promises s n c d passed b w (nat_lt max_tick (passed + (w.low + 1))) (λ _. rest (w.low + 1) (passed + (w.low + 1))) refl holds reaches is (promised w is)
 
--- the bounds of at most so many more steps
+-- the bounds of at most `more` more steps
 bounds_from-promises : (s : Schedule) (more n : ℕ) (c : StateRange) (d : Decisions) (passed : ℕ) (b : Bounds) → has_factors s ≡ true → HoldsUpTo s n b →
     Reaches s (suc n) c d passed → Promises s (bounds_from s more c d passed b)
 bounds_from-promises s zero n c d passed b factors holds reaches = unended-promises s n b holds
@@ -320,7 +321,7 @@ first-reaches s factors (p ∷ []) driven long = record {
 }
 first-reaches s factors (p ∷ (q ∷ h)) driven long = absurd (omega (arith, long))
 
--- the bounds of at most so many steps
+-- the bounds of at most `steps` steps
 pub bounds_of-promises : (s : Schedule) (steps : ℕ) → has_factors s ≡ true → Promises s (bounds_of s steps)
 bounds_of-promises s steps factors =
     bounds_from-promises s steps 0 (first_state s) (first_range s).decision 0 no_bounds factors (no-holds s) (first-reaches s factors)

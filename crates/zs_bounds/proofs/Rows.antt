@@ -18,7 +18,8 @@ backoff = two both (leaf (exponential 100 2)) (leaf (recurs 5))
 gives_up_after_six : bounds_of backoff 20 ≡ told 6 6 (Some 6) 1600 (Some 3100)
 gives_up_after_six = refl
 
--- it may give up at once, if the first error isn't a server's; else it has waits of 100, 200, .., 3200, 5000, 5000
+-- It may give up at once, if the first error isn't a server's. Else it has waits of 100, 200, ..,
+-- 3200, 5000, 5000.
 abbrev server_errors : Schedule
 server_errors =
     over (two both (two either (leaf (exponential 100 2)) (leaf (spaced 5000))) (leaf (recurs 8))) (while_input (record { cmp = Ge; than = 500 }))
@@ -26,7 +27,8 @@ server_errors =
 only_server_errors : bounds_of server_errors 20 ≡ told 9 1 (Some 9) 5000 (Some 16300)
 only_server_errors = refl
 
--- each attempt takes 1 ms at least, so after five waits 2005 ms have passed; a long attempt ends it at the second step
+-- Each attempt takes 1 ms at least, so after five waits 2005 ms have passed. A long attempt ends it
+-- at the second step.
 abbrev two_seconds : Schedule
 two_seconds = over (two both (leaf (spaced 400)) (leaf elapsed)) (while_output SecondPart (record { cmp = Lt; than = 2000 }))
 
@@ -66,6 +68,6 @@ past_the_clock = refl
 periods : bounds_of (two both (leaf (fixed 100)) (leaf (recurs 2))) 5 ≡ told 3 3 (Some 3) 100 (Some 200)
 periods = refl
 
--- a reset at the third step, where two items are there: then it begins anew
+-- a reset at the third step, which has two items: then it starts again
 resets : bounds_of (over (over (leaf (recurs 5)) collect_all) (reset_when SizeOf (record { cmp = Eq; than = 2 }))) 9 ≡ told 9 10 None 0 None
 resets = refl

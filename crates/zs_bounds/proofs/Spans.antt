@@ -44,14 +44,14 @@ in-hull_right n s t h = record {
   high = omega (arith, h.high);
 }
 
--- a number alone is within its own span
+-- a number is within the span of that number alone
 pub in-itself : (n : ℕ) → IsIn n (span n n)
 in-itself n = record {
   low = omega arith;
   high = omega arith;
 }
 
--- ---- a number of a span, where there is one
+-- ---- a number of a span, if there is one
 
 abbrev pub IsNumberIn : ℕ → Option Span → Type 0
 IsNumberIn n None = Unit {0}
@@ -97,7 +97,7 @@ not-false false e = cc
 eq-between : (l h n k : ℕ) → l ≤ n → n ≤ h → nat_eq l k ≡ true → nat_eq h k ≡ true → nat_eq n k ≡ true
 eq-between l h n k low high e f = grind arith
 
--- where a number of a span differs from another one, the span isn't that one alone
+-- if a number of a span differs from another one, the span isn't that one alone
 ne-may : (b c : Bool) (l h n k : ℕ) → l ≤ n → n ≤ h → nat_eq l k ≡ b → nat_eq h k ≡ c → nat_eq n k ≡ false → not (b && c) ≡ true
 ne-may false c l h n k low high e f g = refl
 ne-may true false l h n k low high e f g = refl
@@ -114,7 +114,7 @@ compare-may Ne n s k h e =
 compare-may Gt n s k h e = gt-may s.high n k h.high e
 compare-may Ge n s k h e = ge-may s.high n k h.high e
 
--- where a comparison doesn't hold, the opposite one does
+-- if a comparison doesn't hold, the opposite one does
 compare-opposite : (c : Cmp) (n k : ℕ) → compares c n k ≡ false → compares (opposite c) n k ≡ true
 compare-opposite Lt n k e = not-lt n k e
 compare-opposite Le n k e = not-le n k e

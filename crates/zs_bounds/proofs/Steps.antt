@@ -1,4 +1,5 @@
--- Each operator's step keeps that a range of states covers a history, and its answer is within the range of answers.
+-- After each operator's step the range of states covers the longer history, and the result is
+-- within the range of results.
 use Rattle.std.proofs.Common.{◌≡◌, ℕ, Bool, true, false, ◌||◌, ◌&&◌, if◌then◌else◌, Option, Some, None, [], ◌∷◌, refl, sym, subst, arith}
 use Rattle.zs_term.specs.Output.{none, count, passes, picked}
 use Rattle.zs_term.specs.Schedule.{Schedule, leaf, two, over, has_factors, both, either, and_then, while_input, while_output, collect_all, mapped, reset_when}
@@ -30,7 +31,7 @@ first_turn-in p a b r q false next g h =
     answer-right p.0 _ (left_range r) (answers_if r.decision.stops (right_range q))
     (answers_if-in p.0 r.decision.stops _ (right_range q) (stop-may p.0 (a (p ∷ [])).decision r.decision g.decision next) (right_range-in p.0 (b (p ∷ [])) q h))
 
--- the answer of the first step
+-- the result of the first step
 pub first-in : (s : Schedule) (p : ℕ × ℕ) → has_factors s ≡ true → IsStep p → IsAnswerIn p.0 (answer_of s (p ∷ [])) (first_range s)
 first-in (leaf l) p factors step = leaf-in l (span 1 1) (span 0 0) p [] factors step (omega arith) (counts-first p)
 first-in (two both a b) p factors step =
@@ -170,7 +171,7 @@ with_first-begins (over s (mapped f)) c p factors step = with_first-begins s c p
 with_first-begins (over s (reset_when k t)) c p factors step =
     subst (Covers s (with_first s c)) (sym (since_reset-first (answer_of s) k t p)) (with_first-begins s c p factors step)
 
--- ---- a later step: its answer
+-- ---- a later step: its result
 
 -- two parts in turn
 turn-in : (p : ℕ × ℕ) (h : History) (a b : History → Answer) (o : Option History) (n on_a on_b : Bool) (r q begins : AnswerRange) (first : Type 0)
@@ -213,7 +214,7 @@ comes-done f d h g p comes e = comes-part d h g p comes (from_done-moment f h g 
 comes-reset : (f : History → Answer) (k : Pick) (t : Test) (d : ℕ) (h : History) (p : ℕ × ℕ) → Comes d h p → Comes d (since_reset f k t h) p
 comes-reset f k t d h p comes = comes-part d h (since_reset f k t h) p comes (since_reset-moment f k t h) (since_reset-length f k t h)
 
--- the answer of a later step
+-- the result of a later step
 pub next-in : (s : Schedule) (c : StateRange) (d : ℕ) (h : History) (p : ℕ × ℕ) → has_factors s ≡ true → Comes d h p → Covers s c h →
     IsAnswerIn p.0 (answer_of s (p ∷ h)) (next_range s c d)
 next-in (leaf l) c d h p factors comes covers =

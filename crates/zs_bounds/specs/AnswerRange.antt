@@ -1,4 +1,5 @@
--- What a step may return: a range of outputs, and decisions. An operator's rule for ranges, given those of its parts.
+-- What a step may return: a range of outputs, and decisions. An operator's rule for ranges, given
+-- those of its parts.
 use Rattle.std.specs.Prelude.{ℕ, ◌-◌, ◌*◌, ◌^◌, min, Bool, true, false, Option, Some, None, nat_lt, nat_le, if◌then◌else◌}
 use Rattle.zs_term.specs.Saturating.{saturated, max_moment}
 use Rattle.zs_term.specs.Schedule.{Leaf, plain, counted, exponential, Modifier, while_input, while_output, collect_all, mapped, reset_when}
@@ -18,24 +19,24 @@ pub record AnswerRange : Type 0 where
   pub output : OutputRange
   pub decision : Decisions
 
--- a range of answers of its two parts
+-- a range of results, by its two parts
 abbrev pub range : OutputRange → Decisions → AnswerRange
 range r d = record { output = r; decision = d }
 
--- an answer at a moment is within a range
+-- a result at a moment is within a range
 pub record IsAnswerIn (m : ℕ) (a : Answer) (r : AnswerRange) : Type 0 where
   pub output : IsOutputIn a.output r.output
   pub decision : IsDecisionIn m a.decision r.decision
 
--- the answers of one or the other
+-- the results of one or the other
 abbrev pub answer_hull : AnswerRange → AnswerRange → AnswerRange
 answer_hull a b = range (output_hull a.output b.output) (decision_hull a.decision b.decision)
 
--- no answer
+-- no result
 abbrev pub no_answer : AnswerRange
 no_answer = range nothing no_decision
 
--- answers, if a fact holds
+-- results, if a fact holds
 abbrev pub answers_if : Bool → AnswerRange → AnswerRange
 answers_if true r = r
 answers_if false r = no_answer
@@ -58,7 +59,7 @@ at_once = Some (span 0 0)
 abbrev pub always : Option Span → Decisions
 always w = decisions false w
 
--- answers that wait for their own output
+-- results whose output is their delay
 abbrev pub waiting : Span → AnswerRange
 waiting s = range (numbers s) (always (delays s))
 
@@ -66,7 +67,8 @@ waiting s = range (numbers s) (always (delays s))
 abbrev pub earlier_steps : Span → Span
 earlier_steps n = span (n.low - 1) (n.high - 1)
 
--- the waits up to the end of a period: a whole one at the first step, and at least some time at another one
+-- The waits up to the end of a period: a whole period at the first step, and at least `some` or a
+-- whole period at another step.
 abbrev pub period_waits : ℕ → ℕ → Span → Option Span
 period_waits p some n = Some (span (if nat_le n.high 1 then min p uncut_wait else min some p) p)
 
@@ -90,19 +92,19 @@ leaf_range (counted Windowed p) n t = range (numbers (earlier_steps n)) (always 
 
 -- ---- operators
 
--- the answers of `&&`, and of `||`, by how they join decisions
+-- the results of `&&`, and of `||`, by how they join decisions
 abbrev pub pair_range : (Decisions → Decisions → Decisions) → AnswerRange → AnswerRange → AnswerRange
 pair_range f a b = range (pairs a.output b.output) (f a.decision b.decision)
 
--- the answers of a first part that goes on
+-- the results of a first part that goes on
 abbrev pub left_range : AnswerRange → AnswerRange
 left_range a = answers_if (may_go_on a.decision) (range (sides a.output nothing) (going_on a.decision))
 
--- the answers of a second part
+-- the results of a second part
 abbrev pub right_range : AnswerRange → AnswerRange
 right_range b = range (sides nothing b.output) b.decision
 
--- the answers under a test of a number of a span
+-- the results under a test of a number of a span
 abbrev pub test_range : Test → Option Span → AnswerRange → AnswerRange
 test_range t s a = range a.output (test_decides (may_pass t s) (may_fail t s) a.decision)
 
@@ -110,13 +112,14 @@ test_range t s a = range a.output (test_decides (may_pass t s) (may_fail t s) a.
 abbrev pub any_input : Option Span
 any_input = Some (span 0 max_moment)
 
--- the answers of a part, or those of its first step, if a test may pass
+-- the results of a part, or those of its first step, if a test may pass
 abbrev pub reset_range : Bool → Bool → AnswerRange → AnswerRange → AnswerRange
 reset_range true true a first = answer_hull a first
 reset_range true false a first = first
 reset_range false fails a first = a
 
--- the answers of an operator over one schedule: by the number of items so far, the part's answers, and those of its first step
+-- The results of an operator over one schedule: by the number of items so far, the part's results,
+-- and those of its first step.
 abbrev pub modified_range : Modifier → Span → AnswerRange → AnswerRange → AnswerRange
 modified_range (while_input t) n a first = test_range t any_input a
 modified_range (while_output k t) n a first = test_range t (picked_span k a.output) a

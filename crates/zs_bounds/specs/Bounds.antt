@@ -1,4 +1,5 @@
--- What bounds promise: facts about every history that a driver can make with a schedule. No loop and no interval is named here.
+-- What bounds promise: facts about every history that a driver can make with a schedule. No loop
+-- and no interval is named here.
 use Rattle.std.specs.Prelude.{◌≡◌, ℕ, ◌+◌, ◌-◌, ◌<◌, ◌≤◌, true, Some, [], ◌∷◌, length}
 use Rattle.zs_term.specs.Schedule.{Schedule}
 use Rattle.zs_step.specs.declared.decision.Decision.{Decision}

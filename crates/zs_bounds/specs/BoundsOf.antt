@@ -13,7 +13,7 @@ abbrev pub longest_in : Option Span → ℕ
 longest_in None = 0
 longest_in (Some w) = w.high
 
--- a sum, where it is at most the greatest number
+-- a sum, if it is at most the greatest number
 abbrev pub sum_within : Option ℕ → ℕ → Option ℕ
 sum_within None w = None
 sum_within (Some t) w = (if nat_le (t + w) max_moment then Some (t + w) else None)
@@ -51,12 +51,13 @@ after_waits None passed b rest = ended b
 after_waits (Some w) passed b rest =
     unless_past (nat_lt max_tick (passed + (w.low + 1))) b (λ _. rest (w.low + 1) (passed + (w.low + 1)))
 
--- The bounds of at most so many more steps: the states after the next one, what it may decide, and the least time up to it.
+-- The bounds of at most n more steps, by the states after the next one, what it may decide, and the
+-- least time up to it.
 abbrev pub bounds_from : Schedule → ℕ → StateRange → Decisions → ℕ → Bounds → Bounds
 bounds_from s zero c d passed b = unended b
 bounds_from s (suc n) c d passed b =
     after_waits d.waits passed (with_step d b) (λ later time. bounds_from s n (next_state s c later) (next_range s c later).decision time (with_step d b))
 
--- the bounds of at most so many steps
+-- the bounds of at most `steps` steps
 abbrev pub bounds_of : Schedule → ℕ → Bounds
 bounds_of s steps = bounds_from s steps (first_state s) (first_range s).decision 0 no_bounds

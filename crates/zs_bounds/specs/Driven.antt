@@ -1,5 +1,5 @@
--- Which histories a driver can make: the jobs of a plan, a retry loop, whatever steps a schedule when an attempt has ended.
--- Readers of the bounds trust this file and `Bounds.antt`.
+-- Which histories a driver can make: the jobs of a plan, a retry loop, or whatever steps a schedule
+-- when an attempt has ended. Readers of the bounds trust this file and `Bounds.antt`.
 use Rattle.std.specs.Prelude.{ℕ, ◌<◌, ◌≤◌, [], ◌∷◌}
 use Rattle.zs_term.specs.Saturating.{max_moment}
 use Rattle.zs_term.specs.Schedule.{Schedule}
@@ -17,13 +17,14 @@ pub record IsStep (p : ℕ × ℕ) : Type 0 where
   pub tick : p.0 ≤ max_tick
   pub input : p.1 ≤ max_moment
 
--- A decision lets another attempt begin, and that attempt takes at least 1 millisecond: it ends at a later moment.
+-- A decision lets another attempt begin. That attempt takes at least 1 millisecond: it ends at a
+-- later moment.
 abbrev pub LetsEndAt : Decision → ℕ → Type 0
 LetsEndAt Stop m = ⊥
 LetsEndAt (Next x) m = x < m
 
--- A history that a driver can make with a schedule: it has a step, each step but the last went on, and an attempt lies between
--- two steps. Inputs are any.
+-- A history that a driver can make with a schedule: it has a step, each step but the last went on,
+-- and an attempt is between two steps. Inputs are arbitrary.
 abbrev pub IsDriven : Schedule → History → Type 0
 IsDriven s [] = ⊥
 IsDriven s (p ∷ []) = IsStep p

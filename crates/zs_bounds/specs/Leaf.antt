@@ -3,6 +3,7 @@ use Rattle.zs_term.specs.Schedule.{Leaf as Bare, forever, recurs, spaced, fixed,
 use Rattle.zs_bounds.specs.declared.leaves.Leaf.{Leaf}
 use Rattle.zs_bounds.specs.declared.leaves.Leaf.TheVariants.{Forever, Recurs, Spaced, Fixed, Exponential, Fibonacci, Identity, Elapsed, Linear, Windowed}
 
+-- the leaf of a schedule that a node's leaf represents
 abbrev pub bare_leaf : Leaf → Bare
 bare_leaf Forever = forever
 bare_leaf (Recurs k) = recurs k

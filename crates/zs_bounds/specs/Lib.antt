@@ -1,7 +1,7 @@
 -- What the clauses of callers name, and so what has to be believed.
 pub mod Driven
 pub mod Bounds
--- What `bounds` computes. `bounds_hold` ties it to `Bounds`, so nobody has to believe it.
+-- What `bounds` computes. `bounds_hold` ties it to `Bounds`, so no reader has to believe it.
 pub mod Span
 pub mod DecisionRange
 pub mod OutputRange

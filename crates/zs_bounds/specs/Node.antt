@@ -1,4 +1,5 @@
--- The schedule that a node was made of, the range of states that it has, and what it knows of first steps.
+-- The schedule that a node was made of, the range of states that it has, and what it knows of first
+-- steps.
 use Rattle.std.specs.Prelude.{◌≡◌, Bool, true, false}
 use Rattle.zs_term.specs.Schedule.{Schedule, leaf, two, over, both, either, and_then, while_input, while_output, collect_all, mapped, reset_when}
 use Rattle.zs_bounds.specs.declared.decisions.Decisions.{Decisions}
@@ -10,6 +11,7 @@ use Rattle.zs_bounds.specs.declared.node.Node.TheVariants.{Leaf, Both', Either',
 use Rattle.zs_bounds.specs.Leaf.{bare_leaf}
 use Rattle.zs_bounds.specs.StateRange.{StateRange, counts, parts, turns, items, first_range, first_state, with_first}
 
+-- the schedule that a node was made of
 abbrev pub node_schedule : Node → Schedule
 node_schedule (Leaf l n t) = leaf (bare_leaf l)
 node_schedule (Both' p a q b) = two both (node_schedule a) (node_schedule b)
@@ -41,6 +43,7 @@ fresh_added true true Alone = Alone
 abbrev pub turn_of : Bool → Decisions → Fresh → Turn
 turn_of on d f = record { is_on = on; begins = d; fresh = f }
 
+-- the range of states that a node has
 abbrev pub node_state : Node → StateRange
 node_state (Leaf l n t) = counts n t
 node_state (Both' p a q b) = parts (node_state a) (node_state b)
@@ -61,8 +64,9 @@ part_state t a = fresh_state t.fresh (node_schedule a) (node_state a)
 abbrev pub turn_states : Turn → Turn → Node → Node → StateRange
 turn_states t u a b = turns t.is_on u.is_on (part_state t a) (part_state u b)
 
--- ---- what first steps may decide: of both parts in turn, and of a part whose outputs are collected
+-- ---- what first steps may decide: of both parts in turn, and of a part that is collected
 
+-- What the first steps of a schedule's parts may decide. Leaves have none.
 pub data Firsts : Type 0 where
   no_firsts : Firsts
   part_firsts : Firsts → Firsts → Firsts

@@ -3,6 +3,7 @@ use Rattle.zs_bounds.specs.declared.ranges.OutRange.{OutRange}
 use Rattle.zs_bounds.specs.declared.ranges.OutRange.TheVariants.{Nothing, Numbers, Pairs', Sides', Lists, Anything}
 use Rattle.zs_bounds.specs.OutputRange.{OutputRange, nothing, numbers, pairs, sides, lists, anything}
 
+-- the plain value of a range
 abbrev pub output_range_of : OutRange → OutputRange
 output_range_of Nothing = nothing
 output_range_of (Numbers s) = numbers s

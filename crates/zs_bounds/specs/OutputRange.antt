@@ -1,4 +1,5 @@
--- What a step may return as its output: a range for each kind of output, and what tests and functions make of it.
+-- What a step may return as its output: a range for each kind of output, and what tests and
+-- functions make of it.
 use Rattle.std.specs.Prelude.{ℕ, ◌+◌, ◌*◌, Bool, true, not, ◌&&◌, nat_lt, nat_le, nat_eq, Option, Some, None}
 use Rattle.zs_term.specs.Saturating.{saturated}
 use Rattle.zs_term.specs.Output.{Output, number, pair, left, right, listed, count}
@@ -12,7 +13,8 @@ use Rattle.zs_term.specs.declared.term.Func.TheVariants.{First, Second, Size, Me
 use Rattle.zs_bounds.specs.declared.span.Span.{Span}
 use Rattle.zs_bounds.specs.Span.{IsIn, span, hull}
 
--- Numbers, pairs, sides of a choice, lists by their number of items. `nothing` has no output; `anything` has each.
+-- Numbers, pairs, sides of a choice, lists by their number of items. `nothing` has no output.
+-- `anything` has each.
 pub data OutputRange : Type 0 where
   nothing : OutputRange
   numbers : Span → OutputRange
@@ -39,7 +41,7 @@ IsOutputIn (listed xs) (lists s) = IsIn (count xs) s
 IsOutputIn (listed xs) anything = Unit {0}
 IsOutputIn (listed xs) _ = ⊥
 
--- a range around two; those of two kinds, which no schedule has, are in none but the whole
+-- a range around two; ranges of two kinds, which no schedule has, give `anything`
 abbrev pub output_hull : OutputRange → OutputRange → OutputRange
 output_hull nothing r = r
 output_hull (numbers s) nothing = numbers s
@@ -56,7 +58,7 @@ output_hull (lists s) (lists t) = lists (hull s t)
 output_hull (lists s) _ = anything
 output_hull anything r = anything
 
--- the span of a range's numbers, where it has numbers alone
+-- the span of a range's numbers, if it has numbers alone
 abbrev pub number_span : OutputRange → Option Span
 number_span (numbers s) = Some s
 number_span _ = None
@@ -79,12 +81,12 @@ second_range_in (sides a b) = sides a b
 second_range_in (lists s) = lists s
 second_range_in anything = anything
 
--- the span of the lengths of lists, where it has lists alone
+-- the span of the lengths of lists, if it has lists alone
 abbrev pub size_span : OutputRange → Option Span
 size_span (lists s) = Some s
 size_span _ = None
 
--- the span of the numbers that a test reads, where they have one
+-- the span of the numbers that a test reads, if they have one
 abbrev pub picked_span : Pick → OutputRange → Option Span
 picked_span Whole r = number_span r
 picked_span PickFirst r = number_span (first_range_in r)
@@ -100,7 +102,7 @@ may_compare Ne s k = not (nat_eq s.low k && nat_eq s.high k)
 may_compare Gt s k = nat_lt k s.high
 may_compare Ge s k = nat_le k s.high
 
--- the comparison that holds where another one doesn't
+-- the comparison that holds if another one doesn't
 abbrev pub opposite : Cmp → Cmp
 opposite Lt = Ge
 opposite Le = Gt
@@ -119,7 +121,7 @@ abbrev pub may_fail : Test → Option Span → Bool
 may_fail t None = true
 may_fail t (Some s) = may_compare (opposite t.cmp) s t.than
 
--- numbers, where they have a span
+-- numbers, if they have a span
 abbrev pub numbers_in : Option Span → OutputRange
 numbers_in None = anything
 numbers_in (Some s) = numbers s
@@ -129,7 +131,7 @@ abbrev pub each_bound : (ℕ → ℕ) → Option Span → Option Span
 each_bound f None = None
 each_bound f (Some s) = Some (span (f s.low) (f s.high))
 
--- the range of what stands on either side
+-- the range of what is on either side
 abbrev pub merge_range : OutputRange → OutputRange
 merge_range (sides a b) = output_hull a b
 merge_range nothing = nothing

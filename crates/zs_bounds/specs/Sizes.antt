@@ -2,6 +2,7 @@
 use Rattle.std.specs.Prelude.{ℕ, ◌+◌}
 use Rattle.zs_bounds.specs.OutputRange.{OutputRange, nothing, numbers, pairs, sides, lists, anything}
 
+-- the number of ranges in a range, with itself
 abbrev pub range_size : OutputRange → ℕ
 range_size nothing = 1
 range_size (numbers s) = 1

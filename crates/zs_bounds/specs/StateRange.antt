@@ -1,6 +1,7 @@
--- In which states a schedule may be after some steps, as intervals in place of a state's numbers, and what the next step makes of
--- them. `proofs/Covers.antt` says when a range of states covers a history; nobody has to believe this file, since `bounds_hold`
--- says of its results what `Bounds` promises.
+-- In which states a schedule may be after some steps, as intervals in place of a state's numbers,
+-- and what the next step makes of them. `proofs/Covers.antt` says when a range of states covers a
+-- history. No reader has to believe this file, since `bounds_hold` says of its results what
+-- `Bounds` promises.
 use Rattle.std.specs.Prelude.{ℕ, ◌+◌, Bool, true, false, ◌&&◌, ◌||◌, if◌then◌else◌}
 use Rattle.zs_term.specs.Saturating.{saturated}
 use Rattle.zs_term.specs.Schedule.{Schedule, leaf, two, over, both, either, and_then, while_input, while_output, collect_all, mapped, reset_when}
@@ -12,53 +13,63 @@ use Rattle.zs_bounds.specs.DecisionRange.{may_go_on, both_decide, either_decides
 use Rattle.zs_bounds.specs.OutputRange.{picked_span, may_pass, may_fail}
 use Rattle.zs_bounds.specs.AnswerRange.{AnswerRange, answer_hull, answers_if, leaf_range, pair_range, left_range, right_range, modified_range}
 
--- The shape of a schedule's state: a leaf has its number of steps and the time since the first one; `andThenEither` has whether
--- its first part may still be on, and whether its second part may be; `collectAll` has the number of its items.
+-- The shape of a schedule's state. A leaf has its number of steps and the time since the first one.
+-- `andThenEither` has whether its first part may still be on, and whether its second part may be.
+-- `collectAll` has the number of its items.
 pub data StateRange : Type 0 where
   counts : Span → Span → StateRange
   parts : StateRange → StateRange → StateRange
   turns : Bool → Bool → StateRange → StateRange → StateRange
   items : Span → StateRange → StateRange
 
--- ---- what a range has; the other cases are met by no schedule
+-- ---- what a range has; no schedule has the other cases
 
+-- the number of steps of a leaf
 abbrev pub steps_in : StateRange → Span
 steps_in (counts n t) = n
 steps_in _ = span 0 0
 
+-- the time since the first step of a leaf
 abbrev pub time_in : StateRange → Span
 time_in (counts n t) = t
 time_in _ = span 0 0
 
+-- the states of the first of two parts
 abbrev pub first_in : StateRange → StateRange
 first_in (parts x y) = x
 first_in (turns p q x y) = x
 first_in c = c
 
+-- the states of the second of two parts
 abbrev pub second_in : StateRange → StateRange
 second_in (parts x y) = y
 second_in (turns p q x y) = y
 second_in c = c
 
+-- whether the first of two parts in turn may be on
 abbrev pub is_first_on : StateRange → Bool
 is_first_on (turns p q x y) = p
 is_first_on _ = false
 
+-- whether the second of two parts in turn may be on
 abbrev pub is_second_on : StateRange → Bool
 is_second_on (turns p q x y) = q
 is_second_on _ = false
 
+-- the number of items of `collectAll`
 abbrev pub items_in : StateRange → Span
 items_in (items n x) = n
 items_in _ = span 0 0
 
+-- the states of the part of `collectAll`
 abbrev pub part_in : StateRange → StateRange
 part_in (items n x) = x
 part_in c = c
 
 -- ---- the first step
 
--- the answers of a first part, or those of a second part's first step where the first may be done at once
+-- the results of a first part, or those of a second part's first step if the first may be done at
+-- once
 abbrev pub first_turn : AnswerRange → AnswerRange → AnswerRange
 first_turn a b = answer_hull (left_range a) (answers_if a.decision.stops (right_range b))
 
@@ -94,7 +105,8 @@ first_state (over s (reset_when k t)) = first_state s
 
 -- ---- a part that may begin at a step: at its first step, if it was not on; or in either way
 
--- where it may begin, and whether it may have been on; its states with those after the first step, those alone, or itself
+-- By whether it may begin and may have been on: its states with those after the first step, those
+-- after the first step alone, or its states unchanged.
 abbrev pub begun : Bool → Bool → StateRange → StateRange → StateRange → StateRange
 begun true true with_first first c = with_first
 begun true false with_first first c = first
@@ -118,8 +130,8 @@ with_first (over s (reset_when k t)) c = with_first s c
 
 -- ---- a later step, some time at least after the one before
 
--- The answers of two parts in turn: of the first if it may be on, of the second if it may be, and of the second's first step if the
--- first may be done.
+-- The results of two parts in turn: of the first if it may be on, of the second if it may be, and
+-- of the second's first step if the first may be done.
 abbrev pub turn_range : Bool → Bool → AnswerRange → AnswerRange → AnswerRange → AnswerRange
 turn_range first_on second_on a b begins =
     answer_hull (answer_hull (answers_if first_on (left_range a)) (answers_if second_on (right_range b)))

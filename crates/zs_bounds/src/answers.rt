@@ -1,4 +1,5 @@
-// What a step may return: a range of outputs, and decisions. How the operators join those of their parts.
+//! What a step may return: a range of outputs, and decisions. How the operators join the results
+//! of their parts.
 
 ghost use Rattle.std.specs.Prelude.{◌≡◌, IfOk};
 ghost use Rattle.zs_bounds.specs.OutRange.{output_range_of};
@@ -14,14 +15,14 @@ use zs_term::Test;
 // A range of outputs, and decisions.
 pub(crate) type Answer = (OutRange, Decisions);
 
-// No answer.
+// No result.
 pub(crate) fn no_answer() -> Answer
     ensures value { range (output_range_of result.0) result.1 ≡ no_answer }
 {
     (OutRange::Nothing, Decisions::nothing())
 }
 
-// The answers of one or the other.
+// The results of one or the other.
 pub(crate) fn answer_hull(first: Answer, second: Answer) -> Answer
     ensures value { range (output_range_of result.0) result.1
         ≡ answer_hull (range (output_range_of first.0) first.1)
@@ -46,7 +47,7 @@ pub(crate) fn paired(
     Ok((make_pairs(alloc, first, second)?, decision))
 }
 
-// The answers of a first part that goes on.
+// The results of a first part that goes on.
 pub(crate) fn left_range(alloc: Global, answer: Answer) -> Result<Answer, AllocError>
     ensures value { IfOk result (λ r.
         range (output_range_of r.0) r.1 ≡ left_range (range (output_range_of answer.0) answer.1)) }
@@ -61,7 +62,7 @@ pub(crate) fn left_range(alloc: Global, answer: Answer) -> Result<Answer, AllocE
     ))
 }
 
-// The answers of a second part.
+// The results of a second part.
 pub(crate) fn right_range(alloc: Global, answer: Answer) -> Result<Answer, AllocError>
     ensures value { IfOk result (λ r.
         range (output_range_of r.0) r.1 ≡ right_range (range (output_range_of answer.0) answer.1)) }
@@ -70,7 +71,7 @@ pub(crate) fn right_range(alloc: Global, answer: Answer) -> Result<Answer, Alloc
     Ok((make_sides(alloc, OutRange::Nothing, out)?, decision))
 }
 
-// The answers under a test of a number of a span, if there is one.
+// The results under a test of a number of a span, if there is one.
 pub(crate) fn tested(test: Test, span: Option<Span>, answer: Answer) -> Answer
     ensures value { range (output_range_of result.0) result.1
         ≡ test_range test span (range (output_range_of answer.0) answer.1) }
@@ -80,7 +81,7 @@ pub(crate) fn tested(test: Test, span: Option<Span>, answer: Answer) -> Answer
     (out, decision.tested(passes, may_fail(test, span)))
 }
 
-// The answers of a part, or those of its first step, if it may be reset.
+// The results of a part, or those of its first step, if it may be reset.
 pub(crate) fn reset(passes: bool, fails: bool, answer: Answer, first: Answer) -> Answer
     ensures value { range (output_range_of result.0) result.1
         ≡ reset_range passes fails (range (output_range_of answer.0) answer.1)

@@ -1,4 +1,4 @@
-// The bounds of a schedule, step by step.
+//! The bounds of a schedule, step by step.
 
 ghost use Rattle.std.specs.Prelude.{◌≡◌, IfOk};
 ghost use Rattle.zs_term.specs.Schedule.{schedule_of};
@@ -14,11 +14,12 @@ use crate::unread::step_decisions;
 use std::alloc::{AllocError, Global};
 use zs_term::Checked;
 
-/// What holds for every history that a driver can make with a schedule: each step at a moment of a clock, each attempt of 1
-/// millisecond at least, any input.
+/// Returns what holds for every history that a driver can make with a schedule. In such a history
+/// each step is at a moment of a clock, each attempt takes at least 1 millisecond, and inputs are
+/// arbitrary.
 ///
-/// It looks at so many steps at most, and at fewer if the schedule is done by then, or a clock is over. Fails only if memory
-/// runs out.
+/// Looks at no more than `steps` steps. Looks at fewer if the schedule is done by then, or if the
+/// next step would be past every clock. Fails only if memory runs out.
 pub fn bounds(alloc: Global, checked: &Checked, steps: u64) -> Result<Bounds, AllocError>
     ensures promises { IfOk result (Promises (schedule_of checked.now)) }
     ensures value { IfOk result (λ b. b ≡ bounds_of (schedule_of checked.now) steps) }
@@ -29,7 +30,7 @@ pub fn bounds(alloc: Global, checked: &Checked, steps: u64) -> Result<Bounds, Al
     bounds_from(alloc, &mut node, first, steps)
 }
 
-// The bounds of so many steps at most, with the state after the first one and what it may decide.
+// The bounds of at most `steps` steps, by the state after the first one and what it may decide.
 #[tactic(auto, using(crate::proofs::Loops::loop_end, crate::proofs::Loops::loop_ends, crate::proofs::Loops::loop_past, crate::proofs::Loops::loop_goes_on))]
 fn bounds_from(
     alloc: Global,

@@ -1,4 +1,4 @@
-// What a step may decide, and how the operators join it.
+//! What a step may decide, and how the operators join it.
 
 ghost use Rattle.std.specs.Prelude.{◌≡◌, false};
 ghost use Rattle.zs_bounds.specs.DecisionRange.{may_go_on, wait_hull, later_waits, earlier_waits, waits_if, decisions, decision_hull, both_decide, either_decides, test_decides, going_on, no_decision};

@@ -1,11 +1,11 @@
-// That bounds hold.
+//! The law that bounds hold.
 
 ghost use Rattle.std.specs.Prelude.{◌≡◌, ℕ, true};
 ghost use Rattle.zs_term.specs.Schedule.{Schedule, has_factors};
 ghost use Rattle.zs_bounds.specs.Bounds.{Promises};
 ghost use Rattle.zs_bounds.specs.BoundsOf.{bounds_of};
 
-/// What is told of a schedule holds for every history that a driver can make.
+/// The computed bounds of a schedule hold for every history that a driver can make.
 pub fn bounds_hold()
     ensures value { (s : Schedule) (steps : ℕ) → has_factors s ≡ true
         → Promises s (bounds_of s steps) }

@@ -1,4 +1,5 @@
-// The answers of schedules without parts, by their number of steps and the time since the first one.
+//! The results of schedules without parts, by their number of steps and the time since the first
+//! one.
 
 ghost use Rattle.std.specs.Prelude.{◌≡◌, ◌*◌, ◌^◌, None, nat_le, nat_lt, if◌then◌else◌};
 ghost use Rattle.zs_term.specs.Saturating.{saturated};
@@ -35,7 +36,7 @@ fn at_once() -> Option<Span>
     Some(Span::one(0))
 }
 
-// The answers of a leaf, by its number of steps with this one, and the time since the first one.
+// The results of a leaf, by its number of steps with this one, and the time since the first one.
 pub(crate) fn leaf_range(leaf: Leaf, steps: Span, time: Span) -> Answer
     ensures value { range (output_range_of result.0) result.1
         ≡ leaf_range (bare_leaf leaf) steps time }
@@ -68,7 +69,7 @@ pub(crate) fn leaf_range(leaf: Leaf, steps: Span, time: Span) -> Answer
     }
 }
 
-// What `recurs` decides after so many earlier steps.
+// What `recurs` decides, by the number of earlier steps.
 fn recurring(k: u64, earlier: Span) -> Decisions
     ensures value { result
         ≡ decisions (nat_le k earlier.high) (if nat_lt earlier.low k then at_once else None) }
@@ -79,7 +80,7 @@ fn recurring(k: u64, earlier: Span) -> Decisions
     }
 }
 
-// Answers that wait for their own output.
+// Results whose output is their delay.
 fn waiting(delays: Span) -> Answer
     ensures value { range (output_range_of result.0) result.1 ≡ waiting delays }
 {
@@ -89,7 +90,8 @@ fn waiting(delays: Span) -> Answer
     )
 }
 
-// The waits up to the end of a period: a whole one at the first step, and at least `some` or a whole one at another step.
+// The waits up to the end of a period: a whole period at the first step, and at least `some` or a
+// whole period at another step.
 fn period_waits(period: u64, some: u64, steps: Span) -> Option<Span>
     ensures value { result ≡ period_waits period some steps }
 {
@@ -101,7 +103,7 @@ fn period_waits(period: u64, some: u64, steps: Span) -> Option<Span>
     Some(Span::new(low, period))
 }
 
-// A number times a power of a factor: it stays as it is from where it is 0 or cut on.
+// A number times a power of a factor. Once it is 0 or cut, it stays unchanged.
 #[tactic(auto, using(crate::proofs::Powers::power_none, crate::proofs::Powers::power_ones, crate::proofs::Powers::power_turn, crate::proofs::Powers::power_zero, crate::proofs::Powers::power_cut, crate::proofs::Powers::power_large))]
 fn power(base: u64, factor: u64, exponent: u64) -> u64
     ensures value { result ≡ saturated (base * factor ^ exponent) }
@@ -109,7 +111,7 @@ fn power(base: u64, factor: u64, exponent: u64) -> u64
     if factor == 1 {
         return base;
     }
-    // A factor of 2 or more passes the greatest number within 64 turns.
+    // A factor of 2 or more exceeds the greatest number within 64 turns.
     if base > 0 && factor > 1 && exponent > 63 {
         return u64::MAX;
     }
@@ -128,7 +130,8 @@ fn power(base: u64, factor: u64, exponent: u64) -> u64
 fn fibonacci(one: u64, index: u64) -> u64
     ensures value { result ≡ saturated (one * fibonacci_number index) }
 {
-    // The second number after a number is at least twice as large, so the 129th passes the greatest number.
+    // The second number after a number is at least twice as large. So the 129th exceeds the
+    // greatest number.
     if one > 0 && index > 128 {
         return u64::MAX;
     }

@@ -1,7 +1,9 @@
-//! What a schedule does for every history that a driver can make: how often it is stepped, and how long it waits.
+//! What a schedule does for every history that a driver can make: how often it is stepped, and how
+//! long it waits.
 //!
-//! `bounds` steps a state with intervals in place of numbers. What it returns holds for every input and every duration of
-//! attempts. Start with `specs/Driven.antt` and `specs/Bounds.antt`, which say what is promised.
+//! `bounds` steps a state with intervals in place of numbers. What it returns holds for every input
+//! and every duration of attempts. Start with `specs/Driven.antt` and `specs/Bounds.antt`, which
+//! say what is promised.
 //!
 //! ```rust
 //! let schedule = zs_term::read(alloc, "(exponential(100) && recurs(5))")?;

@@ -1,4 +1,4 @@
-// The states in which a schedule may be: intervals in place of a state's numbers.
+//! The states in which a schedule may be: intervals in place of a state's numbers.
 
 ghost use Rattle.std.specs.Prelude.{◌≡◌, ◌||◌, true, false, IfOk};
 ghost use Rattle.zs_term.specs.Schedule.{schedule_of, leaf, two, over, and_then, collect_all};
@@ -18,7 +18,8 @@ use crate::span::Span;
 use std::alloc::{AllocError, Global};
 use zs_term::{Func, Pick, Term, Test};
 
-// What the states of a part still lack: nothing, the state after the first step beside them, or that state in their place.
+// What the states of a part still lack: nothing, the state after the first step beside them, or
+// that state in their place.
 #[derive(Clone, Copy)]
 pub(crate) enum Fresh {
     Nothing,
@@ -26,7 +27,8 @@ pub(crate) enum Fresh {
     Alone,
 }
 
-// One of two parts in turn: whether it may be on, what its first step may decide, and what its states still lack.
+// One of two parts in turn: whether it may be on, what its first step may decide, and what its
+// states still lack.
 #[derive(Clone, Copy)]
 pub(crate) struct Turn {
     pub(crate) is_on: bool,
@@ -83,7 +85,8 @@ impl Turn {
 }
 
 impl Fresh {
-    // What is lacking if the part may also begin: its first step is its only state if it was not on.
+    // What is lacking if the part may also begin. Its first step is its only state if it was not
+    // on.
     fn add_first(self, begins: bool, is_on: bool) -> Fresh
         ensures value { result ≡ fresh_added begins is_on self }
     {
@@ -203,7 +206,7 @@ pub(crate) fn node_of(alloc: Global, term: &Term) -> Result<Node, AllocError>
     }
 }
 
-// The state of a part, in memory of its own.
+// The state of a part, in separate memory.
 #[cycle(making)]
 fn part(alloc: Global, term: &Term) -> Result<Box<Node>, AllocError>
     ensures made_of { IfOk result (λ n. node_schedule n.value ≡ schedule_of term.now) }
@@ -303,7 +306,7 @@ fn first_turn(alloc: Global, first: &Node, second: &Node) -> Result<Answer, Allo
     Ok(answer_hull(left, right))
 }
 
-// What the first step may decide. The range of an output is made only where a test reads it.
+// What the first step may decide. The range of an output is made only if a test reads it.
 #[cycle(first_deciding)]
 pub(crate) fn first_decisions(alloc: Global, node: &Node) -> Result<Decisions, AllocError>
     ensures value { IfOk result (λ d. d ≡ (first_range (node_schedule node.now)).decision) }
@@ -466,7 +469,8 @@ pub(crate) fn widen(node: &mut Node)
     }
 }
 
-// Adds the state after the first step to those of a part that may begin: it is its only state if the part was not on.
+// Adds the state after the first step to those of a part that may begin. It is the part's only
+// state if the part was not on.
 pub(crate) fn add_first(begins: bool, is_on: bool, node: &mut Node)
     requires firsts { KnowsFirsts node.old }
     ensures state { node_state node.new

@@ -1,4 +1,4 @@
-// What a step may return as its output.
+//! What a step may return as its output.
 
 ghost use Rattle.std.specs.Prelude.{◌≡◌, IfOk};
 ghost use Rattle.zs_bounds.specs.OutputRange.{output_hull, numbers, pairs, sides, lists, number_span, size_span, first_range_in, second_range_in, picked_span, may_compare, opposite, may_pass, may_fail, numbers_in, merge_range, applied_range};
@@ -19,7 +19,7 @@ pub(crate) enum OutRange {
     // What may be on the left, and on the right.
     Sides(Box<OutRange>, Box<OutRange>),
     Lists(Span),
-    // Every output. No schedule meets it, since both sides that are joined have one kind.
+    // Every output. No schedule has it, since both sides that are joined have one kind.
     Anything,
 }
 
@@ -198,7 +198,7 @@ fn may_compare(cmp: Cmp, span: Span, than: u64) -> bool
     }
 }
 
-// The comparison that holds where another one doesn't.
+// The comparison that holds if another one doesn't.
 fn opposite(cmp: Cmp) -> Cmp
     ensures value { result ≡ opposite cmp }
 {

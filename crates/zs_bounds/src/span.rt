@@ -1,4 +1,4 @@
-// Numbers between two bounds.
+//! Numbers between two bounds.
 
 ghost use Rattle.std.specs.Prelude.{◌≡◌};
 ghost use Rattle.zs_bounds.specs.Span.{span, hull};

@@ -1,4 +1,4 @@
-// One step of all states in which a schedule may be.
+//! One step of all states in which a schedule may be.
 
 ghost use Rattle.std.specs.Prelude.{◌≡◌, ◌&&◌, IfOk, OnOk, if◌then◌else◌};
 ghost use Rattle.zs_term.specs.Schedule.{two, over, and_then, while_output, collect_all, mapped, reset_when};
@@ -18,7 +18,7 @@ use crate::span::Span;
 use std::alloc::{AllocError, Global};
 use zs_term::{Func, Pick, Test};
 
-// One step, in place, some milliseconds at least after the one before: what it may return.
+// One step, in place, at least `later` milliseconds after the one before: what it may return.
 #[cycle(stepping)]
 pub(crate) fn step(alloc: Global, node: &mut Node, later: u64) -> Result<Answer, AllocError>
     requires firsts { KnowsFirsts node.old }
@@ -164,8 +164,8 @@ fn step_reset_when(
     Ok(reset(passes, fails, x, first))
 }
 
-// One step of two parts in turn: of the first if it may be on, of the second if it may be, and the second's first step if the first
-// may be done.
+// One step of two parts in turn: of the first if it may be on, of the second if it may be, and the
+// second's first step if the first may be done.
 #[cycle(stepping)]
 #[tactic(auto, using(crate::proofs::Fresh::fresh_begun))]
 fn step_and_then(

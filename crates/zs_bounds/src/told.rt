@@ -1,4 +1,4 @@
-// What is known of a schedule for every history that a driver can make.
+//! What is known of a schedule for every history that a driver can make.
 
 ghost use Rattle.std.specs.Prelude.{◌≡◌, ◌+◌, ◌<◌, ◌^◌};
 ghost use Rattle.zs_bounds.specs.BoundsOf.{no_bounds, with_step, ended, unended, sum_within, longest_in};
@@ -11,13 +11,14 @@ use crate::span::Span;
 pub struct Bounds {
     /// The number of steps that were looked at.
     pub seen: u64,
-    /// No step before this one is the last: the schedule gives up after so many attempts at the earliest.
+    /// No step before this one is the last: the schedule doesn't give up after fewer attempts.
     pub least: u64,
-    /// The step at which the schedule is done at the latest, if it always is within the steps that were looked at.
+    /// The step at which the schedule is done at the latest, if it always is within the steps that
+    /// were looked at.
     pub most: Option<u64>,
     /// The longest wait after a step that was looked at, in milliseconds.
     pub longest: u64,
-    /// At most so many milliseconds of waiting in all, if there is a bound.
+    /// All waits together are at most this long, in milliseconds, if there is a bound.
     pub total: Option<u64>,
 }
 

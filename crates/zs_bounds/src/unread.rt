@@ -1,4 +1,5 @@
-// One step of all states in which a schedule may be: what it may decide. The range of an output is made only where a test reads it.
+//! One step of all states in which a schedule may be: what it may decide. The range of an output
+//! is made only if a test reads it.
 
 ghost use Rattle.std.specs.Prelude.{◌≡◌, ◌&&◌, ◌||◌, IfOk, OnOk, if◌then◌else◌};
 ghost use Rattle.zs_term.specs.Schedule.{two, over, and_then, while_output, collect_all, reset_when};
@@ -17,7 +18,7 @@ use crate::stepping::step;
 use std::alloc::{AllocError, Global};
 use zs_term::{Pick, Test};
 
-// One step, in place, some milliseconds at least after the one before: what it may decide.
+// One step, in place, at least `later` milliseconds after the one before: what it may decide.
 #[cycle(unread)]
 pub(crate) fn step_decisions(
     alloc: Global,
@@ -120,7 +121,8 @@ fn step_picked(
     }
 }
 
-// One step of both parts of pairs: the span of the numbers that a test reads in the pairs, and what each part may decide.
+// One step of both parts of pairs: the span of the numbers that a test reads in the pairs, and what
+// each part may decide.
 #[cycle(unread)]
 fn pair_picked(
     alloc: Global,

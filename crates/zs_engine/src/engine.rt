@@ -1,3 +1,4 @@
+//! A run of jobs: rounds of due polls, at rising moments, up to the horizon.
 ghost use Rattle.std.specs.Prelude.{◌≡◌, ℕ, ◌≤◌, ◌<◌, List, [], ◌∷◌, ◌++◌, length, map, Some, None, slice_set, OnOk, IfOk};
 ghost use Rattle.std.specs.FinMap.{empty, get};
 ghost use Rattle.zs_term.specs.Saturating.{max_moment};

@@ -37,7 +37,7 @@ any-accepted : {A E : Type 0} (r : Result A E) → Accepted (λ _. ⊤) r
 any-accepted (Ok a) = tt
 any-accepted (Err e) = tt
 
--- a check that tells nothing of numbers
+-- a check that says nothing about numbers
 accepted-after : {A B : Type 0} (Q : B → Type 0) (f : A → Result B PlanFault) → ((a : A) → Accepted Q (f a)) → (r : Result A PlanFault) → Accepted Q (r >>= f)
 accepted-after Q f k r = accepted-next (λ _. ⊤) Q f (λ a x. k a) r (any-accepted r)
 

@@ -1,4 +1,5 @@
--- Each whole number of a document that was read has 64 bits: the values and error codes of scripts too.
+-- Each whole number of a document that was read has 64 bits: the values and error codes of scripts
+-- too.
 use Rattle.std.proofs.Common.{◌≡◌, ℕ, ◌≤◌, ◌<◌, ◌^◌, List, [], ◌∷◌, ◌&&◌, Bool, true, false, nat_lt, nat_le, Option, Some, None, option_map, option_and_then, Ordering, Less, Equal, Greater, if◌then◌else◌, codes, refl, arith}
 use Rattle.std.specs.Prelude.{⊤, ◌==◌, slice_index, drop}
 use Rattle.std.specs.Str.{is_utf8}

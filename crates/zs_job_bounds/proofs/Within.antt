@@ -29,7 +29,7 @@ stop-next : (d : Decision) → d ≡ Stop → is_next d ≡ true → ⊥
 stop-next Stop is next = cc
 stop-next (Next x) is next = cc
 
--- a wait that is so long at most
+-- a wait of at most l
 wait-within : (m x l : ℕ) (d : Decision) → d ≡ Next x → wait_of m d ≤ l → x ≤ m + l
 wait-within m x l Stop is le = absurd cc
 wait-within m x l (Next y) is le = let same : y ≡ x = cc in omega (arith, same, le)
@@ -51,7 +51,7 @@ module _ (job : JobRecord) (b : Bounds) (promises : Promises job.schedule b) whe
   waits-fit t is (q ∷ h) x due = promises.total t is (q ∷ h) due.0
 
   module _ (script : IsScript job.script) (inputs : HasInputs job.script) (ticks : List ℕ) (clock : AreTicks ticks) (due : Option ℕ) (ending : Option Ending) where
-    -- at most so many attempts from one on
+    -- the number of attempts from one on, with those before, is at most `most`
     attempts-fit : (k : ℕ) → b.most ≡ Some k → (attempts : List AttemptedValue) (h : History) (x : ℕ) → IsDueAfter job h x
         → Follows job ticks attempts due ending h x → length h + length attempts ≤ k
     attempts-fit k is [] h x begins follows = let more = one-more k is h x begins in omega (arith, more)

@@ -1,4 +1,5 @@
--- What the bounds of schedules say about an accepted plan. Each number of a script has 64 bits, since the reader takes no other.
+-- What the bounds of schedules say about an accepted plan. Each number of a script has 64 bits,
+-- since the reader accepts no other.
 use Rattle.std.specs.Prelude.{◌≡◌, ℕ, List, Ok}
 use Rattle.std.specs.List.{All}
 use Rattle.zs_drive.specs.Values.{JobRecord}
@@ -19,10 +20,11 @@ OfEachPlan Law = (bytes : List ℕ) (plan : PlanRecord) → plan_of bytes ≡ Ok
 abbrev pub ScriptHasInputs : PlanRecord → JobRecord → Type 0
 ScriptHasInputs plan job = HasInputs job.script
 
--- The attempts that the plan's report has of a job are within all bounds that hold for its schedule.
+-- The attempts of a job in the plan's report are within all bounds that hold for its schedule.
 abbrev pub PromisedInReport : PlanRecord → JobRecord → Type 0
 PromisedInReport plan job = (b : Bounds) → Promises job.schedule b → IsWithin b (job_report (ticks_of plan.clock) job).attempts
 
--- They are within the bounds that `zs_bounds::bounds` computes for its schedule, from any number of steps.
+-- They are within the bounds that `zs_bounds::bounds` computes for its schedule, from any number of
+-- steps.
 abbrev pub ComputedInReport : PlanRecord → JobRecord → Type 0
 ComputedInReport plan job = (steps : ℕ) → IsWithin (bounds_of job.schedule steps) (job_report (ticks_of plan.clock) job).attempts

@@ -18,8 +18,8 @@ pub fn jobs_are_within_bounds()
     ensures computed { OnEachClock ComputedBoundsHold }
 {}
 
-/// The report of an accepted plan has no job whose attempts leave the bounds of its schedule, whatever the
-/// bytes of the plan.
+/// The report of an accepted plan has no job whose attempts leave the bounds of its schedule,
+/// whatever the bytes of the plan.
 pub fn plans_are_within_bounds()
     // The reader accepts only numbers of 64 bits, so the premise of the other laws holds.
     ensures inputs { OfEachPlan ScriptHasInputs }

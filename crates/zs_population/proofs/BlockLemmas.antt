@@ -29,7 +29,7 @@ job-too-long number names line long = rw (lt-leb (length line) max_bytes long) r
 
 -- ---- the head
 
--- the first line isn't at hand
+-- the first line can't be read
 pub head-unread : (old now : Option (List ℕ)) (line : List ℕ) (fault : LineFault) → LineRead (Err fault) old now line → HeadFault old (line_fault_of 1 fault)
 head-unread old now line unread.Read read = tt
 head-unread old now line unread.TooLong read = (refl, λ other. head-refused old read.0 faults.TooLong (head-too-long read.0 read.1) read.2)
@@ -60,7 +60,7 @@ reads-more first number old mid now known names more line jobs after is reads to
       rw names_are at a.3,
     )
 
--- no line is left
+-- no line remains
 pub reads-all : (first : ℕ) (old mid now : Option (List ℕ)) (known names : BTreeSet (String Global)) (jobs : List JobRecord)
     → BlockReads first old mid known names jobs → Took mid now [] → BlockReads first old now known names jobs
 reads-all first old mid now known names jobs reads took earlier knows =
@@ -68,7 +68,7 @@ reads-all first old mid now known names jobs reads took earlier knows =
     let P : List (List ℕ) → Type 0 = λ lines. Took old now lines in
     (b.0, subst P (append-nil b.0) (took-more old mid now b.0 [] b.1 took), b.2, b.3)
 
--- the line behind some jobs isn't at hand
+-- the line after some jobs can't be read
 pub block-unread : (first k number : ℕ) (old mid now : Option (List ℕ)) (known names : BTreeSet (String Global)) (line : List ℕ) (jobs : List JobRecord) (fault : LineFault)
     → k ≡ length jobs → number ≡ first + k → k < block_jobs → BlockReads first old mid known names jobs → LineRead (Err fault) mid now line
     → BlockFault first old known (line_fault_of (number + 2) fault)
@@ -91,7 +91,7 @@ block-unread first k number old mid now known names line jobs unread.TooLong cou
 block-unread first k number old mid now known names line jobs unread.Memory count is few reads read =
     (k, ap (λ n. n + 2) is, few, λ other. absurd (other refl))
 
--- the line behind some jobs is none
+-- the line after some jobs is no job
 pub block-refused : (first k number : ℕ) (old mid now : Option (List ℕ)) (known names : BTreeSet (String Global)) (line : List ℕ) (jobs : List JobRecord) (fault : PlanFault)
     → k ≡ length jobs → number ≡ first + k → k < block_jobs → BlockReads first old mid known names jobs → Took mid now (line ∷ []) → IsNoJob number names line fault
     → fault ≢ faults.Memory → BlockRefused first old known (record { line = number + 2; fault = fault })
@@ -105,7 +105,7 @@ block-refused first k number old mid now known names line jobs fault count is fe
           (ap (λ n. jobs_at n (earlier ++ names_of jobs) (line ∷ [])) (sym place) ∙ refused),
     )
 
--- a fault of a line is a failed read where that was one
+-- the fault of a line is a failed read only if reading failed
 pub unread-read : (line : ℕ) (fault : LineFault) → line_fault_of line fault ≡ line_fault_of line unread.Read → fault ≡ unread.Read
 unread-read line unread.Read is = refl
 unread-read line unread.TooLong is = absurd (let no : line_fault_of line unread.TooLong ≡ line_fault_of line unread.Read = is in cc)

@@ -1,4 +1,4 @@
--- One block behind another, and how the run of a population ends.
+-- One block after another, and how the run of a population ends.
 use Rattle.std.proofs.Common.{◌≡◌, ◌<◌, ◌≤◌, ◌+◌, ◌*◌, ℕ, List, [], ◌++◌, length, take, Ok, Option, None, Some, refl, sym, ap, ◌∙◌, append_assoc, append-nil, length-append, arith, codes, inl, inr}
 use Rattle.std.proofs.lemmas.Bool.{cases_lt}
 use Rattle.std.specs.Fmt.{decimal}
@@ -26,14 +26,14 @@ pub appends-nothing : (known : Option (List ℕ)) → Appends known known []
 appends-nothing None = tt
 appends-nothing (Some xs) = sym (append-nil xs)
 
--- the total behind lines of which the first are apart
+-- adding the total to two texts adds it to the second one
 pub with_total-append : (xs ys : List ℕ) (polls : ℕ) → with_total (xs ++ ys) polls ≡ xs ++ with_total ys polls
 with_total-append xs ys polls =
     ap (λ (text : List ℕ). text ++ decimal polls ++ codes "\n") (append_assoc xs ys (codes "polls "))
     ∙ ap (λ (text : List ℕ). text ++ codes "\n") (append_assoc xs (ys ++ codes "polls ") (decimal polls))
     ∙ append_assoc xs (ys ++ codes "polls " ++ decimal polls) (codes "\n")
 
--- The jobs of one more block, behind those of the blocks so far.
+-- The jobs of one more block, after those of the blocks so far.
 pub record Joined (clock : Ticks) (ahead ahead_now : Option (List ℕ)) (names : BTreeSet (String Global)) (before taken : Option (List ℕ)) (old more : List JobRecord) : Type 0 where
   pub lines : List (List ℕ)
   pub read : Took ahead ahead_now lines
@@ -111,7 +111,8 @@ module _ (clock : Ticks) (ahead mid now : Option (List ℕ)) (names known : BTre
             ∙ sym (length-append (jobs_text clock done.jobs) (jobs_text clock more)) ∙ ap (λ (text : List ℕ). length text) (sym (text_of_two clock done.jobs more));
       }
 
-  -- A part of a block's text went out behind all of the blocks before it, which is a beginning of the report of all jobs so far.
+  -- A part of a block's text was written after all of the blocks before it. All text that was
+  -- written is a beginning of the report of all jobs so far.
   pub part-written : (done : IsDone clock ahead mid names blocks polls sent before taken) (more : List JobRecord) (plan : PlanRecord) (written : Option (List ℕ)) (text rest : List ℕ) (count : ℕ)
       → plan.clock ≡ clock → plan.jobs ≡ done.jobs ++ more
       → text ++ rest ≡ with_total (jobs_text clock more) (polls_of clock (done.jobs ++ more)) → count ≤ length text

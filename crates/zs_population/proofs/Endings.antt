@@ -1,4 +1,4 @@
--- How the run of a population ends, by where it stood behind its blocks.
+-- How the run of a population ends after some blocks are done.
 use Rattle.std.proofs.Common.{◌≡◌, ◌<◌, ◌≤◌, ◌+◌, ◌*◌, ◌-◌, ◌/◌, ℕ, zero, suc, List, [], ◌∷◌, ◌++◌, length, take, Bool, true, false, Ok, Err, Option, None, Some, refl, ap, ◌∙◌, append-nil, arith, String, Global}
 use Rattle.std.specs.Prelude.{IfSome, IsErrOf, IsTrue, ◌↔◌}
 use Rattle.std.specs.BTreeSet.{BTreeSet}
@@ -53,7 +53,7 @@ module _ (start ahead mid : Option (List ℕ)) (first : List ℕ) (head : HeadRe
   abbrev pub plan_with : List JobRecord → PlanRecord
   plan_with jobs = record { clock = head.clock; workers = head.workers; grain = head.grain; jobs = jobs }
 
-  -- what was written where the run stopped behind a block
+  -- what was written if the run stopped after a block
   pub wrote : (blocks : ℕ) → IsDone head.clock ahead mid names blocks polls sent before taken → (left : Option (List ℕ)) (read failed flushed : Bool) (Untouched : Type 0)
       → IsWhole blocks flushed Untouched
       → WroteBlocks (record { before = start; left = left; failed = read }) (record { before = before; taken = taken; failed = failed; flushed = flushed }) Untouched blocks
@@ -70,7 +70,7 @@ module _ (start ahead mid : Option (List ℕ)) (first : List ℕ) (head : HeadRe
     whole,
   )
 
-  -- the next block isn't at hand
+  -- the next block can't be read
   pub ends-unread : (blocks : ℕ) (done : IsDone head.clock ahead mid names blocks polls sent before taken) (left : Option (List ℕ)) (read flushed : Bool) (Untouched : Type 0) (fault : PopulationFault)
       → IsWhole blocks flushed Untouched → BlockFault (blocks * block_jobs) mid names fault
       → IsTrue read ↔ (fault ≡ Read)

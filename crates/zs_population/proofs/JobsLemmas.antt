@@ -27,12 +27,12 @@ behind-one : (job : JobRecord) (front : List JobRecord) (rest : Jobs) → behind
 behind-one job front (Ok jobs) = refl
 behind-one job front (Err e) = refl
 
--- what was found first, where all was
+-- what was found first, if all was found
 found : {A B : Type 0} (r : Result A Refusal) (f : A → Result B Refusal) (b : B) → r >>= f ≡ Ok b → (a : A) × (r ≡ Ok a) × (f a ≡ Ok b)
 found (Ok a) f b is = (a, refl, is)
 found (Err e) f b is = absurd (let no : Err e ≡ Ok b = is in cc)
 
--- what comes behind one job more
+-- what comes after one job more
 step-append : (number : ℕ) (names : List (List ℕ)) (x : List ℕ) (rest : List (List ℕ)) (ys : List (List ℕ)) (job : JobRecord) (jobs : List JobRecord)
     → job_at number names x ≡ Ok job
     → jobs_at (number + 1) (names ++ job.name ∷ []) rest
@@ -48,7 +48,7 @@ step-append number names x rest ys job jobs is later =
     ∙ ap (λ n. behind (job ∷ jobs) (jobs_at n ((names ++ job.name ∷ []) ++ names_of jobs) ys)) place
     ∙ ap (λ ns. behind (job ∷ jobs) (jobs_at (number + length (job ∷ jobs)) ns ys)) known
 
--- Lines behind lines that are jobs.
+-- Lines after lines that are jobs.
 pub jobs-append : (number : ℕ) (names : List (List ℕ)) (xs ys : List (List ℕ)) (jobs : List JobRecord) → jobs_at number names xs ≡ Ok jobs
     → jobs_at number names (xs ++ ys) ≡ behind jobs (jobs_at (number + length jobs) (names ++ names_of jobs) ys)
 unfolding jobs_at
@@ -73,7 +73,7 @@ pub jobs-joined : (number : ℕ) (names : List (List ℕ)) (xs ys : List (List �
     → jobs_at (number + length jobs) (names ++ names_of jobs) ys ≡ Ok more → jobs_at number names (xs ++ ys) ≡ Ok (jobs ++ more)
 jobs-joined number names xs ys jobs more are next = jobs-append number names xs ys jobs are ∙ ap (behind jobs) next
 
--- a line that is refused
+-- a line that is rejected
 pub jobs-refused : (number : ℕ) (names : List (List ℕ)) (xs ys : List (List ℕ)) (jobs : List JobRecord) (refusal : Refusal) → jobs_at number names xs ≡ Ok jobs
     → jobs_at (number + length jobs) (names ++ names_of jobs) ys ≡ Err refusal → jobs_at number names (xs ++ ys) ≡ Err refusal
 jobs-refused number names xs ys jobs refusal are next = jobs-append number names xs ys jobs are ∙ ap (behind jobs) next
@@ -84,7 +84,7 @@ pub one-job : (number : ℕ) (names : List (List ℕ)) (line : List ℕ) (job : 
 unfolding jobs_at
 one-job number names line job is = rw is refl
 
--- one line that is refused, and any behind it
+-- one line that is rejected, and any after it
 pub one-refused : (number : ℕ) (names : List (List ℕ)) (line : List ℕ) (rest : List (List ℕ)) (refusal : Refusal) → job_at number names line ≡ Err refusal
     → jobs_at number names (line ∷ rest) ≡ Err refusal
 unfolding jobs_at
@@ -99,7 +99,7 @@ refused-before : (job : JobRecord) (rest : Jobs) (refusal : Refusal) → rest >>
 refused-before job (Ok jobs) refusal is = absurd (let no : Ok (job ∷ jobs) ≡ Err refusal = is in cc)
 refused-before job (Err e) refusal is = let same : Err e ≡ Err refusal = is in cc
 
--- What comes behind a refused line changes nothing.
+-- What comes after a rejected line changes nothing.
 pub refused-stays : (number : ℕ) (names : List (List ℕ)) (xs ys : List (List ℕ)) (refusal : Refusal) → jobs_at number names xs ≡ Err refusal
     → jobs_at number names (xs ++ ys) ≡ Err refusal
 unfolding jobs_at
@@ -136,7 +136,7 @@ pub head-refused : (known : Option (List ℕ)) (first : List ℕ) (fault : PlanF
 head-refused None first fault is begins = (first ∷ [], refused-head first [] fault is, tt)
 head-refused (Some xs) first fault is begins = (first ∷ begins.0, refused-head first begins.0 fault is, begins.1)
 
--- a line behind the head is no job
+-- a line after the head is no job
 pub job-refused : (known : Option (List ℕ)) (first : List ℕ) (lines : List (List ℕ)) (head : HeadRecord) (refusal : Refusal) → head_of first ≡ Ok head
     → jobs_at 0 [] lines ≡ Err refusal → BeginsWith known (first ∷ lines) → WasRefused known refusal
 job-refused None first lines head refusal is are begins = (first ∷ lines, refused-job first lines head refusal is are, tt)

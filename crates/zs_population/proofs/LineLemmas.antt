@@ -27,7 +27,7 @@ begun-cases : (b : ℕ) (lines : List (List ℕ)) → (tail : List ℕ) × (rest
 begun-cases b [] = ([], [], refl)
 begun-cases b (line ∷ lines) = (line, lines, refl)
 
--- bytes without a newline stand at the front of the first line
+-- bytes without a newline are at the front of the first line
 pub lines-begun : (b : ℕ) (bs more : List ℕ) → IsOneLine (b ∷ bs)
     → (tail : List ℕ) × (rest : List (List ℕ)) × (lines_of ((b ∷ bs) ++ more) ≡ (b ∷ bs ++ tail) ∷ rest)
 lines-begun b [] more one =
@@ -68,7 +68,7 @@ filled (Some xs) None left line more first next = absurd first
 filled (Some xs) (Some ys) None line more first next = absurd next
 filled (Some xs) (Some ys) (Some zs) line more first next = first ∙ ap (λ bs. line ++ bs) next
 
--- the bytes ended behind a line
+-- the bytes ended after a line
 pub took-last : (old mid left : Option (List ℕ)) (b : ℕ) (bs : List ℕ) → IsOneLine (b ∷ bs)
     → Consumes old mid (b ∷ bs) → Consumes mid left [] → IsAtEnd left → Took old (prepend_known [] left) ((b ∷ bs) ∷ [])
 took-last None mid left b bs one first next end = tt
@@ -103,7 +103,7 @@ not-true : (b : Bool) → (b ≡ true → ⊥) → b ≡ false
 not-true true not = absurd (not refl)
 not-true false not = refl
 
--- the bytes ended: behind a line, or where none is left
+-- the bytes ended: after a line, or when none remained
 pub ended : (old mid left : Option (List ℕ)) (line : List ℕ) (empty : Bool) → empty ≡ (length line == 0) → IsOneLine line
     → Consumes old mid line → Consumes mid left [] → IsAtEnd left → LineRead (Ok (not empty)) old (prepend_known [] left) line
 ended old mid left [] empty is one first next end = rw is (took-none old mid left first next, at_end left end)
@@ -122,7 +122,7 @@ pub took-nothing : (known : Option (List ℕ)) → Took known known []
 took-nothing None = tt
 took-nothing (Some xs) = refl
 
--- lines behind lines
+-- lines after lines
 pub took-more : (a b c : Option (List ℕ)) (xs ys : List (List ℕ)) → Took a b xs → Took b c ys → Took a c (xs ++ ys)
 took-more None b c xs ys first next = tt
 took-more (Some a) None c xs ys first next = absurd first

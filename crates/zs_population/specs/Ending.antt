@@ -12,7 +12,7 @@ use Rattle.zs_population.specs.declared.fault.PopulationFault.{PopulationFault}
 use Rattle.zs_population.specs.declared.fault.PopulationFault.TheVariants.{Read, Line, Engine, Write}
 
 -- Some lines are this population. If the reader's bytes are known, they are its lines, and none
--- is left.
+-- remains.
 abbrev pub IsPopulation : Reading → PlanRecord → Type 0
 IsPopulation r plan = (lines : List (List ℕ)) × (population_of lines ≡ Ok plan)
     × IfSome r.before (λ known. (lines_of known ≡ lines) × (r.left ≡ Some []))

@@ -3,7 +3,7 @@ pub mod Lines
 pub mod Population
 pub mod Ending
 pub mod Status
--- What the bodies keep: private contracts alone name these.
+-- What the bodies store: private contracts alone name these.
 pub mod Buffers
 pub mod Reads
 pub mod Blocks

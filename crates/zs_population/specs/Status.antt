@@ -4,14 +4,14 @@ use Rattle.zs_run.specs.Status.{plan_status_of}
 use Rattle.zs_population.specs.declared.fault.PopulationFault.{PopulationFault}
 use Rattle.zs_population.specs.declared.fault.PopulationFault.TheVariants.{Read, Line, Engine, Write}
 
--- 2 for a refused line, 3 where reading or writing failed, 4 for want of memory or of a thread
+-- 2 for a rejected line, 3 if reading or writing failed, 4 without memory or a thread
 abbrev pub status_of : PopulationFault → ℕ
 status_of Read = 3
 status_of (Line line fault) = plan_status_of fault
 status_of (Engine fault) = 4
 status_of (Write sent) = 3
 
--- 0 where the whole report was written
+-- 0 if the whole report was written
 abbrev pub exit_status_of : Result (Unit {0}) PopulationFault → ℕ
 exit_status_of (Ok done) = 0
 exit_status_of (Err fault) = status_of fault

@@ -114,7 +114,7 @@ fn add_line(
     Ok(())
 }
 
-/// Reads the jobs of the next block: fewer than `BLOCK` if no line is left.
+/// Reads the jobs of the next block: fewer than `BLOCK` if no line remains.
 pub(crate) fn read_block<R: Source>(
     alloc: Global,
     reader: &mut R,

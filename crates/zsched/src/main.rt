@@ -1,7 +1,7 @@
 //! Reads a plan from standard input, runs its jobs, and writes their report to standard output.
 //!
-//! A fault is told on standard error, and by the exit status: 2 for a plan that is none, 3 where reading or writing
-//! failed, 4 for want of memory or of a thread.
+//! A fault is printed to standard error. The exit status is 2 for an invalid plan, 3 if reading or
+//! writing failed, 4 without memory or a thread.
 #![tactic(auto)]
 
 use std::process::ExitCode;
@@ -13,7 +13,7 @@ fn main(rt: HostRuntime) -> ExitCode {
     let mut writer = Marked::new(rt.stdout());
     let ended = run(&rt, rt.alloc(), &OpenGate, &mut reader, &mut writer);
     if let Err(fault) = &ended {
-        // Nothing is left to tell where standard error fails too.
+        // If standard error fails too, nothing more can be done.
         let _ = eprintln!(rt; "zsched: {fault}");
     }
     exit_code(&ended)

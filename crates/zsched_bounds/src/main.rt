@@ -1,8 +1,8 @@
-//! Reads policies from standard input, a line each, and writes what each does for every input to standard output, as a line
-//! of JSON.
+//! Reads policies from standard input, a line each. Writes what each does for every input to
+//! standard output, as a line of JSON.
 //!
-//! A fault is told on standard error, and by the exit status: 2 for a line that is no schedule, 3 where reading or writing
-//! failed, 4 for want of memory.
+//! A fault is printed to standard error. The exit status is 2 for a line that is no schedule, 3 if
+//! reading or writing failed, 4 without memory.
 #![tactic(auto)]
 
 use std::alloc::Global;
@@ -11,7 +11,7 @@ use std::process::ExitCode;
 use zs_bounds::{Bounds, bounds};
 use zs_term::{TermFault, read, write};
 
-// So many steps are looked at.
+// At most this number of steps is looked at.
 const STEPS: u64 = 20_000;
 
 // Why there is no line for a policy.
@@ -53,7 +53,7 @@ fn print_bounds(rt: &impl Print, alloc: Global, text: &str, told: Bounds) -> Res
     }
 }
 
-// One policy.
+// Reads one policy, and writes its line.
 fn policy(rt: &impl Print, alloc: Global, line: &str) -> Result<(), Refusal> {
     let schedule = match read(alloc, line) {
         Ok(schedule) => schedule,

@@ -4,7 +4,7 @@ use Rattle.zs_bounds.specs.Node.{node_schedule, node_state, KnowsFirsts}
 use Rattle.zs_bounds.specs.BoundsOf.{bounds_from, no_bounds}
 use Rattle.zs_bounds.proofs.bounding.bounds_from.Given as goal
 
--- what is told so far, with what the later steps tell, is what all of them tell
+-- the bounds so far, with what the later steps add, are the bounds of all steps
 abbrev pub invariant-loop : goal.invariant-loop
 invariant-loop l = record {
   told : bounds_from (node_schedule l.node) (l.steps - l.counter) (node_state l.node) l.decision l.passed l.told

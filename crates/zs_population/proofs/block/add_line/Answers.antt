@@ -4,7 +4,7 @@ use Rattle.zs_drive.specs.Values.{job_record}
 use Rattle.zs_drive.specs.declared.job.Job.{Job}
 use Rattle.zs_population.proofs.block.add_line.Goals as goal
 
--- the job and its name stand behind those before
+-- the job and its name were appended to those before
 pub returns-clause-job : goal.returns-clause-job
 returns-clause-job c = λ earlier knows. (
   job_record c.in_ok-job.job,

@@ -15,7 +15,7 @@ loop-alloc-init g c =
     let none : c.new-jobs.result.items ≡ [] = c.new-jobs.ensures.items in
     rw none (omega arith, c.requires.clear, omega (arith, c.requires.few), reads-nothing c.args.first _ c.args.names.now)
 
--- the next line isn't at hand
+-- the next line can't be read
 pub returns-in-Err-clause-fault : goal.returns-in-Err-clause-fault
 returns-in-Err-clause-fault g c =
     let jobs : List JobRecord = map job_record c.loop-alloc.jobs.items in

@@ -11,7 +11,7 @@ returns-in-Ok-false-clause-fault g c =
     let read = rw c.in-Ok-false.field-0-test at c.in-Ok-false.ensures.line in
     (refl, λ other. nothing-refused _ _ read.0 read.1)
 
--- it isn't at hand
+-- it can't be read
 pub returns-in-Err-clause-fault : goal.returns-in-Err-clause-fault
 returns-in-Err-clause-fault g c = rw c.line_fault.ensures.value (head-unread _ _ _ c.in-Err.fault c.in-Err.ensures.line)
 

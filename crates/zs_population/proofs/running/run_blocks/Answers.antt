@@ -28,7 +28,7 @@ loop-names-init g c =
       whole = refl;
     }
 
--- the next block isn't at hand
+-- the next block can't be read
 pub returns-in_err-jobs : goal.returns-in_err-jobs
 returns-in_err-jobs g c =
     let p = err_from_is_err_and c.from_residual.result c.from_residual.ensures.1 in
