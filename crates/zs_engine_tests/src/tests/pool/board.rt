@@ -15,8 +15,11 @@ fn batches_of(alloc: Global, count: u64, each: u64) -> Result<Vec<Batch>, Fail>
 {
     let mut batches = Vec::new(alloc);
     for number in 0..count {
-        let tasks = Tasks::Many(new_tasks(alloc, each, 0)?);
-        batches.push(Batch { number, tasks })?;
+        let tasks = new_tasks(alloc, each, 0)?;
+        batches.push(Batch {
+            number,
+            tasks: Tasks::Many(tasks),
+        })?;
     }
     Ok(batches)
 }
