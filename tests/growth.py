@@ -252,7 +252,7 @@ ROWS = [
         runs="library program"),
     Row("leaves of a state", states, 100, Cost(800_000, 370, 240), runs="library state"),
     Row("steps of bounds", steps_of_bounds, 1000, Cost(4500, 0.01, 4.2), runs="library answer"),
-    Row("leaves of bounds", leaves_of_bounds, 100, Cost(34_000, 333, 29.4),
+    Row("leaves of bounds", leaves_of_bounds, 100, Cost(8600, 419, 6.7),
         runs="library answer"),
 ]
 ROWS_BY_NAME = {row.name: row for row in ROWS}
