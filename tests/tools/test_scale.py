@@ -433,10 +433,15 @@ class Recipes(InFolder):
 
     def kill_named(self, name):
         """Kills the processes of the recipe that run a program: in its command line, but not the shell's own."""
+        is_killed = False
         for process in list(self.started()):
-            words = pathlib.Path(f"/proc/{process}/cmdline").read_bytes().split(b"\0")
-            if any(pathlib.Path(word.decode()).name == name for word in words[:2]):
-                os.kill(process, signal.SIGKILL)
+            # a process that isn't meant may end meanwhile
+            with contextlib.suppress(FileNotFoundError, ProcessLookupError):
+                words = pathlib.Path(f"/proc/{process}/cmdline").read_bytes().split(b"\0")
+                if any(pathlib.Path(word.decode()).name == name for word in words[:2]):
+                    os.kill(process, signal.SIGKILL)
+                    is_killed = True
+        self.assertTrue(is_killed, name)
 
 
 if __name__ == "__main__":
