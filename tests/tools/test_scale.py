@@ -362,7 +362,7 @@ class Recipes(InFolder):
         right = self.write_population(MANY_JOBS)
         block = support.equal_jobs([f"job-{number}" for number in range(10_000)], 1, 1)[1].rpartition(b"polls ")[0]
         # It gets no line after the first of the second block.
-        self.program("zsched_population", f"#!/bin/sh\n[ ! -e {self.folder}/slow ] && exec {found}\n"
+        self.program("zsched-population", f"#!/bin/sh\n[ ! -e {self.folder}/slow ] && exec {found}\n"
                                           f"(head -n 10002; sleep 60) | {found}\n")
         self.killed(commands, lambda: partial.exists() and partial.stat().st_size == len(block))
         self.assertEqual((whole.exists(), partial.read_bytes()), (False, block))
