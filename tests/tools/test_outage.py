@@ -63,6 +63,7 @@ time to success, p50      2.1 s
   p95                     2.3 s
   p99                     2.3 s
   greatest                2.3 s
+last success at           3.3 s
 gave up                       0
 unfinished                    0
 passes                        3
@@ -445,7 +446,7 @@ class Files(WithFiles):
             self.assertEqual({name for name in re.findall('class="name"[^>]*>([^<]+)', text)}, {"a", "b"})
             self.assertEqual([size for size in map(int, re.findall(r"font-size:(\d+)px", text)) if size < 11], [])
         self.assertEqual(picture.count('class="down"'), 2)
-        verdicts = re.findall(r">\d+ attempts; peak \d+ at 0 s; \d+ of 40 served within [^<]+<title>", picture)
+        verdicts = re.findall(r">\d+ attempts; peak \d+ at 0 s; \d+ of 40 served, the last at [^<]+<title>", picture)
         self.assertEqual(len(verdicts), 2)
         self.assertEqual(page.count("<svg"), 2)
         self.assertIn(f"<td>{figures['a'].attempts:,}</td>", page)
@@ -518,7 +519,7 @@ onload = () => { document.getElementById("found").textContent = [...document.que
   return `${frame.width} ${cells.length} ${cells.filter(it => it.right > table.right + 1).length}`;
 }).join(); };</script>""")
             found = inside(opened(f"file://{frames}", 1700, ["--allow-file-access-from-files"]), "found")
-        self.assertEqual(found, ",".join(f"{width} 28 0" for width in widths))
+        self.assertEqual(found, ",".join(f"{width} 30 0" for width in widths))
 
 
 # A wrong scenario: what of the text is replaced by what, the piece in which ¦ is the place of the fault, its cause and

@@ -55,6 +55,7 @@ class Figures:
         self.mean = round(10 * self.attempts / len(clients)) / 10
         self.times = sorted(client.ending.at - start for client, start in zip(clients, scenario.starts)
                             if client.ending.how == "succeeded")
+        self.last_success = max((client.ending.at for client in clients if client.ending.how == "succeeded"), default=None)
         endings = Counter(client.ending.how for client in clients)
         self.gave_up, self.unfinished = endings["failed"], endings["unfinished"]
         self.denied = sum(scenario.budget is not None and client.ending.how == "failed"
@@ -91,6 +92,7 @@ def table(scenario, figures):
     for number, name in enumerate(names):
         words = f"time to success, {name}" if number == 0 else f"  {name}"
         yield row(words, lambda it, number=number: _time(it.shares()[number]))
+    yield row("last success at", lambda it: _time(it.last_success))
     yield row("gave up", lambda it: f"{it.gave_up:,}")
     if scenario.budget is not None:
         yield row("  out of budget", lambda it: f"{it.denied:,}")

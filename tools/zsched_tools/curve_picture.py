@@ -144,10 +144,10 @@ def _line(layout, top, rows, load):
 
 
 def _served(figures):
-    """How many clients are served, and within which time."""
+    """The number of clients that are served, and the moment of the last success."""
     served, count = len(figures.times), figures.clients
     words = "all served" if served == count else f"{served:,} of {count:,} served"
-    return f"{words} within {duration(figures.times[-1])}" if served else words
+    return f"{words}, the last at {duration(figures.last_success)}" if served else words
 
 
 def _panel(layout, number, name):
