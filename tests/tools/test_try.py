@@ -191,6 +191,7 @@ class EveryInput(unittest.TestCase):
         line, start = bounds_line(2, 6, 400, 2000, 6), "zsched-try: recurs(1): "
         for option, enough, less, words in [
                 ("--require-most", "6", "5", "--require-most 5 is not proved: up to 6 attempts"),
+                ("--require-wait", "400ms", "399", "--require-wait 399 ms is not proved: waits of up to 400 ms"),
                 ("--require-total", "2s", "1999",
                  "--require-total 1.999 s is not proved: waits of up to 2 s in all")]:
             with self.subTest(option):
@@ -199,10 +200,15 @@ class EveryInput(unittest.TestCase):
 
     def test_what_has_no_bound_is_never_proved(self):
         status, _, err = self.shown(bounds_line(1, None, 9, None, 20000), "--require-most", str(2**64 - 1),
-                                    "--require-total", "999999999999999")
+                                    "--require-wait", "9", "--require-total", "999999999999999")
         self.assertEqual((status, err.splitlines()), (1, [
             f"zsched-try: recurs(1): --require-most {2**64 - 1} is not proved: no limit of attempts",
+            "zsched-try: recurs(1): --require-wait 9 ms is not proved: no limit after the first 20000 waits",
             f"zsched-try: recurs(1): --require-total {duration(999999999999999)} is not proved: no limit of waits"]))
+
+    def test_a_longest_wait_may_be_proved_without_a_most(self):
+        self.assertEqual(self.shown(bounds_line(4, None, 500, 900, 3), "--require-wait", "500")[::2], (0, ""))
+        self.assertEqual(self.shown(bounds_line(9, 20000, 7, None, 20000), "--require-wait", "7")[::2], (0, ""))
 
     def test_each_policy_has_its_line_and_its_bounds(self):
         with tempfile.TemporaryDirectory() as folder:
@@ -220,7 +226,7 @@ class EveryInput(unittest.TestCase):
 
     def test_without_the_program(self):
         self.assertEqual(tool("recurs(1)"), (0, self.RUN, ""))
-        for words in [["--require-most", "9"], ["--require-total", "9"]]:
+        for words in [["--require-most", "9"], ["--require-wait", "9"], ["--require-total", "9"]]:
             status, out, err = tool("recurs(1)", *words)
             self.assertEqual((status, out), (2, ""))
             self.assertIn("need zsched-bounds, which is neither built nor installed", err)
@@ -241,6 +247,8 @@ class EveryInput(unittest.TestCase):
         self.assertEqual((status, err), (0, ""))
         self.assertIn("for every input: 6 attempts, always; waits of at most 1.6 s, 3.1 s in all\n", out)
         self.assertEqual(tool(policy, "--require-most", "5", bounds=BOUNDS)[0], 1)
+        self.assertEqual(tool(policy, "--require-wait", "1600", bounds=BOUNDS)[0], 0)
+        self.assertEqual(tool(policy, "--require-wait", "1599", bounds=BOUNDS)[0], 1)
         self.assertEqual(tool(policy, "--require-total", "3099", bounds=BOUNDS)[0], 1)
 
     def test_a_wrong_policy_has_the_same_fault(self):

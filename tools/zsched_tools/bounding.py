@@ -35,12 +35,16 @@ class Bounds:
             return f"{plural(self.most, 'attempt')}, always"
         return f"{self.least} to {self.most} attempts"
 
+    def has_all_waits(self):
+        """Whether the longest wait is that of all steps, and not only of those that were looked at."""
+        return self.most is not None or self.seen < MOST_STEPS
+
     def waits(self):
         """The waits in words. Later steps than those that were looked at may have longer ones. A limit over the last moment
         of a plan limits nothing."""
         if self.longest > LAST_MOMENT:
             return "waits without a proved limit"
-        if self.most is None and self.seen == MOST_STEPS:
+        if not self.has_all_waits():
             limit = f"at most {rounded(self.longest)}" if self.longest else "0 ms"
             return f"first {MOST_STEPS} waits of {limit}"
         if self.longest == 0:

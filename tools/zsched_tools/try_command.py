@@ -101,10 +101,14 @@ def _exceeded(given, found):
 
 def _not_proved(given, bounds):
     """The required bounds of a policy that aren't proved, in words."""
-    most, total = given.require_most, given.require_total
+    most, wait, total = given.require_most, given.require_wait, given.require_total
     if most is not None and (bounds.most is None or bounds.most > most):
         found = "no limit of attempts" if bounds.most is None else f"up to {plural(bounds.most, 'attempt')}"
         yield f"--require-most {most} is not proved: {found}"
+    if wait is not None and (not bounds.has_all_waits() or bounds.longest > wait):
+        found = f"waits of up to {bounding.rounded(bounds.longest)}" if bounds.has_all_waits() else (
+            f"no limit after the first {bounding.MOST_STEPS} waits")
+        yield f"--require-wait {duration(wait)} is not proved: {found}"
     if total is not None and (bounds.total is None or bounds.total > total):
         found = "no limit of waits" if bounds.total is None else f"waits of up to {duration(bounds.total)} in all"
         yield f"--require-total {duration(total)} is not proved: {found}"
@@ -118,9 +122,9 @@ def _bounds(given):
         raise Refused(missing) from None
     if path is not None:
         return bounding.run(path, given.policies)
-    if given.require_most is not None or given.require_total is not None:
-        raise Refused("--require-most and --require-total need zsched-bounds, which is neither built nor installed; "
-                      "--bounds PATH or ZSCHED_BOUNDS names it")
+    if [given.require_most, given.require_wait, given.require_total] != [None] * 3:
+        raise Refused("--require-most, --require-wait and --require-total need zsched-bounds, which is neither built nor "
+                      "installed; --bounds PATH or ZSCHED_BOUNDS names it")
     return [None] * len(given.policies)
 
 
@@ -201,6 +205,7 @@ def arguments():
     parser.add_argument("--max-wait", type=_time(0), metavar="TIME", help="the longest wait")
     parser.add_argument("--max-attempts", type=_count(2**64 - 1), metavar="N", help="the most attempts")
     parser.add_argument("--require-most", type=_count(2**64 - 1), metavar="N", help="the most attempts for every input")
+    parser.add_argument("--require-wait", type=_time(0), metavar="TIME", help="the longest wait for every input")
     parser.add_argument("--require-total", type=_time(0), metavar="TIME", help="the most of all waits for every input")
     printed = parser.add_mutually_exclusive_group()
     printed.add_argument("--plan", action="store_true", help="print the plan, and run nothing")
