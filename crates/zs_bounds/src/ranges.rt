@@ -186,7 +186,8 @@ pub(crate) fn join(alloc: Global, range: &mut OutRange, other: &OutRange) -> Res
 
 // A span of numbers, widened.
 fn join_numbers(span: Span, other: &OutRange) -> OutRange
-    ensures value { output_range_of result ≡ output_hull (numbers span) (output_range_of other.now) }
+    ensures value { output_range_of result
+        ≡ output_hull (numbers span) (output_range_of other.now) }
 {
     match other {
         OutRange::Nothing => OutRange::Numbers(span),
@@ -199,7 +200,8 @@ fn join_numbers(span: Span, other: &OutRange) -> OutRange
 
 // A span of lengths of lists, widened.
 fn join_lists(span: Span, other: &OutRange) -> OutRange
-    ensures value { output_range_of result ≡ output_hull (lists span) (output_range_of other.now) }
+    ensures value { output_range_of result
+        ≡ output_hull (lists span) (output_range_of other.now) }
 {
     match other {
         OutRange::Nothing => OutRange::Lists(span),

@@ -154,7 +154,8 @@ impl Reads {
 
     // Drops what isn't read of a range of which a part was made.
     pub(crate) fn keep(self, made: Reads, range: &mut OutRange)
-        ensures value { output_range_of range.new ≡ read_made self made (output_range_of range.old) }
+        ensures value { output_range_of range.new
+            ≡ read_made self made (output_range_of range.old) }
     {
         match self {
             Reads::Nothing => *range = OutRange::Nothing,

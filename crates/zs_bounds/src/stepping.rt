@@ -250,20 +250,21 @@ fn step_reset_when(
 ) -> Result<Decisions, AllocError>
     requires firsts { KnowsFirsts part.old }
     requires empty { output_range_of out.old ≡ nothing }
-    requires first { range (output_range_of first.0.now) first.1 ≡ first_range (node_schedule part.old) }
+    requires first { range (output_range_of first.0.now) first.1
+        ≡ first_range (node_schedule part.old) }
     ensures output { OnOk result
         (output_range_of out.new
         ≡ read_range stride.reads
-        (next_range (over (node_schedule part.old) (reset_when rule.pick rule.test)) (node_state part.old)
-        stride.later).output) }
+        (next_range (over (node_schedule part.old) (reset_when rule.pick rule.test))
+        (node_state part.old) stride.later).output) }
     ensures decision { IfOk result (λ d.
         d
-        ≡ (next_range (over (node_schedule part.old) (reset_when rule.pick rule.test)) (node_state part.old)
-        stride.later).decision) }
+        ≡ (next_range (over (node_schedule part.old) (reset_when rule.pick rule.test))
+        (node_state part.old) stride.later).decision) }
     ensures state { OnOk result
         (node_state part.new
-        ≡ next_state (over (node_schedule part.old) (reset_when rule.pick rule.test)) (node_state part.old)
-        stride.later) }
+        ≡ next_state (over (node_schedule part.old) (reset_when rule.pick rule.test))
+        (node_state part.old) stride.later) }
     ensures same { OnOk result (node_schedule part.new ≡ node_schedule part.old) }
     ensures firsts { OnOk result (node_firsts part.new ≡ node_firsts part.old) }
 {
@@ -314,7 +315,8 @@ fn step_and_then(
     ensures decision { IfOk result (λ d.
         d
         ≡ (next_range (two and_then (node_schedule first.old) (node_schedule second.old))
-        (turn_states turns.old.first turns.old.second first.old second.old) stride.later).decision) }
+        (turn_states turns.old.first turns.old.second first.old second.old)
+        stride.later).decision) }
     ensures state { OnOk result
         (turn_states turns.new.first turns.new.second first.new second.new
         ≡ next_state (two and_then (node_schedule first.old) (node_schedule second.old))

@@ -1,4 +1,4 @@
-use Rattle.std.proofs.Common.{◌≡◌, ◌||◌, ap, ◌∙◌}
+use Rattle.std.proofs.Common.{◌||◌, ap, ◌∙◌}
 use Rattle.zs_bounds.specs.declared.node.Turn.{Turn}
 use Rattle.zs_bounds.specs.AnswerRange.{AnswerRange}
 use Rattle.zs_bounds.specs.OutRange.{output_range_of}
