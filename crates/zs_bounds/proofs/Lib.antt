@@ -10,3 +10,4 @@ pub mod Rows
 pub mod Powers
 pub mod Loops
 pub mod Fresh
+pub mod Reading

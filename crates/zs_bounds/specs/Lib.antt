@@ -12,4 +12,5 @@ pub mod BoundsOf
 pub mod OutRange
 pub mod Leaf
 pub mod Node
+pub mod Reads
 pub mod Sizes

@@ -9,6 +9,8 @@ use Rattle.zs_bounds.specs.declared.node.Turn.{Turn}
 use Rattle.zs_bounds.specs.declared.node.Node.{Node}
 use Rattle.zs_bounds.specs.declared.node.Node.TheVariants.{Leaf, Both', Either', AndThen', WhileInput', WhileOutput', CollectAll', Map', ResetWhen'}
 use Rattle.zs_bounds.specs.Leaf.{bare_leaf}
+use Rattle.zs_bounds.specs.AnswerRange.{AnswerRange, range}
+use Rattle.zs_bounds.specs.OutRange.{output_range_of}
 use Rattle.zs_bounds.specs.StateRange.{StateRange, counts, parts, turns, items, first_range, first_state, with_first}
 
 -- the schedule that a node was made of
@@ -16,12 +18,12 @@ abbrev pub node_schedule : Node → Schedule
 node_schedule (Leaf l n t) = leaf (bare_leaf l)
 node_schedule (Both' p a q b) = two both (node_schedule a) (node_schedule b)
 node_schedule (Either' p a q b) = two either (node_schedule a) (node_schedule b)
-node_schedule (AndThen' t u p a q b) = two and_then (node_schedule a) (node_schedule b)
+node_schedule (AndThen' t p a q b) = two and_then (node_schedule a) (node_schedule b)
 node_schedule (WhileInput' p s t) = over (node_schedule s) (while_input t)
 node_schedule (WhileOutput' p s k t) = over (node_schedule s) (while_output k t)
 node_schedule (CollectAll' p s d n) = over (node_schedule s) collect_all
 node_schedule (Map' p s f) = over (node_schedule s) (mapped f)
-node_schedule (ResetWhen' p s k t) = over (node_schedule s) (reset_when k t)
+node_schedule (ResetWhen' p s k d r) = over (node_schedule s) (reset_when k.pick k.test)
 
 -- ---- what the states of a part still lack
 
@@ -48,13 +50,14 @@ abbrev pub node_state : Node → StateRange
 node_state (Leaf l n t) = counts n t
 node_state (Both' p a q b) = parts (node_state a) (node_state b)
 node_state (Either' p a q b) = parts (node_state a) (node_state b)
-node_state (AndThen' t u p a q b) =
-    turns t.is_on u.is_on (fresh_state t.fresh (node_schedule a) (node_state a)) (fresh_state u.fresh (node_schedule b) (node_state b))
+node_state (AndThen' t p a q b) =
+    turns t.first.is_on t.second.is_on (fresh_state t.first.fresh (node_schedule a) (node_state a))
+    (fresh_state t.second.fresh (node_schedule b) (node_state b))
 node_state (WhileInput' p s t) = node_state s
 node_state (WhileOutput' p s k t) = node_state s
 node_state (CollectAll' p s d n) = items n (node_state s)
 node_state (Map' p s f) = node_state s
-node_state (ResetWhen' p s k t) = node_state s
+node_state (ResetWhen' p s k d r) = node_state s
 
 -- the states of a part whose turn it may be
 abbrev pub part_state : Turn → Node → StateRange
@@ -64,38 +67,41 @@ part_state t a = fresh_state t.fresh (node_schedule a) (node_state a)
 abbrev pub turn_states : Turn → Turn → Node → Node → StateRange
 turn_states t u a b = turns t.is_on u.is_on (part_state t a) (part_state u b)
 
--- ---- what first steps may decide: of both parts in turn, and of a part that is collected
+-- ---- what first steps may return: those of both parts in turn, of a part that is collected, and of
+-- a part that may be reset
 
--- What the first steps of a schedule's parts may decide. Leaves have none.
+-- What is known of the first steps of a schedule's parts. Leaves have none.
 pub data Firsts : Type 0 where
   no_firsts : Firsts
   part_firsts : Firsts → Firsts → Firsts
-  turn_firsts : Decisions → Decisions → Firsts → Firsts → Firsts
+  turn_firsts : Decisions → AnswerRange → Firsts → Firsts → Firsts
   item_firsts : Decisions → Firsts → Firsts
+  reset_firsts : AnswerRange → Firsts → Firsts
 
 -- as a node has them
 abbrev pub node_firsts : Node → Firsts
 node_firsts (Leaf l n t) = no_firsts
 node_firsts (Both' p a q b) = part_firsts (node_firsts a) (node_firsts b)
 node_firsts (Either' p a q b) = part_firsts (node_firsts a) (node_firsts b)
-node_firsts (AndThen' t u p a q b) = turn_firsts t.begins u.begins (node_firsts a) (node_firsts b)
+node_firsts (AndThen' t p a q b) =
+    turn_firsts t.first.begins (range (output_range_of t.start) t.second.begins) (node_firsts a) (node_firsts b)
 node_firsts (WhileInput' p s t) = node_firsts s
 node_firsts (WhileOutput' p s k t) = node_firsts s
 node_firsts (CollectAll' p s d n) = item_firsts d (node_firsts s)
 node_firsts (Map' p s f) = node_firsts s
-node_firsts (ResetWhen' p s k t) = node_firsts s
+node_firsts (ResetWhen' p s k d r) = reset_firsts (range (output_range_of r) d) (node_firsts s)
 
 -- as they are
 abbrev pub firsts_of : Schedule → Firsts
 firsts_of (leaf l) = no_firsts
 firsts_of (two both a b) = part_firsts (firsts_of a) (firsts_of b)
 firsts_of (two either a b) = part_firsts (firsts_of a) (firsts_of b)
-firsts_of (two and_then a b) = turn_firsts (first_range a).decision (first_range b).decision (firsts_of a) (firsts_of b)
+firsts_of (two and_then a b) = turn_firsts (first_range a).decision (first_range b) (firsts_of a) (firsts_of b)
 firsts_of (over s (while_input t)) = firsts_of s
 firsts_of (over s (while_output k t)) = firsts_of s
 firsts_of (over s collect_all) = item_firsts (first_range s).decision (firsts_of s)
 firsts_of (over s (mapped f)) = firsts_of s
-firsts_of (over s (reset_when k t)) = firsts_of s
+firsts_of (over s (reset_when k t)) = reset_firsts (first_range s) (firsts_of s)
 
 -- a node has them right
 abbrev pub KnowsFirsts : Node → Type 0

@@ -7,10 +7,12 @@ ghost use Rattle.zs_bounds.specs.BoundsOf.{bounds_of, bounds_from, no_bounds};
 ghost use Rattle.zs_bounds.specs.Node.{node_schedule, node_state, KnowsFirsts};
 
 use crate::decisions::Decisions;
-use crate::node::{Node, begin, first_decisions, node_of};
+use crate::node::{Node, begin, first_range, node_of};
+use crate::ranges::OutRange;
+use crate::reads::{Reads, Stride};
 use crate::span::MAX_TICK;
+use crate::stepping::step;
 use crate::told::Bounds;
-use crate::unread::step_decisions;
 use std::alloc::{AllocError, Global};
 use zs_term::Checked;
 
@@ -26,8 +28,8 @@ pub fn bounds(alloc: Global, checked: &Checked, steps: u64) -> Result<Bounds, Al
 {
     let mut node = node_of(alloc, checked.term())?;
     begin(&mut node);
-    let first = first_decisions(alloc, &node)?;
-    bounds_from(alloc, &mut node, first, steps)
+    let first = first_range(alloc, &node)?;
+    bounds_from(alloc, &mut node, first.1, steps)
 }
 
 // The bounds of at most `steps` steps, by the state after the first one and what it may decide.
@@ -55,7 +57,12 @@ fn bounds_from(
         if passed > MAX_TICK {
             return Ok(told);
         }
-        decision = step_decisions(alloc, node, later)?;
+        let stride = Stride {
+            reads: Reads::Nothing,
+            later,
+        };
+        let mut out = OutRange::Nothing;
+        decision = step(alloc, node, stride, &mut out)?;
     }
     Ok(told.unended())
 }

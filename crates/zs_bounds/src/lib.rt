@@ -19,10 +19,10 @@ mod laws;
 mod leaves;
 mod node;
 mod ranges;
+mod reads;
 mod span;
 mod stepping;
 mod told;
-mod unread;
 
 pub use bounding::bounds;
 pub use laws::bounds_hold;

@@ -1,7 +1,7 @@
 //! The states in which a schedule may be: intervals in place of a state's numbers.
 
 ghost use Rattle.std.specs.Prelude.{◌≡◌, ◌||◌, true, false, IfOk};
-ghost use Rattle.zs_term.specs.Schedule.{schedule_of, leaf, two, over, and_then, collect_all};
+ghost use Rattle.zs_term.specs.Schedule.{schedule_of, leaf, two, over, and_then, collect_all, reset_when};
 ghost use Rattle.zs_step.specs.Memory.{is_leaf};
 ghost use Rattle.zs_bounds.specs.OutRange.{output_range_of};
 ghost use Rattle.zs_bounds.specs.AnswerRange.{range, any_input};
@@ -13,7 +13,7 @@ ghost use Rattle.zs_bounds.specs.declared.node.Fresh.TheVariants.{Nothing, Alone
 use crate::answers::{Answer, answer_hull, left_range, no_answer, paired, right_range, tested};
 use crate::decisions::Decisions;
 use crate::leaves::{Leaf, leaf_range};
-use crate::ranges::{OutRange, applied, may_fail, may_pass, picked_span};
+use crate::ranges::{OutRange, applied, picked_span};
 use crate::span::Span;
 use std::alloc::{AllocError, Global};
 use zs_term::{Func, Pick, Term, Test};
@@ -34,6 +34,30 @@ pub(crate) struct Turn {
     pub(crate) is_on: bool,
     pub(crate) begins: Decisions,
     pub(crate) fresh: Fresh,
+}
+
+// Two parts in turn, and what the second's first step may return as its output.
+#[derive(Drop)]
+pub(crate) struct Turns {
+    pub(crate) first: Turn,
+    pub(crate) second: Turn,
+    pub(crate) start: OutRange,
+}
+
+impl Turns {
+    // Whether one of the parts may be on.
+    pub(crate) fn may_be_on(&self) -> bool
+        ensures value { result ≡ (self.now.first.is_on || self.now.second.is_on) }
+    {
+        self.first.is_on || self.second.is_on
+    }
+}
+
+// When a part is reset.
+#[derive(Clone, Copy)]
+pub(crate) struct ResetRule {
+    pub(crate) pick: Pick,
+    pub(crate) test: Test,
 }
 
 impl Turn {
@@ -122,8 +146,7 @@ pub(crate) enum Node {
         second: Box<Node>,
     },
     AndThen {
-        first_turn: Turn,
-        second_turn: Turn,
+        turns: Turns,
         first: Box<Node>,
         second: Box<Node>,
     },
@@ -146,10 +169,12 @@ pub(crate) enum Node {
         part: Box<Node>,
         func: Func,
     },
+    // The part's first step: what it may decide, and return as its output.
     ResetWhen {
         part: Box<Node>,
-        pick: Pick,
-        test: Test,
+        rule: ResetRule,
+        begins: Decisions,
+        start: OutRange,
     },
 }
 
@@ -193,11 +218,13 @@ pub(crate) fn node_of(alloc: Global, term: &Term) -> Result<Node, AllocError>
             part: part(alloc, s)?,
             func: *func,
         }),
-        Term::ResetWhen(s, pick, test) => Ok(Node::ResetWhen {
-            part: part(alloc, s)?,
-            pick: *pick,
-            test: *test,
-        }),
+        Term::ResetWhen(s, pick, test) => {
+            let rule = ResetRule {
+                pick: *pick,
+                test: *test,
+            };
+            resettable(alloc, part(alloc, s)?, rule)
+        }
         _ => Ok(Node::Leaf {
             leaf: leaf_of(term),
             steps: Span::one(1),
@@ -223,11 +250,15 @@ fn in_turn(alloc: Global, first: Box<Node>, second: Box<Node>) -> Result<Node, A
         node_schedule n ≡ two and_then (node_schedule first.value) (node_schedule second.value)) }
     ensures firsts { IfOk result KnowsFirsts }
 {
-    let first_turn = Turn::of(first_decisions(alloc, &first)?);
-    let second_turn = Turn::of(first_decisions(alloc, &second)?);
+    let (_out, decision) = first_range(alloc, &first)?;
+    let (start, begins) = first_range(alloc, &second)?;
+    let turns = Turns {
+        first: Turn::of(decision),
+        second: Turn::of(begins),
+        start,
+    };
     Ok(Node::AndThen {
-        first_turn,
-        second_turn,
+        turns,
         first,
         second,
     })
@@ -240,11 +271,27 @@ fn collected(alloc: Global, part: Box<Node>) -> Result<Node, AllocError>
         node_schedule n ≡ over (node_schedule part.value) collect_all) }
     ensures firsts { IfOk result KnowsFirsts }
 {
-    let begins = first_decisions(alloc, &part)?;
+    let (_out, begins) = first_range(alloc, &part)?;
     Ok(Node::CollectAll {
         part,
         begins,
         items: Span::one(0),
+    })
+}
+
+// A part that may be reset.
+fn resettable(alloc: Global, part: Box<Node>, rule: ResetRule) -> Result<Node, AllocError>
+    requires knows { KnowsFirsts part.value }
+    ensures made_of { IfOk result (λ n.
+        node_schedule n ≡ over (node_schedule part.value) (reset_when rule.pick rule.test)) }
+    ensures firsts { IfOk result KnowsFirsts }
+{
+    let (start, begins) = first_range(alloc, &part)?;
+    Ok(Node::ResetWhen {
+        part,
+        rule,
+        begins,
+        start,
     })
 }
 
@@ -306,62 +353,6 @@ fn first_turn(alloc: Global, first: &Node, second: &Node) -> Result<Answer, Allo
     Ok(answer_hull(left, right))
 }
 
-// What the first step may decide. The range of an output is made only if a test reads it.
-#[cycle(first_deciding)]
-pub(crate) fn first_decisions(alloc: Global, node: &Node) -> Result<Decisions, AllocError>
-    ensures value { IfOk result (λ d. d ≡ (first_range (node_schedule node.now)).decision) }
-{
-    match node {
-        Node::Leaf { leaf, .. } => {
-            let (_out, decision) = leaf_range(*leaf, Span::one(1), Span::one(0));
-            Ok(decision)
-        }
-        Node::Both { first, second } => {
-            let x = first_decisions(alloc, first)?;
-            Ok(x.both(first_decisions(alloc, second)?))
-        }
-        Node::Either { first, second } => {
-            let x = first_decisions(alloc, first)?;
-            Ok(x.either(first_decisions(alloc, second)?))
-        }
-        Node::AndThen { first, second, .. } => first_turn_decisions(alloc, first, second),
-        Node::WhileInput { part, test } => {
-            let x = first_decisions(alloc, part)?;
-            Ok(x.tested(may_pass(*test, any_input()), may_fail(*test, any_input())))
-        }
-        Node::WhileOutput { part, pick, test } => {
-            let (out, x) = first_range(alloc, part)?;
-            let span = picked_span(*pick, &out);
-            Ok(x.tested(may_pass(*test, span), may_fail(*test, span)))
-        }
-        Node::CollectAll { part, .. } => first_decisions(alloc, part),
-        Node::Map { part, .. } => first_decisions(alloc, part),
-        Node::ResetWhen { part, .. } => first_decisions(alloc, part),
-    }
-}
-
-// What the first step of two parts in turn may decide.
-#[cycle(first_deciding)]
-fn first_turn_decisions(alloc: Global, first: &Node, second: &Node) -> Result<Decisions, AllocError>
-    ensures value { IfOk result (λ d.
-        d
-        ≡ (first_turn (first_range (node_schedule first.now))
-        (first_range (node_schedule second.now))).decision) }
-{
-    let x = first_decisions(alloc, first)?;
-    let left = if x.may_go_on() {
-        x.going_on()
-    } else {
-        Decisions::nothing()
-    };
-    let right = if x.stops {
-        first_decisions(alloc, second)?
-    } else {
-        Decisions::nothing()
-    };
-    Ok(left.hull(right))
-}
-
 // One more item at a step that goes on.
 pub(crate) fn more_items(decision: Decisions, items: Span) -> Span
     ensures value { result ≡ more_items decision items }
@@ -399,14 +390,10 @@ pub(crate) fn begin(node: &mut Node)
             begin(first);
             begin(second)
         }
-        Node::AndThen {
-            first_turn,
-            second_turn,
-            ..
-        } => {
-            let decision = first_turn.begins;
-            *first_turn = first_turn.begin(decision.may_go_on());
-            *second_turn = second_turn.begin(decision.stops);
+        Node::AndThen { turns, .. } => {
+            let decision = turns.first.begins;
+            turns.first = turns.first.begin(decision.may_go_on());
+            turns.second = turns.second.begin(decision.stops);
         }
         Node::CollectAll {
             part,
@@ -445,14 +432,10 @@ pub(crate) fn widen(node: &mut Node)
             widen(first);
             widen(second)
         }
-        Node::AndThen {
-            first_turn,
-            second_turn,
-            ..
-        } => {
-            let decision = first_turn.begins;
-            *first_turn = first_turn.add_first(decision.may_go_on());
-            *second_turn = second_turn.add_first(decision.stops);
+        Node::AndThen { turns, .. } => {
+            let decision = turns.first.begins;
+            turns.first = turns.first.add_first(decision.may_go_on());
+            turns.second = turns.second.add_first(decision.stops);
         }
         Node::CollectAll {
             part,

@@ -1,6 +1,6 @@
 //! What a step may return as its output.
 
-ghost use Rattle.std.specs.Prelude.{◌≡◌, IfOk};
+ghost use Rattle.std.specs.Prelude.{◌≡◌, IfOk, OnOk};
 ghost use Rattle.zs_bounds.specs.OutputRange.{output_hull, numbers, pairs, sides, lists, number_span, size_span, first_range_in, second_range_in, picked_span, may_compare, opposite, may_pass, may_fail, numbers_in, merge_range, applied_range};
 ghost use Rattle.zs_bounds.specs.OutRange.{output_range_of};
 
@@ -130,8 +130,89 @@ fn boxed_hull(first: Box<OutRange>, second: Box<OutRange>) -> Box<OutRange>
     first
 }
 
+// A copy of a range.
+#[cycle(copying)]
+pub(crate) fn copied(alloc: Global, range: &OutRange) -> Result<OutRange, AllocError>
+    ensures value { IfOk result (λ r. output_range_of r ≡ output_range_of range.now) }
+{
+    match range {
+        OutRange::Nothing => Ok(OutRange::Nothing),
+        OutRange::Numbers(s) => Ok(OutRange::Numbers(*s)),
+        OutRange::Pairs(a, b) => make_pairs(alloc, copied(alloc, a)?, copied(alloc, b)?),
+        OutRange::Sides(a, b) => make_sides(alloc, copied(alloc, a)?, copied(alloc, b)?),
+        OutRange::Lists(s) => Ok(OutRange::Lists(*s)),
+        OutRange::Anything => Ok(OutRange::Anything),
+    }
+}
+
+// Widens a range, so that it is around another one too.
+#[cycle(joining)]
+#[tactic(auto, using(crate::proofs::Reading::hull_nothing))]
+pub(crate) fn join(alloc: Global, range: &mut OutRange, other: &OutRange) -> Result<(), AllocError>
+    ensures value { OnOk result
+        (output_range_of range.new
+        ≡ output_hull (output_range_of range.old) (output_range_of other.now)) }
+{
+    match range {
+        OutRange::Nothing => *range = copied(alloc, other)?,
+        OutRange::Numbers(s) => *range = join_numbers(*s, other),
+        OutRange::Lists(s) => *range = join_lists(*s, other),
+        OutRange::Pairs(a, b) => match other {
+            OutRange::Nothing => {}
+            OutRange::Pairs(c, d) => {
+                join(alloc, a, c)?;
+                join(alloc, b, d)?;
+            }
+            OutRange::Numbers(_)
+            | OutRange::Sides(_, _)
+            | OutRange::Lists(_)
+            | OutRange::Anything => *range = OutRange::Anything,
+        },
+        OutRange::Sides(a, b) => match other {
+            OutRange::Nothing => {}
+            OutRange::Sides(c, d) => {
+                join(alloc, a, c)?;
+                join(alloc, b, d)?;
+            }
+            OutRange::Numbers(_)
+            | OutRange::Pairs(_, _)
+            | OutRange::Lists(_)
+            | OutRange::Anything => *range = OutRange::Anything,
+        },
+        OutRange::Anything => {}
+    }
+    Ok(())
+}
+
+// A span of numbers, widened.
+fn join_numbers(span: Span, other: &OutRange) -> OutRange
+    ensures value { output_range_of result
+        ≡ output_hull (numbers span) (output_range_of other.now) }
+{
+    match other {
+        OutRange::Nothing => OutRange::Numbers(span),
+        OutRange::Numbers(s) => OutRange::Numbers(span.hull(*s)),
+        OutRange::Pairs(_, _) | OutRange::Sides(_, _) | OutRange::Lists(_) | OutRange::Anything => {
+            OutRange::Anything
+        }
+    }
+}
+
+// A span of lengths of lists, widened.
+fn join_lists(span: Span, other: &OutRange) -> OutRange
+    ensures value { output_range_of result
+        ≡ output_hull (lists span) (output_range_of other.now) }
+{
+    match other {
+        OutRange::Nothing => OutRange::Lists(span),
+        OutRange::Lists(s) => OutRange::Lists(span.hull(*s)),
+        OutRange::Pairs(_, _) | OutRange::Sides(_, _) | OutRange::Numbers(_) | OutRange::Anything =>
+            OutRange::Anything,
+    }
+}
+
 // The span of a range's numbers, if it has numbers alone.
-fn number_span(range: &OutRange) -> Option<Span>
+pub(crate) fn number_span(range: &OutRange) -> Option<Span>
     ensures value { result ≡ number_span (output_range_of range.now) }
 {
     match range {
@@ -243,7 +324,7 @@ fn numbers_in(span: Option<Span>) -> OutRange
 }
 
 // The range of the first parts of pairs.
-fn first_of(range: OutRange) -> OutRange
+pub(crate) fn first_of(range: OutRange) -> OutRange
     ensures value { output_range_of result ≡ first_range_in (output_range_of range) }
 {
     match range {
@@ -257,7 +338,7 @@ fn first_of(range: OutRange) -> OutRange
 }
 
 // The range of the second parts of pairs.
-fn second_of(range: OutRange) -> OutRange
+pub(crate) fn second_of(range: OutRange) -> OutRange
     ensures value { output_range_of result ≡ second_range_in (output_range_of range) }
 {
     match range {
@@ -271,7 +352,7 @@ fn second_of(range: OutRange) -> OutRange
 }
 
 // The range of what is on either side.
-fn merged(range: OutRange) -> OutRange
+pub(crate) fn merged(range: OutRange) -> OutRange
     ensures value { output_range_of result ≡ merge_range (output_range_of range) }
 {
     match range {

@@ -7,6 +7,9 @@ use Rattle.zs_bounds.proofs.stepping.+stepping.Given as goal
 abbrev pub decreases-step : goal.decreases-step
 decreases-step l = 3 * weight (node_schedule l.node.now)
 
+abbrev pub decreases-step_pair : goal.decreases-step_pair
+decreases-step_pair l = 3 * (weight (node_schedule l.first.now) + weight (node_schedule l.second.now)) + 1
+
 abbrev pub decreases-step_while_output : goal.decreases-step_while_output
 decreases-step_while_output l = 3 * weight (node_schedule l.part.now) + 1
 
