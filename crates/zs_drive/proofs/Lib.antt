@@ -17,3 +17,4 @@ pub mod Polling
 pub mod Pending
 pub mod Rising
 pub mod Standing
+pub mod Placing

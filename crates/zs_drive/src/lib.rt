@@ -17,6 +17,7 @@
 mod fault;
 mod job;
 mod laws;
+mod line;
 mod lines;
 mod log;
 mod progress;

@@ -1,116 +1,146 @@
-//! Attempts as lines of text. A number that is written twice is passed with its digits, so that it
-//! is converted once.
-ghost use Rattle.std.specs.Prelude.{◌≡◌, ◌++◌, codes, OnOk, OnErr, string_bytes};
+//! Attempts as lines of text. Lines are written from their end, so that they are appended by one
+//! push.
+ghost use Rattle.std.specs.Prelude.{◌≡◌, ◌++◌, ◌+◌, ◌≤◌, [], length, true, false, codes, OnOk, OnErr, string_bytes};
 ghost use Rattle.std.specs.Fmt.{decimal};
-ghost use Rattle.zs_term.specs.OutputText.{IsBeginning};
-ghost use Rattle.zs_drive.specs.Values.{attempted_of, ended_of, step_of};
-ghost use Rattle.zs_drive.specs.Lines.{attempt_lines, decision_text, ended_lines, outcome_text, step_lines};
+ghost use Rattle.zs_term.specs.Output.{output_of};
+ghost use Rattle.zs_term.specs.OutputText.{IsBeginning, output_text};
+ghost use Rattle.zs_drive.specs.Values.{attempted_of};
+ghost use Rattle.zs_drive.specs.Lines.{attempt_lines, decision_text, outcome_text};
 
+use crate::line::Line;
 use crate::record::{Attempted, Ended};
-use itoa::Buffer;
 use std::alloc::AllocError;
 use zs_effect::Outcome;
 use zs_step::Decision;
-use zs_term::{Out, append_number, append_out};
+use zs_term::{Out, append_out};
 
-// Adds a space, and how an attempt ended.
-#[tactic(auto, using(zs_term::proofs::Texts::begins_with_itself, zs_term::proofs::Texts::begins_pushed, zs_term::proofs::Texts::begins_both))]
-fn append_outcome(text: &mut String, outcome: Outcome) -> Result<(), AllocError>
-    ensures text { OnOk result
-        (string_bytes text.new ≡ string_bytes text.old ++ codes " " ++ outcome_text outcome) }
-    ensures kept { IsBeginning (string_bytes text.old) (string_bytes text.new) }
+// Puts a space and how an attempt ended before the rest.
+#[inline(always)]
+fn put_outcome(line: &mut Line, outcome: Outcome)
+    requires room { 25 + length line.old ≤ 208 }
+    ensures text { line.new ≡ codes " " ++ outcome_text outcome ++ line.old }
+    ensures len { length line.new ≤ 25 + length line.old }
 {
     match outcome {
         Outcome::Good(value) => {
-            text.push_str(" ok ")?;
-            append_number(text, value)
+            line.put_number(value);
+            line.put(" ok ");
         }
         Outcome::Bad(code) => {
-            text.push_str(" err ")?;
-            append_number(text, code)
+            line.put_number(code);
+            line.put(" err ");
         }
     }
 }
 
-// Adds a space, and what a schedule decided after an attempt that ended at `at`.
-#[tactic(auto, using(zs_term::proofs::Texts::begins_with_itself, zs_term::proofs::Texts::begins_pushed, zs_term::proofs::Texts::begins_both))]
-fn append_decision(
-    text: &mut String,
-    decision: Decision,
-    at: u64,
-    at_digits: &str,
-) -> Result<(), AllocError>
-    requires at { at_digits.now ≡ decimal at }
-    ensures text { OnOk result
-        (string_bytes text.new ≡ string_bytes text.old ++ codes " " ++ decision_text decision) }
-    ensures kept { IsBeginning (string_bytes text.old) (string_bytes text.new) }
+// Puts a space and what a schedule decided before the rest.
+#[inline(always)]
+fn put_decision(line: &mut Line, decision: Decision)
+    requires room { 26 + length line.old ≤ 208 }
+    ensures text { line.new ≡ codes " " ++ decision_text decision ++ line.old }
+    ensures len { length line.new ≤ 26 + length line.old }
 {
     match decision {
-        Decision::Stop => text.push_str(" done"),
+        Decision::Stop => line.put(" done"),
         Decision::Next(next) => {
-            text.push_str(" next ")?;
-            if next == at {
-                text.push_str(at_digits)
-            } else {
-                append_number(text, next)
+            line.put_number(next);
+            line.put(" next ");
+        }
+    }
+}
+
+// Puts a pair of numbers before the rest.
+#[inline(always)]
+fn put_pair(line: &mut Line, a: u64, b: u64)
+    requires room { 43 + length line.old ≤ 208 }
+    ensures text { line.new
+        ≡ codes "(" ++ decimal a ++ codes "," ++ decimal b ++ codes ")" ++ line.old }
+    ensures len { length line.new ≤ 43 + length line.old }
+{
+    line.put(")");
+    line.put_number(b);
+    line.put(",");
+    line.put_number(a);
+    line.put("(");
+}
+
+// Puts an output before the rest if it is a number or a pair of numbers, and returns whether it is.
+#[inline(always)]
+fn put_numbers(line: &mut Line, out: &Out) -> bool
+    requires room { 43 + length line.old ≤ 208 }
+    ensures text { result ≡ true → line.new ≡ output_text (output_of out.now) ++ line.old }
+    ensures same { result ≡ false → line.new ≡ line.old }
+    ensures len { length line.new ≤ 43 + length line.old }
+{
+    match out {
+        Out::Num(n) => {
+            line.put_number(*n);
+            true
+        }
+        Out::Pair(a, b) => match (a.as_ref(), b.as_ref()) {
+            (Out::Num(a), Out::Num(b)) => {
+                put_pair(line, *a, *b);
+                true
             }
-        }
+            (_, _) => false,
+        },
+        Out::Left(_) | Out::Right(_) | Out::Items(_) => false,
     }
 }
 
-// Ends a line, and adds that of a step, if the schedule was stepped.
-#[tactic(auto, using(zs_term::proofs::Texts::begins_with_itself, zs_term::proofs::Texts::begins_pushed, zs_term::proofs::Texts::begins_both))]
-fn append_step(
-    text: &mut String,
-    _number: u64,
-    digits: &str,
-    at: u64,
-    at_digits: &str,
-    step: &Option<(Out, Decision)>,
-) -> Result<(), AllocError>
-    requires number { digits.now ≡ decimal _number }
-    requires at { at_digits.now ≡ decimal at }
-    ensures text { OnOk result (string_bytes text.new
-        ≡ string_bytes text.old ++ codes "\n" ++ step_lines _number (step_of step.now)) }
-    ensures kept { IsBeginning (string_bytes text.old) (string_bytes text.new) }
+// Puts the beginning of an attempt before the rest.
+#[inline(always)]
+fn put_begun(line: &mut Line, number: u64, begun: u64)
+    requires room { 51 + length line.old ≤ 208 }
+    ensures text { line.new
+        ≡ codes "attempt "
+        ++ decimal number ++ codes " " ++ decimal begun ++ codes ".." ++ line.old }
+    ensures len { length line.new ≤ 51 + length line.old }
 {
-    match step {
-        None => text.push_str("\n"),
-        Some((out, decision)) => {
-            text.push_str("\nstep ")?;
-            text.push_str(digits)?;
-            text.push_str(" out ")?;
-            append_out(text, out)?;
-            append_decision(text, *decision, at, at_digits)?;
-            text.push_str("\n")
-        }
-    }
+    line.put("..");
+    line.put_number(begun);
+    line.put(" ");
+    line.put_number(number);
+    line.put("attempt ");
 }
 
-// Adds what follows the moment at which an attempt began.
-#[tactic(auto, using(zs_term::proofs::Texts::begins_with_itself, zs_term::proofs::Texts::begins_pushed, zs_term::proofs::Texts::begins_both))]
-fn append_ended(
-    text: &mut String,
-    number: u64,
-    digits: &str,
-    ended: &Option<Ended>,
-) -> Result<(), AllocError>
-    requires number { digits.now ≡ decimal number }
-    ensures text { OnOk result
-        (string_bytes text.new ≡ string_bytes text.old ++ ended_lines number (ended_of ended.now)) }
-    ensures kept { IsBeginning (string_bytes text.old) (string_bytes text.new) }
+// Puts the line of an attempt that has ended, without the end of the line, before the rest.
+#[inline(always)]
+fn put_ended(line: &mut Line, number: u64, begun: u64, at: u64, outcome: Outcome)
+    requires room { 96 + length line.old ≤ 208 }
+    ensures text { line.new
+        ≡ codes "attempt "
+        ++ decimal number
+        ++ codes " "
+        ++ decimal begun
+        ++ codes ".."
+        ++ decimal at ++ codes " " ++ outcome_text outcome ++ line.old }
+    ensures len { length line.new ≤ 96 + length line.old }
 {
-    match ended {
-        None => text.push_str(" running\n"),
-        Some(ended) => {
-            let at = ended.at;
-            let mut buffer = Buffer::new();
-            let at_digits = buffer.format(at);
-            text.push_str(at_digits)?;
-            append_outcome(text, ended.outcome)?;
-            append_step(text, number, digits, at, at_digits, &ended.step)
-        }
-    }
+    put_outcome(line, outcome);
+    line.put_number(at);
+    put_begun(line, number, begun);
+}
+
+// Puts what is before the output of a step before the rest.
+#[inline(always)]
+fn put_stepped(line: &mut Line, number: u64, begun: u64, at: u64, outcome: Outcome)
+    requires room { 127 + length line.old ≤ 208 }
+    ensures text { line.new
+        ≡ codes "attempt "
+        ++ decimal number
+        ++ codes " "
+        ++ decimal begun
+        ++ codes ".."
+        ++ decimal at
+        ++ codes " "
+        ++ outcome_text outcome ++ codes "\nstep " ++ decimal number ++ codes " out " ++ line.old }
+    ensures len { length line.new ≤ 127 + length line.old }
+{
+    line.put(" out ");
+    line.put_number(number);
+    line.put("\nstep ");
+    put_ended(line, number, begun, at, outcome);
 }
 
 /// Adds the lines of the attempt with this number, counted from 1. If that fails, the text is
@@ -129,6 +159,49 @@ pub fn append_attempt(text: &mut String, number: u64, attempt: &Attempted) -> Re
     added
 }
 
+// Adds the lines of an attempt after which the schedule was stepped.
+#[tactic(auto, using(zs_term::proofs::Texts::begins_with_itself, zs_term::proofs::Texts::begins_pushed, zs_term::proofs::Texts::begins_both))]
+fn push_stepped(
+    text: &mut String,
+    number: u64,
+    begun: u64,
+    ended: &Ended,
+    out: &Out,
+    decision: Decision,
+) -> Result<(), AllocError>
+    ensures text { OnOk result (string_bytes text.new
+        ≡ string_bytes text.old
+        ++ codes "attempt "
+        ++ decimal number
+        ++ codes " "
+        ++ decimal begun
+        ++ codes ".."
+        ++ decimal ended.now.at
+        ++ codes " "
+        ++ outcome_text ended.now.outcome
+        ++ codes "\nstep "
+        ++ decimal number
+        ++ codes " out "
+        ++ output_text (output_of out.now)
+        ++ codes " " ++ decision_text decision ++ codes "\n") }
+    ensures kept { IsBeginning (string_bytes text.old) (string_bytes text.new) }
+{
+    let at = ended.at;
+    let outcome = ended.outcome;
+    let mut line = Line::new();
+    line.put("\n");
+    put_decision(&mut line, decision);
+    if put_numbers(&mut line, out) {
+        put_stepped(&mut line, number, begun, at, outcome);
+        return line.append_to(text);
+    }
+    let mut head = Line::new();
+    put_stepped(&mut head, number, begun, at, outcome);
+    head.append_to(text)?;
+    append_out(text, out)?;
+    line.append_to(text)
+}
+
 // Adds the lines of an attempt. If that fails, the text may end with some of them.
 #[tactic(auto, using(zs_term::proofs::Texts::begins_with_itself, zs_term::proofs::Texts::begins_pushed, zs_term::proofs::Texts::begins_both))]
 fn push_attempt(text: &mut String, number: u64, attempt: &Attempted) -> Result<(), AllocError>
@@ -137,12 +210,20 @@ fn push_attempt(text: &mut String, number: u64, attempt: &Attempted) -> Result<(
     ensures kept { IsBeginning (string_bytes text.old) (string_bytes text.new) }
 {
     let begun = attempt.begun;
-    let mut buffer = Buffer::new();
-    let digits = buffer.format(number);
-    text.push_str("attempt ")?;
-    text.push_str(digits)?;
-    text.push_str(" ")?;
-    append_number(text, begun)?;
-    text.push_str("..")?;
-    append_ended(text, number, digits, &attempt.ended)
+    let mut line = Line::new();
+    match &attempt.ended {
+        None => {
+            line.put(" running\n");
+            put_begun(&mut line, number, begun);
+            line.append_to(text)
+        }
+        Some(ended) => match &ended.step {
+            None => {
+                line.put("\n");
+                put_ended(&mut line, number, begun, ended.at, ended.outcome);
+                line.append_to(text)
+            }
+            Some((out, decision)) => push_stepped(text, number, begun, ended, out, *decision),
+        },
+    }
 }

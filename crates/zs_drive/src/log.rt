@@ -69,6 +69,14 @@ fn add<T: Drop>(list: &mut Vec<T>, item: T, least: usize) -> Result<(), AllocErr
     Ok(())
 }
 
+// When an attempt began, or 0.
+fn begin_of(attempt: Option<&Attempted>) -> u64 {
+    match attempt {
+        Some(attempt) => attempt.begun,
+        None => 0,
+    }
+}
+
 // Reads an attempt and the parts of its output.
 fn touch_record(attempt: Option<&Attempted>) -> u64 {
     let Some(attempt) = attempt else { return 0 };
@@ -179,8 +187,19 @@ impl Log {
         }
     }
 
-    /// Reads what the next attempt's beginning and end read first. The number has no meaning.
+    /// Reads some of the fields. The number has no meaning.
     pub fn touch(&self) -> u64 {
+        match self {
+            Log::Recorded(records) => records.len() as u64,
+            Log::Written(told) => {
+                told.count ^ told.lines.len() as u64 ^ begin_of(told.last.as_ref())
+            }
+        }
+    }
+
+    /// Reads what the next attempt's beginning reads first of the memory that the fields point to.
+    /// The number has no meaning.
+    pub fn touch_parts(&self) -> u64 {
         match self {
             Log::Recorded(records) => touch_record(records.last()),
             Log::Written(told) => {

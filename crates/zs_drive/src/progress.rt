@@ -19,7 +19,7 @@ use crate::fault::DriveFault;
 use crate::job::Mode;
 use crate::log::Log;
 use crate::record::{Ended, Ending};
-use crate::touching::touch_parts;
+use crate::touching::{form, touch_parts};
 use futures::task::{Context, Poll};
 use futures::{Future, ready};
 use std::mem::replace;
@@ -119,13 +119,17 @@ fn end_by_schedule(mode: Mode, outcome: Outcome) -> Ending
 }
 
 impl Progress {
-    /// Reads what the next poll reads first. The number has no meaning.
+    /// Reads some of the fields. The number has no meaning.
     pub fn touch(&self) -> u64 {
+        self.polls ^ self.log.touch() ^ form(&self.spare) ^ u64::from(self.compiled.broken())
+    }
+
+    /// Reads what the next poll reads first of the memory that the fields point to. The number has
+    /// no meaning.
+    pub fn touch_parts(&self) -> u64 {
         match &self.phase {
-            Phase::Waiting(_) => self.script.beat(1).ms ^ self.log.touch(),
-            Phase::Running(_) => self.log.touch()
-                ^ touch_parts(&self.spare)
-                ^ self.compiled.touch(),
+            Phase::Waiting(_) => self.script.beat(1).ms ^ self.log.touch_parts(),
+            Phase::Running(_) => touch_parts(&self.spare) ^ self.compiled.touch(),
             Phase::Over(_) => 0,
         }
     }

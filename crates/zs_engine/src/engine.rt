@@ -109,7 +109,7 @@ impl Engine {
         Ok(())
     }
 
-    // Touches the first of these tasks.
+    // Touches the first of these tasks, and then what their fields point to.
     fn touch_some(&self, numbers: &[u64]) {
         if numbers.len() < 2 {
             return;
@@ -118,6 +118,11 @@ impl Engine {
         for number in numbers.iter().take(TOUCHED_AT_ONCE) {
             if let Some(Some(task)) = self.slots.get(*number as usize) {
                 touched ^= task.touch();
+            }
+        }
+        for number in numbers.iter().take(TOUCHED_AT_ONCE) {
+            if let Some(Some(task)) = self.slots.get(*number as usize) {
+                touched ^= task.touch_parts();
             }
         }
         end_touches(touched);
