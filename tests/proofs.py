@@ -16,8 +16,8 @@ import time
 sys.dont_write_bytecode = True
 
 import left_libraries
+from support import TOP
 
-TOP = pathlib.Path(__file__).resolve().parent.parent
 LAST = re.compile(r"(\d+) passed, (\d+) failed")
 TICK = os.sysconf("SC_CLK_TCK")
 # How often the processes are looked at.

@@ -8,6 +8,8 @@ TOP = pathlib.Path(__file__).resolve().parent.parent
 ZSCHED = TOP / "crates" / "zsched" / "out" / "zsched"
 POPULATION = TOP / "crates" / "zsched_population" / "out" / "zsched_population"
 REFUSALS = TOP / "crates" / "zs_refusals" / "out" / "zs_refusals"
+# The checksum of the sources that the built program passed the gate with.
+STAMP = ZSCHED.with_name("proved")
 
 SCRIPT = '"script":[{"ms":5,"err":7},{"ms":5,"ok":1}]'
 ONE_JOB = ('{"horizon":1000,"jobs":[{"name":"a","mode":"retry","schedule":"recurs(3)",' + SCRIPT + "}]}").encode()
@@ -71,6 +73,17 @@ def run(program, text, environment=None, seconds=60, **more):
     except subprocess.TimeoutExpired:
         return None, b"", b""
     return ended.returncode, ended.stdout, ended.stderr
+
+
+def sources_sum(crate="zsched"):
+    """The checksum of all that a crate's program or library is proved and built from."""
+    words = [TOP / "tools" / "sources-sum", crate]
+    return subprocess.run(words, capture_output=True, text=True, check=True).stdout.strip()
+
+
+def is_built():
+    """Whether the program in out/ was proved and built from the sources as they are."""
+    return ZSCHED.exists() and STAMP.exists() and STAMP.read_text().strip() == sources_sum()
 
 
 def write_digest(report):

@@ -1,9 +1,10 @@
-"""Builds the program of a folder of crates without any proof, and without the checks that `rt try`
-adds, so that valgrind can run it.
+"""Builds the program of a folder of crates without any proof, with the checks that `rt try` adds or
+without them.
 
-`rt try` compiles a program with the address sanitizer, which valgrind can't run. So it is called in
-a copy of the kit: a folder of links, in which the compiler leaves the sanitizer out and optimizes,
-the sanitizer's library is empty, the linker keeps the program, and nothing is checked beside it."""
+`rt try` stores no program, and checks names beside its build. So it is called in a copy of the kit:
+a folder of links, in which the linker stores the program and nothing is checked beside it. valgrind
+can't run a program with the address sanitizer: without checks the compiler leaves the sanitizer out
+and optimizes, and the sanitizer's library is empty."""
 import os
 import pathlib
 import shutil
@@ -56,7 +57,7 @@ def replace(path, text):
     path.chmod(0o755)
 
 
-def copy_kit(kit, target, program):
+def copy_kit(kit, target, program, is_checked):
     """The folder of links, whose linker writes each program to this path too."""
     link_all(kit, target)
     for name in ["bin", "c", "toolchain"]:
@@ -68,15 +69,17 @@ def copy_kit(kit, target, program):
     tools = target / "toolchain" / "bin"
     tools.unlink()
     link_all(kit / "toolchain" / "bin", tools)
-    replace(tools / "clang", COMPILER.format(kit=kit))
     replace(tools / "ld.lld", LINKER.format(kit=kit, program=program))
     # `rt try` has it look for what a check would refuse.
     replace(target / "bin" / "rattle", "#!/bin/sh\n")
+    if is_checked:
+        return
+    replace(tools / "clang", COMPILER.format(kit=kit))
     (target / "c" / "asan.a").unlink()
     (target / "c" / "asan.a").write_bytes(b"!<arch>\n")
 
 
-def build(crate, program, *words, **more):
+def build(crate, program, *words, is_checked=False, **more):
     """Builds the program of a crate's folder into a file, or with the word --test that of its
     tests, under more variables. What `rt try` does after that isn't waited for."""
     found = shutil.which("rt")
@@ -84,14 +87,16 @@ def build(crate, program, *words, **more):
         raise NotBuilt("the command 'rt' isn't on this machine")
     with tempfile.TemporaryDirectory(prefix="zsched-unproved-") as room:
         kit, said = pathlib.Path(room, "kit"), pathlib.Path(room, "said")
-        copy_kit(pathlib.Path(found).resolve().parent.parent, kit, program)
+        copy_kit(pathlib.Path(found).resolve().parent.parent, kit, program, is_checked)
         with open(said, "wb") as log, subprocess.Popen(
                 [kit / "bin" / "rt", "try", *words, "--steps", "1"], cwd=crate,
                 stdin=subprocess.DEVNULL, stdout=log, stderr=log, start_new_session=True,
                 env={**os.environ, **more}) as running:
-            while running.poll() is None and not program.exists():
-                time.sleep(0.5)
-            if running.returncode is None:
-                os.killpg(running.pid, signal.SIGTERM)
+            try:
+                while running.poll() is None and not program.exists():
+                    time.sleep(0.5)
+            finally:
+                if running.poll() is None:
+                    os.killpg(running.pid, signal.SIGTERM)
         if not program.exists():
             raise NotBuilt(f"rt try built no program: {said.read_text(errors='replace')[-500:]}")
