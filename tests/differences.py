@@ -14,9 +14,6 @@ last line is 'N passed, M failed'.
 With --plans the edits are those with a line `caught-by: examples::PLAN`. They are planted in one build of the program,
 which runs tests/plans/ with each of them in turn: the report of PLAN has to be another one. An edit that no report shows
 has a line `caught-by: CRATE::TEST`, which `tests/survivors.py --wrong-bodies` tries."""
-import argparse
-import concurrent.futures
-import json
 import os
 import pathlib
 import re
@@ -28,10 +25,9 @@ import tempfile
 sys.dont_write_bytecode = True
 
 import unproved
-from support import run
+from support import TOP, parser_of, recut, report_beside, run
 from wrong_edits import FUNCTION, BadEdit, Edit, made, texts_of
 
-TOP = pathlib.Path(__file__).resolve().parent.parent
 PATIENCE = 20
 EPILOG = """exit status: 0 if each edit differs as its file says; 1 if one doesn't or has no line `differs:`; 2 if a
 crate can't be built."""
@@ -183,10 +179,10 @@ def write_copy(folder, crate, examples, texts):
     root.write_text(root.read_text() + "#[cfg(test)]\nmod differences;\n")
 
 
-def found_by(crate, examples, texts, keep):
+def found_by(crate, examples, texts):
     """What each edit's call returned without the edit and with it: {belief: {"right": text, "wrong": text}}."""
     with tempfile.TemporaryDirectory(prefix="zsched-differences-") as folder:
-        folder = pathlib.Path(keep or folder)
+        folder = pathlib.Path(folder)
         write_copy(folder, crate, examples, texts)
         said = subprocess.run(["rt", "try", "--test", "--steps", "1"], cwd=folder / "crates" / crate, check=False,
                               stdin=subprocess.DEVNULL, stdout=subprocess.PIPE, stderr=subprocess.STDOUT,
@@ -199,7 +195,7 @@ def found_by(crate, examples, texts, keep):
     return found
 
 
-def try_crate(crate, edits, options):
+def try_crate(crate, edits, is_shown):
     """Tries a crate's edits: for each with an example whether it passed, and what to print of it."""
     told, examples = [], {}
     texts = texts_of(TOP / "crates" / crate)
@@ -213,12 +209,12 @@ def try_crate(crate, edits, options):
                 examples[len(examples) + 1] = example
         except BadEdit as fault:
             told.append((edit, False, str(fault)))
-    found = found_by(crate, examples, texts, options.keep) if examples else {}
+    found = found_by(crate, examples, texts) if examples else {}
     for it in examples.values():
         results = found.get(it.edit.name, {})
         right, wrong = results.get("right", "stops"), results.get("wrong", "stops")
         passed = (right, wrong) == (it.right, it.wrong) and right != wrong
-        told.append((it.edit, passed, "" if passed and not options.show else f"{it.call} -> {right} | {wrong}"))
+        told.append((it.edit, passed, "" if passed and not is_shown else f"{it.call} -> {right} | {wrong}"))
     return told
 
 
@@ -246,10 +242,9 @@ def build_with(edits, folder):
 
 def is_wrong(program, path, number):
     """Whether the program with an edit answers a plan otherwise than the file beside it, as it stands or in other batches."""
-    plan, report = path.read_bytes(), path.with_name(path.name + ".stdout").read_bytes()
-    recut = json.dumps({**json.loads(plan), "workers": 2, "grain": 3}).encode()
-    environment = {"ZS_CHOSEN": str(number)}
-    return any(run(program, text, environment, PATIENCE)[:2] != (0, report) for text in [plan, recut])
+    plan, environment = path.read_bytes(), {"ZS_CHOSEN": str(number)}
+    return any(run(program, text, environment, PATIENCE)[:2] != (0, report_beside(path))
+               for text in [plan, recut(plan, 2, 3)])
 
 
 def try_plans(crates):
@@ -275,37 +270,33 @@ def wrong_bodies(top):
     return sorted(top.glob("crates/*/wrong-bodies/*.edit"))
 
 
-def crates_of(options):
+def crates_of(given):
     """The edits to try, by crate."""
     found = {}
     for path in wrong_bodies(TOP):
         crate = path.parent.parent.name
-        if options.crate and crate not in options.crate or options.edit and path.stem not in options.edit:
+        if given.crate and crate not in given.crate or given.edit and path.stem not in given.edit:
             continue
         found.setdefault(crate, []).append(Edit(path))
     return found
 
 
-def options_of(words):
+def options():
     """The options that the words give."""
-    parser = argparse.ArgumentParser(
-        prog="differences.py", description=__doc__, epilog=EPILOG,
-        formatter_class=argparse.RawDescriptionHelpFormatter)
+    parser = parser_of(__doc__, epilog=EPILOG)
     parser.add_argument("--crate", action="append", metavar="NAME", help="only this crate's edits (repeatable)")
     parser.add_argument("--edit", action="append", metavar="BELIEF", help="only this edit (repeatable)")
-    parser.add_argument("--lanes", type=int, default=1, metavar="N", help="crates at once (default: 1)")
     parser.add_argument("--show", action="store_true", help="print what each call returned, also of those that passed")
     parser.add_argument("--plans", action="store_true", help="try the edits that a plan shows, in the program")
-    parser.add_argument("--keep", metavar="FOLDER", help="write the copy into this folder, which is not there yet")
-    return parser.parse_args(words)
+    return parser.parse_args()
 
 
-def main(words):
-    """Tries what the words ask for, and answers the exit status."""
-    options = options_of(words)
-    crates = crates_of(options)
+def main():
+    """Tries what the words ask for, and returns the exit status."""
+    given = options()
+    crates = crates_of(given)
     passed = failed = unusable = 0
-    if options.plans:
+    if given.plans:
         for edit in [edit for some in crates.values() for edit in some]:
             edit.read()
         try:
@@ -315,19 +306,17 @@ def main(words):
             return 2
         print(f"{passed} passed, {failed} failed")
         return 1 if failed or not passed else 0
-    with concurrent.futures.ThreadPoolExecutor(options.lanes) as pool:
-        going = [pool.submit(try_crate, crate, edits, options) for crate, edits in crates.items()]
-        for done in going:
-            try:
-                told = done.result()
-            except (Unusable, OSError) as fault:
-                print(f"differences: {fault}", file=sys.stderr)
-                unusable += 1
-                continue
-            for edit, is_passed, text in told:
-                passed, failed = passed + is_passed, failed + (not is_passed)
-                if text:
-                    print(f"{'' if is_passed else 'FAILED '}{edit.path.relative_to(TOP)}: {text}", flush=True)
+    for crate, edits in crates.items():
+        try:
+            told = try_crate(crate, edits, given.show)
+        except (Unusable, OSError) as fault:
+            print(f"differences: {fault}", file=sys.stderr)
+            unusable += 1
+            continue
+        for edit, is_passed, text in told:
+            passed, failed = passed + is_passed, failed + (not is_passed)
+            if text:
+                print(f"{'' if is_passed else 'FAILED '}{edit.path.relative_to(TOP)}: {text}", flush=True)
     if not crates:
         print("differences: there is no such crate or edit", file=sys.stderr)
     without = sum(edit.differs.startswith("none:") for edits in crates.values() for edit in edits)
@@ -337,4 +326,4 @@ def main(words):
 
 
 if __name__ == "__main__":
-    sys.exit(main(sys.argv[1:]))
+    sys.exit(main())

@@ -9,7 +9,6 @@ reference and under hostile use, and the tools.
 
 docs/TESTING.md says what each part is for. tests/floors.txt has the number of tests that each part must pass at least.
 The table at the end has the time of each part. The last line is 'N passed, M failed'; the status is 0 if M is 0."""
-import argparse
 import contextlib
 import dataclasses
 import os
@@ -27,7 +26,7 @@ sys.dont_write_bytecode = True
 
 import quick
 import yardstick
-from support import STAMP, TOP, ZSCHED, is_built, sources_sum
+from support import STAMP, TOP, ZSCHED, is_built, parser_of, sources_sum
 
 LAST = re.compile(r"(\d+) passed, (\d+) failed")
 PROVED = re.compile(r"rt: (\w+) (?:proved|is kept: .*)\n?")
@@ -256,8 +255,7 @@ def lacking():
 
 def options_of(words):
     """The options that the words give."""
-    parser = argparse.ArgumentParser(prog="check", description=__doc__, formatter_class=argparse.RawDescriptionHelpFormatter,
-                                     usage="./check [--anew] [quick | NAME ..]")
+    parser = parser_of(__doc__, prog="check", usage="./check [--anew] [quick | NAME ..]")
     parser.add_argument("--anew", action="store_true", help="nothing that an earlier run passed is taken over")
     parser.add_argument("names", nargs="*", metavar="NAME", help=f"quick, or some of: {', '.join(PARTS)}")
     options = parser.parse_args(words)

@@ -22,9 +22,9 @@ sys.dont_write_bytecode = True
 
 import hostile_plans
 import unproved
-from examples import plans_of_the_repository
 from prover import crates_of
-from support import TOP, ZSCHED, Count, is_built, run, sources_sum
+from support import (
+    TOP, ZSCHED, Count, is_built, plans_with_reports, report_beside, run, sources_sum)
 
 CRATES = TOP / "crates"
 BUILT = CRATES / "zsched" / "out"
@@ -148,9 +148,8 @@ def built_program():
 
 def cases():
     """Plans, each with a name, and with the status, the report and the errors of its run."""
-    for path in plans_of_the_repository():
-        report = path.with_name(path.name + ".stdout").read_bytes()
-        yield path.name, path.read_bytes(), (0, report, b"")
+    for path in plans_with_reports():
+        yield path.name, path.read_bytes(), (0, report_beside(path), b"")
     for name, text, fault in hostile_plans.refused():
         if len(text) <= LARGE:
             yield name, text, (2, b"", f"zsched: {fault}\n".encode())

@@ -23,7 +23,6 @@ where one no longer applies, what should catch it fails without it, or `rt` isn'
 
 With --wrong-bodies the edits are those of crates/NAME/wrong-bodies that name a test of a crate: the prover rejects these
 too, and the test shows them all the same."""
-import argparse
 import dataclasses
 import datetime
 import functools
@@ -126,7 +125,7 @@ class Failures(support.Count):
 def cases_of(part):
     """Plans of a part of the gate: a name, a plan and its report each, from the file beside it or from the reference."""
     if part == "examples":
-        return [(path.stem, path.read_bytes(), path.with_name(path.name + ".stdout").read_bytes())
+        return [(path.stem, path.read_bytes(), support.report_beside(path))
                 for path in sorted(TOP.glob("tests/plans/*.json"))]
     if part == "reference":
         plans = [(f"seed {seed}", plan_of(seed)) for seed in SEEDS]
@@ -329,7 +328,7 @@ def some_of(survivors, number, day):
 
 def main():
     """The command line."""
-    arguments = argparse.ArgumentParser(description=__doc__, formatter_class=argparse.RawDescriptionHelpFormatter)
+    arguments = support.parser_of(__doc__)
     arguments.add_argument("--crate", action="append", metavar="NAME", help="only this crate's (repeatable)")
     arguments.add_argument("--edit", action="append", metavar="BELIEF", help="only this one (repeatable)")
     arguments.add_argument("--some", type=int, metavar="N", help="so many of them, in turn by the day of the year")

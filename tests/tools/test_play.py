@@ -366,7 +366,3 @@ class Browser(Served):
         self.assertIn("(spaced(10) &amp;&amp; recur(3))\n" + " " * 15 + '<b class="">^^^^^</b>', fault)
         self.assertIn("did you mean recurs?", document)
         self.assertIn("zsched: job 1: schedule: no term at byte 15", document)
-
-
-if __name__ == "__main__":
-    unittest.main()

@@ -217,7 +217,3 @@ class Validated(unittest.TestCase):
                 refused += 1
                 self.assertEqual(self.status(text), 2, text)
         self.assertGreater(refused, CHANGES // 5)
-
-
-if __name__ == "__main__":
-    unittest.main()
