@@ -149,16 +149,15 @@ def late_moments(names):
     return plan(jobs, horizon=LAST_TICK, workers=2), (0, report.encode(), b"")
 
 
-def sizes():
-    """A name, a plan and how its run ends, each past a size at which a body could give up."""
-    return [
-        ("70,000 attempts", many_attempts(70000)),
-        ("a report of 45 million bytes", long_report(2100)),
-        ("a schedule of 4,000,000 bytes", long_schedule(4000000)),
-        ("a schedule of 1,400,000 levels", deep_schedule(1400000)),
-        ("9,000 moments", many_moments(9000)),
-        ("attempts at the last ticks, and a name of 64 bytes", late_moments(["n" * 64, "second"])),
-    ]
+# What makes a plan and how its run ends, each past a size at which a body could give up.
+SIZES = {
+    "70,000 attempts": (many_attempts, 70000),
+    "a report of 45 million bytes": (long_report, 2100),
+    "a schedule of 4,000,000 bytes": (long_schedule, 4000000),
+    "a schedule of 1,400,000 levels": (deep_schedule, 1400000),
+    "9,000 moments": (many_moments, 9000),
+    "attempts at the last ticks, and a name of 64 bytes": (late_moments, ["n" * 64, "second"]),
+}
 
 
 def writes_of(zsched, text):
@@ -173,8 +172,9 @@ def writes_of(zsched, text):
 
 def test_sizes(count, zsched, only=None):
     """The plans past such sizes, and the number of writes of a report; or only one of them."""
-    for name, (text, wanted) in sizes():
+    for name, (make, size) in SIZES.items():
         if name == (only or name):
+            text, wanted = make(size)
             count.test(name, run(zsched, text, seconds=PATIENCE), wanted)
     if only in [None, ONE_WRITE]:
         text, (_, report, _) = many_attempts(2000)

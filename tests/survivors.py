@@ -102,7 +102,7 @@ class Survivor(Edit):
         place, name = self.where()
         tests = "".join(file.read_text() for file in sorted((TOP / "crates" / place).glob("src/**/*.rt")))
         there = {"hostile": lambda: hasattr(refused_growths, name), "growth": lambda: name in growth.ROWS_BY_NAME,
-                 "large_plans": lambda: not name or name in [large_plans.ONE_WRITE, *dict(large_plans.sizes())],
+                 "large_plans": lambda: not name or name in [large_plans.ONE_WRITE, *large_plans.SIZES],
                  "library": lambda: f"    def {name}(self)" in LIBRARY_TESTS.read_text()}
         if not (there[place]() if place in there else f"\nfn {name}(" in tests if name else place in PARTS):
             raise Misfit(f"{self.crate}/{self.name}: there is no {self.caught_by}, which should catch it")

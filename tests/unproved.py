@@ -19,7 +19,7 @@ COMPILER = """#!/bin/bash
 case " $* " in
   *" --extern-only "* | *" --undefined-only "*) exec -a llvm-nm "{kit}/toolchain/bin/clang" "$@" ;;
 esac
-case "$*" in *-fsanitize=address*) level=-O2 ;; *) level=-O0 ;; esac
+case "$*" in *-fsanitize=address*) level={level} ;; *) level=-O0 ;; esac
 for word; do
   shift
   case "$word" in
@@ -57,7 +57,7 @@ def replace(path, text):
     path.chmod(0o755)
 
 
-def copy_kit(kit, target, program, is_checked):
+def copy_kit(kit, target, program, level):
     """The folder of links, whose linker writes each program to this path too."""
     link_all(kit, target)
     for name in ["bin", "c", "toolchain"]:
@@ -72,22 +72,24 @@ def copy_kit(kit, target, program, is_checked):
     replace(tools / "ld.lld", LINKER.format(kit=kit, program=program))
     # `rt try` has it look for what a check would refuse.
     replace(target / "bin" / "rattle", "#!/bin/sh\n")
-    if is_checked:
+    if level is None:
         return
-    replace(tools / "clang", COMPILER.format(kit=kit))
+    replace(tools / "clang", COMPILER.format(kit=kit, level=level))
     (target / "c" / "asan.a").unlink()
     (target / "c" / "asan.a").write_bytes(b"!<arch>\n")
 
 
 def build(crate, program, *words, is_checked=False, **more):
     """Builds the program of a crate's folder into a file, or with the word --test that of its
-    tests, under more variables. What `rt try` does after that isn't waited for."""
+    tests, under more variables. What `rt try` does after that isn't waited for. Tests are run a few
+    times, so that they are built without optimizing."""
+    level = None if is_checked else "-O0" if "--test" in words else "-O2"
     found = shutil.which("rt")
     if found is None:
         raise NotBuilt("the command 'rt' isn't on this machine")
     with tempfile.TemporaryDirectory(prefix="zsched-unproved-") as room:
         kit, said = pathlib.Path(room, "kit"), pathlib.Path(room, "said")
-        copy_kit(pathlib.Path(found).resolve().parent.parent, kit, program, is_checked)
+        copy_kit(pathlib.Path(found).resolve().parent.parent, kit, program, level)
         with open(said, "wb") as log, subprocess.Popen(
                 [kit / "bin" / "rt", "try", *words, "--steps", "1"], cwd=crate,
                 stdin=subprocess.DEVNULL, stdout=log, stderr=log, start_new_session=True,
