@@ -11,9 +11,7 @@ All edits of a crate are tried in one build. In a copy of the crate each functio
 each of them, and a number picks one at run time. `rt try --test` builds the copy and runs a test for each edit. The
 last line is 'N passed, M failed'.
 
-With --plans the edits are those with a line `caught-by: examples::PLAN`. They are planted in one build of the program,
-which runs tests/plans/ with each of them in turn: the report of PLAN has to be another one. An edit that no report shows
-has a line `caught-by: CRATE::TEST`, which `tests/survivors.py --wrong-bodies` tries."""
+`tests/survivors.py --wrong-bodies` tries the edits that a plan or a test shows."""
 import os
 import pathlib
 import re
@@ -24,11 +22,9 @@ import tempfile
 
 sys.dont_write_bytecode = True
 
-import unproved
-from support import TOP, parser_of, recut, report_beside, run
+from support import TOP, parser_of
 from wrong_edits import FUNCTION, BadEdit, Edit, made, texts_of
 
-PATIENCE = 20
 EPILOG = """exit status: 0 if each edit differs as its file says; 1 if one doesn't or has no line `differs:`; 2 if a
 crate can't be built."""
 EXAMPLE = re.compile(r"none: .+|(?P<call>\w+\(.*\)) -> (?P<right>.*\S) \| (?P<wrong>.*\S)")
@@ -232,39 +228,6 @@ def plant_all(edits, folder):
     return list(crates)
 
 
-def build_with(edits, folder):
-    """Builds the program with all these edits."""
-    crates = plant_all(edits, folder)
-    program = folder / "program"
-    unproved.build(folder / "crates" / "zsched", program, RT_ALLOW_C=",".join(crates))
-    return program
-
-
-def is_wrong(program, path, number):
-    """Whether the program with an edit answers a plan otherwise than the file beside it, as it stands or in other batches."""
-    plan, environment = path.read_bytes(), {"ZS_CHOSEN": str(number)}
-    return any(run(program, text, environment, PATIENCE)[:2] != (0, report_beside(path))
-               for text in [plan, recut(plan, 2, 3)])
-
-
-def try_plans(crates):
-    """Tries the edits that name a plan: how many passed, and how many failed."""
-    edits = [(crate, edit) for crate, some in crates.items() for edit in some if edit.caught_by.startswith("examples::")]
-    passed = failed = 0
-    with tempfile.TemporaryDirectory(prefix="zsched-differences-") as folder:
-        numbered = dict(enumerate(edits, 1))
-        program = build_with(numbered, pathlib.Path(folder))
-        plans = sorted((TOP / "tests" / "plans").glob("*.json"))
-        right = [path.stem for path in plans if not is_wrong(program, path, 0)]
-        for number, (crate, edit) in numbered.items():
-            wrong = [path.stem for path in plans if path.stem in right and is_wrong(program, path, number)]
-            is_passed = edit.caught_by.partition("::")[2] in wrong
-            passed, failed = passed + is_passed, failed + (not is_passed)
-            print(f"{'' if is_passed else 'FAILED '}{crate}/{edit.name}: {edit.caught_by}, {len(wrong)} of {len(right)} plans are "
-                  f"wrong: {' '.join(wrong)}", flush=True)
-    return passed, failed
-
-
 def wrong_bodies(top):
     """The files of all wrong bodies."""
     return sorted(top.glob("crates/*/wrong-bodies/*.edit"))
@@ -287,7 +250,6 @@ def options():
     parser.add_argument("--crate", action="append", metavar="NAME", help="only this crate's edits (repeatable)")
     parser.add_argument("--edit", action="append", metavar="BELIEF", help="only this edit (repeatable)")
     parser.add_argument("--show", action="store_true", help="print what each call returned, also of those that passed")
-    parser.add_argument("--plans", action="store_true", help="try the edits that a plan shows, in the program")
     return parser.parse_args()
 
 
@@ -296,16 +258,6 @@ def main():
     given = options()
     crates = crates_of(given)
     passed = failed = unusable = 0
-    if given.plans:
-        for edit in [edit for some in crates.values() for edit in some]:
-            edit.read()
-        try:
-            passed, failed = try_plans(crates)
-        except (BadEdit, unproved.NotBuilt) as fault:
-            print(f"differences: {fault}", file=sys.stderr)
-            return 2
-        print(f"{passed} passed, {failed} failed")
-        return 1 if failed or not passed else 0
     for crate, edits in crates.items():
         try:
             told = try_crate(crate, edits, given.show)
