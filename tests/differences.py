@@ -29,26 +29,20 @@ EPILOG = """exit status: 0 if each edit differs as its file says; 1 if one doesn
 crate can't be built."""
 EXAMPLE = re.compile(r"none: .+|(?P<call>\w+\(.*\)) -> (?P<right>.*\S) \| (?P<wrong>.*\S)")
 FOUND = re.compile(r"^ *difference: (\w+) (right|wrong):(.*)$", re.M)
-# The number of the edit whose body runs, 0 for the right ones. It is in C: Rattle has no variable of a whole program.
+# The number of the edit whose body runs, 0 for the right ones: the one that was chosen last, or that the environment names.
+# It is in C: Rattle has no variable of a whole program. Each crate with edits has this code, of which the linker takes one.
 C_CODE = """#include <stdint.h>
-static uint64_t chosen;
-uint64_t zs_chosen(void) { return chosen; }
-void zs_choose(uint64_t n) { chosen = n; }
-"""
-# The same for a program of several crates with edits, for which the environment picks one. Each crate has this code, of
-# which the linker takes one.
-C_CODE_OF_A_PROGRAM = """#include <stdint.h>
 #include <stdlib.h>
 #define SHARED __attribute__((weak))
+SHARED uint64_t zs_number = UINT64_MAX;
 SHARED uint64_t zs_chosen(void) {
-    static uint64_t chosen = UINT64_MAX;
-    if (chosen == UINT64_MAX) {
+    if (zs_number == UINT64_MAX) {
         const char *text = getenv("ZS_CHOSEN");
-        chosen = text ? strtoull(text, NULL, 10) : 0;
+        zs_number = text ? strtoull(text, NULL, 10) : 0;
     }
-    return chosen;
+    return zs_number;
 }
-SHARED void zs_choose(uint64_t n) { (void)n; }
+SHARED void zs_choose(uint64_t n) { zs_number = n; }
 """
 CHOICE = """// Which edit's body runs.
 unsafe extern "C" {
@@ -152,10 +146,10 @@ def copy_crates(folder):
         shutil.copy(TOP / name, folder)
 
 
-def plant(copy, edits, texts, c_code):
+def plant(copy, edits, texts):
     """Plants the bodies of a crate's edits in a copy of it, by their numbers."""
     (copy / "c").mkdir()
-    (copy / "c" / "chosen.c").write_text(c_code)
+    (copy / "c" / "chosen.c").write_text(C_CODE)
     (copy / "src" / "chosen.rt").write_text(CHOICE)
     for file, text in with_bodies(texts, bodies_of(edits, texts)).items():
         (copy / file).write_text(text)
@@ -167,7 +161,7 @@ def write_copy(folder, crate, examples, texts):
     """Writes a copy of the crates in which the bodies of a crate's edits can be picked, and the tests that do so."""
     copy_crates(folder)
     copy = folder / "crates" / crate
-    plant(copy, {number: example.edit for number, example in examples.items()}, texts, C_CODE)
+    plant(copy, {number: example.edit for number, example in examples.items()}, texts)
     calls = (TOP / "tests" / "differences" / f"{crate}.calls").read_text(encoding="utf-8")
     tests = "".join(test_of(number, example) for number, example in examples.items())
     (copy / "src" / "differences.rt").write_text(calls + tests)
@@ -224,7 +218,7 @@ def plant_all(edits, folder):
         edit.place(texts)
         crates.setdefault(crate, ({}, texts))[0][number] = edit
     for crate, (some, texts) in crates.items():
-        plant(folder / "crates" / crate, some, texts, C_CODE_OF_A_PROGRAM)
+        plant(folder / "crates" / crate, some, texts)
     return list(crates)
 
 

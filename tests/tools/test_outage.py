@@ -20,8 +20,6 @@ from support import TOP
 from zsched_tools import certificate, curve, curve_page, curve_picture, drawn, outage, outage_command, scenario
 from zsched_tools import program as zsched
 from zsched_tools.cause import Cause
-from zsched_tools.duration_text import milliseconds
-from zsched_tools.durations import duration
 from zsched_tools.progress import Now
 from zsched_tools.world import DENIED, Bucket, Ending, Service
 
@@ -596,15 +594,6 @@ class Faults(unittest.TestCase):
         self.assertEqual((found.horizon, found.seed, found.starts, found.back), (5000, 7, [10, 510, 1010, 1510], 1000))
         self.assertEqual(read(changed(clients={"number": 3})).starts, [0, 0, 0])
         self.assertEqual(read(changed(outcomes=None)).outcomes[scenario.FULL], scenario.DEFAULTS[scenario.DOWN])
-
-    def test_durations(self):
-        for text, ms in [("40", 40), ("40ms", 40), ("1.5s", 1500), ("2min", 120000), ("1h30m", 5400000),
-                         ("1d", 86400000)]:
-            self.assertEqual(milliseconds(text), ms)
-        for ms in [0, 7, 999, 1000, 1001, 61000, 123456, 3600000, 90061001]:
-            self.assertEqual(milliseconds(duration(ms)), ms)
-        for text in ["", "5x", "1.5", "-1", "s", "1 2", "1s!", "0.5ms"]:
-            self.assertRaises(ValueError, milliseconds, text)
 
 
 class Command(WithFiles):
