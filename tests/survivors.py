@@ -155,7 +155,7 @@ class Planted:
     several a number picks one, and the number 0 none."""
 
     def __init__(self, folder, survivors, is_alone=False):
-        self.folder, self.built = folder, {}
+        self.folder = folder
         self.numbers = {} if is_alone else {it.path: number for number, it in enumerate(survivors, 1)}
         folder.mkdir()
         if is_alone:
@@ -169,16 +169,16 @@ class Planted:
         """Picks a survivor, or none, for the programs that start from now on."""
         os.environ["ZS_CHOSEN"] = str(self.numbers.get(survivor.path, 0) if survivor else 0)
 
-    def program(self, crate, *words):
+    def program(self, crate, *words, level="-O0"):
         """A program of the copy, or with the word --test that of a crate's tests, built without proofs."""
-        if crate not in self.built:
-            program = self.folder / f"{crate}.built"
+        program = self.folder / f"{crate}.built{level}"
+        if not program.exists():
             try:
-                unproved.build(self.folder / "crates" / crate, program, *words, RT_ALLOW_C=",".join(self.with_c))
+                unproved.build(self.folder / "crates" / crate, program, *words, level=level,
+                               RT_ALLOW_C=",".join(self.with_c))
             except unproved.NotBuilt as cause:
                 raise Misfit(f"{crate}: {cause}") from None
-            self.built[crate] = program
-        return self.built[crate]
+        return program
 
 
 def failed_tests(planted, crate, name):
@@ -206,7 +206,7 @@ def failed_growth(planted, name):
     most = dataclasses.replace(row.most, instructions=CHOOSING * row.most.instructions)
     row = dataclasses.replace(row, most=most)
     failures = Failures()
-    growth.judge(failures, growth.Meter(planted.folder, {row.runs: [planted.program(row.runs)]}), row, False)
+    growth.judge(failures, growth.Meter(planted.folder, {row.runs: [planted.program(row.runs, level="-O2")]}), row, False)
     return failures.names
 
 

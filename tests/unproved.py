@@ -79,11 +79,10 @@ def copy_kit(kit, target, program, level):
     (target / "c" / "asan.a").write_bytes(b"!<arch>\n")
 
 
-def build(crate, program, *words, is_checked=False, **more):
+def build(crate, program, *words, level="-O0", **more):
     """Builds the program of a crate's folder into a file, or with the word --test that of its
-    tests, under more variables. What `rt try` does after that isn't waited for. Tests are run a few
-    times, so that they are built without optimizing."""
-    level = None if is_checked else "-O0" if "--test" in words else "-O2"
+    tests, under more variables: by a level of optimizing, or with checks if it is None. What
+    `rt try` does after that isn't waited for."""
     found = shutil.which("rt")
     if found is None:
         raise NotBuilt("the command 'rt' isn't on this machine")
