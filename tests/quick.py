@@ -4,8 +4,8 @@
 A crate whose files changed since it was last seen proved here is checked again. If more than bodies
 of functions changed (a definition, a contract, a type), so are the crates above it. Beside that the
 program is built without proofs, with checks, and runs the plans of examples/ and tests/plans/ and
-the hostile plans. If it was built from the same sources before, that one runs. No
-proof from nothing, no wrong body and no test of the crates is tried: ./check does. The last line is
+the hostile plans. If it was built from the same sources before, that one runs. ./check tries what
+this doesn't: proofs from nothing, wrong bodies and tests of the crates. The last line is
 'N passed, M failed'.
 
     python3 tests/quick.py             what ./check quick runs

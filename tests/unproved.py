@@ -3,8 +3,8 @@ without them.
 
 `rt try` stores no program, and checks names beside its build. So it is called in a copy of the kit:
 a folder of links, in which the linker stores the program and nothing is checked beside it. valgrind
-can't run a program with the address sanitizer: without checks the compiler leaves the sanitizer out
-and optimizes, and the sanitizer's library is empty."""
+can't run a program with the address sanitizer: without checks the compiler leaves the sanitizer
+out, and the sanitizer's library is empty."""
 import os
 import pathlib
 import shutil
