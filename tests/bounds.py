@@ -11,7 +11,6 @@ the schedule said; tests/reference.py evaluates it. No history may leave its bou
 docs/SEMANTICS.md: each number of a schedule's state is an interval. It takes long for policies that go on for 1,000 steps, so
 only some of these are run. The program is the one that the gate built, or that ZSCHED_BOUNDS names. The last line is
 'N passed, M failed', of policies."""
-import argparse
 import functools
 import json
 import multiprocessing
@@ -24,13 +23,15 @@ sys.dont_write_bytecode = True
 
 import generator
 import reference
-from support import TOP
+from support import TOP, parser_of
 
 BUILT = TOP / "crates" / "zsched_bounds" / "out" / "zsched_bounds"
 MOST, LAST = 2 ** 64 - 1, 999999999999999
 STEPS = 20000
 # The interval run of a policy that goes on for as many steps takes long.
 LONG = 1000
+# How many driven histories a policy has, and the steps of each.
+HISTORIES, HISTORY_STEPS = 3, 40
 # How many seeds a process takes at a time.
 CHUNK = 100
 # How deep histories of small policies go at most, and how many there are.
@@ -264,7 +265,7 @@ def program_lines(program, texts):
     return lines
 
 
-def differences(text, s, printed, given, is_long):
+def differences(text, s, printed, is_long):
     """What is wrong with a line of the program, and how many steps of its driven histories went on."""
     line = {key: value for key, value in printed.items() if key != "policy"}
     found, gone = [], 0
@@ -272,8 +273,8 @@ def differences(text, s, printed, given, is_long):
         found.append(f"the policy is printed as {printed['policy']}")
     if (line["steps_seen"] < LONG or is_long) and line != bounds(s):
         found.append(f"the program prints {line}, the interval run has {bounds(s)}")
-    for k in range(given.histories):
-        said, went_on = history_outside(random.Random(f"{text} {k}"), s, line, given.steps)
+    for k in range(HISTORIES):
+        said, went_on = history_outside(random.Random(f"{text} {k}"), s, line, HISTORY_STEPS)
         gone += went_on
         if said:
             found.append(f"a driven history {said}, but the program prints {line}")
@@ -286,7 +287,7 @@ def compare_some(given, program, seeds):
     passed = runs = steps = 0
     for (seed, text, s), printed in zip(some, program_lines(program, [text for _, text, _ in some])):
         is_long = seed % given.long == 0
-        found, gone = differences(text, s, printed, given, is_long)
+        found, gone = differences(text, s, printed, is_long)
         runs, steps, passed = runs + (printed["steps_seen"] < LONG or is_long), steps + gone, passed + (not found)
         for what in found:
             print(f"seed {seed}: {text}\n    {what}", flush=True)
@@ -299,7 +300,7 @@ def compare(given, program):
     work = functools.partial(compare_some, given, program)
     with multiprocessing.Pool(given.processes) as pool:
         all_of, passed, runs, steps = map(sum, zip(*pool.imap(work, [seeds[at:at + CHUNK] for at in range(0, len(seeds), CHUNK)])))
-    print(f"{all_of} policies; {given.histories} driven histories of each, of which {steps} steps went on; {runs} interval runs")
+    print(f"{all_of} policies; {HISTORIES} driven histories of each, of which {steps} steps went on; {runs} interval runs")
     print(f"{passed} passed, {all_of - passed} failed")
     return int(passed < all_of or not passed)
 
@@ -355,10 +356,8 @@ def tightness(seeds):
 
 def main():
     """Does what the words ask for; returns the exit status."""
-    words = argparse.ArgumentParser(description=__doc__, formatter_class=argparse.RawDescriptionHelpFormatter)
+    words = parser_of(__doc__)
     words.add_argument("--seeds", help="A..B")
-    words.add_argument("--histories", type=int, default=3, help="driven histories of each policy")
-    words.add_argument("--steps", type=int, default=40, help="steps of a history")
     words.add_argument("--long", type=int, default=100, metavar="N",
                        help="each N-th seed has an interval run of its policy, however many steps that takes")
     words.add_argument("--processes", type=int, default=2)

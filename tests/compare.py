@@ -8,23 +8,19 @@ Output, standard error and exit status have to be equal, byte for byte. The refe
 out of, so a status 4 fails as well as a signal does. A plan with a difference is made small before it is told, and is
 kept in a file whose name is printed. The last line is 'N passed, M failed'; the exit status is 0 where M is 0, 1 where
 it isn't, and 2 where the arguments are wrong or there is no program."""
-import argparse
-import importlib.util
+import functools
 import json
 import multiprocessing
-import pathlib
 import random
 import sys
 import tempfile
 import time
 
 sys.dont_write_bytecode = True
-HERE = pathlib.Path(__file__).resolve().parent
-sys.path.insert(0, str(HERE.parent / "tools"))
 
+import reference
 from generator import json_text, plan_of
-from support import run, shown
-from zsched_tools.program import NoProgram, find
+from support import found_zsched, parser_of, run, shown
 
 MOST_ATTEMPTS = 2100
 MOST_TRIES = 400
@@ -32,33 +28,19 @@ PATIENCE = 30
 CHUNK = 100
 
 
-def loaded(path):
-    """The module at a path."""
-    spec = importlib.util.spec_from_file_location("reference", path)
-    module = importlib.util.module_from_spec(spec)
-    spec.loader.exec_module(module)
-    return module
+def difference(zsched, plan):
+    """What the program and the reference answer where that isn't the same, else None."""
+    wanted = reference.answer(plan, MOST_ATTEMPTS)
+    found = run(zsched, plan, seconds=PATIENCE)
+    return None if found == wanted else (found, wanted)
 
 
-class Comparer:
-    """The program and the reference."""
-
-    def __init__(self, zsched, reference):
-        self.zsched = str(zsched)
-        self.reference = loaded(reference)
-
-    def difference(self, plan):
-        """What the program and the reference answer where that isn't the same, else None."""
-        wanted = self.reference.answer(plan, MOST_ATTEMPTS)
-        found = run(self.zsched, plan, seconds=PATIENCE)
-        return None if found == wanted else (found, wanted)
-
-    def differs(self, plan):
-        """Whether the answers differ on a plan that was made smaller. One that runs for long is none."""
-        try:
-            return self.difference(plan) is not None
-        except self.reference.TooManyAttempts:
-            return False
+def differs(zsched, plan):
+    """Whether the answers differ on a plan that was made smaller. One that runs for long is none."""
+    try:
+        return difference(zsched, plan) is not None
+    except reference.TooManyAttempts:
+        return False
 
 
 # ---- Making a plan small
@@ -76,7 +58,7 @@ def smaller_texts(text):
         length //= 2
 
 
-def smaller_schedules(reference, text):
+def smaller_schedules(text):
     """The parts of a schedule, and then shorter texts."""
     try:
         term = reference.read_spelled(reference.Tokens(text.encode())).term
@@ -98,24 +80,24 @@ def written(term):
     return parts[0] + "." + form + (f"({' '.join(words)})" if words else "")
 
 
-def smaller_trees(reference, tree, key=None):
+def smaller_trees(tree, key=None):
     """Documents that are a little smaller than one."""
     if isinstance(tree, dict):
         for its_key in tree:
             yield {other: value for other, value in tree.items() if other != its_key}
         for its_key, value in tree.items():
-            yield from ({**tree, its_key: smaller} for smaller in smaller_trees(reference, value, its_key))
+            yield from ({**tree, its_key: smaller} for smaller in smaller_trees(value, its_key))
     elif isinstance(tree, list):
         length = len(tree)
         while length:
             yield from (tree[:at] + tree[at + length:] for at in range(0, len(tree), length))
             length //= 2
         for at, value in enumerate(tree[:20]):
-            yield from (tree[:at] + [smaller] + tree[at + 1:] for smaller in smaller_trees(reference, value))
+            yield from (tree[:at] + [smaller] + tree[at + 1:] for smaller in smaller_trees(value))
     elif type(tree) is int:
         yield from smaller_numbers(tree)
     elif isinstance(tree, str):
-        yield from smaller_schedules(reference, tree) if key == "schedule" else smaller_texts(tree)
+        yield from smaller_schedules(tree) if key == "schedule" else smaller_texts(tree)
 
 
 def as_bytes(tree):
@@ -123,16 +105,16 @@ def as_bytes(tree):
     return json_text(random.Random(1), tree).encode()
 
 
-def small(comparer, plan, most_tries=MOST_TRIES):
-    """A plan with a difference still, as small as it gets in so many tries."""
+def small(is_wanted, plan, most_tries=MOST_TRIES):
+    """A plan that is wanted still, as small as it gets in so many tries."""
     tries = 0
     try:
         tree = json.loads(plan)
-        is_tree = comparer.differs(as_bytes(tree))
+        is_tree = is_wanted(as_bytes(tree))
     except (ValueError, RecursionError):
         is_tree = False
     current = tree if is_tree else plan
-    smaller = (lambda it: smaller_trees(comparer.reference, it)) if is_tree else smaller_texts
+    smaller = smaller_trees if is_tree else smaller_texts
     made = as_bytes if is_tree else bytes
     again = True
     while again:
@@ -141,7 +123,7 @@ def small(comparer, plan, most_tries=MOST_TRIES):
             tries += 1
             if tries > most_tries:
                 return made(current)
-            if comparer.differs(made(candidate)):
+            if is_wanted(made(candidate)):
                 current, again = candidate, True
                 break
     return made(current)
@@ -149,10 +131,10 @@ def small(comparer, plan, most_tries=MOST_TRIES):
 
 # ---- Many plans
 
-def told(comparer, seed, plan):
+def told(zsched, seed, plan):
     """The text of a difference, with the small plan in a file."""
-    plan = small(comparer, plan)
-    found, wanted = comparer.difference(plan)
+    plan = small(functools.partial(differs, zsched), plan)
+    found, wanted = difference(zsched, plan)
     with tempfile.NamedTemporaryFile(prefix=f"zsched-compare-{seed}-", suffix=".json", delete=False) as file:
         file.write(plan)
     return f"seed {seed}: {file.name}: {shown(plan)}\n  wanted {shown(wanted)}\n  found  {shown(found)}"
@@ -160,13 +142,12 @@ def told(comparer, seed, plan):
 
 def compared(words):
     """Compares on some seeds: how many passed, and the texts of the differences."""
-    zsched, reference, seeds = words
-    comparer = Comparer(zsched, reference)
+    zsched, seeds = words
     texts = []
     for seed in seeds:
         plan = plan_of(seed)
-        if comparer.difference(plan):
-            texts.append(told(comparer, seed, plan))
+        if difference(zsched, plan):
+            texts.append(told(zsched, seed, plan))
     return len(seeds) - len(texts), texts
 
 
@@ -178,23 +159,15 @@ def seeds_from(text):
 
 def main():
     """The command line."""
-    arguments = argparse.ArgumentParser(description=__doc__, formatter_class=argparse.RawDescriptionHelpFormatter)
+    arguments = parser_of(__doc__)
     arguments.add_argument("--seeds", type=seeds_from, default=range(2000), metavar="A..B",
                            help="the seeds from A on, without B (0..2000)")
     arguments.add_argument("--processes", type=int, choices=range(1, 65), default=1, metavar="N",
                            help="how many processes compare, 1 to 64 (1)")
-    arguments.add_argument("--zsched", metavar="PATH",
-                           help="the program (the one that the variable ZSCHED names, or else the built one)")
-    arguments.add_argument("--reference", default=HERE / "reference.py",
-                           help="another reference, to see that a wrong one is caught")
-    given = arguments.parse_args()
-    try:
-        zsched = find(given.zsched)
-    except NoProgram as cause:
-        arguments.error(str(cause))
+    given, zsched = arguments.parse_args(), found_zsched()
     begun = time.monotonic()
     seeds = given.seeds
-    chunks = [(zsched, given.reference, seeds[at:at + CHUNK]) for at in range(0, len(seeds), CHUNK)]
+    chunks = [(zsched, seeds[at:at + CHUNK]) for at in range(0, len(seeds), CHUNK)]
     passed = failed = 0
     with multiprocessing.Pool(given.processes) as pool:
         for number, texts in pool.imap(compared, chunks):

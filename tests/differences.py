@@ -11,12 +11,7 @@ All edits of a crate are tried in one build. In a copy of the crate each functio
 each of them, and a number picks one at run time. `rt try --test` builds the copy and runs a test for each edit. The
 last line is 'N passed, M failed'.
 
-With --plans the edits are those with a line `caught-by: examples::PLAN`. They are planted in one build of the program,
-which runs tests/plans/ with each of them in turn: the report of PLAN has to be another one. An edit that no report shows
-has a line `caught-by: CRATE::TEST`, which `tests/survivors.py --wrong-bodies` tries."""
-import argparse
-import concurrent.futures
-import json
+`tests/survivors.py --wrong-bodies` tries the edits that a plan or a test shows."""
 import os
 import pathlib
 import re
@@ -27,36 +22,27 @@ import tempfile
 
 sys.dont_write_bytecode = True
 
-import unproved
-from support import run
+from support import TOP, parser_of
 from wrong_edits import FUNCTION, BadEdit, Edit, made, texts_of
 
-TOP = pathlib.Path(__file__).resolve().parent.parent
-PATIENCE = 20
 EPILOG = """exit status: 0 if each edit differs as its file says; 1 if one doesn't or has no line `differs:`; 2 if a
 crate can't be built."""
 EXAMPLE = re.compile(r"none: .+|(?P<call>\w+\(.*\)) -> (?P<right>.*\S) \| (?P<wrong>.*\S)")
 FOUND = re.compile(r"^ *difference: (\w+) (right|wrong):(.*)$", re.M)
-# The number of the edit whose body runs, 0 for the right ones. It is in C: Rattle has no variable of a whole program.
+# The number of the edit whose body runs, 0 for the right ones: the one that was chosen last, or that the environment names.
+# It is in C: Rattle has no variable of a whole program. Each crate with edits has this code, of which the linker takes one.
 C_CODE = """#include <stdint.h>
-static uint64_t chosen;
-uint64_t zs_chosen(void) { return chosen; }
-void zs_choose(uint64_t n) { chosen = n; }
-"""
-# The same for a program of several crates with edits, for which the environment picks one. Each crate has this code, of
-# which the linker takes one.
-C_CODE_OF_A_PROGRAM = """#include <stdint.h>
 #include <stdlib.h>
 #define SHARED __attribute__((weak))
+SHARED uint64_t zs_number = UINT64_MAX;
 SHARED uint64_t zs_chosen(void) {
-    static uint64_t chosen = UINT64_MAX;
-    if (chosen == UINT64_MAX) {
+    if (zs_number == UINT64_MAX) {
         const char *text = getenv("ZS_CHOSEN");
-        chosen = text ? strtoull(text, NULL, 10) : 0;
+        zs_number = text ? strtoull(text, NULL, 10) : 0;
     }
-    return chosen;
+    return zs_number;
 }
-SHARED void zs_choose(uint64_t n) { (void)n; }
+SHARED void zs_choose(uint64_t n) { zs_number = n; }
 """
 CHOICE = """// Which edit's body runs.
 unsafe extern "C" {
@@ -160,10 +146,10 @@ def copy_crates(folder):
         shutil.copy(TOP / name, folder)
 
 
-def plant(copy, edits, texts, c_code):
+def plant(copy, edits, texts):
     """Plants the bodies of a crate's edits in a copy of it, by their numbers."""
     (copy / "c").mkdir()
-    (copy / "c" / "chosen.c").write_text(c_code)
+    (copy / "c" / "chosen.c").write_text(C_CODE)
     (copy / "src" / "chosen.rt").write_text(CHOICE)
     for file, text in with_bodies(texts, bodies_of(edits, texts)).items():
         (copy / file).write_text(text)
@@ -175,7 +161,7 @@ def write_copy(folder, crate, examples, texts):
     """Writes a copy of the crates in which the bodies of a crate's edits can be picked, and the tests that do so."""
     copy_crates(folder)
     copy = folder / "crates" / crate
-    plant(copy, {number: example.edit for number, example in examples.items()}, texts, C_CODE)
+    plant(copy, {number: example.edit for number, example in examples.items()}, texts)
     calls = (TOP / "tests" / "differences" / f"{crate}.calls").read_text(encoding="utf-8")
     tests = "".join(test_of(number, example) for number, example in examples.items())
     (copy / "src" / "differences.rt").write_text(calls + tests)
@@ -183,10 +169,10 @@ def write_copy(folder, crate, examples, texts):
     root.write_text(root.read_text() + "#[cfg(test)]\nmod differences;\n")
 
 
-def found_by(crate, examples, texts, keep):
+def found_by(crate, examples, texts):
     """What each edit's call returned without the edit and with it: {belief: {"right": text, "wrong": text}}."""
     with tempfile.TemporaryDirectory(prefix="zsched-differences-") as folder:
-        folder = pathlib.Path(keep or folder)
+        folder = pathlib.Path(folder)
         write_copy(folder, crate, examples, texts)
         said = subprocess.run(["rt", "try", "--test", "--steps", "1"], cwd=folder / "crates" / crate, check=False,
                               stdin=subprocess.DEVNULL, stdout=subprocess.PIPE, stderr=subprocess.STDOUT,
@@ -199,7 +185,7 @@ def found_by(crate, examples, texts, keep):
     return found
 
 
-def try_crate(crate, edits, options):
+def try_crate(crate, edits, is_shown):
     """Tries a crate's edits: for each with an example whether it passed, and what to print of it."""
     told, examples = [], {}
     texts = texts_of(TOP / "crates" / crate)
@@ -213,12 +199,12 @@ def try_crate(crate, edits, options):
                 examples[len(examples) + 1] = example
         except BadEdit as fault:
             told.append((edit, False, str(fault)))
-    found = found_by(crate, examples, texts, options.keep) if examples else {}
+    found = found_by(crate, examples, texts) if examples else {}
     for it in examples.values():
         results = found.get(it.edit.name, {})
         right, wrong = results.get("right", "stops"), results.get("wrong", "stops")
         passed = (right, wrong) == (it.right, it.wrong) and right != wrong
-        told.append((it.edit, passed, "" if passed and not options.show else f"{it.call} -> {right} | {wrong}"))
+        told.append((it.edit, passed, "" if passed and not is_shown else f"{it.call} -> {right} | {wrong}"))
     return told
 
 
@@ -232,42 +218,8 @@ def plant_all(edits, folder):
         edit.place(texts)
         crates.setdefault(crate, ({}, texts))[0][number] = edit
     for crate, (some, texts) in crates.items():
-        plant(folder / "crates" / crate, some, texts, C_CODE_OF_A_PROGRAM)
+        plant(folder / "crates" / crate, some, texts)
     return list(crates)
-
-
-def build_with(edits, folder):
-    """Builds the program with all these edits."""
-    crates = plant_all(edits, folder)
-    program = folder / "program"
-    unproved.build(folder / "crates" / "zsched", program, RT_ALLOW_C=",".join(crates))
-    return program
-
-
-def is_wrong(program, path, number):
-    """Whether the program with an edit answers a plan otherwise than the file beside it, as it stands or in other batches."""
-    plan, report = path.read_bytes(), path.with_name(path.name + ".stdout").read_bytes()
-    recut = json.dumps({**json.loads(plan), "workers": 2, "grain": 3}).encode()
-    environment = {"ZS_CHOSEN": str(number)}
-    return any(run(program, text, environment, PATIENCE)[:2] != (0, report) for text in [plan, recut])
-
-
-def try_plans(crates):
-    """Tries the edits that name a plan: how many passed, and how many failed."""
-    edits = [(crate, edit) for crate, some in crates.items() for edit in some if edit.caught_by.startswith("examples::")]
-    passed = failed = 0
-    with tempfile.TemporaryDirectory(prefix="zsched-differences-") as folder:
-        numbered = dict(enumerate(edits, 1))
-        program = build_with(numbered, pathlib.Path(folder))
-        plans = sorted((TOP / "tests" / "plans").glob("*.json"))
-        right = [path.stem for path in plans if not is_wrong(program, path, 0)]
-        for number, (crate, edit) in numbered.items():
-            wrong = [path.stem for path in plans if path.stem in right and is_wrong(program, path, number)]
-            is_passed = edit.caught_by.partition("::")[2] in wrong
-            passed, failed = passed + is_passed, failed + (not is_passed)
-            print(f"{'' if is_passed else 'FAILED '}{crate}/{edit.name}: {edit.caught_by}, {len(wrong)} of {len(right)} plans are "
-                  f"wrong: {' '.join(wrong)}", flush=True)
-    return passed, failed
 
 
 def wrong_bodies(top):
@@ -275,59 +227,42 @@ def wrong_bodies(top):
     return sorted(top.glob("crates/*/wrong-bodies/*.edit"))
 
 
-def crates_of(options):
+def crates_of(given):
     """The edits to try, by crate."""
     found = {}
     for path in wrong_bodies(TOP):
         crate = path.parent.parent.name
-        if options.crate and crate not in options.crate or options.edit and path.stem not in options.edit:
+        if given.crate and crate not in given.crate or given.edit and path.stem not in given.edit:
             continue
         found.setdefault(crate, []).append(Edit(path))
     return found
 
 
-def options_of(words):
+def options():
     """The options that the words give."""
-    parser = argparse.ArgumentParser(
-        prog="differences.py", description=__doc__, epilog=EPILOG,
-        formatter_class=argparse.RawDescriptionHelpFormatter)
+    parser = parser_of(__doc__, epilog=EPILOG)
     parser.add_argument("--crate", action="append", metavar="NAME", help="only this crate's edits (repeatable)")
     parser.add_argument("--edit", action="append", metavar="BELIEF", help="only this edit (repeatable)")
-    parser.add_argument("--lanes", type=int, default=1, metavar="N", help="crates at once (default: 1)")
     parser.add_argument("--show", action="store_true", help="print what each call returned, also of those that passed")
-    parser.add_argument("--plans", action="store_true", help="try the edits that a plan shows, in the program")
-    parser.add_argument("--keep", metavar="FOLDER", help="write the copy into this folder, which is not there yet")
-    return parser.parse_args(words)
+    return parser.parse_args()
 
 
-def main(words):
-    """Tries what the words ask for, and answers the exit status."""
-    options = options_of(words)
-    crates = crates_of(options)
+def main():
+    """Tries what the words ask for, and returns the exit status."""
+    given = options()
+    crates = crates_of(given)
     passed = failed = unusable = 0
-    if options.plans:
-        for edit in [edit for some in crates.values() for edit in some]:
-            edit.read()
+    for crate, edits in crates.items():
         try:
-            passed, failed = try_plans(crates)
-        except (BadEdit, unproved.NotBuilt) as fault:
+            told = try_crate(crate, edits, given.show)
+        except (Unusable, OSError) as fault:
             print(f"differences: {fault}", file=sys.stderr)
-            return 2
-        print(f"{passed} passed, {failed} failed")
-        return 1 if failed or not passed else 0
-    with concurrent.futures.ThreadPoolExecutor(options.lanes) as pool:
-        going = [pool.submit(try_crate, crate, edits, options) for crate, edits in crates.items()]
-        for done in going:
-            try:
-                told = done.result()
-            except (Unusable, OSError) as fault:
-                print(f"differences: {fault}", file=sys.stderr)
-                unusable += 1
-                continue
-            for edit, is_passed, text in told:
-                passed, failed = passed + is_passed, failed + (not is_passed)
-                if text:
-                    print(f"{'' if is_passed else 'FAILED '}{edit.path.relative_to(TOP)}: {text}", flush=True)
+            unusable += 1
+            continue
+        for edit, is_passed, text in told:
+            passed, failed = passed + is_passed, failed + (not is_passed)
+            if text:
+                print(f"{'' if is_passed else 'FAILED '}{edit.path.relative_to(TOP)}: {text}", flush=True)
     if not crates:
         print("differences: there is no such crate or edit", file=sys.stderr)
     without = sum(edit.differs.startswith("none:") for edits in crates.values() for edit in edits)
@@ -337,4 +272,4 @@ def main(words):
 
 
 if __name__ == "__main__":
-    sys.exit(main(sys.argv[1:]))
+    sys.exit(main())

@@ -7,8 +7,6 @@ Each run has to end in time, by no signal, with status 0, 2 or 3, or with 4 wher
 the form of a report, and a fault has its text on standard error and nothing on standard output. Now and then a plan is
 run on another number of workers too, and has to give the same report. The same seed gives the same plans in the same
 order. A plan that ends otherwise is kept as a file beside the program's output, and its name is printed."""
-import argparse
-import json
 import random
 import re
 import resource
@@ -19,7 +17,7 @@ import time
 import faults
 from generator import plan_of
 from mutate import changed
-from support import ONE_JOB, TOP, ZSCHED, Count, equal_jobs, run
+from support import ONE_JOB, ZSCHED, Count, equal_jobs, parser_of, plans_with_reports, recut, run
 
 MEMORY = 2 << 30
 PATIENCE = 10
@@ -64,17 +62,14 @@ def is_well_ended(ended):
 def cut_otherwise(chance, text):
     """The same plan for another number of workers and another grain, or None where it doesn't read back."""
     try:
-        tree = json.loads(text)
-        tree.update(workers=chance.randrange(1, 65), grain=chance.choice([1, 2, 3, 10000]))
-        return json.dumps(tree).encode()
-    except (ValueError, AttributeError, RecursionError):
+        return recut(text, chance.randrange(1, 65), chance.choice([1, 2, 3, 10000]))
+    except (ValueError, TypeError, RecursionError):
         return None
 
 
 def seeds_of_the_repository():
     """The plans that lie in the repository, and some that the other tests make."""
-    files = sorted([*TOP.glob("examples/*.json"), *TOP.glob("tests/plans/*.json")])
-    seeds = [file.read_bytes() for file in files if file.stat().st_size < 20000]
+    seeds = [file.read_bytes() for file in plans_with_reports() if file.stat().st_size < 20000]
     return seeds + [ONE_JOB, equal_jobs("abcdefg", 2, 3)[0]]
 
 
@@ -105,7 +100,7 @@ def fuzz(count, seconds, seed):
 
 def main():
     """The command line."""
-    arguments = argparse.ArgumentParser(description=__doc__, formatter_class=argparse.RawDescriptionHelpFormatter)
+    arguments = parser_of(__doc__)
     arguments.add_argument("--seconds", type=float, default=600, help="how long to go on (600)")
     arguments.add_argument("--seed", type=int, default=1, help="which plans to make (1)")
     given = arguments.parse_args()

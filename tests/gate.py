@@ -9,7 +9,6 @@ reference and under hostile use, and the tools.
 
 docs/TESTING.md says what each part is for. tests/floors.txt has the number of tests that each part must pass at least.
 The table at the end has the time of each part. The last line is 'N passed, M failed'; the status is 0 if M is 0."""
-import argparse
 import contextlib
 import dataclasses
 import os
@@ -27,10 +26,8 @@ sys.dont_write_bytecode = True
 
 import quick
 import yardstick
+from support import STAMP, TOP, ZSCHED, is_built, parser_of, sources_sum
 
-TOP = pathlib.Path(__file__).resolve().parent.parent
-PROGRAM = TOP / "crates" / "zsched" / "out" / "zsched"
-STAMP = PROGRAM.with_name("proved")
 LAST = re.compile(r"(\d+) passed, (\d+) failed")
 PROVED = re.compile(r"rt: (\w+) (?:proved|is kept: .*)\n?")
 # A row of a part's own: a crate, what was done to it, its processor seconds and its seconds.
@@ -207,7 +204,7 @@ class Gate:
 
     def whole(self):
         """Runs all parts: the wrong bodies of a crate beside the proofs of those above it."""
-        for old in [PROGRAM, STAMP]:
+        for old in [ZSCHED, STAMP]:
             old.unlink(missing_ok=True)
         bodies = self.beside("wrong-bodies", "--follow")
         self.front("proofs", lambda line: bodies.feed(f"{found[1]}\n") if (found := PROVED.fullmatch(line)) else None)
@@ -248,16 +245,6 @@ def table(ended, yard, seconds, processor):
     return "\n".join(lines)
 
 
-def sum_of_sources():
-    """The checksum of all that the program is built from."""
-    return subprocess.run(["tools/sources-sum"], cwd=TOP, capture_output=True, text=True, check=True).stdout.strip()
-
-
-def is_built():
-    """Whether the program in out/ was proved and built from the sources as they are."""
-    return PROGRAM.exists() and STAMP.exists() and STAMP.read_text().strip() == sum_of_sources()
-
-
 def lacking():
     """What the gate needs and this machine doesn't have, or None."""
     for command, what in [("rt", "the Rattle toolchain"), ("cc", "a C compiler")]:
@@ -268,8 +255,7 @@ def lacking():
 
 def options_of(words):
     """The options that the words give."""
-    parser = argparse.ArgumentParser(prog="check", description=__doc__, formatter_class=argparse.RawDescriptionHelpFormatter,
-                                     usage="./check [--anew] [quick | NAME ..]")
+    parser = parser_of(__doc__, prog="check", usage="./check [--anew] [quick | NAME ..]")
     parser.add_argument("--anew", action="store_true", help="nothing that an earlier run passed is taken over")
     parser.add_argument("names", nargs="*", metavar="NAME", help=f"quick, or some of: {', '.join(PARTS)}")
     options = parser.parse_args(words)
@@ -302,9 +288,9 @@ def end(gate, whole, before, yard, begun):
     passed, failed = (sum(getattr(it, which) for it, _, _ in gate.ended) for which in ["passed", "failed"])
     print(table(gate.ended, yard, time.monotonic() - begun, sum(used for _, _, used in gate.ended)))
     if whole and not failed:
-        if before == sum_of_sources():
+        if before == sources_sum():
             STAMP.write_text(f"{before}\n")
-            quick.take_as_proved()
+            quick.take_as_proved(quick.crates())
         else:
             failed += 1
             print("check: the sources were changed while the gate ran")
@@ -325,7 +311,7 @@ def main(words):
         signal.signal(number, lambda number, _: sys.exit(128 + number))
     with tempfile.TemporaryDirectory(prefix="zsched-check-") as folder:
         gate = Gate(folder, options.anew)
-        whole, before = not options.names, sum_of_sources()
+        whole, before = not options.names, sources_sum()
         yard, begun = yardstick.measure() if whole else None, time.monotonic()
         try:
             if not run(gate, options.names):

@@ -16,7 +16,6 @@ their limits have more room.
 valgrind's dhat counts, so nothing depends on the machine's load. Without valgrind, or without the
 library that services call, the rows that need it are left out by name. The last line is
 'N passed, M failed'; the status is 0 if M is 0, 1 if it isn't, and 2 if there is no program."""
-import argparse
 import concurrent.futures
 import dataclasses
 import json
@@ -31,14 +30,14 @@ import tempfile
 from typing import Callable
 
 sys.dont_write_bytecode = True
-sys.path.insert(0, str(pathlib.Path(__file__).resolve().parent.parent / "tools"))
 
-from support import REFUSALS, TOP, Count, tree
-from zsched_tools.program import NoProgram, find
+from support import REFUSALS, TOP, Count, found_zsched, parser_of, tree
 
 TIMES = 4
 MOST_TIMES = 4.4
 PATIENCE = 240
+# How many rows are run at once.
+LANES = 2
 FAR = 10 ** 9
 # Below these a cost is taken for none, and its growth is not looked at.
 FEW_INSTRUCTIONS = 50_000
@@ -350,27 +349,12 @@ def programs_of(folder, zsched, rows):
     return programs
 
 
-def options_of(words):
-    """The options that the words give."""
-    parser = argparse.ArgumentParser(
-        description=__doc__, formatter_class=argparse.RawDescriptionHelpFormatter)
-    parser.add_argument("--zsched", metavar="PATH", help="the program (the one that the variable "
-                        "ZSCHED names, or else the built one)")
+def main():
+    """Judges the rows, and returns the exit status."""
+    parser = parser_of(__doc__)
     parser.add_argument("--row", action="append", metavar="NAME", help="only this row (repeatable)")
     parser.add_argument("--show", action="store_true", help="print what each row costs")
-    parser.add_argument("--lanes", type=int, default=2, metavar="N",
-                        help="rows at once (default: 2)")
-    given = parser.parse_args(words)
-    try:
-        given.zsched = find(given.zsched)
-    except NoProgram as cause:
-        parser.error(str(cause))
-    return given
-
-
-def main(words):
-    """Judges the rows, and returns the exit status."""
-    given = options_of(words)
+    given, zsched = parser.parse_args(), found_zsched()
     rows = [row for row in ROWS if row.name in (given.row or [row.name])]
     count = Count()
     if shutil.which("valgrind") is None:
@@ -379,16 +363,16 @@ def main(words):
         count.test("nothing is counted", True, True)
         return count.close()
     with tempfile.TemporaryDirectory() as folder:
-        meter = Meter(folder, programs_of(folder, given.zsched, rows))
+        meter = Meter(folder, programs_of(folder, zsched, rows))
         here = [row for row in rows if row.runs in meter.programs]
         for row in rows:
             if row not in here:
                 print(f"growth: left out, since its program isn't on this machine: {row.name}")
-        with concurrent.futures.ThreadPoolExecutor(given.lanes) as pool:
+        with concurrent.futures.ThreadPoolExecutor(LANES) as pool:
             for done in [pool.submit(judge, count, meter, row, given.show) for row in here]:
                 done.result()
     return count.close()
 
 
 if __name__ == "__main__":
-    sys.exit(main(sys.argv[1:]))
+    sys.exit(main())

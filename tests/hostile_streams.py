@@ -13,6 +13,12 @@ PATIENCE = 20
 SHORT_MEMORY = 300_000_000
 
 
+def begun(*words, **more):
+    """A started program, with pipes if no other streams are given."""
+    pipes = dict.fromkeys(["stdin", "stdout", "stderr"], subprocess.PIPE)
+    return subprocess.Popen([ZSCHED, *words], **{**pipes, **more})
+
+
 def ending(started, seconds=PATIENCE):
     """How a started program ended: its status (None where it hangs), its output where it is a pipe, and its errors."""
     try:
@@ -27,7 +33,7 @@ def ending(started, seconds=PATIENCE):
 def output_is_full(count):
     """A device that is full: nothing went out, or only what the fault says."""
     with open("/dev/full", "wb") as full:
-        started = subprocess.Popen([ZSCHED], stdin=subprocess.PIPE, stdout=full, stderr=subprocess.PIPE)
+        started = begun(stdout=full)
         started.stdin.write(ONE_JOB)
         status, _, errors = ending(started)
     count.test("output to a full device", (status, errors), (3, b"zsched: write failed after 0 bytes\n"))
@@ -36,7 +42,7 @@ def output_is_full(count):
 def errors_are_full(count):
     """Standard error that takes nothing: the status still tells the fault."""
     with open("/dev/full", "wb") as full:
-        started = subprocess.Popen([ZSCHED], stdin=subprocess.DEVNULL, stdout=subprocess.PIPE, stderr=full)
+        started = begun(stdin=subprocess.DEVNULL, stderr=full)
         status, output, _ = ending(started)
     count.test("errors to a full device", (status, output), (2, b""))
 
@@ -45,7 +51,7 @@ def pipe_is_closed(count):
     """A reader of the report that goes away before it was written."""
     receiving, sending = os.pipe()
     os.close(receiving)
-    started = subprocess.Popen([ZSCHED], stdin=subprocess.PIPE, stdout=sending, stderr=subprocess.PIPE)
+    started = begun(stdout=sending)
     os.close(sending)
     started.stdin.write(ONE_JOB)
     status, _, errors = ending(started)
@@ -55,7 +61,7 @@ def pipe_is_closed(count):
 def reader_takes_ten_bytes(count):
     """`zsched < plan | head -c 10` with a report that doesn't fit into the pipe."""
     text, report = equal_jobs(LONG_NAMES, 2, 100)
-    started = subprocess.Popen([ZSCHED], stdin=subprocess.PIPE, stdout=subprocess.PIPE, stderr=subprocess.PIPE)
+    started = begun()
     head = subprocess.Popen(["head", "-c", "10"], stdin=started.stdout, stdout=subprocess.PIPE)
     started.stdout.close()
     started.stdout = None
@@ -81,8 +87,7 @@ def file_is_limited(count, folder):
     """A file that may grow to so many bytes only: just the bytes that the fault tells went out."""
     for limit in [1, 20, 111]:
         with open(os.path.join(folder, f"limited-{limit}"), "wb+") as output:
-            started = subprocess.Popen([ZSCHED], stdin=subprocess.PIPE, stdout=output, stderr=subprocess.PIPE,
-                                       preexec_fn=limited_file(limit))
+            started = begun(stdout=output, preexec_fn=limited_file(limit))
             started.stdin.write(ONE_JOB)
             status, _, errors = ending(started)
             output.seek(0)
@@ -94,7 +99,7 @@ def file_is_limited(count, folder):
 def input_is_a_folder(count):
     """A folder as standard input can't be read."""
     folder = os.open("/", os.O_RDONLY)
-    started = subprocess.Popen([ZSCHED], stdin=folder, stdout=subprocess.PIPE, stderr=subprocess.PIPE)
+    started = begun(stdin=folder)
     os.close(folder)
     count.test("a folder as input", ending(started), (3, b"", b"zsched: read failed\n"))
 
@@ -102,7 +107,7 @@ def input_is_a_folder(count):
 def input_never_ends(count):
     """Spaces without end: reading stops just past the greatest length."""
     spaces = subprocess.Popen(["sh", "-c", "yes '                ' | tr -d '\\n'"], stdout=subprocess.PIPE)
-    started = subprocess.Popen([ZSCHED], stdin=spaces.stdout, stdout=subprocess.PIPE, stderr=subprocess.PIPE)
+    started = begun(stdin=spaces.stdout)
     spaces.stdout.close()
     wanted = (2, b"", b"zsched: plan is longer than 16777216 bytes\n")
     count.test("spaces without end", ending(started), wanted)
@@ -111,7 +116,7 @@ def input_never_ends(count):
 
 def input_comes_slowly(count):
     """One byte at a time, while the program is stopped and continued."""
-    started = subprocess.Popen([ZSCHED], stdin=subprocess.PIPE, stdout=subprocess.PIPE, stderr=subprocess.PIPE)
+    started = begun()
     for place in range(len(ONE_JOB)):
         os.write(started.stdin.fileno(), ONE_JOB[place:place + 1])
         if place % 10 == 0:
@@ -125,7 +130,7 @@ def input_comes_slowly(count):
 def output_is_read_slowly(count):
     """A report that doesn't fit into the pipe, and a reader that begins late."""
     text, report = equal_jobs(LONG_NAMES, 2, 100)
-    started = subprocess.Popen([ZSCHED], stdin=subprocess.PIPE, stdout=subprocess.PIPE, stderr=subprocess.PIPE)
+    started = begun()
     feeder = threading.Thread(target=lambda: (started.stdin.write(text), started.stdin.close()))
     feeder.start()
     time.sleep(0.5)
@@ -140,8 +145,7 @@ def output_is_read_slowly(count):
 def arguments_are_ignored(count):
     """Arguments of any kind, one that is no text among them."""
     for argument in ["--help", "-", "", b"\xff"]:
-        started = subprocess.Popen(
-            [ZSCHED, argument], stdin=subprocess.PIPE, stdout=subprocess.PIPE, stderr=subprocess.PIPE)
+        started = begun(argument)
         started.stdin.write(ONE_JOB)
         count.test(f"the argument {argument}", ending(started), (0, ONE_REPORT, b""))
 
@@ -150,8 +154,8 @@ def memory_is_short(count):
     """A plan that needs more memory than there is: out of memory, and nothing written."""
     text = (b'{"horizon":100000,"jobs":[{"name":"a","mode":"repeat","schedule":"forever.collectAll.collectAll",'
             b'"script":[{"ms":1,"ok":0}]}]}')
-    started = subprocess.Popen([ZSCHED], stdin=subprocess.PIPE, stdout=subprocess.PIPE, stderr=subprocess.PIPE,
-                               preexec_fn=lambda: resource.setrlimit(resource.RLIMIT_AS, (SHORT_MEMORY, SHORT_MEMORY)))
+    limit = (resource.RLIMIT_AS, (SHORT_MEMORY, SHORT_MEMORY))
+    started = begun(preexec_fn=lambda: resource.setrlimit(*limit))
     started.stdin.write(text)
     count.test("a plan too large for memory", ending(started, 60), (4, b"", b"zsched: out of memory\n"))
 

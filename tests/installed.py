@@ -20,10 +20,9 @@ import sys
 import tempfile
 
 sys.dont_write_bytecode = True
-sys.path.insert(0, str(pathlib.Path(__file__).resolve().parent.parent / "tools"))
 
 from answers import BINDINGS, JNA, Flaky, Missing, need
-from support import TOP, Count
+from support import TOP, Count, parser_of
 
 LIBRARY = pathlib.Path(os.environ.get("ZSCHED_LIBRARY_DIR", TOP / "crates" / "zs_c" / "out"))
 CLIENTS = TOP / "tests" / "clients"
@@ -252,11 +251,13 @@ def judge(count, name, room, words, more):
               flush=True)
 
 
-def main(names):
+def main():
     """Installs and judges each language, and returns the exit status."""
-    if {"-h", "--help"} & set(names) or set(names) - set(LANGUAGES):
-        print(__doc__)
-        return 0 if {"-h", "--help"} & set(names) else 2
+    words = parser_of(__doc__)
+    words.add_argument("languages", nargs="*", metavar="LANGUAGE", help=", ".join(LANGUAGES))
+    names = words.parse_args().languages
+    if set(names) - set(LANGUAGES):
+        words.error(f"no language: {', '.join(set(names) - set(LANGUAGES))}")
     if not (LIBRARY / "libzsched.so").exists():
         print(f"installed: there is no library in {LIBRARY}: tools/make-library makes it")
         return 2
@@ -275,4 +276,4 @@ def main(names):
 
 
 if __name__ == "__main__":
-    sys.exit(main(sys.argv[1:]))
+    sys.exit(main())

@@ -4,21 +4,17 @@
     python3 tests/large_plans.py
 
 The plans have many attempts, items, ticks, rounds, jobs or bytes. The reports of the largest are made by a loop here, and
-not by the reference. A machine that runs this has the memory and the threads for them, so a status 4 fails. The last line is 'N passed, M failed'; the exit status is 0 where M is 0, 1 where
-it isn't, and 2 where there is no program."""
-import argparse
+not by the reference. A machine that runs this has the memory and the threads for them, so a status 4 fails. The last line
+is 'N passed, M failed'; the exit status is 0 where M is 0, 1 where it isn't, and 2 where there is no program."""
 import json
-import pathlib
 import socket
 import subprocess
 import sys
 
 sys.dont_write_bytecode = True
-sys.path.insert(0, str(pathlib.Path(__file__).resolve().parent.parent / "tools"))
 
 import reference
-from support import Count, run
-from zsched_tools.program import NoProgram, find
+from support import Count, found_zsched, run, take_no_words
 
 M = 2 ** 64 - 1
 LAST_TICK = 999999999999999
@@ -153,16 +149,15 @@ def late_moments(names):
     return plan(jobs, horizon=LAST_TICK, workers=2), (0, report.encode(), b"")
 
 
-def sizes():
-    """A name, a plan and how its run ends, each past a size at which a body could give up."""
-    return [
-        ("70,000 attempts", many_attempts(70000)),
-        ("a report of 45 million bytes", long_report(2100)),
-        ("a schedule of 4,000,000 bytes", long_schedule(4000000)),
-        ("a schedule of 1,400,000 levels", deep_schedule(1400000)),
-        ("9,000 moments", many_moments(9000)),
-        ("attempts at the last ticks, and a name of 64 bytes", late_moments(["n" * 64, "second"])),
-    ]
+# What makes a plan and how its run ends, each past a size at which a body could give up.
+SIZES = {
+    "70,000 attempts": (many_attempts, 70000),
+    "a report of 45 million bytes": (long_report, 2100),
+    "a schedule of 4,000,000 bytes": (long_schedule, 4000000),
+    "a schedule of 1,400,000 levels": (deep_schedule, 1400000),
+    "9,000 moments": (many_moments, 9000),
+    "attempts at the last ticks, and a name of 64 bytes": (late_moments, ["n" * 64, "second"]),
+}
 
 
 def writes_of(zsched, text):
@@ -177,8 +172,9 @@ def writes_of(zsched, text):
 
 def test_sizes(count, zsched, only=None):
     """The plans past such sizes, and the number of writes of a report; or only one of them."""
-    for name, (text, wanted) in sizes():
+    for name, (make, size) in SIZES.items():
         if name == (only or name):
+            text, wanted = make(size)
             count.test(name, run(zsched, text, seconds=PATIENCE), wanted)
     if only in [None, ONE_WRITE]:
         text, (_, report, _) = many_attempts(2000)
@@ -204,16 +200,9 @@ def plans():
 
 
 def main():
-    """The command line."""
-    arguments = argparse.ArgumentParser(description=__doc__, formatter_class=argparse.RawDescriptionHelpFormatter)
-    arguments.add_argument("--zsched", metavar="PATH",
-                           help="the program (the one that the variable ZSCHED names, or else the built one)")
-    given = arguments.parse_args()
-    try:
-        zsched = find(given.zsched)
-    except NoProgram as cause:
-        arguments.error(str(cause))
-    count = Count()
+    """All plans."""
+    take_no_words(__doc__)
+    zsched, count = found_zsched(), Count()
     for name, text in plans():
         count.test(name, run(zsched, text, seconds=PATIENCE), reference.answer(text))
     test_sizes(count, zsched)

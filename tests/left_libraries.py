@@ -1,18 +1,17 @@
 """The libraries below zs_c that `rt ci` proved and left in the checkout, which tools/make-library reads and never writes."""
 import hashlib
-import pathlib
-import subprocess
 
+import support
 from prover import crates_of
+from support import TOP
 
-TOP = pathlib.Path(__file__).resolve().parent.parent
 CRATE = "zs_c"
 NOTED = TOP / "crates" / CRATE / "out" / "libraries"
 
 
 def sources_sum():
     """The checksum of all that the library for C is proved and built from."""
-    return subprocess.run([TOP / "tools" / "sources-sum", CRATE], capture_output=True, text=True, check=True).stdout.strip()
+    return support.sources_sum(CRATE)
 
 
 def left(total):

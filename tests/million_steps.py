@@ -9,7 +9,6 @@ than 4 bytes a step after the first half; a list of the steps grows by 16. Under
 instructions of a step are counted in C and Rust. It takes the library of ZSCHED_LIBRARY_DIR, or that of tools/make-library.
 It isn't part of ./check. The last line is 'N passed, M failed'; a language whose compiler isn't on this machine is named as
 left out."""
-import argparse
 import os
 import pathlib
 import re
@@ -18,10 +17,9 @@ import sys
 import tempfile
 
 sys.dont_write_bytecode = True
-sys.path.insert(0, str(pathlib.Path(__file__).resolve().parent.parent / "tools"))
 
 import answers
-from support import TOP, Count
+from support import TOP, Count, parser_of
 
 LIBRARY = pathlib.Path(os.environ.get("ZSCHED_LIBRARY_DIR", TOP / "crates" / "zs_c" / "out"))
 # That of docs/LIBRARY.md, but for the number of retries.
@@ -73,7 +71,7 @@ def judge(count, name, room, steps):
 
 def main():
     """Reads the words, and returns the exit status."""
-    words = argparse.ArgumentParser(description=__doc__, formatter_class=argparse.RawDescriptionHelpFormatter)
+    words = parser_of(__doc__)
     words.add_argument("--steps", type=int, default=1_000_000, metavar="N", help="how many steps, a multiple of 10 (1000000)")
     words.add_argument("languages", nargs="*", metavar="LANGUAGE", help=", ".join(answers.LANGUAGES))
     given = words.parse_args()

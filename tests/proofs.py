@@ -16,8 +16,8 @@ import time
 sys.dont_write_bytecode = True
 
 import left_libraries
+from support import TOP, parser_of
 
-TOP = pathlib.Path(__file__).resolve().parent.parent
 LAST = re.compile(r"(\d+) passed, (\d+) failed")
 TICK = os.sysconf("SC_CLK_TCK")
 # How often the processes are looked at.
@@ -74,19 +74,19 @@ def environment():
     return {**jobs, **os.environ}
 
 
-def known(words):
-    """The words that `rt ci` of this toolchain knows: one that stores no proofs has no --anew, and always proves all."""
+def knows_anew():
+    """Whether `rt ci` of this toolchain knows --anew. One that stores no proofs always proves all."""
     said = subprocess.run(["rt", "help"], capture_output=True, text=True, check=False)
-    return [it for it in words if it in said.stdout + said.stderr]
+    return "--anew" in said.stdout + said.stderr
 
 
-def main(words):
+def main():
     """Runs `rt ci`, and passes on what it says."""
-    if {"-h", "--help"} & set(words):
-        print(__doc__)
-        return 0
+    words = parser_of(__doc__)
+    words.add_argument("--anew", action="store_true", help="prove all")
+    is_anew = words.parse_args().anew
     before = left_libraries.sources_sum()
-    running = subprocess.Popen(["rt", "ci", *known(words)], cwd=TOP, env=environment(), text=True, errors="replace",
+    running = subprocess.Popen(["rt", "ci", *["--anew"] * (is_anew and knows_anew())], cwd=TOP, env=environment(), text=True, errors="replace",
                                stdout=subprocess.PIPE, stderr=subprocess.STDOUT)
     usage = Usage(os.getsid(0))
     usage.start()
@@ -110,4 +110,4 @@ def main(words):
 
 
 if __name__ == "__main__":
-    sys.exit(main(sys.argv[1:]))
+    sys.exit(main())

@@ -1,33 +1,39 @@
 #!/usr/bin/env python3
-"""The quick gate: proves what changed over kept proofs, and runs the plans on the program as it is, unproved.
+"""The quick gate: proves what changed over stored proofs, and runs plans on the unproved program.
 
-A crate whose files changed since it was last seen proved here is checked again. If more than bodies of functions
-changed (a definition, a contract, a type), so are the crates above it. Beside that the program is run unproved, with
-checks, on the plans of examples/ and tests/plans/ and on one hostile plan for each fault. It shows no proof from nothing,
-no wrong body and no test of the crates: ./check does. The last line is 'N passed, M failed'.
+A crate whose files changed since it was last seen proved here is checked again. If more than bodies
+of functions changed (a definition, a contract, a type), so are the crates above it. Beside that the
+program is built without proofs, with checks, and runs the plans of examples/ and tests/plans/ and
+the hostile plans. If it was built from the same sources before, that one runs. ./check tries what
+this doesn't: proofs from nothing, wrong bodies and tests of the crates. The last line is
+'N passed, M failed'.
 
     python3 tests/quick.py             what ./check quick runs
-    python3 tests/quick.py --proved    takes the crates as they are for proved: ./run --proved says so"""
-import contextlib
+    python3 tests/quick.py --proved    takes the crates of the program as they are for proved:
+                                       ./run --proved says so"""
+import concurrent.futures
 import hashlib
 import os
-import pathlib
 import re
 import subprocess
 import sys
-import tempfile
 
 sys.dont_write_bytecode = True
 
 import hostile_plans
+import unproved
 from prover import crates_of
-from support import TOP, Count
+from support import (
+    TOP, ZSCHED, Count, is_built, plans_with_reports, report_beside, run, sources_sum)
 
 CRATES = TOP / "crates"
-# A plan of more bytes is left to the built program: the unproved run is slow.
+BUILT = CRATES / "zsched" / "out"
+# Crates that only tests use. `rt ci` proves them.
+OF_TESTS = ["zs_low_tests", "zs_gates", "zs_engine_tests", "zs_tests", "zs_refusals"]
+# A plan of more bytes is left to the built program: with checks it takes seconds.
 LARGE = 10000
-# How many unproved runs go side by side at most. Each builds the program once.
-LANES = 2
+# The seconds that a run of the unproved program may take.
+PATIENCE = 60
 # The first line of what callers may use: an import, an item's head, a clause or an attribute.
 HEAD = re.compile(r"^\s*(pub\b|fn\b|requires\b|ensures\b|struct\b|enum\b|impl\b|trait\b|ghost\b|type\b|use\b|mod\b|const\b|#)")
 # The head of a function with no clauses: its body begins on the same line.
@@ -35,10 +41,15 @@ BODY = re.compile(r"^[^=]*\bfn\b.*\{$")
 
 
 def crates():
-    """The crates of the program, lowest first, each with those that it names."""
+    """The crates of programs and libraries, lowest first, each with those that it names."""
     listed = crates_of(TOP)
-    wanted = [*listed["zsched"].libraries, "zsched"]
-    return {name: [it for it in listed[name].libraries if it in listed] for name in listed if name in wanted}
+    return {name: [it for it in crate.libraries if it in listed]
+            for name, crate in listed.items() if name not in OF_TESTS}
+
+
+def crates_of_the_program():
+    """The crates of zsched."""
+    return [*crates()["zsched"], "zsched"]
 
 
 def heads_of(text):
@@ -111,76 +122,67 @@ def prove(count, listed):
         keep(name, now)
 
 
-def take_as_proved():
-    """Takes the crates of the program as they are for proved."""
-    for name in crates():
+def take_as_proved(names):
+    """Takes these crates as they are for proved."""
+    for name in names:
         keep(name, sums(name))
 
 
-def write_cases(folders):
-    """Writes the plans with reports, and a hostile plan for each fault, as files shared out to folders; answers what
-    each has to end with."""
-    wanted = {}
-
-    def write(case, text, status, fault):
-        folder = folders[len(wanted) % len(folders)]
-        (folder / case).write_bytes(text)
-        wanted[case] = (status, fault)
-        return folder
-
-    for plan in sorted([*TOP.glob("examples/*.json"), *TOP.glob("tests/plans/*.json")]):
-        folder = write(plan.name, plan.read_bytes(), "0", "")
-        (folder / f"{plan.name}.stdout").write_bytes(plan.with_suffix(".json.stdout").read_bytes())
-    # Other plans with the same fault are left to ./check: one unproved run takes a good part of a second.
-    by_fault = {fault: text for name, text, fault in reversed(hostile_plans.refused()) if len(text) <= LARGE}
-    for number, (fault, text) in enumerate(by_fault.items(), 1):
-        write(f"hostile_{number:02}.json", text, "2", f"zsched: {fault}")
-    return wanted
+def built_program():
+    """The program of the sources as they are: the proved one, or an unproved one, which is stored
+    where ./run stores and finds it."""
+    if is_built():
+        return ZSCHED
+    total = sources_sum()
+    program = BUILT / f"unproved-{total}"
+    if not program.exists():
+        BUILT.mkdir(exist_ok=True)
+        for old in BUILT.glob("unproved-*"):
+            old.unlink()
+        unproved.build(CRATES / "zsched", program, level=None)
+        if sources_sum() != total:
+            program.unlink()
+            raise unproved.NotBuilt("the sources were changed meanwhile")
+    return program
 
 
-def judge(count, wanted, said):
-    """Tests the lines that the unproved run said of each case."""
-    before = ""
-    for line in said.splitlines():
-        case = re.match(r"case=(\S+) run=(\S+)(?: status=(\d+))?(.*)", line)
-        if not case:
-            before = line if line.startswith("zsched: ") else before
-            continue
-        name = case[1]
-        status, text = wanted.pop(name)
-        is_same = "output=expected" in case[4] or status != "0"
-        count.test(f"{name}, unproved", (case[3], before, is_same), (status, text, True))
-        before = ""
-    for name in wanted:
-        count.test(f"{name}, unproved", "no run", "a run")
+def cases():
+    """Plans, each with a name, and with the status, the report and the errors of its run."""
+    for path in plans_with_reports():
+        yield path.name, path.read_bytes(), (0, report_beside(path), b"")
+    for name, text, fault in hostile_plans.refused():
+        if len(text) <= LARGE:
+            yield name, text, (2, b"", f"zsched: {fault}\n".encode())
+
+
+def run_plans(count):
+    """Builds the program, and runs the plans on it side by side."""
+    try:
+        program = built_program()
+    except unproved.NotBuilt as fault:
+        count.test("the unproved program", str(fault), "built")
+        return
+    some = list(cases())
+    with concurrent.futures.ThreadPoolExecutor(len(os.sched_getaffinity(0))) as pool:
+        ended = pool.map(lambda case: run(program, case[1], seconds=PATIENCE), some)
+        for (name, _, wanted), found in zip(some, ended):
+            count.test(f"{name}, unproved", found, wanted)
 
 
 def main(words):
     """Both halves side by side."""
     if words == ["--proved"]:
-        take_as_proved()
+        take_as_proved(crates_of_the_program())
         return 0
     if words:
         print("quick: the only word is --proved", file=sys.stderr)
         return 2
-    count = Count()
-    with contextlib.ExitStack() as room:
-        lanes = max(1, min(LANES, len(os.sched_getaffinity(0)) // 2))
-        folders = [pathlib.Path(room.enter_context(tempfile.TemporaryDirectory())) for _ in range(lanes)]
-        said = [room.enter_context(tempfile.TemporaryFile("w+", errors="replace")) for _ in folders]
-        wanted = write_cases(folders)
-        running = [subprocess.Popen(["rt", "try", "--cases", folder], cwd=CRATES / "zsched", stdin=subprocess.DEVNULL,
-                                    stdout=subprocess.DEVNULL, stderr=out) for folder, out in zip(folders, said)]
-        try:
-            prove(count, crates())
-            for it in running:
-                it.wait()
-        finally:
-            for it in running:
-                it.kill()
-        for out in said:
-            out.seek(0)
-        judge(count, wanted, "".join(out.read() for out in said))
+    proofs, count = Count(), Count()
+    with concurrent.futures.ThreadPoolExecutor(1) as beside:
+        proving = beside.submit(prove, proofs, crates())
+        run_plans(count)
+        proving.result()
+    count.passed, count.failed = count.passed + proofs.passed, count.failed + proofs.failed
     return count.close()
 
 

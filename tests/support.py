@@ -1,13 +1,21 @@
 """What the tests share: the built program, the plans that the tests feed them, and the count of what passed."""
+import argparse
 import hashlib
 import json
 import pathlib
 import subprocess
+import sys
 
 TOP = pathlib.Path(__file__).resolve().parent.parent
+sys.path.insert(0, str(TOP / "tools"))
+
+from zsched_tools.program import NoProgram, find
+
 ZSCHED = TOP / "crates" / "zsched" / "out" / "zsched"
 POPULATION = TOP / "crates" / "zsched_population" / "out" / "zsched_population"
 REFUSALS = TOP / "crates" / "zs_refusals" / "out" / "zs_refusals"
+# The checksum of the sources that the built program passed the gate with.
+STAMP = ZSCHED.with_name("proved")
 
 SCRIPT = '"script":[{"ms":5,"err":7},{"ms":5,"ok":1}]'
 ONE_JOB = ('{"horizon":1000,"jobs":[{"name":"a","mode":"retry","schedule":"recurs(3)",' + SCRIPT + "}]}").encode()
@@ -29,6 +37,21 @@ def plan(jobs=None, horizon='"horizon":1000', more=""):
     """The bytes of a plan, by default those of ONE_JOB."""
     listed = ",".join([job()] if jobs is None else jobs)
     return f'{{{horizon}{more},"jobs":[{listed}]}}'.encode()
+
+
+def plans_with_reports():
+    """The plans of the repository with a report beside them, in the order of their names."""
+    return sorted([*TOP.glob("examples/*.json"), *TOP.glob("tests/plans/*.json")])
+
+
+def report_beside(path):
+    """The report beside a plan."""
+    return path.with_name(path.name + ".stdout").read_bytes()
+
+
+def recut(text, workers, grain):
+    """A plan with other numbers of workers and of jobs in a batch."""
+    return json.dumps({**json.loads(text), "workers": workers, "grain": grain}).encode()
 
 
 def equal_jobs(names, workers, grain, schedule="recurs(3)"):
@@ -71,6 +94,38 @@ def run(program, text, environment=None, seconds=60, **more):
     except subprocess.TimeoutExpired:
         return None, b"", b""
     return ended.returncode, ended.stdout, ended.stderr
+
+
+def sources_sum(crate="zsched"):
+    """The checksum of all that a crate's program or library is proved and built from."""
+    words = [TOP / "tools" / "sources-sum", crate]
+    return subprocess.run(words, capture_output=True, text=True, check=True).stdout.strip()
+
+
+def is_built():
+    """Whether the program in out/ was proved and built from the sources as they are."""
+    return ZSCHED.exists() and STAMP.exists() and STAMP.read_text().strip() == sources_sum()
+
+
+def found_zsched():
+    """The program that the variable ZSCHED names, or else the built one. Without one this process
+    ends with status 2."""
+    try:
+        return find()
+    except NoProgram as cause:
+        print(cause, file=sys.stderr)
+        sys.exit(2)
+
+
+def parser_of(text, **more):
+    """A parser of a script's words, with the script's text as help."""
+    return argparse.ArgumentParser(
+        description=text, formatter_class=argparse.RawDescriptionHelpFormatter, **more)
+
+
+def take_no_words(text):
+    """Reads the words of a script that takes none but --help."""
+    parser_of(text).parse_args()
 
 
 def write_digest(report):

@@ -9,9 +9,9 @@ Whether all still apply is looked at first, also with --some, and whether the te
 
 A survivor is a file crates/NAME/survivors/BELIEF.edit with the lines of a wrong body (tests/wrong_edits.py), and a line
 `caught-by:` in place of the function: CRATE::TEST for a test of a crate, hostile::FUNCTION for a function of
-tests/refused_growths.py, growth::ROW for a row of tests/growth.py, large_plans::PLAN for a plan of that part,
-library::TEST for a test of FromC in tests/tools/test_library.py, or `examples`, `reference` or `large_plans` for the plans
-of these parts of the gate.
+tests/refused_growths.py, growth::ROW for a row of tests/growth.py, examples::PLAN or large_plans::PLAN for a plan of that
+part, library::TEST for a test of FromC in tests/tools/test_library.py, or `examples`, `reference` or `large_plans` for the
+plans of these parts of the gate.
 
 All are planted in one copy of the crates, as tests/differences.py plants its edits: each function that they change gets a
 body for each of them, and a number picks one at run time. Of that copy the program, zs_refusals and the tests of a crate
@@ -21,9 +21,8 @@ each one for library: the library is proved and built, over the libraries that .
 'N passed, M failed', where a survivor passes that is caught; the exit status is 0 where M is 0, 1 where it isn't, and 2
 where one no longer applies, what should catch it fails without it, or `rt` isn't there.
 
-With --wrong-bodies the edits are those of crates/NAME/wrong-bodies that name a test of a crate: the prover rejects these
-too, and the test shows them all the same."""
-import argparse
+With --wrong-bodies the edits are those of crates/NAME/wrong-bodies with a line `caught-by:`: the prover rejects these too,
+and a plan or a test shows them all the same."""
 import dataclasses
 import datetime
 import functools
@@ -55,12 +54,22 @@ PATIENCE = 60
 CHOOSING = 1.1
 PARTS = ["examples", "reference", "large_plans"]
 LIBRARY_TESTS = TOP / "tests" / "tools" / "test_library.py"
-# The line of a wrong body that a test of a crate shows.
-SHOWN_BY_A_TEST = re.compile(r"^caught-by: zs_\w+::", re.MULTILINE)
 
 
 class Misfit(Exception):
     """A survivor no longer applies, or `rt` gave no verdict."""
+
+
+@functools.cache
+def texts_here(crate):
+    """The texts of a crate of this tree."""
+    return texts_of(TOP / "crates" / crate)
+
+
+@functools.cache
+def code_of(crate):
+    """The sources of a crate of this tree, if there is one, as one text."""
+    return "".join(file.read_text() for file in sorted((TOP / "crates" / crate).glob("src/**/*.rt")))
 
 
 class Survivor(Edit):
@@ -84,7 +93,7 @@ class Survivor(Edit):
 
     def place_in(self, folder):
         """Finds its places in the crates of a folder: the texts of its crate."""
-        texts = texts_of(folder / "crates" / self.crate)
+        texts = texts_here(self.crate) if folder == TOP else texts_of(folder / "crates" / self.crate)
         self.forget()
         try:
             self.place(texts)
@@ -101,11 +110,11 @@ class Survivor(Edit):
         """It has to apply, and what catches it has to be there."""
         self.place_in(TOP)
         place, name = self.where()
-        tests = "".join(file.read_text() for file in sorted((TOP / "crates" / place).glob("src/**/*.rt")))
-        there = {"hostile": lambda: hasattr(refused_growths, name), "growth": lambda: name in growth.ROWS_BY_NAME,
-                 "large_plans": lambda: not name or name in [large_plans.ONE_WRITE, *dict(large_plans.sizes())],
+        there = {"examples": lambda: name in ["", *(path.stem for path in TOP.glob("tests/plans/*.json"))],
+                 "hostile": lambda: hasattr(refused_growths, name), "growth": lambda: name in growth.ROWS_BY_NAME,
+                 "large_plans": lambda: not name or name in [large_plans.ONE_WRITE, *large_plans.SIZES],
                  "library": lambda: f"    def {name}(self)" in LIBRARY_TESTS.read_text()}
-        if not (there[place]() if place in there else f"\nfn {name}(" in tests if name else place in PARTS):
+        if not (there[place]() if place in there else f"\nfn {name}(" in code_of(place) if name else place in PARTS):
             raise Misfit(f"{self.crate}/{self.name}: there is no {self.caught_by}, which should catch it")
 
 
@@ -124,10 +133,12 @@ class Failures(support.Count):
 
 @functools.cache
 def cases_of(part):
-    """Plans of a part of the gate: a name, a plan and its report each, from the file beside it or from the reference."""
+    """Plans of a part of the gate: a name, a plan and its report each, from the file beside it or from the reference. Those
+    of tests/plans/ are there in other batches too."""
     if part == "examples":
-        return [(path.stem, path.read_bytes(), path.with_name(path.name + ".stdout").read_bytes())
-                for path in sorted(TOP.glob("tests/plans/*.json"))]
+        paths = [path for path in support.plans_with_reports() if path.parent.name == "plans"]
+        return [(path.stem, text, support.report_beside(path)) for path in paths
+                for text in [path.read_bytes(), support.recut(path.read_bytes(), 2, 3)]]
     if part == "reference":
         plans = [(f"seed {seed}", plan_of(seed)) for seed in SEEDS]
     else:
@@ -144,7 +155,7 @@ class Planted:
     several a number picks one, and the number 0 none."""
 
     def __init__(self, folder, survivors, is_alone=False):
-        self.folder, self.built = folder, {}
+        self.folder = folder
         self.numbers = {} if is_alone else {it.path: number for number, it in enumerate(survivors, 1)}
         folder.mkdir()
         if is_alone:
@@ -158,16 +169,16 @@ class Planted:
         """Picks a survivor, or none, for the programs that start from now on."""
         os.environ["ZS_CHOSEN"] = str(self.numbers.get(survivor.path, 0) if survivor else 0)
 
-    def program(self, crate, *words):
+    def program(self, crate, *words, level="-O0"):
         """A program of the copy, or with the word --test that of a crate's tests, built without proofs."""
-        if crate not in self.built:
-            program = self.folder / f"{crate}.built"
+        program = self.folder / f"{crate}.built{level}"
+        if not program.exists():
             try:
-                unproved.build(self.folder / "crates" / crate, program, *words, RT_ALLOW_C=",".join(self.with_c))
+                unproved.build(self.folder / "crates" / crate, program, *words, level=level,
+                               RT_ALLOW_C=",".join(self.with_c))
             except unproved.NotBuilt as cause:
                 raise Misfit(f"{crate}: {cause}") from None
-            self.built[crate] = program
-        return self.built[crate]
+        return program
 
 
 def failed_tests(planted, crate, name):
@@ -195,7 +206,7 @@ def failed_growth(planted, name):
     most = dataclasses.replace(row.most, instructions=CHOOSING * row.most.instructions)
     row = dataclasses.replace(row, most=most)
     failures = Failures()
-    growth.judge(failures, growth.Meter(planted.folder, {row.runs: [planted.program(row.runs)]}), row, False)
+    growth.judge(failures, growth.Meter(planted.folder, {row.runs: [planted.program(row.runs, level="-O2")]}), row, False)
     return failures.names
 
 
@@ -206,10 +217,11 @@ def failed_size(planted, name):
     return failures.names
 
 
-def failed_plans(planted, part):
-    """The plans of a part on which the program of a copy ends with other bytes or another status."""
+def failed_plans(planted, part, only):
+    """The plans of a part, or only one, on which the program of a copy ends with other bytes or another status."""
     program = planted.program("zsched")
-    return [name for name, text, report in cases_of(part) if support.run(program, text, seconds=PATIENCE)[:2] != (0, report)]
+    return [name for name, text, report in cases_of(part)
+            if only in ["", name] and support.run(program, text, seconds=PATIENCE)[:2] != (0, report)]
 
 
 def failed(planted, place, name):
@@ -218,8 +230,8 @@ def failed(planted, place, name):
         return failed_refusals(planted, name)
     if place == "growth":
         return failed_growth(planted, name)
-    if not name:
-        return failed_plans(planted, place)
+    if not name or place == "examples":
+        return failed_plans(planted, place, name)
     return failed_size(planted, name) if place == "large_plans" else failed_tests(planted, place, name)
 
 
@@ -309,16 +321,10 @@ def judge(survivors):
     return missed
 
 
-def check_wrong_bodies():
-    """The test or the plan that a wrong body names has to be there."""
-    for path in sorted(TOP.glob("crates/*/wrong-bodies/*.edit")):
-        body = Survivor(path)
-        place, name = body.where()
-        if place == "examples":
-            if not (TOP / "tests" / "plans" / f"{name}.json").exists():
-                raise Misfit(f"{body.crate}/{body.name}: there is no plan {name}, which should show it")
-        elif place:
-            body.check()
+def shown_wrong_bodies():
+    """The wrong bodies that a plan or a test shows."""
+    bodies = map(Survivor, sorted(TOP.glob("crates/*/wrong-bodies/*.edit")))
+    return [body for body in bodies if body.caught_by]
 
 
 def some_of(survivors, number, day):
@@ -329,28 +335,25 @@ def some_of(survivors, number, day):
 
 def main():
     """The command line."""
-    arguments = argparse.ArgumentParser(description=__doc__, formatter_class=argparse.RawDescriptionHelpFormatter)
+    arguments = support.parser_of(__doc__)
     arguments.add_argument("--crate", action="append", metavar="NAME", help="only this crate's (repeatable)")
     arguments.add_argument("--edit", action="append", metavar="BELIEF", help="only this one (repeatable)")
     arguments.add_argument("--some", type=int, metavar="N", help="so many of them, in turn by the day of the year")
-    arguments.add_argument("--wrong-bodies", action="store_true", help="the wrong bodies that a test of a crate shows")
+    arguments.add_argument("--wrong-bodies", action="store_true", help="the wrong bodies that a plan or a test shows")
     arguments.add_argument("--check", action="store_true", help="build nothing: look whether each applies")
     given = arguments.parse_args()
-    folder = "wrong-bodies" if given.wrong_bodies else "survivors"
-    paths = [path for path in sorted(TOP.glob(f"crates/*/{folder}/*.edit"))
-             if (not given.crate or path.parent.parent.name in given.crate) and path.stem in (given.edit or [path.stem])]
-    if given.wrong_bodies:
-        paths = [path for path in paths if SHOWN_BY_A_TEST.search(path.read_text(encoding="utf-8"))]
-    if not paths:
-        arguments.error("there is no such survivor")
     try:
+        survivors, bodies = list(map(Survivor, sorted(TOP.glob("crates/*/survivors/*.edit")))), shown_wrong_bodies()
+        for edit in [*survivors, *bodies]:
+            edit.check()
         # Those of one test together: without them it is built once.
-        survivors = sorted([Survivor(path) for path in paths], key=lambda it: it.caught_by)
-        for survivor in survivors:
-            survivor.check()
-        check_wrong_bodies()
+        survivors = sorted([it for it in (bodies if given.wrong_bodies else survivors)
+                            if it.crate in (given.crate or [it.crate]) and it.name in (given.edit or [it.name])],
+                           key=lambda it: it.caught_by)
+        if not survivors:
+            arguments.error("there is no such survivor")
         if given.some:
-            survivors = some_of(survivors, min(given.some, len(paths)), datetime.date.today())
+            survivors = some_of(survivors, min(given.some, len(survivors)), datetime.date.today())
         if not given.check and shutil.which("rt") is None:
             raise Misfit("the command 'rt' isn't on this machine")
         missed = 0 if given.check else judge(survivors)

@@ -2,6 +2,8 @@
 """Shows that the gate can fail: sabotages of a copy of the repository that must each be found, and the runner of wrong
 bodies over a crate whose edits have to be reported by name. It needs the toolchain and the program that was built last.
 The last line is 'N passed, M failed'."""
+import contextlib
+import io
 import os
 import pathlib
 import shutil
@@ -14,9 +16,8 @@ sys.dont_write_bytecode = True
 import gate
 import quick
 import test_wrong_bodies
-from support import Count
+from support import TOP, Count
 
-TOP = pathlib.Path(__file__).resolve().parent.parent
 # Two versions of a source, and whether the crates above may be concerned.
 CHANGES = [
     ("a clause on the next line", "pub fn f(a: u64) -> u64\n    ensures value {\n        result ≡ a\n    }\n{\n    a\n}\n",
@@ -36,11 +37,11 @@ def copy_to(top):
         copy = shutil.copytree if (TOP / part).is_dir() else shutil.copy2
         copy(TOP / part, top / part)
     shutil.copytree(TOP / "crates", top / "crates", ignore=shutil.ignore_patterns("out"))
-    (top / gate.PROGRAM.parent.relative_to(TOP)).mkdir()
-    for made in [gate.PROGRAM, gate.STAMP]:
+    (top / gate.ZSCHED.parent.relative_to(TOP)).mkdir()
+    for made in [gate.ZSCHED, gate.STAMP]:
         if made.exists():
             shutil.copy2(made, top / made.relative_to(TOP))
-    (top / gate.STAMP.relative_to(TOP)).write_text(gate.sum_of_sources())
+    (top / gate.STAMP.relative_to(TOP)).write_text(gate.sources_sum())
     kept = sorted((top / "examples").glob("*.json"))[:2]
     for path in [*(top / "examples").iterdir(), *(top / "tests" / "plans").iterdir()]:
         if path.name.removesuffix(".stdout") not in [it.name for it in kept]:
@@ -82,13 +83,14 @@ SABOTAGES = [
     ("a folder of plans is emptied", empty_plans, "examples", "0 passed"),
     ("a plan is lost", lambda top: next((top / "examples").glob("*.json")).unlink(), "examples", "floors.txt asks for 26"),
     ("a report is another", lambda top: write(next((top / "examples").glob("*.stdout")), "polls", "polls 1"), "examples",
-     "another report"),
+     "wanted (0, "),
     ("the reference raises", lambda top: write(top / "tests" / "reference.py", '"""', 'raise ValueError\n"""'), "reference",
      "last line is not"),
-    ("a part ends with no last line", lambda top: write(top / "tests" / "examples.py", "    sys.exit(main", "    sys.exit(0); main"),
-     "examples", "last line is not"),
-    ("a part passes and ends with another status", lambda top: write(top / "tests" / "examples.py", "return 1 if", "return 3 if passed or"),
-     "examples", "ended with status 3"),
+    ("a part ends with no last line", lambda top: write(top / "tests" / "examples.py", "return count.close()", "return 0"), "examples",
+     "last line is not"),
+    ("a part passes and ends with another status", lambda top: write(top / "tests" / "examples.py", "return count.close()",
+                                                               "return count.close() or 3"), "examples",
+     "ended with status 3"),
     ("a part has no floor", lambda top: write(top / "tests" / "floors.txt", "examples 26", "# none"), "examples", "no number"),
     ("the program is of older sources", lambda top: write(top / "crates.txt", "zs_term:", "# changed\nzs_term:"), "examples",
      "not built from these sources"),
@@ -152,6 +154,16 @@ def test_heads(count):
         count.test(f"{name} is changed", quick.heads_of(text) != quick.heads_of(text.replace(old, new)), is_head)
 
 
+def test_plans_of_quick(count):
+    """A program that prints nothing fails with each plan of the quick gate."""
+    built, found = quick.built_program, Count()
+    quick.built_program = lambda: "/bin/true"
+    with contextlib.redirect_stdout(io.StringIO()):
+        quick.run_plans(found)
+    quick.built_program = built
+    count.test("plans of quick", (found.passed, found.failed), (0, len(list(quick.cases()))))
+
+
 def test_words(count):
     """Words that name nothing, and the help, of the gate and of the runner of wrong bodies."""
     check, runner = [TOP / "check"], [sys.executable, test_wrong_bodies.RUNNER]
@@ -171,6 +183,7 @@ def main():
     test_judged(count)
     test_limit(count)
     test_heads(count)
+    test_plans_of_quick(count)
     test_words(count)
     test_sabotages(count)
     test_wrong_bodies.test_all(count)

@@ -21,7 +21,7 @@ sys.dont_write_bytecode = True
 import reference
 from examples import CUTS
 from generator import plan_of
-from support import TOP, ZSCHED, Count, equal_jobs
+from support import TOP, ZSCHED, Count, equal_jobs, recut, report_beside, take_no_words
 from refused_growths import Refuser
 
 ATTEMPT = re.compile(r"attempt \d+ (\d+)\.\.(?:(\d+) | running)")
@@ -80,10 +80,10 @@ def test_plans(count, counter):
     """Plans of tests/plans/ under each cut."""
     for name in PLANS:
         path = TOP / "tests" / "plans" / f"{name}.json"
-        report = path.with_suffix(".json.stdout").read_text()
-        for workers, grain in CUTS:
-            tree = {**json.loads(path.read_text()), "workers": workers, "grain": grain}
-            test(count, counter, f"{name}, {workers} workers, grain {grain}", json.dumps(tree).encode(), report, (workers, grain))
+        report = report_beside(path).decode()
+        for cut in CUTS:
+            told = f"{name}, {cut[0]} workers, grain {cut[1]}"
+            test(count, counter, told, recut(path.read_bytes(), *cut), report, cut)
 
 
 def test_many_jobs(count, counter):
@@ -119,9 +119,7 @@ def test_seeds(count, counter):
 
 def main():
     """All parts in turn."""
-    if {"-h", "--help"} & set(sys.argv[1:]):
-        print(__doc__)
-        return 0
+    take_no_words(__doc__)
     count = Count()
     with tempfile.TemporaryDirectory() as folder:
         counter = Counter(folder)

@@ -1,9 +1,10 @@
-"""Builds the program of a folder of crates without any proof, and without the checks that `rt try`
-adds, so that valgrind can run it.
+"""Builds the program of a folder of crates without any proof, with the checks that `rt try` adds or
+without them.
 
-`rt try` compiles a program with the address sanitizer, which valgrind can't run. So it is called in
-a copy of the kit: a folder of links, in which the compiler leaves the sanitizer out and optimizes,
-the sanitizer's library is empty, the linker keeps the program, and nothing is checked beside it."""
+`rt try` stores no program, and checks names beside its build. So it is called in a copy of the kit:
+a folder of links, in which the linker stores the program and nothing is checked beside it. valgrind
+can't run a program with the address sanitizer: without checks the compiler leaves the sanitizer
+out, and the sanitizer's library is empty."""
 import os
 import pathlib
 import shutil
@@ -18,7 +19,7 @@ COMPILER = """#!/bin/bash
 case " $* " in
   *" --extern-only "* | *" --undefined-only "*) exec -a llvm-nm "{kit}/toolchain/bin/clang" "$@" ;;
 esac
-case "$*" in *-fsanitize=address*) level=-O2 ;; *) level=-O0 ;; esac
+case "$*" in *-fsanitize=address*) level={level} ;; *) level=-O0 ;; esac
 for word; do
   shift
   case "$word" in
@@ -56,7 +57,7 @@ def replace(path, text):
     path.chmod(0o755)
 
 
-def copy_kit(kit, target, program):
+def copy_kit(kit, target, program, level):
     """The folder of links, whose linker writes each program to this path too."""
     link_all(kit, target)
     for name in ["bin", "c", "toolchain"]:
@@ -68,30 +69,35 @@ def copy_kit(kit, target, program):
     tools = target / "toolchain" / "bin"
     tools.unlink()
     link_all(kit / "toolchain" / "bin", tools)
-    replace(tools / "clang", COMPILER.format(kit=kit))
     replace(tools / "ld.lld", LINKER.format(kit=kit, program=program))
     # `rt try` has it look for what a check would refuse.
     replace(target / "bin" / "rattle", "#!/bin/sh\n")
+    if level is None:
+        return
+    replace(tools / "clang", COMPILER.format(kit=kit, level=level))
     (target / "c" / "asan.a").unlink()
     (target / "c" / "asan.a").write_bytes(b"!<arch>\n")
 
 
-def build(crate, program, *words, **more):
+def build(crate, program, *words, level="-O0", **more):
     """Builds the program of a crate's folder into a file, or with the word --test that of its
-    tests, under more variables. What `rt try` does after that isn't waited for."""
+    tests, under more variables: by a level of optimizing, or with checks if it is None. What
+    `rt try` does after that isn't waited for."""
     found = shutil.which("rt")
     if found is None:
         raise NotBuilt("the command 'rt' isn't on this machine")
     with tempfile.TemporaryDirectory(prefix="zsched-unproved-") as room:
         kit, said = pathlib.Path(room, "kit"), pathlib.Path(room, "said")
-        copy_kit(pathlib.Path(found).resolve().parent.parent, kit, program)
+        copy_kit(pathlib.Path(found).resolve().parent.parent, kit, program, level)
         with open(said, "wb") as log, subprocess.Popen(
                 [kit / "bin" / "rt", "try", *words, "--steps", "1"], cwd=crate,
                 stdin=subprocess.DEVNULL, stdout=log, stderr=log, start_new_session=True,
                 env={**os.environ, **more}) as running:
-            while running.poll() is None and not program.exists():
-                time.sleep(0.5)
-            if running.returncode is None:
-                os.killpg(running.pid, signal.SIGTERM)
+            try:
+                while running.poll() is None and not program.exists():
+                    time.sleep(0.5)
+            finally:
+                if running.poll() is None:
+                    os.killpg(running.pid, signal.SIGTERM)
         if not program.exists():
             raise NotBuilt(f"rt try built no program: {said.read_text(errors='replace')[-500:]}")

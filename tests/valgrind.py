@@ -7,7 +7,6 @@ where there are several workers by helgrind and drd. The rounds of the heavy job
 Each report has to be the right one. memcheck has to name no error and no lost memory. helgrind and drd may name only reads
 of a queue's places by the queue itself, as docs/TESTING.md explains. It isn't part of ./check, since it needs valgrind,
 and takes some ten minutes. The last line is 'N passed, M failed'."""
-import json
 import pathlib
 import shutil
 import sys
@@ -16,7 +15,8 @@ import xml.etree.ElementTree
 
 sys.dont_write_bytecode = True
 
-from support import TOP, ZSCHED, Count, equal_jobs, heavy_jobs, job, plan, run
+from support import (
+    TOP, ZSCHED, Count, equal_jobs, heavy_jobs, job, plan, recut, report_beside, run, take_no_words)
 
 PLANS = [
     "a_done_part_goes_on_again", "attempts_end_at_listed_ticks", "backoff_with_a_cap_on_tries", "collected_inputs",
@@ -47,23 +47,13 @@ def path_of(name):
     return TOP / "tests" / "plans" / f"{name}.json"
 
 
-def report_of(name):
-    """The report that lies beside a plan."""
-    return path_of(name).with_suffix(".json.stdout").read_bytes()
-
-
-def recut(text, workers, grain):
-    """A plan with other numbers of workers and of jobs in a batch."""
-    return json.dumps({**json.loads(text), "workers": workers, "grain": grain}).encode()
-
-
 def cases(cuts):
     """Names, plans under each of these cuts, and how they have to end."""
     found = [("a schedule that is none", plan([job(schedule="(recurs(1) && recurs(2)")]), (2, b""))]
     for workers, grain in cuts:
         told = f"{workers} workers, grain {grain}"
         for name in PLANS:
-            found.append((f"{name}, {told}", recut(path_of(name).read_bytes(), workers, grain), (0, report_of(name))))
+            found.append((f"{name}, {told}", recut(path_of(name).read_bytes(), workers, grain), (0, report_beside(path_of(name)))))
         text, report = equal_jobs([f"job{number}" for number in range(MANY)], workers, grain)
         found.append((f"{MANY} jobs, {told}", text, (0, report)))
     for workers, grain in HEAVY_CUTS:
@@ -93,9 +83,7 @@ def errors_of(path):
 
 def main():
     """Each tool on each plan."""
-    if {"-h", "--help"} & set(sys.argv[1:]):
-        print(__doc__)
-        return 0
+    take_no_words(__doc__)
     if shutil.which("valgrind") is None or not ZSCHED.exists():
         print(f"valgrind: it needs the command 'valgrind', and {ZSCHED}, which 'rt ci' builds")
         return 1

@@ -12,7 +12,8 @@ import tempfile
 import unittest
 from xml.etree import ElementTree
 
-TOP = pathlib.Path(__file__).resolve().parents[2]
+from support import TOP
+
 BENCHES = TOP / "benches"
 sys.path.insert(0, str(BENCHES))
 
@@ -132,7 +133,3 @@ class Baseline(unittest.TestCase):
                      *(plans.plan([plans.job(name, schedule)]) for name, schedule in [
                          ("a", "windowed(0)"), ("a", "recurs(1).map(_1)"), ("a", "recurs(1) && forever"), ("", "forever")])]:
             self.assertEqual(program.run(bench.BASELINE, text, 60), reference.answer(text), text)
-
-
-if __name__ == "__main__":
-    unittest.main()

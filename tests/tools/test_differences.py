@@ -97,7 +97,3 @@ class Differences(unittest.TestCase):
             self.assertNotEqual(example.right, example.wrong)
             edit.place(texts)
             bodies_of({1: edit}, texts)
-
-
-if __name__ == "__main__":
-    unittest.main()

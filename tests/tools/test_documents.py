@@ -1,13 +1,12 @@
 """The documents: their links lead somewhere, what they name is there, and the plans shown have the reports shown."""
 import io
 import json
-import pathlib
 import re
 import unittest
 
+from support import TOP
 from zsched_tools import lines, program
 
-TOP = pathlib.Path(__file__).resolve().parents[2]
 PAGES = sorted([*TOP.glob("*.md"), *TOP.glob("docs/*.md"), *TOP.glob("benches/**/*.md"),
                 *TOP.glob("crates/*/README.md")])
 FOLDERS = ("benches/", "crates/", "docs/", "examples/", "tests/", "tools/", "zs_")
@@ -82,7 +81,3 @@ class Documents(unittest.TestCase):
         made = []
         lines.write_lines(io.BytesIO(f"{report}polls {report.split()[-1]}\n".encode()), made.append)
         self.assertEqual("".join(made), shown)
-
-
-if __name__ == "__main__":
-    unittest.main()

@@ -1,10 +1,10 @@
 """The documents are in plain technical English, and so are the comments of the crates. Words that mean another
 thing here than elsewhere, or nothing, are counted, and long lines. Samples, and names in backquotes, are left out."""
-import pathlib
 import re
 import unittest
 
-TOP = pathlib.Path(__file__).resolve().parents[2]
+from support import TOP
+
 PAGES = sorted([*TOP.glob("*.md"), *TOP.glob("docs/*.md"), *TOP.glob("crates/*/README.md")])
 CODE = sorted(it for end in ("rt", "antt") for it in TOP.glob(f"crates/*/[sp]*/**/*.{end}"))
 WIDTH, MOST = 100, 22000
@@ -53,7 +53,3 @@ class English(unittest.TestCase):
     def test_lines_have_100_columns_but_for_tables_and_code(self):
         self.assertEqual([place for place, line, _ in prose(PAGES + CODE) if len(line) > WIDTH
                           and not re.search(r"^\||`[^`]{60,}`|\]\([^)]{50,}\)", line)], [])
-
-
-if __name__ == "__main__":
-    unittest.main()

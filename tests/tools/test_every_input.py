@@ -1,13 +1,12 @@
 """What the tables of RECIPES and POLICIES say of schedules for every input: it is what zsched-bounds prints, and some of it was
 worked out by hand."""
 import json
-import pathlib
 import re
 import unittest
 
+from support import TOP
 from zsched_tools import bounding, program
 
-TOP = pathlib.Path(__file__).resolve().parents[2]
 HEAD, *SECTIONS = (TOP / "docs" / "RECIPES.md").read_text().split("\n### ")
 POLICIES = (TOP / "docs" / "POLICIES.md").read_text()
 JOBS = json.loads((TOP / "examples" / "policies.json").read_text())["jobs"]
@@ -90,7 +89,3 @@ class EveryInput(unittest.TestCase):
         for (schedule, row), bounds in zip(said, bounding.run(BOUNDS, [schedule for schedule, _ in said]), strict=True):
             with self.subTest(schedule):
                 self.assertEqual(row, cells(bounds))
-
-
-if __name__ == "__main__":
-    unittest.main()

@@ -209,7 +209,3 @@ class Places(unittest.TestCase):
                     out = io.BytesIO()
                     join.write_known(str(folder / "manifest"), out.write)
                     self.assertEqual(out.getvalue().decode(), report_of(JOBS))
-
-
-if __name__ == "__main__":
-    unittest.main()

@@ -2,13 +2,12 @@
 a row is printed by tools/guarantees, which reads the page for this test too."""
 import importlib.machinery
 import importlib.util
-import pathlib
 import re
 import unittest
 
 import survivors
+from support import TOP
 
-TOP = pathlib.Path(__file__).resolve().parents[2]
 LOADER = importlib.machinery.SourceFileLoader("guarantees", str(TOP / "tools" / "guarantees"))
 guarantees = importlib.util.module_from_spec(importlib.util.spec_from_loader("guarantees", LOADER))
 LOADER.exec_module(guarantees)
@@ -109,7 +108,3 @@ class Survivors(unittest.TestCase):
         for path in edits:
             with self.subTest(path.stem):
                 survivors.Survivor(path).check()
-
-
-if __name__ == "__main__":
-    unittest.main()

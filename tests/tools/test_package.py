@@ -250,7 +250,3 @@ class Package(unittest.TestCase):
                 self.assertEqual((ended.returncode, ended.stdout), (2, b""))
                 self.assertRegex(ended.stderr.decode(), wanted)
                 self.assertEqual(ended.stderr.count(b"\n"), 1)
-
-
-if __name__ == "__main__":
-    unittest.main()

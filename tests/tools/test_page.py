@@ -18,7 +18,7 @@ import hostile_plans
 import reference
 from browser import CHROMIUM, inside, opened
 from generator import plan_of
-from support import TOP, plan
+from support import TOP, plan, plans_with_reports, report_beside
 from zsched_tools import bounding, durations, play_page
 
 PAGE = TOP / "docs" / "play.html"
@@ -137,11 +137,11 @@ class Evaluator(unittest.TestCase):
         self.assertEqual(count, len(named))
 
     def test_on_the_plans_of_the_repository(self):
-        files = sorted([*TOP.glob("examples/*.json"), *TOP.glob("tests/plans/*.json")])
+        files = plans_with_reports()
         self.assertGreater(len(files), 60)
         for file, (_, answer) in zip(files, page_answers(file.read_bytes() for file in files)):
             with self.subTest(file.name):
-                self.assertEqual(answer, (0, file.with_name(file.name + ".stdout").read_bytes(), b""))
+                self.assertEqual(answer, (0, report_beside(file), b""))
         self.hold((file.name, file.read_bytes()) for file in files)
 
     def test_on_faults(self):
@@ -200,8 +200,7 @@ class EveryInput(unittest.TestCase):
         self.hold([policy for seed in range(400) if (policy := bounds.random_policy(seed))], 120)
 
     def test_on_the_schedules_of_the_plans(self):
-        files = sorted([*TOP.glob("examples/*.json"), *TOP.glob("tests/plans/*.json")])
-        texts = {job["schedule"] for file in files for job in json.loads(file.read_bytes())["jobs"]}
+        texts = {job["schedule"] for file in plans_with_reports() for job in json.loads(file.read_bytes())["jobs"]}
         short = sorted(text for text in texts if len(text) < 2000)
         self.assertGreater(len(short), 60)
         self.hold([(text, reference.read_schedule(text.encode())) for text in short], 120)
@@ -517,7 +516,3 @@ onload = () => setTimeout(() => {{
         self.assertIn("<strong class=\"\">there is no recur</strong>", document)
         self.assertIn("(spaced(10) &amp;&amp; recur(3))\n" + " " * 15 + '<b class="">^^^^^</b>', document)
         self.assertRegex(document, r'<textarea id="b"[^>]* aria-invalid="true"')
-
-
-if __name__ == "__main__":
-    unittest.main()

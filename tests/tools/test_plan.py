@@ -7,7 +7,6 @@ import random
 import shutil
 import subprocess
 import sys
-import unittest
 from unittest import mock
 
 import support
@@ -341,7 +340,3 @@ class Whole(WithPlans):
             self.assertEqual(known.getvalue(), wanted, f"seed {seed}")
             attempts += wanted.count(b"\nattempt ")
         self.assertGreater(attempts, 10 * RANDOM_PLANS)
-
-
-if __name__ == "__main__":
-    unittest.main()

@@ -339,7 +339,3 @@ class Faults(Imported):
         status, out, errors = self.made("p.toml", TOML, "--zsched", "/nowhere")
         self.assertEqual((status, json.loads(out)), (0, PLAN))
         self.assertTrue(errors.startswith("zsched-plan: the plan wasn't checked: no program at /nowhere\n"), errors)
-
-
-if __name__ == "__main__":
-    unittest.main()

@@ -17,7 +17,8 @@ import urllib.parse
 
 from browser import CHROMIUM, inside, opened
 from support import ONE_JOB, TOP, run
-from zsched_tools import duration_text, play, program
+from test_page import TIMES
+from zsched_tools import duration_text, durations, play, program
 
 TOOL = TOP / "tools" / "zsched-play"
 PAGE = (TOP / "docs" / "play.html").read_text()
@@ -33,11 +34,7 @@ CARETS = [
     ('recurs(3)"<script>', '"', "quotes"),
 ]
 
-# Durations in words, and their milliseconds; and texts that are none.
-DURATIONS = [("40", 40), ("40ms", 40), (" 1.5s ", 1500), ("0.001 s", 1), ("2min", 120000), ("2m", 120000),
-             ("1h", 3600000), ("1d", 86400000), ("0.5d", 43200000), ("0", 0), ("007", 7),
-             ("18446744073709551615", 18446744073709551615)]
-NO_DURATIONS = ["", "1 week", "-5", "1.5", "9" * 5000]
+NO_DURATIONS = ["", "1 week", "-5", "1.5", "9" * 5000, "5x", "-1", "s", "1 2", "1s!", "0.5ms"]
 
 
 def question(schedule="recurs(3)", horizon="1000", script='[{"ms":1,"err":7}]'):
@@ -50,8 +47,10 @@ class Words(unittest.TestCase):
     """Durations in words, as other tools take them too."""
 
     def test_durations(self):
-        for text, wanted in DURATIONS:
+        for text, wanted in [*TIMES, ("1h30m", 5400000)]:
             self.assertEqual(duration_text.milliseconds(text), wanted, text)
+        for ms in [0, 7, 999, 1000, 1001, 61000, 123456, 3600000, 90061001]:
+            self.assertEqual(duration_text.milliseconds(durations.duration(ms)), ms)
 
     def test_what_is_none(self):
         for text in NO_DURATIONS:
@@ -366,7 +365,3 @@ class Browser(Served):
         self.assertIn("(spaced(10) &amp;&amp; recur(3))\n" + " " * 15 + '<b class="">^^^^^</b>', fault)
         self.assertIn("did you mean recurs?", document)
         self.assertIn("zsched: job 1: schedule: no term at byte 15", document)
-
-
-if __name__ == "__main__":
-    unittest.main()

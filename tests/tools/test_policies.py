@@ -1,12 +1,11 @@
 """docs/POLICIES.md: schedules and figures are those of its plan, and settings have a part."""
 import json
-import pathlib
 import re
 import unittest
 
+from support import TOP
 from zsched_tools.durations import duration
 
-TOP = pathlib.Path(__file__).resolve().parents[2]
 HEAD, *SECTIONS = (TOP / "docs" / "POLICIES.md").read_text().split("\n## ")
 PLAN = TOP / "examples" / "policies.json"
 JOBS = json.loads(PLAN.read_text())["jobs"]
@@ -56,7 +55,3 @@ class Policies(unittest.TestCase):
                 self.assertEqual([part for part in settings if part not in job["schedule"]], [])
                 self.assertRegex(section, r"\n- Looked at: (source, \S+.* \d+\.\d+|documents, )")
                 self.assertRegex(section, r"\nNot the same:")
-
-
-if __name__ == "__main__":
-    unittest.main()

@@ -195,7 +195,3 @@ class Population(unittest.TestCase):
         run = subprocess.run(["sh", "-c", 'ulimit -v 40000; exec "$0"', find()], input=lines, capture_output=True, check=False)
         self.assertEqual((run.returncode, run.stdout), (4, b""))
         self.assertRegex(run.stderr.decode(), r"\Azsched-population: (line \d+: )?out of memory\n\Z")
-
-
-if __name__ == "__main__":
-    unittest.main()

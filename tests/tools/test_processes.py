@@ -29,7 +29,3 @@ class Processes(unittest.TestCase):
 
     def test_long_answers_do_not_block(self):
         self.assertEqual(list(map(len, in_order(lambda item: b"x" * item, [10**6] * 9))), [10**6] * 9)
-
-
-if __name__ == "__main__":
-    unittest.main()

@@ -1,15 +1,13 @@
 """The commands of docs/RECIPES.md, run as they are written."""
 import os
-import pathlib
 import re
 import shutil
 import subprocess
-import unittest
 
 from commands import InFolder
+from support import TOP
 from zsched_tools import program
 
-TOP = pathlib.Path(__file__).resolve().parents[2]
 PAGE = (TOP / "docs" / "RECIPES.md").read_text()
 COMMANDS = PAGE.split("\n## Commands\n")[1].split("\n## ")[0]
 BLOCK = re.compile(r"^```(\w+)\n(.*?)^```$", re.MULTILINE | re.DOTALL)
@@ -72,7 +70,3 @@ class Commands(InFolder):
         titles = re.findall(r"^### (.*)$", COMMANDS, re.MULTILINE)
         listed = re.search(r"^With commands: (.*?)\.$", PAGE, re.MULTILINE | re.DOTALL)[1]
         self.assertEqual(re.findall(r"\[(.*?)\]", listed), [title[0].lower() + title[1:] for title in titles])
-
-
-if __name__ == "__main__":
-    unittest.main()

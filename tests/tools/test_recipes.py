@@ -1,16 +1,15 @@
 """docs/RECIPES.md: each recipe's schedule is one of its plan, the lines shown are lines of its report, the program
 prints that report, and what is written for ZIO's schedules answers as ZIO's definitions do."""
 import json
-import pathlib
 import random
 import re
 import types
 import unittest
 
 import zio_model as zio
+from support import TOP
 from zsched_tools import program
 
-TOP = pathlib.Path(__file__).resolve().parents[2]
 PAGE = (TOP / "docs" / "RECIPES.md").read_text()
 TASKS, TABLES = PAGE.split("\n## For those who come from ZIO\n")
 TASKS, _COMMANDS = TASKS.split("\n## Commands\n")
@@ -263,7 +262,3 @@ class ForZio(unittest.TestCase):
         for (name, schedule), job, steps in zip(schedules, jobs, found):
             with self.subTest(name, schedule=job["schedule"], script=job["script"]):
                 self.assertIsNone(first_difference(schedule, steps))
-
-
-if __name__ == "__main__":
-    unittest.main()

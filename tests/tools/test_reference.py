@@ -1,5 +1,6 @@
 """The reference against the reports that were worked out by hand and the faults that faults.py lists, and the
-comparer against a wrong reference. No built program is needed: the reference stands in for it."""
+comparer against a wrong program. No built program is needed: the reference takes its place."""
+import functools
 import json
 import pathlib
 import random
@@ -12,20 +13,19 @@ import hostile_plans
 import reference
 from commands import InFolder
 from generator import plan_of
+from support import plans_with_reports, report_beside
 
-TESTS = pathlib.Path(reference.__file__).resolve().parent
-TOP = TESTS.parent
+REFERENCE = pathlib.Path(reference.__file__).resolve()
+
 
 class TheReference(unittest.TestCase):
     """What reference.py answers."""
 
     def test_it_gives_each_report_that_lies_beside_a_plan(self):
-        files = sorted([*TOP.glob("examples/*.json"), *TOP.glob("tests/plans/*.json")])
-        self.assertTrue(files)
-        for file in files:
+        self.assertTrue(plans_with_reports())
+        for file in plans_with_reports():
             with self.subTest(plan=file.name):
-                wanted = file.with_name(file.name + ".stdout").read_bytes()
-                self.assertEqual(reference.answer(file.read_bytes()), (0, wanted, b""))
+                self.assertEqual(reference.answer(file.read_bytes()), (0, report_beside(file), b""))
 
     def test_it_gives_each_fault(self):
         for name, text, fault in faults.refused():
@@ -66,41 +66,32 @@ class TheGenerator(unittest.TestCase):
 
 
 class TheComparer(InFolder):
-    """What compare.py says of a wrong reference."""
+    """What compare.py says of a wrong program."""
 
     def setUp(self):
         super().setUp()
         self.wrong = self.folder / "wrong.py"
-        text = (TESTS / "reference.py").read_text()
+        text = REFERENCE.read_text()
         self.assertEqual(text.count("m if n - 1 < k else None"), 1)
         self.wrong.write_text(text.replace("m if n - 1 < k else None", "m if n - 1 <= k else None"))
+        self.wrong.chmod(0o755)
 
-    def test_a_right_reference_passes(self):
-        self.assertEqual(compare.compared((TESTS / "reference.py", TESTS / "reference.py", range(5))), (5, []))
+    def test_a_right_program_passes(self):
+        self.assertEqual(compare.compared((REFERENCE, range(5))), (5, []))
 
     def test_a_wrong_one_differs_on_a_plan_that_is_made_small(self):
-        comparer = compare.Comparer(TESTS / "reference.py", self.wrong)
         text = plan_of_one("(identity && recurs(2)).collectAll", {"ms": 3, "ok": 7}, {"ms": 4, "ok": 8})
-        self.assertTrue(comparer.differs(text))
-        tree = json.loads(compare.small(comparer, text, 50))
+        differs = functools.partial(compare.differs, self.wrong)
+        self.assertTrue(differs(text))
+        tree = json.loads(compare.small(differs, text, 50))
         self.assertLess(len(json.dumps(tree)), len(text) - 10)
         self.assertIn("recurs", tree["jobs"][0]["schedule"])
 
     def test_odd_bytes_are_made_small_too(self):
-        class Stand:
-            """A comparer for which all texts with an x differ."""
-            reference = reference
-
-            def differs(self, text):
-                return b"x" in text
-        self.assertEqual(compare.small(Stand(), b"[[[[aaaaaxaaaa"), b"x")
+        self.assertEqual(compare.small(lambda text: b"x" in text, b"[[[[aaaaaxaaaa"), b"x")
 
 
 def plan_of_one(schedule, *entries):
     """A plan of one repeat."""
     job = {"name": "a", "mode": "repeat", "schedule": schedule, "script": list(entries)}
     return json.dumps({"horizon": 100, "jobs": [job]}).encode()
-
-
-if __name__ == "__main__":
-    unittest.main()

@@ -9,7 +9,6 @@ import shutil
 import signal
 import subprocess
 import time
-import unittest
 
 import support
 from commands import InFolder
@@ -442,7 +441,3 @@ class Recipes(InFolder):
                     os.kill(process, signal.SIGKILL)
                     is_killed = True
         self.assertTrue(is_killed, name)
-
-
-if __name__ == "__main__":
-    unittest.main()

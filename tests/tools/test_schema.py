@@ -2,12 +2,14 @@
 
 It needs a validator, the Python package jsonschema (Debian: python3-jsonschema). The gate tries 1,000 random changes of
 the examples; ZSCHED_CHANGES=10000 in the environment tries more."""
+import contextlib
 import json
 import os
 import random
 import re
 import unittest
 
+import faults
 import mutate
 from generator import made_term
 from support import ONE_JOB, TOP, job, plan, run
@@ -23,6 +25,8 @@ EXAMPLES = sorted(TOP.glob("examples/*.json"))
 PLANS = EXAMPLES + sorted(TOP.glob("tests/plans/*.json"))
 SEED = 20
 TOKEN = re.compile(r"_[12]|&&|\|\||[<>]=|!=|[A-Za-z]+|[0-9]+|[^ ]")
+# A plan of more bytes takes the validator long.
+LONGEST = 20000
 CHANGES = int(os.environ.get("ZSCHED_CHANGES", "1000"))
 
 
@@ -41,52 +45,32 @@ def scheduled(text):
     return plan([job(schedule=text)])
 
 
-# Faulty plans that an editor marks: each by its name.
+# Faulty plans that an editor marks, beside those of faults.py: each by its name.
 FAULTY = [
     ("a list as the document", b"[]"),
     ("no jobs", b'{"horizon":1000}'),
-    ("no clock", plan(horizon='"grain":1')),
     ("two clocks", plan(more=',"ticks":[0,5]')),
     ("an unknown key of the document", plan(more=',"worker":2')),
     ("the schema's own name as a key", plan(more=',"$schema":"plan.schema.json"')),
     ("a horizon as a text", plan(horizon='"horizon":"1000"')),
-    ("a horizon below 0", plan(horizon='"horizon":-1')),
-    ("a horizon with a fraction", plan(horizon='"horizon":1.5')),
-    ("a horizon past the limit", plan(horizon='"horizon":1000000000000000')),
     ("a horizon that is null", plan(horizon='"horizon":null')),
-    ("no ticks", plan(horizon='"ticks":[]')),
-    ("a tick twice", plan(horizon='"ticks":[5,5]')),
-    ("a tick past the limit", plan(horizon='"ticks":[1000000000000000]')),
-    ("workers 0", plan(more=',"workers":0')),
-    ("workers 65", plan(more=',"workers":65')),
-    ("grain 0", plan(more=',"grain":0')),
-    ("grain 10001", plan(more=',"grain":10001')),
-    ("jobs as an object", b'{"horizon":1000,"jobs":{}}'),
     ("a job that is a text", plan(['"a"'])),
     ("a job without a name", plan([job().replace('"name":"a",', "")])),
     ("a job without a schedule", plan([job().replace('"schedule":"recurs(3)",', "")])),
     ("an unknown key of a job", plan([job(more=',"delay":5')])),
-    ("an empty name", plan([job("")])),
-    ("a space in a name", plan([job("a b")])),
-    ("a name of 65 letters", plan([job("a" * 65)])),
-    ("a mode with a capital", plan([job(mode="Retry")])),
     ("a start below 0", plan([job(more=',"start":-5')])),
-    ("an empty script", plan([job(script=script("[]"))])),
     ("a script that is an object", plan([job(script=script('{"ms":5,"ok":1}'))])),
     ("an entry without a time", entry('{"ok":1}')),
     ("an entry of 0 ms", entry('{"ms":0,"ok":1}')),
     ("an entry with a value and an error", entry('{"ms":5,"ok":1,"err":2}')),
-    ("an entry with neither", entry('{"ms":5}')),
     ("an entry with a key of its own", entry('{"ms":5,"ok":1,"after":3}')),
     ("a value past 2^64 - 1", entry('{"ms":5,"ok":18446744073709551617000}')),
-    ("an empty schedule", scheduled("")),
     ("a misspelled word", scheduled("recur(3)")),
     ("a word with a capital", scheduled("Spaced(10)")),
     ("a duration with a unit", scheduled("spaced(10s)")),
     ("a missing number", scheduled("recurs()")),
     ("a number with a zero before it", scheduled("spaced(010)")),
     ("a factor of 0", scheduled("exponential(10, 0)")),
-    ("a window of 0", scheduled("windowed(0)")),
     ("a test without a comparison", scheduled("identity.whileInput(5)")),
     ("a call of ZIO that isn't here", scheduled("spaced(10).jittered")),
     ("an operator outside parentheses", scheduled("spaced(10) && recurs(3)")),
@@ -95,18 +79,19 @@ FAULTY = [
     ("a tab in a schedule", scheduled("(recurs(3)\t&& forever)")),
 ]
 
-# What the schema can't tell, as docs/FORMATS.md says.
+# What the schema can't tell, as docs/FORMATS.md says: faults, and plans, some of them by their names in faults.py.
+UNTOLD = re.compile(r"name used before|too big|number too large|no kind")
+MISSED_NAMES = [
+    "a byte order mark", "horizon 1e3", "a horizon with an exponent", "schedule (recurs(1) && recurs(2)",
+    "parentheses behind forever", "parentheses behind collectAll", "a parenthesis too few", "a parenthesis too many",
+    "parentheses for nothing", "an operator too few", "half an operator's schedules"]
 MISSED = [
-    ("two jobs of one name", plan([job(), job()])),
     ("ticks that fall", plan(horizon='"ticks":[5,4]')),
     ("a horizon of 1.0", plan(horizon='"horizon":1.0')),
-    ("a horizon of 1e3", plan(horizon='"horizon":1e3')),
     ("a horizon of -0", plan(horizon='"horizon":-0')),
     ("a parenthesis that isn't closed", scheduled("((recurs(3) && forever)")),
     ("two schedules with no operator", scheduled("recurs(3) forever")),
     ("a function that doesn't fit", scheduled("recurs(3).map(_1)")),
-    ("a schedule that is too deep", scheduled("forever" + ".collectAll" * 64)),
-    ("a number past 2^64 - 1 in a schedule", scheduled("recurs(18446744073709551616)")),
 ]
 
 
@@ -201,6 +186,17 @@ class Validated(unittest.TestCase):
                 self.assertFalse(self.validator.is_valid(json.loads(text)))
                 self.assertEqual(self.status(text), 2)
 
+    def test_refuses_each_fault_that_it_can_tell(self):
+        refused = 0
+        for name, text, fault in faults.refused():
+            if len(text) > LONGEST:
+                continue
+            with self.subTest(name), contextlib.suppress(ValueError, RecursionError):
+                is_valid = self.validator.is_valid(json.loads(text))
+                refused += not is_valid
+                self.assertTrue(not is_valid or UNTOLD.search(fault) or name in MISSED_NAMES)
+        self.assertGreater(refused, 180)
+
     def test_what_it_cannot_tell_the_program_refuses(self):
         for name, text in MISSED:
             with self.subTest(name):
@@ -217,7 +213,3 @@ class Validated(unittest.TestCase):
                 refused += 1
                 self.assertEqual(self.status(text), 2, text)
         self.assertGreater(refused, CHANGES // 5)
-
-
-if __name__ == "__main__":
-    unittest.main()

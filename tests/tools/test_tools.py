@@ -146,6 +146,8 @@ class OldPython(unittest.TestCase):
 
     def test_says_so_in_one_line(self):
         self.assertIsNone(starting.old_python("zsched-explain"))
+        for version in [(3, 11, 0), (4, 0, 0)]:
+            self.assertIsNone(starting.old_python("zsched-explain", version))
         self.assertEqual(starting.old_python("zsched-explain", (3, 9, 2)),
                          "zsched-explain: needs Python 3.11 or later, and this is Python 3.9")
 
@@ -157,9 +159,6 @@ class OldPython(unittest.TestCase):
                 self.assertEqual(len(re.findall(r"^from zsched_tools", text, re.M)), 2)
 
     def test_that_look_needs_no_new_python(self):
-        for name in ["starting", "__init__"]:
-            ast.parse((TOP / "tools" / "zsched_tools" / f"{name}.py").read_text(), feature_version=(3, 6))
-
-
-if __name__ == "__main__":
-    unittest.main()
+        package = TOP / "tools" / "zsched_tools"
+        for file in [*TOOLS, package / "starting.py", package / "__init__.py"]:
+            ast.parse(file.read_text(), feature_version=(3, 4))

@@ -1,8 +1,6 @@
 """zsched-try: a line a policy, worked out by hand; bounds, also those of every input; the plan and the picture; faults with their caret."""
-import ast
 import io
 import json
-import os
 import pathlib
 import random
 import re
@@ -17,7 +15,7 @@ import reference
 from commands import judge_colours, run_here
 from support import TOP
 from zsched_tools import program as zsched
-from zsched_tools import starting, try_command, trying
+from zsched_tools import try_command, trying
 from zsched_tools.durations import duration
 from zsched_tools.report import Attempt, Ending, records
 
@@ -366,9 +364,6 @@ class Command(unittest.TestCase):
                 _, out, err = tool(*shlex.split(words), bounds=BOUNDS)
                 self.assertEqual(out + err, lines if BOUNDS else EVERY.sub("", lines))
 
-    def test_version(self):
-        self.assertEqual(tool("--version"), (0, f"zsched-try {(TOP / 'VERSION').read_text()}", ""))
-
     def test_colours_only_where_they_are_wanted(self):
         self.assertEqual(tool("recurs(1)", "--color", "always")[1],
                          "\x1b[1;31mfailed 503\x1b[0m after 2 attempts, 80 ms (waited 0 ms, longest wait 0 ms)\n")
@@ -379,32 +374,7 @@ class Command(unittest.TestCase):
     def test_colours_on_a_terminal_unless_it_asks_for_none(self):
         judge_colours(self, [sys.executable, TOOL, "recurs(1)", "--zsched", zsched.find()], "stdout")
 
-    def test_a_reader_that_goes_away_ends_it_by_the_signal(self):
-        for words in [["recurs(1)"], ["recurs(1)", "--plan"], ["recurs(1)", "--svg"], ["--help"], ["--version"]]:
-            reading, writing = os.pipe()
-            os.close(reading)
-            # Unbuffered, argparse itself drops the fault of a write of help.
-            ended = subprocess.run([sys.executable, TOOL, *words, "--zsched", zsched.find()], stdout=writing,
-                                   stderr=subprocess.PIPE, check=False, env={**os.environ, "PYTHONUNBUFFERED": ""})
-            os.close(writing)
-            self.assertEqual((ended.returncode, ended.stderr), (-13, b""), words)
-
-    def test_an_old_python_can_read_what_refuses_it(self):
-        for file in [TOP / "tools" / "zsched-try", TOP / "tools" / "zsched-outage",
-                     TOP / "tools" / "zsched_tools" / "starting.py", TOP / "tools" / "zsched_tools" / "__init__.py"]:
-            ast.parse(file.read_text(), feature_version=(3, 4))
-        # The check stands before all other imports of the tools.
-        for name in ["try", "outage"]:
-            text = (TOP / "tools" / f"zsched-{name}").read_text()
-            imported = re.findall(r"^from zsched_tools\.(\w+) import|^(require_python)\(", text, re.M)
-            self.assertEqual(imported, [("starting", ""), ("", "require_python"), (f"{name}_command", "")])
-        self.assertIn("needs Python 3.11", starting.old_python("zsched-try", (3, 10, 1)))
-
     def test_durations_are_read_back(self):
         for ms in [1, 999, 61_000, 123_456_789]:
             out = tool("spaced(1)", "--until", "9d", "--after", "0", "--then", f"{duration(ms)} ok 1")[1]
             self.assertIn(f" {duration(ms)} (", out)
-
-
-if __name__ == "__main__":
-    unittest.main()
