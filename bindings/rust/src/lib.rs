@@ -109,7 +109,7 @@ pub enum Fault {
     OtherState,
     /// An allocation failed.
     Memory,
-    /// The text is no schedule, which shows at the byte `at`.
+    /// The text spells no schedule, found at the byte `at`.
     NoTerm { at: u64 },
     /// The schedule is deeper than 64 or weighs more than 1,000.
     TooBig,
