@@ -228,7 +228,8 @@ func begun(text string) (follower, error) {
 // Retry calls attempt until there is no error or the schedule is done, and sleeps between two
 // attempts. It returns the last error. The input of an error is what inputOf returns. Moments are
 // in milliseconds from the start of the first attempt. If the context ends during a sleep, the last
-// error is returned in an *Ended, which is the context's error too.
+// error is returned in an *Ended, which is the context's error too. A text that is no schedule is a
+// *Fault.
 func Retry(ctx context.Context, text string, inputOf func(error) uint64, attempt func(context.Context) error) error {
 	schedule, err := begun(text)
 	if err != nil {

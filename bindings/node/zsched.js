@@ -185,9 +185,10 @@ async function sleep(millis, signal) {
 
 /**
  * Retries until an attempt, which may be asynchronous, doesn't throw, and sleeps between two. When
- * the schedule is done, the last error is thrown. inputOf returns the schedule's input of an error;
- * if it returns no whole number, the error is thrown, and what was wrong is its `notTriedAgain`.
- * Time and memory don't grow with the attempts, except with collectAll.
+ * the schedule is done, the last error is thrown. inputOf returns the schedule's input of an error.
+ * If it throws, or returns no whole number from 0 up to 2^64 - 1, the error is thrown, and what was
+ * wrong is its `notTriedAgain`, if the error is an Error. An aborted signal throws its reason. Time
+ * and memory don't grow with the attempts, except with collectAll.
  */
 async function retry(text, attempt, { inputOf = () => 0, signal } = {}) {
   const schedule = begun(text);

@@ -188,10 +188,11 @@ public final class Schedule {
      * Retries until there is a value or the schedule is done, and sleeps between two attempts. At
      * the end it throws the last error.
      *
-     * <p>The input of an error is what inputOf returns. If inputOf throws, the error is thrown, and
-     * what inputOf threw is suppressed by it. Moments are in milliseconds from the start of the
-     * first attempt. Time and memory don't grow with the number of attempts, except for a schedule
-     * with collectAll, whose output grows.
+     * <p>The input of an error is what inputOf returns. If inputOf throws a RuntimeException, the
+     * error is thrown, and what inputOf threw is suppressed by it. An InterruptedException of the
+     * attempt is thrown at once. Moments are in milliseconds from the start of the first attempt.
+     * Time and memory don't grow with the number of attempts, except for a schedule with
+     * collectAll, whose output grows.
      */
     public static <T> T retry(String text, ToLongFunction<Exception> inputOf, Callable<T> attempt) throws Exception {
         Follower schedule = begun(text);

@@ -167,12 +167,13 @@ def retrying(schedule: str | Schedule | Stepper, *, on: type[Exception] | tuple[
     on: the class of the errors to retry after, or a tuple of classes; any other error is raised,
         and so is one that is no Exception, such as that of a cancelled task
     input_of: returns the schedule's input of an error, a whole number from 0 to 2^64 - 1; if it
-        returns none, the error is raised with a note that says so
+        returns none or raises, the error is raised with a note that says so
     before_sleep: is called with the error, the number of the attempt and the seconds to sleep
     clock: returns seconds that don't fall
     sleep: sleeps for a number of seconds (time.sleep; asyncio.sleep in coroutines)
 
     The schedule's moments are whole milliseconds from the start of the first attempt. Time and
     memory don't grow with the number of attempts, except for a schedule with collectAll, whose
-    output grows. Raises ScheduleFault if the text is no schedule."""
+    output grows. Raises ScheduleFault if the text is no schedule. Without `sleep`, a wait that is
+    longer than threading.TIMEOUT_MAX seconds raises OverflowError."""
     return Retrying(schedule if isinstance(schedule, str) else schedule.text, on, input_of, before_sleep, clock, sleep)

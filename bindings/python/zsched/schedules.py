@@ -26,7 +26,10 @@ class Bounds(typing.NamedTuple):
 
     No attempt before the one of number `least` is the last, and none after `most` is made.
     `longest` is the longest wait after the first `seen` attempts, and `total` is all waits
-    together, both in milliseconds. `most` and `total` are None if there is no bound."""
+    together, both in milliseconds. `most` and `total` are None if there is no bound.
+
+    The bounds hold if each attempt takes 1 millisecond or more, and no moment is above
+    999999999999999."""
     seen: int
     least: int
     most: int | None
@@ -75,8 +78,8 @@ class Schedule:
         """Makes one more step, at a moment and with an input, and returns its Answer.
 
         The moment is in whole milliseconds from any start. Raises Fault if it is below that of the
-        step before, and OverflowError if a number is no unsigned whole number of 64 bits. After an
-        error the schedule is unchanged."""
+        step before, OverflowError if a number isn't in 0 to 2^64 - 1, and TypeError if it is no
+        integer. After an error the schedule is unchanged."""
         self._seen.extend(array.array("Q", (moment, input)))
         try:
             return self.answer()
@@ -153,8 +156,8 @@ class Stepper:
         """Makes one more step, at a moment and with an input, and returns its Answer.
 
         The moment is in whole milliseconds from any start. Raises Fault if it is below that of the
-        step before, and OverflowError if a number is no unsigned whole number of 64 bits. After an
-        error the schedule is unchanged."""
+        step before, OverflowError if a number isn't in 0 to 2^64 - 1, and TypeError if it is no
+        integer. After an error the schedule is unchanged."""
         step = array.array("Q", (moment, input))
         number, reply, out, state = self._step(step, ROOM)
         if reply.size > ROOM:
@@ -208,7 +211,8 @@ def bounds(schedule: str | Schedule | Stepper, steps: int) -> Bounds:
     """Returns the Bounds of a schedule, of which at most the first `steps` attempts are examined.
 
     For a Schedule or Stepper these are the bounds of its text, before its first step. Raises
-    ScheduleFault, and OverflowError if `steps` is no unsigned whole number of 64 bits."""
+    ScheduleFault, OverflowError if `steps` isn't in 0 to 2^64 - 1, and TypeError if it is no
+    integer."""
     text = schedule if isinstance(schedule, str) else schedule.text
     data, reply, at = text.encode(), Told(), ctypes.c_uint64()
     refuse(text, library().zs_bounds(data, len(data), array.array("Q", [steps])[0], reply, at), at.value)

@@ -12,8 +12,8 @@
 //! `Schedule` doesn't sleep, and neither does `Stepper`, whose state has a fixed size; `retry`
 //! really sleeps. The results are proved, the sleeping is not.
 //!
-//! Without the feature `std`, which is on by default, everything but `retry` is available, over
-//! `alloc`.
+//! Without the feature `std`, which is on by default, everything but `retry` and `retry_by` is
+//! available, over `alloc`.
 
 #![cfg_attr(not(feature = "std"), no_std)]
 
@@ -218,7 +218,7 @@ fn call(text: &str, seen: &[Seen], out: &mut [u8]) -> (u32, Reply) {
     let mut reply = Reply::default();
     // SAFETY: the pointers and lengths are those of slices that are borrowed for the call. Only
     // `out` and `reply` are borrowed mutably, so they overlap nothing. `zs_answer` requires no more
-    // of a caller.
+    // of its arguments.
     let number = unsafe {
         zs_answer(text.as_ptr(), text.len(), seen.as_ptr(), seen.len(), &mut reply, out.as_mut_ptr(), out.len())
     };
@@ -371,7 +371,7 @@ impl Stepper {
         let (state, state_len) = (self.state.as_mut_ptr(), self.state.len());
         // SAFETY: the pointers and lengths are those of slices that are borrowed for the call. All
         // but the program are borrowed mutably, so they overlap nothing. `zs_program_step` requires
-        // no more of a caller.
+        // no more of its arguments.
         let number = unsafe {
             zs_program_step(program, len, state, state_len, moment, input, &mut reply, out.as_mut_ptr(), out.len())
         };
@@ -421,7 +421,7 @@ impl Follower {
 /// the first attempt. Time and memory don't grow with the number of attempts, except for a schedule
 /// with `collectAll`, whose output grows.
 ///
-/// The outer fault is that of the text.
+/// The outer fault is that of the text, or `Memory`.
 #[cfg(feature = "std")]
 pub fn retry<T, E>(
     text: &str,
@@ -434,7 +434,8 @@ pub fn retry<T, E>(
 
 /// Retries as `retry` does, with the caller's clock and sleep.
 ///
-/// `now` returns milliseconds, which don't fall.
+/// `now` returns milliseconds, which don't fall. If they do, the outer fault is `Earlier` or
+/// `Falls`.
 #[cfg(feature = "std")]
 pub fn retry_by<T, E>(
     text: &str,
