@@ -38,7 +38,8 @@ const (
 type Seen struct {
 	// Moment is in milliseconds from any start.
 	Moment uint64
-	Input  uint64
+	// Input is any number.
+	Input uint64
 }
 
 // Answer is the result of a step.
@@ -55,8 +56,10 @@ type Answer struct {
 
 // Fault is the error of a call: its number and place, as zsched.h defines them.
 type Fault struct {
+	// Number is the number in zsched.h.
 	Number uint32
-	At     uint64
+	// At is the place, or 0.
+	At uint64
 }
 
 // Error returns the library's text.

@@ -20,7 +20,7 @@ class WithLibrary(build_py):
     def run(self):
         """Builds the modules, then copies the library.
 
-        It is in the folder that ZSCHED_LIBRARY_DIR names, else where tools/make-library puts it."""
+        It is in the folder that ZSCHED_LIBRARY_DIR names, else in that of tools/make-library."""
         super().run()
         library = pathlib.Path(os.environ.get("ZSCHED_LIBRARY_DIR", MADE)) / "libzsched.so"
         if not library.exists():

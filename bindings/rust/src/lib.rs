@@ -33,7 +33,7 @@ use std::time::{Duration, Instant};
 pub struct Seen {
     /// The moment, in milliseconds from any start.
     pub moment: u64,
-    /// The input.
+    /// The input, any number.
     pub input: u64,
 }
 
