@@ -1,12 +1,15 @@
 /* Steps schedules for tests/tools/test_library.py and tests/million_steps.py. It is C and C++.
  *
- * answers list|state|program        steps each request of standard input by zs_answer, zs_step or zs_program_step
- * answers million COUNT POLICY      steps a program, each time at the moment that the step before allows. It prints ten lines,
- *                                   after each tenth: the nanoseconds that it took, and the KiB of memory of the process
+ * answers list|state|program    steps each request of standard input, by zs_answer, zs_step or
+ *                               zs_program_step
+ * answers million COUNT POLICY  steps a program COUNT times, each time at the moment that the step
+ *                               before allows. It prints a line after each tenth: the nanoseconds
+ *                               that the tenth took, and the memory of the process in KiB
  *
- * A request is a line of words: the text in hexadecimal digits after a '.', and the moment and the input of each step in turn.
- * Its line of output has the number, the next moment, the visits and the output of each step, joined by ','; the last word may
- * be a fault's number and place. A request without steps is checked. */
+ * A request is a line of words: a '.' and the text in hexadecimal digits, then the moment and the
+ * input of each step in turn. Its line of output has a word for each step: the number, the next
+ * moment, the visits and the output, joined by ','. The last word may be a fault's number and
+ * place. A request without steps is checked. */
 #ifndef _GNU_SOURCE
 #define _GNU_SOURCE
 #endif
@@ -22,7 +25,7 @@
 
 typedef unsigned long long number64;
 
-/* A schedule: its text, and the words of its state or of its program and that one's state. */
+/* A schedule: its text, and the words of its state, or of its program and the program's state. */
 typedef struct schedule {
     const uint8_t *text;
     size_t text_len;
@@ -43,7 +46,7 @@ static void *block(size_t size)
     return found;
 }
 
-/* Begins the state of a schedule, or its program and state; the number that the calls returned. */
+/* Begins the state of a schedule, or its program and state. Returns the number of the last call. */
 static uint32_t begin(schedule *it, way by, uint64_t *at)
 {
     uint32_t number;
@@ -65,7 +68,7 @@ static uint32_t begin(schedule *it, way by, uint64_t *at)
     return number ? number : zs_program_begin(it->program, it->program_len, it->state, it->state_len);
 }
 
-/* One step, the last of the pairs. Only a list may have an output that doesn't fit. */
+/* Makes the step of the last pair. Only a list may have an output that doesn't fit into `out`. */
 static uint32_t step(schedule *it, way by, const zs_seen *seen, size_t seen_len, zs_reply *reply)
 {
     const zs_seen *last = &seen[seen_len - 1];
@@ -83,7 +86,7 @@ static uint32_t step(schedule *it, way by, const zs_seen *seen, size_t seen_len,
     return zs_answer(it->text, it->text_len, seen, seen_len, reply, out, room);
 }
 
-/* Prints the steps of a schedule. */
+/* Prints the results of the steps of a schedule. */
 static void print_steps(schedule *it, way by, const zs_seen *seen, size_t seen_len)
 {
     zs_reply reply = {0, 0, 0, 0};
@@ -103,8 +106,8 @@ static void print_steps(schedule *it, way by, const zs_seen *seen, size_t seen_l
     putchar('\n');
 }
 
-/* Reads a request from its line, and prints its steps. */
-static void answer(char *line, way by)
+/* Reads a request from its line, and prints the results of its steps. */
+static void serve(char *line, way by)
 {
     size_t text_len = strcspn(line, " \n") / 2, seen_len = 0, most = strlen(line) / 4 + 1;
     uint8_t *text = (uint8_t *)block(text_len);
@@ -133,7 +136,7 @@ static number64 nanoseconds(void)
     return (number64)time.tv_sec * 1000000000 + (number64)time.tv_nsec;
 }
 
-/* The KiB of memory that the process has. */
+/* Returns the resident memory of the process, in KiB. */
 static number64 memory(void)
 {
     number64 pages = 0;
@@ -144,7 +147,7 @@ static number64 memory(void)
     return pages * (number64)sysconf(_SC_PAGESIZE) / 1024;
 }
 
-/* Steps the program of a policy so many times. */
+/* Steps the program of a policy `count` times. */
 static int many(number64 count, const char *policy)
 {
     schedule it = {(const uint8_t *)policy, strlen(policy), NULL, NULL, 0, 0};
@@ -182,7 +185,7 @@ int main(int count, char **words)
         if (by == 3)
             return 2;
         while (getline(&line, &size, stdin) > 0)
-            answer(line, (way)by);
+            serve(line, (way)by);
         free(line);
     }
     free(out);

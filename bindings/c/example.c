@@ -1,4 +1,4 @@
-/* A real retry: a client asks a server on this machine, which is busy at first, until it answers.
+/* A real retry: a client calls a server on this machine until it is ready. It is busy at first.
  *
  *     cc example.c -o example $(pkg-config --cflags --libs zsched) -lpthread
  */
@@ -18,20 +18,20 @@
 
 static struct sockaddr_in address = {.sin_family = AF_INET};
 
-/* Turns the first clients away, and answers the next one. */
+/* Sends "busy" to the first BUSY clients, and "ready" to the next one. */
 static void *serve(void *listening)
 {
     for (int number = 0; number <= BUSY; number++) {
         int client = accept(*(int *)listening, NULL, NULL);
-        const char *answer = number < BUSY ? "busy" : "ready";
-        if (client < 0 || write(client, answer, strlen(answer)) < 0)
+        const char *text = number < BUSY ? "busy" : "ready";
+        if (client < 0 || write(client, text, strlen(text)) < 0)
             return NULL;
         close(client);
     }
     return NULL;
 }
 
-/* Whether the server answers; 503 if it is busy, and 500 if there is no server. */
+/* Reads the server's text. Returns 200, or 503 if it is busy, or 500 if there is no server. */
 static int fetch(char *text, size_t size)
 {
     int server = socket(AF_INET, SOCK_STREAM, 0);
@@ -46,7 +46,7 @@ static int fetch(char *text, size_t size)
     return strcmp(text, "busy") == 0 ? 503 : 200;
 }
 
-/* Milliseconds of a clock that doesn't fall. */
+/* Returns the milliseconds of a monotonic clock. */
 static uint64_t now(void)
 {
     struct timespec time;
@@ -54,7 +54,8 @@ static uint64_t now(void)
     return (uint64_t)time.tv_sec * 1000 + (uint64_t)time.tv_nsec / 1000000;
 }
 
-/* Tries until there is an answer or the schedule is done, and returns how many attempts there were; 0 without an answer. */
+/* Retries until the server is ready or the schedule is done. Returns the number of attempts, or 0
+ * if it ended without the server's text. */
 static int fetch_by(const char *policy, char *text, size_t size)
 {
     const uint8_t *bytes = (const uint8_t *)policy;

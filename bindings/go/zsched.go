@@ -1,7 +1,8 @@
 // Package zsched retries by the proved schedules of zsched.
 //
-// A Schedule only answers, and so does a Stepper, whose state has a fixed size; Retry really sleeps. The answers are
-// proved, the sleeping is not. One goroutine at a time may step a Schedule or a Stepper.
+// A Schedule doesn't sleep, and neither does a Stepper, whose state has a fixed size; Retry really
+// sleeps. The results are proved, the sleeping is not. One goroutine at a time may step a Schedule
+// or a Stepper.
 package zsched
 
 /*
@@ -19,11 +20,11 @@ import (
 
 // Numbers of a Fault.
 const (
-	// KeepsList is that of a schedule with collectAll, which has no state of fixed size.
+	// KeepsList means that the schedule has collectAll, so it has no state of fixed size.
 	KeepsList = 6
-	// NoProgram is that of words that are no program of this version of the library.
+	// NoProgram means that the words are no program of this version of the library.
 	NoProgram = 8
-	// OtherState is that of words of a state that are another schedule's.
+	// OtherState means that the words of a state are those of another schedule.
 	OtherState = 9
 )
 
@@ -37,14 +38,15 @@ const (
 type Seen struct {
 	// Moment is in milliseconds from any start.
 	Moment uint64
-	Input  uint64
+	// Input is any number.
+	Input uint64
 }
 
-// Answer is what a schedule answers at a step.
+// Answer is the result of a step.
 type Answer struct {
-	// Done says that there is no next attempt.
+	// Done is true if there is no next attempt.
 	Done bool
-	// Next is the moment at which the next attempt may begin, or 0.
+	// Next is the moment at which the next attempt may begin, in milliseconds, or 0 if Done.
 	Next uint64
 	// Output is the text of the step's output.
 	Output string
@@ -52,20 +54,22 @@ type Answer struct {
 	Visits uint64
 }
 
-// Fault says why there is no answer, by the number and the place of zsched.h.
+// Fault is the error of a call: its number and place, as zsched.h defines them.
 type Fault struct {
+	// Number is the number in zsched.h.
 	Number uint32
-	At     uint64
+	// At is the place, or 0.
+	At uint64
 }
 
-// Error is the library's text.
+// Error returns the library's text.
 func (fault *Fault) Error() string {
 	out := make([]byte, room)
 	size := C.zs_fault_text(C.uint32_t(fault.Number), C.uint64_t(fault.At), bytesOf(out), room)
 	return string(out[:size])
 }
 
-// Version is that of the library: a million times the first of its numbers, a thousand times the second, and the third.
+// Version returns that of the library as one number: 1000000 * major + 1000 * minor + patch.
 func Version() uint32 {
 	return uint32(C.zs_version())
 }
@@ -73,10 +77,10 @@ func Version() uint32 {
 // Check returns a *Fault if the text is no schedule.
 func Check(text string) error {
 	data, at := []byte(text), C.uint64_t(0)
-	return refusal(C.zs_check(bytesOf(data), C.size_t(len(data)), &at), at)
+	return errorOf(C.zs_check(bytesOf(data), C.size_t(len(data)), &at), at)
 }
 
-// bytesOf is where bytes lie, or nil if there are none.
+// bytesOf returns the address of bytes, or nil if there are none.
 func bytesOf(data []byte) *C.uint8_t {
 	if len(data) == 0 {
 		return nil
@@ -84,23 +88,24 @@ func bytesOf(data []byte) *C.uint8_t {
 	return (*C.uint8_t)(unsafe.Pointer(&data[0]))
 }
 
-// refusal is the error that a number stands for, if it is one.
-func refusal(number C.uint32_t, at C.uint64_t) error {
+// errorOf returns the error that a number represents, or nil if it is none.
+func errorOf(number C.uint32_t, at C.uint64_t) error {
 	if number <= done {
 		return nil
 	}
 	return &Fault{Number: uint32(number), At: uint64(at)}
 }
 
-// asked asks once more with more room if the output didn't fit.
-func asked(ask func(out []byte) (C.uint32_t, C.zs_reply)) (Answer, error) {
+// resultOf returns the result of a call, which is made again with more room if the output didn't
+// fit.
+func resultOf(call func(out []byte) (C.uint32_t, C.zs_reply)) (Answer, error) {
 	out := make([]byte, room)
-	number, reply := ask(out)
+	number, reply := call(out)
 	if uint64(reply.size) > uint64(len(out)) {
 		out = make([]byte, reply.size)
-		number, reply = ask(out)
+		number, reply = call(out)
 	}
-	if err := refusal(number, reply.at); err != nil {
+	if err := errorOf(number, reply.at); err != nil {
 		return Answer{}, err
 	}
 	return Answer{number == done, uint64(reply.next), string(out[:reply.size]), uint64(reply.visits)}, nil
@@ -112,7 +117,7 @@ type Schedule struct {
 	seen []Seen
 }
 
-// New is the schedule of a text, before its first step.
+// New returns the schedule of a text, before its first step, or a *Fault.
 func New(text string) (*Schedule, error) {
 	if err := Check(text); err != nil {
 		return nil, err
@@ -120,15 +125,16 @@ func New(text string) (*Schedule, error) {
 	return &Schedule{text: text}, nil
 }
 
-// Seen is a copy of the steps so far.
+// Seen returns a copy of the steps so far, oldest first.
 func (schedule *Schedule) Seen() []Seen {
 	return append([]Seen(nil), schedule.seen...)
 }
 
-// After is one step more, at a moment in milliseconds and with an input. After an error the schedule is unchanged.
+// After makes one more step, at a moment in milliseconds and with an input, and returns its result.
+// After an error the schedule is unchanged.
 func (schedule *Schedule) After(moment, input uint64) (Answer, error) {
 	data, seen := []byte(schedule.text), append(schedule.seen, Seen{moment, input})
-	answer, err := asked(func(out []byte) (number C.uint32_t, reply C.zs_reply) {
+	result, err := resultOf(func(out []byte) (number C.uint32_t, reply C.zs_reply) {
 		steps := (*C.zs_seen)(unsafe.Pointer(&seen[0]))
 		number = C.zs_answer(bytesOf(data), C.size_t(len(data)), steps, C.size_t(len(seen)), &reply, bytesOf(out), C.size_t(len(out)))
 		return
@@ -136,37 +142,38 @@ func (schedule *Schedule) After(moment, input uint64) (Answer, error) {
 	if err == nil {
 		schedule.seen = seen
 	}
-	return answer, err
+	return result, err
 }
 
-// Stepper is a schedule with a state of fixed size, so a step takes no longer after many of them than after one. Its text is
-// read once.
+// Stepper is a schedule with a state of fixed size, so a step takes no longer after many steps than
+// after one. Its text is read once.
 type Stepper struct {
 	program []uint64
 	state   []uint64
 }
 
-// NewStepper is the schedule of a text, before its first step. A schedule with collectAll has no such state.
+// NewStepper returns the schedule of a text, before its first step, or a *Fault. A schedule with
+// collectAll has no such state.
 func NewStepper(text string) (*Stepper, error) {
 	data, size, stateSize, at := []byte(text), C.uint64_t(0), C.uint64_t(0), C.uint64_t(0)
 	number := C.zs_program_size(bytesOf(data), C.size_t(len(data)), &size, &stateSize, &at)
-	if err := refusal(number, at); err != nil {
+	if err := errorOf(number, at); err != nil {
 		return nil, err
 	}
 	program, state := make([]uint64, size), make([]uint64, stateSize)
 	number = C.zs_compile(bytesOf(data), C.size_t(len(data)), wordsOf(program), C.size_t(size), &at)
-	if err := refusal(number, at); err != nil {
+	if err := errorOf(number, at); err != nil {
 		return nil, err
 	}
 	number = C.zs_program_begin(wordsOf(program), C.size_t(size), wordsOf(state), C.size_t(stateSize))
-	if err := refusal(number, 0); err != nil {
+	if err := errorOf(number, 0); err != nil {
 		return nil, err
 	}
 	return &Stepper{program, state}, nil
 }
 
-// Resume is the schedule of a text with a state that State returned, or a *Fault with the number OtherState. Words that were
-// changed after the first aren't found.
+// Resume returns the schedule of a text with a state that State returned, or a *Fault with the
+// number OtherState. Words that were changed after the first aren't detected.
 func Resume(text string, state []uint64) (*Stepper, error) {
 	stepper, err := NewStepper(text)
 	if err != nil {
@@ -179,16 +186,17 @@ func Resume(text string, state []uint64) (*Stepper, error) {
 	return stepper, nil
 }
 
-// State is a copy of the words of the state, whose number depends on the text alone. The first tells of which schedule they
-// are.
+// State returns a copy of the words of the state. Their number depends on the text alone. The first
+// identifies the schedule.
 func (stepper *Stepper) State() []uint64 {
 	return append([]uint64(nil), stepper.state...)
 }
 
-// After is one step more, at a moment in milliseconds and with an input. After an error the schedule is unchanged.
+// After makes one more step, at a moment in milliseconds and with an input, and returns its result.
+// After an error the schedule is unchanged.
 func (stepper *Stepper) After(moment, input uint64) (Answer, error) {
 	program, state := stepper.program, make([]uint64, len(stepper.state))
-	answer, err := asked(func(out []byte) (number C.uint32_t, reply C.zs_reply) {
+	result, err := resultOf(func(out []byte) (number C.uint32_t, reply C.zs_reply) {
 		copy(state, stepper.state)
 		number = C.zs_program_step(wordsOf(program), C.size_t(len(program)), wordsOf(state), C.size_t(len(state)),
 			C.uint64_t(moment), C.uint64_t(input), &reply, bytesOf(out), C.size_t(len(out)))
@@ -197,9 +205,10 @@ func (stepper *Stepper) After(moment, input uint64) (Answer, error) {
 	if err == nil {
 		stepper.state = state
 	}
-	return answer, err
+	return result, err
 }
 
+// wordsOf returns the address of words, of which there is at least one.
 func wordsOf(words []uint64) *C.uint64_t {
 	return (*C.uint64_t)(unsafe.Pointer(&words[0]))
 }
@@ -209,6 +218,7 @@ type follower interface {
 	After(moment, input uint64) (Answer, error)
 }
 
+// begun returns the schedule of a text, before its first step, or a *Fault.
 func begun(text string) (follower, error) {
 	stepper, err := NewStepper(text)
 	var fault *Fault
@@ -218,9 +228,11 @@ func begun(text string) (follower, error) {
 	return stepper, err
 }
 
-// Retry tries until there is no error or the schedule is done, and sleeps between two attempts; it returns the last error.
-// The input of an error is what inputOf returns. Moments are counted in milliseconds from the begin of the first attempt. If
-// the context ends during a sleep, the last error is returned in an *Ended, which is the context's error too.
+// Retry calls attempt until there is no error or the schedule is done, and sleeps between two
+// attempts. It returns the last error. The input of an error is what inputOf returns. Moments are
+// in milliseconds from the start of the first attempt. If the context ends during a sleep, the last
+// error is returned in an *Ended, which is the context's error too. A text that is no schedule is a
+// *Fault.
 func Retry(ctx context.Context, text string, inputOf func(error) uint64, attempt func(context.Context) error) error {
 	schedule, err := begun(text)
 	if err != nil {
@@ -233,21 +245,21 @@ func Retry(ctx context.Context, text string, inputOf func(error) uint64, attempt
 			return nil
 		}
 		moment := uint64(time.Since(start).Milliseconds())
-		answer, err := schedule.After(moment, inputOf(failure))
+		result, err := schedule.After(moment, inputOf(failure))
 		if err != nil {
 			return err
 		}
-		if answer.Done {
+		if result.Done {
 			return failure
 		}
-		if !slept(ctx, answer.Next-moment) {
+		if !sleep(ctx, result.Next-moment) {
 			return &Ended{Last: failure, Cause: ctx.Err()}
 		}
 	}
 }
 
-// slept says whether so many milliseconds went by before the context ended.
-func slept(ctx context.Context, millis uint64) bool {
+// sleep sleeps for millis milliseconds, and returns whether they passed before the context ended.
+func sleep(ctx context.Context, millis uint64) bool {
 	if millis > longest {
 		millis = longest
 	}
@@ -261,24 +273,25 @@ func slept(ctx context.Context, millis uint64) bool {
 	}
 }
 
-// Ended says that the context ended between two attempts.
+// Ended is the error of a context that ended between two attempts.
 type Ended struct {
 	// Last is the error of the last attempt.
 	Last error
-	// Cause is the context's.
+	// Cause is the error of the context.
 	Cause error
 }
 
+// Error returns the text of both errors.
 func (ended *Ended) Error() string {
 	return ended.Last.Error() + " (" + ended.Cause.Error() + ")"
 }
 
-// Unwrap is the error of the last attempt.
+// Unwrap returns the error of the last attempt.
 func (ended *Ended) Unwrap() error {
 	return ended.Last
 }
 
-// Is says that it is the context's error too.
+// Is returns whether the context's error is target, since it is that error too.
 func (ended *Ended) Is(target error) bool {
 	return errors.Is(ended.Cause, target)
 }

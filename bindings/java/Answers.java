@@ -12,7 +12,10 @@ import java.util.List;
 import zsched.Schedule;
 import zsched.Stepper;
 
-/** Steps schedules for tests/tools/test_library.py and tests/million_steps.py, by the words that bindings/c/answers.c names. */
+/**
+ * Steps schedules for tests/tools/test_library.py and tests/million_steps.py. bindings/c/answers.c
+ * says what the arguments, the requests and the lines of output are.
+ */
 public final class Answers {
     private static final int CODE = 503;
 
@@ -26,23 +29,23 @@ public final class Answers {
             byte[] out, long room);
     }
 
-    /** One step, and how its answer is written. */
+    /** Makes one step, and returns its word in the line of output. */
     private interface Follower {
-        String after(long moment, long input) throws Refused;
+        String after(long moment, long input) throws Failed;
     }
 
-    /** A call over a state answered a fault. */
-    private static final class Refused extends Exception {
+    /** A call over a state returned a fault. */
+    private static final class Failed extends Exception {
         private static final long serialVersionUID = 1;
 
-        Refused(int number, long at) {
+        Failed(int number, long at) {
             super(number + "," + Long.toUnsignedString(at));
         }
     }
 
-    private static void refuse(int number, long at) throws Refused {
+    private static void check(int number, long at) throws Failed {
         if (number > 1) {
-            throw new Refused(number, at);
+            throw new Failed(number, at);
         }
     }
 
@@ -50,28 +53,28 @@ public final class Answers {
         return (done ? 1 : 0) + "," + (done ? "0" : Long.toUnsignedString(next)) + "," + visits + "," + output;
     }
 
-    private static String word(Schedule.Answer answer) {
-        return word(answer.done(), answer.next(), answer.visits(), answer.output());
+    private static String word(Schedule.Answer result) {
+        return word(result.done(), result.next(), result.visits(), result.output());
     }
 
-    /** A schedule that zs_step steps. */
-    private static Follower stated(byte[] text) throws Refused {
+    /** Returns a schedule that zs_step steps. */
+    private static Follower stated(byte[] text) throws Failed {
         Calls calls = Native.load("zsched", Calls.class);
         long[] size = new long[1];
         long[] at = new long[1];
-        refuse(calls.zs_state_size(text, text.length, size, at), at[0]);
+        check(calls.zs_state_size(text, text.length, size, at), at[0]);
         long[] words = new long[(int) size[0]];
-        refuse(calls.zs_begin(text, text.length, words, words.length, at), at[0]);
+        check(calls.zs_begin(text, text.length, words, words.length, at), at[0]);
         byte[] out = new byte[1 << 16];
         return (moment, input) -> {
             long[] reply = new long[4];
             int number = calls.zs_step(text, text.length, words, words.length, moment, input, reply, out, out.length);
-            refuse(number, reply[3]);
+            check(number, reply[3]);
             return word(number == 1, reply[0], reply[2], new String(out, 0, (int) reply[1], StandardCharsets.US_ASCII));
         };
     }
 
-    private static Follower begun(String way, String text) throws Refused {
+    private static Follower begun(String way, String text) throws Failed {
         switch (way) {
             case "list":
                 Schedule schedule = new Schedule(text);
@@ -84,7 +87,7 @@ public final class Answers {
         }
     }
 
-    /** The line of a request. */
+    /** Returns a request's line of output. */
     private static String line(String way, String[] words) {
         List<String> said = new ArrayList<>();
         try {
@@ -97,23 +100,23 @@ public final class Answers {
             }
         } catch (Schedule.Fault fault) {
             said.add(fault.number + "," + Long.toUnsignedString(fault.at));
-        } catch (Refused fault) {
+        } catch (Failed fault) {
             said.add(fault.getMessage());
         }
         return String.join(" ", said);
     }
 
-    /** The KiB of memory that the process has. */
+    /** Returns the resident memory of the process, in KiB. */
     private static String memory() throws IOException {
         for (String line : Files.readAllLines(Path.of("/proc/self/status"))) {
             if (line.startsWith("VmRSS:")) {
                 return line.split("\\s+")[1];
             }
         }
-        throw new IOException("no memory is told");
+        throw new IOException("/proc/self/status has no VmRSS");
     }
 
-    /** Steps the program of a policy so many times. */
+    /** Steps the program of a policy {@code count} times. */
     private static void many(long count, String policy) throws IOException {
         Stepper schedule = new Stepper(policy);
         long moment = 0;

@@ -5,24 +5,24 @@ import java.net.Socket;
 import java.nio.charset.StandardCharsets;
 import zsched.Schedule;
 
-/** A real retry: a client asks a server on this machine, which is busy at first, until it answers. */
+/** A real retry: a client calls a server on this machine until it is ready. It is busy at first. */
 public final class Example {
     private static final String SCHEDULE = "((exponential(20) || spaced(100)) && recurs(5))";
     private static final int BUSY = 3;
 
-    /** Turns the first clients away, and answers the next one. */
+    /** Sends "busy" to the first clients, and "ready" to the next one. */
     private static void serve(ServerSocket server) {
         for (int number = 0; number <= BUSY; number++) {
             try (Socket client = server.accept()) {
-                String answer = number < BUSY ? "busy" : "ready";
-                client.getOutputStream().write(answer.getBytes(StandardCharsets.US_ASCII));
+                String text = number < BUSY ? "busy" : "ready";
+                client.getOutputStream().write(text.getBytes(StandardCharsets.US_ASCII));
             } catch (IOException gone) {
                 return;
             }
         }
     }
 
-    /** What the server answers; an error where it is busy. */
+    /** Returns the server's text, or throws an error if it is busy. */
     private static String fetch(ServerSocket server) throws IOException {
         try (Socket client = new Socket(server.getInetAddress(), server.getLocalPort())) {
             String text = new String(client.getInputStream().readAllBytes(), StandardCharsets.US_ASCII);
@@ -40,15 +40,15 @@ public final class Example {
         serving.start();
         long begun = System.nanoTime();
         int[] attempts = {0};
-        String answer = Schedule.retry(SCHEDULE, error -> 503, () -> {
+        String text = Schedule.retry(SCHEDULE, error -> 503, () -> {
             attempts[0]++;
             return fetch(server);
         });
         long waited = (System.nanoTime() - begun) / 1_000_000;
         serving.join();
-        System.out.println(answer + " after " + attempts[0] + " attempts");
-        if (!answer.equals("ready") || attempts[0] != BUSY + 1 || waited < 140) {
-            throw new AssertionError(answer + ", " + attempts[0] + " attempts, " + waited + " ms");
+        System.out.println(text + " after " + attempts[0] + " attempts");
+        if (!text.equals("ready") || attempts[0] != BUSY + 1 || waited < 140) {
+            throw new AssertionError(text + ", " + attempts[0] + " attempts, " + waited + " ms");
         }
     }
 }

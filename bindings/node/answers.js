@@ -1,5 +1,7 @@
 'use strict';
-// Steps schedules for tests/tools/test_library.py and tests/million_steps.py, by the words that bindings/c/answers.c names.
+// Steps schedules for tests/tools/test_library.py and tests/million_steps.py.
+//
+// bindings/c/answers.c says what the arguments, the requests and the lines of output are.
 const { readFileSync } = require('node:fs');
 const calls = require(process.env.ZSCHED_NODE || './zsched.node');
 const { Fault, Schedule, Stepper } = require('./zsched.js');
@@ -11,12 +13,12 @@ class Stated {
   constructor(text) {
     const [size, at] = [new BigUint64Array(1), new BigUint64Array(1)];
     this.text = text;
-    this.refuse(calls.stateSize(text, size, at), at[0]);
+    this.check(calls.stateSize(text, size, at), at[0]);
     this.words = new BigUint64Array(Number(size[0]));
-    this.refuse(calls.begin(text, this.words, at), at[0]);
+    this.check(calls.begin(text, this.words, at), at[0]);
   }
 
-  refuse(number, at) {
+  check(number, at) {
     if (number > 1) {
       throw new Fault(number, at);
     }
@@ -25,7 +27,7 @@ class Stated {
   after(moment, input) {
     const [reply, out] = [new BigUint64Array(4), Buffer.alloc(1 << 16)];
     const number = calls.step(this.text, this.words, moment, input, reply, out);
-    this.refuse(number, reply[3]);
+    this.check(number, reply[3]);
     return { done: number === 1, next: reply[0], output: out.toString('ascii', 0, Number(reply[1])), visits: Number(reply[2]) };
   }
 }
@@ -40,8 +42,8 @@ function stepsOf(text, numbers, Begun) {
       return '0,0';
     }
     for (let i = 0; i < numbers.length; i += 2) {
-      const answer = schedule.after(numbers[i], numbers[i + 1]);
-      said.push(`${answer.done ? 1 : 0},${answer.next ?? 0},${answer.visits},${answer.output}`);
+      const result = schedule.after(numbers[i], numbers[i + 1]);
+      said.push(`${result.done ? 1 : 0},${result.next ?? 0},${result.visits},${result.output}`);
     }
   } catch (fault) {
     if (!(fault instanceof Fault)) {

@@ -1,5 +1,5 @@
 'use strict';
-// A real retry: a client asks a server on this machine, which is busy at first, until it answers.
+// A real retry: a client calls a server on this machine until it is ready. It is busy at first.
 const http = require('node:http');
 const { retry } = require('./zsched.js');
 
@@ -7,21 +7,21 @@ const BUSY = 3;
 const POLICY = '((exponential(20) || spaced(100)) && recurs(5)).whileInput(= 503)';
 
 async function main() {
-  let asked = 0;
-  const server = http.createServer((_, answer) => {
-    asked += 1;
-    answer.writeHead(asked <= BUSY ? 503 : 200).end('ready');
+  let requests = 0;
+  const server = http.createServer((_, response) => {
+    requests += 1;
+    response.writeHead(requests <= BUSY ? 503 : 200).end('ready');
   });
   await new Promise((resolve) => server.listen(0, '127.0.0.1', resolve));
   const begun = process.hrtime.bigint();
   const text = await retry(POLICY, async () => {
-    const answer = await fetch(`http://127.0.0.1:${server.address().port}/`);
-    if (!answer.ok) {
-      throw Object.assign(new Error(`status ${answer.status}`), { code: answer.status });
+    const response = await fetch(`http://127.0.0.1:${server.address().port}/`);
+    if (!response.ok) {
+      throw Object.assign(new Error(`status ${response.status}`), { code: response.status });
     }
-    return answer.text();
+    return response.text();
   }, { inputOf: (error) => error.code });
-  console.log(`${text} after ${asked} attempts`);
+  console.log(`${text} after ${requests} attempts`);
   server.closeAllConnections();
   server.close();
   if (process.hrtime.bigint() - begun < 140000000n) {

@@ -1,4 +1,5 @@
-/* The calls of zsched.h for Node, by N-API. Texts and rooms are Uint8Arrays, words are BigUint64Arrays; zsched.js calls this. */
+/* The calls of zsched.h for Node, by N-API. Texts and output buffers are Uint8Arrays, words are
+ * BigUint64Arrays. zsched.js calls this. */
 #include <node_api.h>
 #include <zsched.h>
 
@@ -9,13 +10,14 @@ typedef struct span {
     size_t length;
 } span;
 
+/* Throws a TypeError; returns what the call then returns. */
 static napi_value thrown(napi_env env, const char *why)
 {
     napi_throw_type_error(env, NULL, why);
     return NULL;
 }
 
-/* The arguments of a call, of which there have to be so many. */
+/* Reads the `wanted` arguments of a call. Returns 0 if it threw. */
 static int arguments(napi_env env, napi_callback_info info, size_t wanted, napi_value *found)
 {
     size_t count = MOST;
@@ -25,7 +27,7 @@ static int arguments(napi_env env, napi_callback_info info, size_t wanted, napi_
     return 0;
 }
 
-/* The items of a typed array of this kind, of which there have to be at least so many. */
+/* Reads a typed array of this kind, with at least `least` items. Returns 0 if it threw. */
 static int items(napi_env env, napi_value value, napi_typedarray_type kind, size_t least, span *found)
 {
     napi_typedarray_type type;
@@ -34,7 +36,7 @@ static int items(napi_env env, napi_value value, napi_typedarray_type kind, size
         napi_get_typedarray_info(env, value, &type, &found->length, &found->data, NULL, NULL) == napi_ok && type == kind &&
         found->length >= least)
         return 1;
-    thrown(env, "zsched: not the typed array that is wanted");
+    thrown(env, "zsched: not the expected typed array");
     return 0;
 }
 
@@ -53,14 +55,14 @@ static int number(napi_env env, napi_value value, uint64_t *found)
     bool is_whole = false;
     if (napi_get_value_bigint_uint64(env, value, found, &is_whole) == napi_ok && is_whole)
         return 1;
-    thrown(env, "zsched: not a BigInt of 64 bits without a sign");
+    thrown(env, "zsched: not an unsigned BigInt of 64 bits");
     return 0;
 }
 
-static napi_value result(napi_env env, uint32_t told)
+static napi_value result(napi_env env, uint32_t number)
 {
     napi_value made = NULL;
-    napi_create_uint32(env, told, &made);
+    napi_create_uint32(env, number, &made);
     return made;
 }
 
@@ -169,16 +171,16 @@ static napi_value program_step(napi_env env, napi_callback_info info)
                                        out.data, out.length));
 }
 
-/* faultText(number, at, out): how many bytes the text has */
+/* faultText(number, at, out): returns the number of bytes of the text */
 static napi_value fault_text(napi_env env, napi_callback_info info)
 {
     napi_value given[MOST];
     span out;
-    uint64_t told, at;
-    if (!arguments(env, info, 3, given) || !number(env, given[0], &told) || !number(env, given[1], &at) ||
+    uint64_t fault, at;
+    if (!arguments(env, info, 3, given) || !number(env, given[0], &fault) || !number(env, given[1], &at) ||
         !bytes(env, given[2], &out))
         return NULL;
-    return result(env, (uint32_t)zs_fault_text((uint32_t)told, at, out.data, out.length));
+    return result(env, (uint32_t)zs_fault_text((uint32_t)fault, at, out.data, out.length));
 }
 
 /* version() */

@@ -1,5 +1,7 @@
 #!/usr/bin/env python3
-"""Steps schedules for tests/tools/test_library.py and tests/million_steps.py, by the words that bindings/c/answers.c names."""
+"""Steps schedules for tests/tools/test_library.py and tests/million_steps.py.
+
+bindings/c/answers.c says what the arguments, the requests and the lines of output are."""
 import ctypes
 import sys
 import time
@@ -21,7 +23,7 @@ class Stated:
         zsched.faults.refuse(text, library().zs_begin(self.data, len(self.data), self.words, len(self.words), at), at.value)
 
     def after(self, moment, value):
-        """One step more."""
+        """Makes one more step, and returns its Answer."""
         reply = Reply()
         number = library().zs_step(self.data, len(self.data), self.words, len(self.words), moment, value, reply, self.room,
                                    len(self.room))
@@ -33,26 +35,26 @@ WAYS = {"list": zsched.Schedule, "state": Stated, "program": zsched.Stepper}
 
 
 def steps_of(text, numbers, begun):
-    """The words of a request."""
+    """Yields the words of a request's line of output."""
     try:
         schedule = begun(text)
         if not numbers:
             yield "0,0"
         for moment, value in zip(numbers[::2], numbers[1::2]):
-            answer = schedule.after(moment, value)
-            yield f"{int(answer.next is None)},{answer.next or 0},{answer.visits},{answer.output}"
+            result = schedule.after(moment, value)
+            yield f"{int(result.next is None)},{result.next or 0},{result.visits},{result.output}"
     except zsched.Fault as fault:
         yield f"{fault.number},{fault.at}"
 
 
 def memory():
-    """The KiB of memory that the process has."""
+    """Returns the resident memory of the process, in KiB."""
     with open("/proc/self/status", encoding="ascii") as status:
         return next(line.split()[1] for line in status if line.startswith("VmRSS:"))
 
 
 def many(count, policy):
-    """Steps the program of a policy so many times."""
+    """Steps the program of a policy `count` times."""
     schedule, moment = zsched.Stepper(policy), 0
     for _ in range(10):
         begun = time.monotonic_ns()
@@ -62,7 +64,7 @@ def many(count, policy):
 
 
 def main():
-    """Reads the words."""
+    """Reads the arguments and the requests."""
     if sys.argv[1] == "million":
         many(int(sys.argv[2]), sys.argv[3])
         return

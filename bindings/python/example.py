@@ -1,5 +1,5 @@
 #!/usr/bin/env python3
-"""A real retry: a client asks a server on this machine, which is busy at first, until it answers."""
+"""A real retry: a client calls a server on this machine until it is ready. It is busy at first."""
 import http.server
 import threading
 import time
@@ -13,38 +13,38 @@ SCHEDULE = "((exponential(20) || spaced(100)) && recurs(5)).whileInput(= 503)"
 
 
 class Server(http.server.BaseHTTPRequestHandler):
-    """Answers 503 to the first requests, and then a text."""
-    asked = 0
+    """Sends the code 503 for the first requests, and then a text."""
+    requests = 0
 
     def do_GET(self):
-        """One request."""
-        Server.asked += 1
-        self.send_response(503 if Server.asked <= BUSY else 200)
+        """Serves one request."""
+        Server.requests += 1
+        self.send_response(503 if Server.requests <= BUSY else 200)
         self.end_headers()
         self.wfile.write(b"ready\n")
 
     def log_message(self, *_):
-        """Says nothing."""
+        """Prints nothing."""
 
 
-def told(error, attempt, seconds):
-    """Says what went wrong, and how long the client waits."""
+def print_wait(error, attempt, seconds):
+    """Prints what went wrong, and how long the client waits."""
     print(f"attempt {attempt}: {error.code}, the next one in {seconds * 1000:.0f} ms")
 
 
-@retrying(SCHEDULE, on=urllib.error.HTTPError, input_of=lambda error: error.code, before_sleep=told)
+@retrying(SCHEDULE, on=urllib.error.HTTPError, input_of=lambda error: error.code, before_sleep=print_wait)
 def fetch(url):
-    """What the server answers."""
-    with urllib.request.urlopen(url) as answer:
-        return answer.read().decode().strip()
+    """Returns the server's text."""
+    with urllib.request.urlopen(url) as response:
+        return response.read().decode().strip()
 
 
 def main():
-    """Starts the server, asks it, and shows the schedule alone."""
+    """Starts the server, calls it, and prints two steps of the schedule without sleep."""
     server = http.server.HTTPServer(("127.0.0.1", 0), Server)
     threading.Thread(target=server.serve_forever, daemon=True).start()
     begun = time.monotonic()
-    print(fetch(f"http://127.0.0.1:{server.server_port}/"), f"after {Server.asked} attempts")
+    print(fetch(f"http://127.0.0.1:{server.server_port}/"), f"after {Server.requests} attempts")
     waited = time.monotonic() - begun
     server.shutdown()
     assert waited >= 0.14, waited

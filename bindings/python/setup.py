@@ -1,4 +1,6 @@
-"""Puts the built libzsched.so into the wheel, which is then one of this machine's kind, for every Python 3."""
+"""Puts the built libzsched.so into the wheel.
+
+So the wheel is for this machine's platform, and for every Python 3."""
 import os
 import pathlib
 import shutil
@@ -13,10 +15,12 @@ MADE = HERE.parents[1] / "crates" / "zs_c" / "out"
 
 
 class WithLibrary(build_py):
-    """The modules, and the library beside them."""
+    """Builds the modules, with the library in their folder."""
 
     def run(self):
-        """Copies the library from the folder that ZSCHED_LIBRARY_DIR names, else from where tools/make-library puts it."""
+        """Builds the modules, then copies the library.
+
+        It is in the folder that ZSCHED_LIBRARY_DIR names, else in that of tools/make-library."""
         super().run()
         library = pathlib.Path(os.environ.get("ZSCHED_LIBRARY_DIR", MADE)) / "libzsched.so"
         if not library.exists():
@@ -25,10 +29,10 @@ class WithLibrary(build_py):
 
 
 class OfThisMachine(bdist_wheel):
-    """A wheel for this kind of machine and every Python 3, since the modules call the library by ctypes."""
+    """A wheel for this platform and every Python 3: the modules call the library by ctypes."""
 
     def get_tag(self):
-        """The three words of the wheel's name."""
+        """Returns the three tags in the wheel's name: Python, ABI and platform."""
         return "py3", "none", super().get_tag()[2]
 
 
@@ -36,7 +40,7 @@ class WithMachineCode(Distribution):
     """A distribution that holds machine code."""
 
     def has_ext_modules(self):
-        """That it does."""
+        """Returns True, so that the wheel is tagged for a platform."""
         return True
 
 

@@ -1,4 +1,5 @@
-//! Links libzsched.a: the one in the folder that ZSCHED_LIBRARY_DIR names, else the one that tools/make-library made in this tree.
+//! Links libzsched.a: the one in the folder that ZSCHED_LIBRARY_DIR names, else the one that
+//! tools/make-library made in this tree.
 use std::path::PathBuf;
 
 fn main() {

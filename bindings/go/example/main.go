@@ -1,4 +1,5 @@
-// Command example is a real retry: a client asks a server on this machine, which is busy at first, until it answers.
+// Command example is a real retry: a client calls a server on this machine until it is ready. It is
+// busy at first.
 package main
 
 import (
@@ -20,23 +21,23 @@ const (
 
 var errBusy = errors.New("503")
 
-// serve turns the first clients away, and answers the next one.
+// serve sends "busy" to the first clients, and "ready" to the next one.
 func serve(server net.Listener) {
 	for number := 0; number <= busy; number++ {
 		client, err := server.Accept()
 		if err != nil {
 			return
 		}
-		answer := "ready"
+		text := "ready"
 		if number < busy {
-			answer = "busy"
+			text = "busy"
 		}
-		io.WriteString(client, answer)
+		io.WriteString(client, text)
 		client.Close()
 	}
 }
 
-// fetch is what the server answers.
+// fetch returns the server's text, and errBusy if it is busy.
 func fetch(address string) (string, error) {
 	client, err := net.Dial("tcp", address)
 	if err != nil {

@@ -9,13 +9,13 @@ import java.util.concurrent.Callable;
 import java.util.function.ToLongFunction;
 
 /**
- * A proved schedule of zsched and the steps that it has seen, which are its whole state. It only answers; {@link #retry}
- * really sleeps. Its answers are proved, the sleeping is not.
+ * A proved schedule of zsched and the steps that it has seen, which are its whole state. It doesn't
+ * sleep; {@link #retry} really sleeps. Its results are proved, the sleeping is not.
  *
- * <p>The library is libzsched.so, which JNA finds by the property jna.library.path, or the one that the property
- * zsched.library names. Numbers are 64 bits without a sign, so those from 2^63 on look negative here: compare and print
- * them by {@link Long#compareUnsigned} and {@link Long#toUnsignedString(long)}. Threads may not share a schedule that one
- * of them steps.
+ * <p>The library is libzsched.so, which JNA finds by the property jna.library.path, or the one that
+ * the property zsched.library names. Numbers are unsigned and of 64 bits, so those from 2^63 on
+ * look negative here: compare and print them by {@link Long#compareUnsigned} and
+ * {@link Long#toUnsignedString(long)}. Threads must not share a schedule that one of them steps.
  */
 public final class Schedule {
     /** The calls of zsched.h. */
@@ -38,9 +38,13 @@ public final class Schedule {
         int zs_version();
     }
 
-    /** What a schedule answers at a step. Where it is done, {@code next} says nothing. */
+    /**
+     * The result of a step: whether the schedule is done, the moment at which the next attempt may
+     * begin, in milliseconds, the text of the output, and the number of nodes that the step
+     * visited. If the schedule is done, {@code next} has no meaning.
+     */
     public record Answer(boolean done, long next, String output, long visits) {
-        /** How long it is from a moment, which is not past it, to the next attempt. */
+        /** Returns the time from a moment, which is at most {@code next}, to the next attempt. */
         public Duration waitFrom(long moment) {
             long millis = next - moment;
             return Duration.ofSeconds(Long.divideUnsigned(millis, 1000), Long.remainderUnsigned(millis, 1000) * 1_000_000);
@@ -52,11 +56,16 @@ public final class Schedule {
         Answer after(long moment, long input);
     }
 
-    /** There is no answer. The number and the place are those of zsched.h, and the message is the library's. */
+    /**
+     * The error of a call. The number and the place are those of zsched.h, and the message is the
+     * library's.
+     */
     public static final class Fault extends IllegalArgumentException {
         private static final long serialVersionUID = 1;
 
+        /** The number, as zsched.h defines it. */
         public final int number;
+        /** The place, as zsched.h defines it. */
         public final long at;
 
         Fault(int number, long at) {
@@ -79,7 +88,7 @@ public final class Schedule {
     private long[] seen = new long[16];
     private int pairs;
 
-    /** The schedule of a text, before its first step. Throws {@link Fault}. */
+    /** Makes the schedule of a text, before its first step. Throws {@link Fault}. */
     public Schedule(String text) {
         this.text = text;
         this.bytes = text.getBytes(StandardCharsets.UTF_8);
@@ -87,19 +96,20 @@ public final class Schedule {
         refuse(CALLS.zs_check(bytes, bytes.length, at), at[0]);
     }
 
-    /** The text. */
+    /** Returns the text. */
     public String text() {
         return text;
     }
 
-    /** The steps so far: the moment and the input of each, in turn. */
+    /** Returns the steps so far, oldest first: the moment and the input of each, in turn. */
     public long[] seen() {
         return Arrays.copyOf(seen, 2 * pairs);
     }
 
     /**
-     * One step more, at a moment in milliseconds and with an input. Throws {@link Fault} where the moment is below that of
-     * the step before; the schedule is then as it was.
+     * Makes one more step, at a moment in milliseconds and with an input, and returns its result.
+     * Throws {@link Fault} if the moment is below that of the step before; the schedule is then
+     * unchanged.
      */
     public Answer after(long moment, long input) {
         if (2 * pairs == seen.length) {
@@ -107,12 +117,13 @@ public final class Schedule {
         }
         seen[2 * pairs] = moment;
         seen[2 * pairs + 1] = input;
-        Answer answer = answer(pairs + 1);
+        Answer result = last(pairs + 1);
         pairs++;
-        return answer;
+        return result;
     }
 
-    private Answer answer(int steps) {
+    /** Returns the result of the last of some steps. */
+    private Answer last(int steps) {
         long[] reply = new long[4];
         byte[] out = new byte[ROOM];
         int number = CALLS.zs_answer(bytes, bytes.length, seen, steps, reply, out, out.length);
@@ -123,7 +134,7 @@ public final class Schedule {
         return told(number, reply, out);
     }
 
-    /** The answer that a call told; throws what its number stands for, if that is a refusal. */
+    /** Returns the result that a call wrote, or throws the error that its number represents. */
     static Answer told(int number, long[] reply, byte[] out) {
         refuse(number, reply[3]);
         String output = new String(out, 0, (int) reply[1], StandardCharsets.US_ASCII);
@@ -139,18 +150,19 @@ public final class Schedule {
         }
     }
 
-    /** The text of a number of zsched.h and of the place beside it. */
+    /** Returns the text of a number of zsched.h and its place. */
     static String faultText(int number, long at) {
         byte[] out = new byte[ROOM];
         long size = CALLS.zs_fault_text(number, at, out, out.length);
         return new String(out, 0, (int) size, StandardCharsets.US_ASCII);
     }
 
-    /** The version of the library: a million times the first of its numbers, a thousand times the second, and the third. */
+    /** Returns the version of the library as one number: 1000000 * major + 1000 * minor + patch. */
     public static int version() {
         return CALLS.zs_version();
     }
 
+    /** Throws the error that a number of zsched.h represents, if it is a fault. */
     static void refuse(int number, long at) {
         switch (number) {
             case 0, DONE -> { }
@@ -160,7 +172,7 @@ public final class Schedule {
         }
     }
 
-    /** A schedule with a state of fixed size, but for one with collectAll, which keeps its steps. */
+    /** Returns a schedule with a state of fixed size; one with collectAll stores its steps. */
     private static Follower begun(String text) {
         try {
             return new Stepper(text)::after;
@@ -173,10 +185,14 @@ public final class Schedule {
     }
 
     /**
-     * Tries until there is a value or the schedule is done, and sleeps between two attempts; the last error goes on its
-     * way. The input of an error is what inputOf says; where it throws, the error goes on its way, and what it threw is
-     * suppressed by it. Moments are counted in milliseconds from the begin of the first attempt. Time and memory don't grow
-     * with the number of attempts, but for a schedule with collectAll, whose output grows.
+     * Retries until there is a value or the schedule is done, and sleeps between two attempts. At
+     * the end it throws the last error.
+     *
+     * <p>The input of an error is what inputOf returns. If inputOf throws a RuntimeException, the
+     * error is thrown, and what inputOf threw is suppressed by it. An InterruptedException of the
+     * attempt is thrown at once. Moments are in milliseconds from the start of the first attempt.
+     * Time and memory don't grow with the number of attempts, except for a schedule with
+     * collectAll, whose output grows.
      */
     public static <T> T retry(String text, ToLongFunction<Exception> inputOf, Callable<T> attempt) throws Exception {
         Follower schedule = begun(text);
@@ -188,11 +204,11 @@ public final class Schedule {
                 throw interrupted;
             } catch (Exception error) {
                 long now = (System.nanoTime() - start) / 1_000_000;
-                Answer answer = schedule.after(now, input(inputOf, error));
-                if (answer.done()) {
+                Answer result = schedule.after(now, input(inputOf, error));
+                if (result.done()) {
                     throw error;
                 }
-                Thread.sleep(answer.next() < 0 ? Long.MAX_VALUE : answer.next() - now);
+                Thread.sleep(result.next() < 0 ? Long.MAX_VALUE : result.next() - now);
             }
         }
     }

@@ -3,9 +3,9 @@ package zsched;
 import java.nio.charset.StandardCharsets;
 
 /**
- * A proved schedule of zsched with a state of fixed size in place of its steps, so a step takes no longer after many of them
- * than after one. Its text is read once. Numbers are 64 bits without a sign, as in {@link Schedule}. Threads may not share one
- * that one of them steps.
+ * A proved schedule of zsched with a state of fixed size in place of its steps, so a step takes no
+ * longer after many steps than after one. Its text is read once. Numbers are unsigned and of 64
+ * bits, as in {@link Schedule}. Threads must not share a stepper that one of them steps.
  */
 public final class Stepper {
     private final String text;
@@ -13,8 +13,8 @@ public final class Stepper {
     private long[] state;
 
     /**
-     * The schedule of a text, before its first step. Throws {@link Schedule.Fault}, also where it has collectAll, whose list
-     * has no fixed size.
+     * Makes the schedule of a text, before its first step. Throws {@link Schedule.Fault}, also if
+     * it has collectAll, whose list has no fixed size.
      */
     public Stepper(String text) {
         byte[] bytes = text.getBytes(StandardCharsets.UTF_8);
@@ -30,8 +30,9 @@ public final class Stepper {
     }
 
     /**
-     * The schedule of a text with a state that {@link #state} told. Throws as the constructor does, and {@link Schedule.Fault}
-     * where the words are those of another schedule; words that were changed behind the first aren't found.
+     * Returns the schedule of a text with a state that {@link #state} returned. Throws as the
+     * constructor does, and {@link Schedule.Fault} if the words are those of another schedule.
+     * Words that were changed after the first aren't detected.
      */
     public static Stepper resume(String text, long[] state) {
         Stepper stepper = new Stepper(text);
@@ -42,19 +43,23 @@ public final class Stepper {
         return stepper;
     }
 
-    /** The text. */
+    /** Returns the text. */
     public String text() {
         return text;
     }
 
-    /** The words of the state, whose number depends on the text alone. The first tells of which schedule they are. */
+    /**
+     * Returns the words of the state. Their number depends on the text alone; the first identifies
+     * the schedule.
+     */
     public long[] state() {
         return state.clone();
     }
 
     /**
-     * One step more, at a moment in milliseconds and with an input. Throws {@link Schedule.Fault} where the moment is below
-     * that of the step before; the schedule is then as it was.
+     * Makes one more step, at a moment in milliseconds and with an input, and returns its result.
+     * Throws {@link Schedule.Fault} if the moment is below that of the step before; the schedule is
+     * then unchanged.
      */
     public Schedule.Answer after(long moment, long input) {
         long[] reply = new long[4];
@@ -66,9 +71,9 @@ public final class Stepper {
             stepped = state.clone();
             number = step(stepped, moment, input, reply, out);
         }
-        Schedule.Answer answer = Schedule.told(number, reply, out);
+        Schedule.Answer result = Schedule.told(number, reply, out);
         state = stepped;
-        return answer;
+        return result;
     }
 
     private int step(long[] words, long moment, long input, long[] reply, byte[] out) {

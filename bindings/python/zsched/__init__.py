@@ -4,12 +4,13 @@
         with attempt:
             value = fetch()
 
-`retrying` really sleeps, and is a decorator too, for functions and coroutines. `Schedule` and `Stepper` only answer: give
-them the moment and the input of each attempt, and they tell when the next one may begin. `bounds` tells how often and how
-long a schedule retries at most, for every input. These answers are proved; the sleeping is not.
+`retrying` really sleeps, and is a decorator too, for functions and coroutines. `Schedule` and
+`Stepper` don't sleep: pass them the moment and the input of each attempt, and they return when the
+next one may begin. `bounds` returns how often and how long a schedule retries at most, for every
+input. These results are proved; the sleeping is not.
 
-The library is libzsched.so: the one that the variable ZSCHED_LIBRARY names, else the one beside this file, else the one
-that tools/make-library made in this tree, else the system's."""
+The library is libzsched.so: the file that the variable ZSCHED_LIBRARY names, else the one in the
+folder of this file, else the one that tools/make-library made in this tree, else the system's."""
 from .faults import Fault, ScheduleFault
 from .retries import Attempt, Retrying, retrying
 from .schedules import Answer, Bounds, Schedule, Stepper, bounds, check

@@ -1,26 +1,26 @@
-"""The calls of zsched.h."""
+"""The calls of zsched.h, over ctypes."""
 import ctypes
 import functools
 import os
 import pathlib
 
 SONAME = "libzsched.so.0"
-MISSING = ("{fault}: the library isn't here. Install libzsched0, or build it by tools/make-library in a tree of zsched, and "
+MISSING = ("{fault}: the library is missing. Install libzsched0, or build it by tools/make-library in a tree of zsched, and "
            "name the built libzsched.so in ZSCHED_LIBRARY")
 
 
 class Reply(ctypes.Structure):
-    """What a call tells beside its number."""
+    """What a call returns besides its number: zs_reply."""
     _fields_ = [(name, ctypes.c_uint64) for name in ["next", "size", "visits", "at"]]
 
 
 class Told(ctypes.Structure):
-    """What zs_bounds tells."""
+    """What zs_bounds returns: struct zs_bounds."""
     _fields_ = [(name, ctypes.c_uint64) for name in ["seen", "least", "has_most", "most", "longest", "has_total", "total"]]
 
 
 def _place() -> str:
-    """The library's path, or its name where the system has to find it."""
+    """Returns the library's path, or its name if the system must find it."""
     here = pathlib.Path(__file__).resolve()
     places = [here.parent / "libzsched.so", here.parents[3] / "crates" / "zs_c" / "out" / "libzsched.so"]
     return os.environ.get("ZSCHED_LIBRARY") or next((str(it) for it in places if it.exists()), SONAME)
@@ -28,7 +28,7 @@ def _place() -> str:
 
 @functools.cache
 def library() -> ctypes.CDLL:
-    """The library, with the types of its calls. Raises OSError where it isn't there, or is an older one."""
+    """Returns the library, with its calls' types. Raises OSError if it is missing, or is older."""
     named = _place()
     try:
         found = ctypes.CDLL(named)

@@ -1,4 +1,4 @@
-"""Why there is no answer. The texts are the library's."""
+"""The errors of the library's calls. Their texts are the library's."""
 import ctypes
 import typing
 
@@ -9,7 +9,7 @@ OF_TEXTS = [4, *range(11, 17)]
 
 
 class Fault(ValueError):
-    """There is no answer. `number` and `at` are those of zsched.h."""
+    """A call failed. `number` and `at` are those of zsched.h."""
 
     number: int
     at: int
@@ -23,7 +23,7 @@ class Fault(ValueError):
 
 
 class ScheduleFault(Fault):
-    """A text is no schedule: `text`, and the `number` and `at` of zsched.h."""
+    """The text `text` is no schedule. `number` and `at` are those of zsched.h."""
 
     text: str
 
@@ -36,14 +36,14 @@ class ScheduleFault(Fault):
 
 
 def fault_text(number: int, at: int = 0) -> str:
-    """The text of a number of zsched.h and of the place beside it."""
+    """Returns the text of a number of zsched.h and its place, or "" if the number is no fault."""
     room = ctypes.create_string_buffer(256)
     size = library().zs_fault_text(number, at, room, len(room))
     return room.raw[:size].decode()
 
 
 def refuse(text: str, number: int, at: int) -> None:
-    """Raises what a number stands for, if it is a refusal."""
+    """Raises the error that a number of zsched.h represents, if it is a fault."""
     if number <= DONE:
         return
     if number == NO_MEMORY:

@@ -16,7 +16,10 @@ T = typing.TypeVar("T")
 
 
 class Attempt:
-    """One attempt, as a context: an error of the awaited kinds is kept back where the schedule goes on."""
+    """One attempt, as a context manager.
+
+    It suppresses an error of the expected classes if the schedule goes on. `number` counts the
+    attempts from 1."""
 
     number: int
 
@@ -33,7 +36,9 @@ class Attempt:
 
 
 class Run:
-    """One run of a Retrying, which gives its attempts: its schedule, its start and the wait for the next attempt."""
+    """One run of a Retrying, which iterates over its attempts.
+
+    It holds the schedule, the start and the wait for the next attempt."""
 
     def __init__(self, retrying: "Retrying") -> None:
         self.retrying = retrying
@@ -64,39 +69,39 @@ class Run:
         return self.begin()
 
     def begin(self) -> Attempt:
-        """The next attempt."""
+        """Returns the next attempt."""
         self.attempts += 1
         self.is_over = True
         return Attempt(self)
 
     def input_of(self, error: Exception) -> int | None:
-        """The input of an error; where there is none, a note at the error says so, and it goes on its way."""
+        """Returns the input of an error. If there is none, adds a note to it and returns None."""
         try:
             code = operator.index(self.retrying.input_of(error))
         except Exception as fault:
-            error.add_note(f"zsched: not tried again, since input_of gave no whole number: {fault!r}")
+            error.add_note(f"zsched: not tried again, since input_of returned no whole number: {fault!r}")
             return None
         if not 0 <= code < 2 ** 64:
-            error.add_note(f"zsched: not tried again, since input_of gave {code}, which has no 64 bits without a sign")
+            error.add_note(f"zsched: not tried again, since input_of returned {code}, which is no unsigned number of 64 bits")
             return None
         return code
 
     def ended(self, error: BaseException | None) -> bool:
-        """An attempt ended. Answers whether its error is kept back, and another attempt is to follow."""
-        # What is no Exception isn't the service's: Ctrl-C, or a task that is cancelled.
+        """Ends an attempt. Returns whether its error is suppressed and another attempt follows."""
+        # An error that is no Exception isn't the service's: Ctrl-C, or a cancelled task.
         if not isinstance(error, Exception) or not isinstance(error, self.retrying.on):
             return False
         code = self.input_of(error)
         if code is None:
             return False
-        # A clock that is set back doesn't turn the moments back.
+        # If the clock is set back, the moments still don't fall.
         now = max(self.last, int((self.retrying.clock() - self.start) * 1000))
         following = self.schedule.after(now, code).next
         if following is None:
             return False
         self.last, self.wait, self.is_over = now, (following - now) / 1000, False
         if self.retrying.sleep is None and self.wait > LONGEST:
-            raise OverflowError(f"zsched: the next attempt is {self.wait:.0f} seconds away, and a clock can wait "
+            raise OverflowError(f"zsched: the next attempt is {self.wait:.0f} seconds away, and the longest wait is "
                                 f"{LONGEST:.0f}") from error
         if self.retrying.before_sleep is not None:
             self.retrying.before_sleep(error, self.attempts, self.wait)
@@ -104,7 +109,9 @@ class Run:
 
 
 class Retrying:
-    """What `retrying` gives: a decorator, a loop and an asynchronous loop. One may serve many calls at once."""
+    """What `retrying` returns: a decorator, a loop and an asynchronous loop.
+
+    Many calls may use one at the same time."""
 
     def __init__(self, text: str, on: typing.Any, input_of: typing.Any, before_sleep: typing.Any, clock: typing.Any,
                  sleep: typing.Any) -> None:
@@ -113,15 +120,15 @@ class Retrying:
         self.clock, self.sleep = clock, sleep
 
     def __iter__(self) -> collections.abc.Iterator[Attempt]:
-        """The attempts, with the sleep between two."""
+        """Returns the attempts, with a sleep between two."""
         return Run(self)
 
     def __aiter__(self) -> collections.abc.AsyncIterator[Attempt]:
-        """The attempts, with an asynchronous sleep between two."""
+        """Returns the attempts, with an asynchronous sleep between two."""
         return Run(self)
 
     def __call__(self, function: T) -> T:
-        """The function, or coroutine function, that is tried as the schedule says."""
+        """Returns the function, or coroutine function, with retries as the schedule says."""
         if inspect.iscoroutinefunction(function):
             return self._asynchronous(function)
 
@@ -143,7 +150,7 @@ class Retrying:
 
 
 def _no_input(error: Exception) -> int:
-    """The input of an error that says none."""
+    """Returns the input of an error if the caller defines none: 0."""
     return 0
 
 
@@ -152,16 +159,21 @@ def retrying(schedule: str | Schedule | Stepper, *, on: type[Exception] | tuple[
              before_sleep: collections.abc.Callable[[typing.Any, int, float], object] | None = None,
              clock: collections.abc.Callable[[], float] = time.monotonic,
              sleep: collections.abc.Callable[[float], typing.Any] | None = None) -> Retrying:
-    """Tries again after each error, when the schedule says so; where it is done, the last error goes on its way.
+    """Returns a decorator and a loop that retry after each error, when the schedule says so.
 
-    schedule: the text of a schedule, or a Schedule or Stepper, of which the text is taken
-    on: the class of the errors after which to try again, or a tuple of classes; any other error goes on its way, and so does
-        what is no Exception, as a task that is cancelled
-    input_of: the schedule's input of an error, a whole number of 64 bits; where it gives none the error goes on its way, with
-        a note that says so
+    When the schedule is done, the last error is raised.
+
+    schedule: the text of a schedule, or a Schedule or Stepper, whose text is used
+    on: the class of the errors to retry after, or a tuple of classes; any other error is raised,
+        and so is one that is no Exception, such as that of a cancelled task
+    input_of: returns the schedule's input of an error, a whole number from 0 to 2^64 - 1; if it
+        returns none or raises, the error is raised with a note that says so
     before_sleep: is called with the error, the number of the attempt and the seconds to sleep
-    clock, sleep: seconds that don't fall, and how to sleep so many (time.sleep; asyncio.sleep in coroutines)
+    clock: returns seconds that don't fall
+    sleep: sleeps for a number of seconds (time.sleep; asyncio.sleep in coroutines)
 
-    The schedule counts its moments in whole milliseconds from the begin of the first attempt. Time and memory don't grow with
-    the number of attempts, but for a schedule with collectAll, whose output grows."""
+    The schedule's moments are whole milliseconds from the start of the first attempt. Time and
+    memory don't grow with the number of attempts, except for a schedule with collectAll, whose
+    output grows. Raises ScheduleFault if the text is no schedule. Without `sleep`, a wait that is
+    longer than threading.TIMEOUT_MAX seconds raises OverflowError."""
     return Retrying(schedule if isinstance(schedule, str) else schedule.text, on, input_of, before_sleep, clock, sleep)

@@ -1,4 +1,4 @@
-"""Schedules that only answer: by the list of their steps, or by a state of fixed size."""
+"""Schedules without sleep: stepped by the list of their steps, or by a state of fixed size."""
 import array
 import ctypes
 import json
@@ -11,17 +11,25 @@ ROOM = 256
 
 
 class Answer(typing.NamedTuple):
-    """What a schedule answers at a step: the moment at which the next attempt may begin, or None where the schedule is done;
-    the text of its output; and how many nodes the step visited."""
+    """The result of a step.
+
+    `next` is the moment at which the next attempt may begin, in milliseconds, or None if the
+    schedule is done; `output` is the text of the step's output; `visits` is the number of nodes
+    that the step visited."""
     next: int | None
     output: str
     visits: int
 
 
 class Bounds(typing.NamedTuple):
-    """What a schedule does for every input and however long attempts take: no attempt before the one of number `least` is the
-    last, and none after `most` is made; the longest wait after the first `seen` attempts, and all waits together, in
-    milliseconds. `most` and `total` are None where there is no bound."""
+    """What a schedule does for every input and however long attempts take.
+
+    No attempt before the one of number `least` is the last, and none after `most` is made.
+    `longest` is the longest wait after the first `seen` attempts, and `total` is all waits
+    together, both in milliseconds. `most` and `total` are None if there is no bound.
+
+    The bounds hold if each attempt takes 1 millisecond or more, and no moment is above
+    999999999999999."""
     seen: int
     least: int
     most: int | None
@@ -29,29 +37,32 @@ class Bounds(typing.NamedTuple):
     total: int | None
 
     def within(self, most: int, total: int) -> bool:
-        """Whether there are at most so many attempts, and so many milliseconds of waits together."""
+        """Returns whether there are at most `most` attempts, and `total` ms of waits together."""
         return self.most is not None and self.most <= most and self.total is not None and self.total <= total
 
 
 def check(text: str) -> None:
-    """Raises ScheduleFault where the text is no schedule."""
+    """Raises ScheduleFault if the text is no schedule."""
     data, at = text.encode(), ctypes.c_uint64()
     refuse(text, library().zs_check(data, len(data), at), at.value)
 
 
 def _answer(number: int, reply: Reply, out: typing.Any) -> Answer:
-    """The Answer that a call told."""
+    """Returns the Answer in what a call returned."""
     return Answer(None if number == DONE else reply.next, out.raw[:reply.size].decode(), reply.visits)
 
 
 class Schedule:
-    """A schedule and the steps that it has seen. That list is its whole state: `save` gives it as a text, `load` goes on
-    from there. A step takes less than a microsecond for each step before it. Two threads may not step one at the same time."""
+    """A schedule and the steps that it has seen.
+
+    That list is its whole state: `save` returns it as a text, `load` goes on from there. A step
+    takes less than a microsecond for each step before it. Two threads must not step one at the
+    same time."""
 
     text: str
 
     def __init__(self, text: str) -> None:
-        """The schedule of a text, before its first step. Raises ScheduleFault."""
+        """Makes the schedule of a text, before its first step. Raises ScheduleFault."""
         self.check(text)
         self.text = text
         self._seen = array.array("Q")
@@ -60,13 +71,15 @@ class Schedule:
 
     @property
     def seen(self) -> list[tuple[int, int]]:
-        """The steps so far, as a list of (moment, input)."""
+        """The steps so far, oldest first, as a list of (moment, input)."""
         return list(zip(self._seen[::2], self._seen[1::2]))
 
     def after(self, moment: int, input: int = 0) -> Answer:
-        """One step more: the Answer at this moment, in whole milliseconds from any start, and this input. Raises Fault where
-        the moment is below that of the step before, OverflowError where a number is no whole number of 64 bits; the
-        schedule then stays as it was."""
+        """Makes one more step, at a moment and with an input, and returns its Answer.
+
+        The moment is in whole milliseconds from any start. Raises Fault if it is below that of the
+        step before, OverflowError if a number isn't in 0 to 2^64 - 1, and TypeError if it is no
+        integer. After an error the schedule is unchanged."""
         self._seen.extend(array.array("Q", (moment, input)))
         try:
             return self.answer()
@@ -75,29 +88,31 @@ class Schedule:
             raise
 
     def answer(self) -> Answer:
-        """The answer at the last step so far. Raises Fault where there is none."""
-        number, reply, out = self._ask(ROOM)
+        """Returns the Answer of the last step so far. Raises Fault if there is none."""
+        number, reply, out = self._call(ROOM)
         if reply.size > ROOM:
-            number, reply, out = self._ask(reply.size)
+            number, reply, out = self._call(reply.size)
         refuse(self.text, number, reply.at)
         return _answer(number, reply, out)
 
-    def _ask(self, room: int) -> tuple[int, Reply, typing.Any]:
-        """What the library answers where it has so much room for the output."""
+    def _call(self, room: int) -> tuple[int, Reply, typing.Any]:
+        """Calls zs_answer with `room` bytes for the output."""
         data, reply, out = self.text.encode(), Reply(), ctypes.create_string_buffer(room)
-        # While a view is open the list can't be moved.
+        # While a view is open, the list can't be moved.
         with memoryview(self._seen):
             seen, length = self._seen.buffer_info()
             number = library().zs_answer(data, len(data), seen, length // 2, reply, out, room)
         return number, reply, out
 
     def save(self) -> str:
-        """The schedule and its steps as a text, of JSON."""
+        """Returns the schedule and its steps as a text in JSON."""
         return json.dumps({"schedule": self.text, "seen": self.seen})
 
     @classmethod
     def load(cls, saved: str | bytes) -> "Schedule":
-        """The schedule and the steps that `save` gave. Raises ValueError where the text isn't from there."""
+        """Returns the schedule and the steps that `save` returned.
+
+        Raises ValueError if the text isn't from there."""
         try:
             found = json.loads(saved)
             schedule = cls(found["schedule"])
@@ -111,15 +126,18 @@ class Schedule:
 
 
 class Stepper:
-    """A schedule with a state of fixed size in place of its steps, so a step takes no longer after many of them than after
-    one. Its text is read once. `save` gives the state as a text, `load` goes on from there. Two threads may not step one at
-    the same time."""
+    """A schedule with a state of fixed size in place of its steps.
+
+    So a step takes no longer after many steps than after one. The text is read once. `save`
+    returns the state as a text, `load` goes on from there. Two threads must not step one at the
+    same time."""
 
     text: str
 
     def __init__(self, text: str) -> None:
-        """The schedule of a text, before its first step. Raises ScheduleFault, and Fault where it has collectAll, whose list
-        has no fixed size."""
+        """Makes the schedule of a text, before its first step.
+
+        Raises ScheduleFault, and Fault if it has collectAll, whose list has no fixed size."""
         data, size, state_size, at = text.encode(), ctypes.c_uint64(), ctypes.c_uint64(), ctypes.c_uint64()
         refuse(text, library().zs_program_size(data, len(data), size, state_size, at), at.value)
         program, state = array.array("Q", bytes(8 * size.value)), array.array("Q", bytes(8 * state_size.value))
@@ -129,13 +147,17 @@ class Stepper:
 
     @property
     def state(self) -> list[int]:
-        """The words of the state, whose number depends on the text alone. The first tells of which schedule they are."""
+        """The words of the state.
+
+        Their number depends on the text alone. The first identifies the schedule."""
         return list(self._state)
 
     def after(self, moment: int, input: int = 0) -> Answer:
-        """One step more: the Answer at this moment, in whole milliseconds from any start, and this input. Raises Fault where
-        the moment is below that of the step before, OverflowError where a number is no whole number of 64 bits; the
-        schedule then stays as it was."""
+        """Makes one more step, at a moment and with an input, and returns its Answer.
+
+        The moment is in whole milliseconds from any start. Raises Fault if it is below that of the
+        step before, OverflowError if a number isn't in 0 to 2^64 - 1, and TypeError if it is no
+        integer. After an error the schedule is unchanged."""
         step = array.array("Q", (moment, input))
         number, reply, out, state = self._step(step, ROOM)
         if reply.size > ROOM:
@@ -145,19 +167,23 @@ class Stepper:
         return _answer(number, reply, out)
 
     def _step(self, step: "array.array[int]", room: int) -> tuple[int, Reply, typing.Any, "array.array[int]"]:
-        """What the library answers where it has so much room for the output, and the state behind the step."""
+        """Calls zs_program_step with `room` bytes for the output.
+
+        Returns its number, reply and output, and the state after the step."""
         reply, out, state = Reply(), ctypes.create_string_buffer(room), self._state[:]
         number = library().zs_program_step(*self._program.buffer_info(), *state.buffer_info(), step[0], step[1], reply, out, room)
         return number, reply, out, state
 
     def save(self) -> str:
-        """The schedule and its state as a text, of JSON."""
+        """Returns the schedule and its state as a text in JSON."""
         return json.dumps({"schedule": self.text, "state": self.state})
 
     @classmethod
     def load(cls, saved: str | bytes) -> "Stepper":
-        """The schedule and the state that `save` gave. Raises ValueError where the text can't be from there: another
-        schedule's state, say. Of changed words behind the first nothing is said."""
+        """Returns the schedule and the state that `save` returned.
+
+        Raises ValueError if the text can't be from there, for example with another schedule's
+        state. Nothing is promised for changed words after the first."""
         try:
             found = json.loads(saved)
             stepper, words = cls(found["schedule"]), array.array("Q", found["state"])
@@ -172,7 +198,7 @@ class Stepper:
 
 
 def begun(text: str) -> Schedule | Stepper:
-    """The schedule of a text before its first step: with a state of fixed size, but for one with collectAll."""
+    """Returns a text's schedule, before its first step: a Stepper, or a Schedule for collectAll."""
     try:
         return Stepper(text)
     except Fault as fault:
@@ -182,10 +208,13 @@ def begun(text: str) -> Schedule | Stepper:
 
 
 def bounds(schedule: str | Schedule | Stepper, steps: int) -> Bounds:
-    """The Bounds of a schedule, of which so many attempts are looked at, at most; of a Schedule or Stepper the text is taken,
-    before its first step. Raises ScheduleFault, and OverflowError where steps is no whole number of 64 bits."""
+    """Returns the Bounds of a schedule, of which at most the first `steps` attempts are examined.
+
+    For a Schedule or Stepper these are the bounds of its text, before its first step. Raises
+    ScheduleFault, OverflowError if `steps` isn't in 0 to 2^64 - 1, and TypeError if it is no
+    integer."""
     text = schedule if isinstance(schedule, str) else schedule.text
-    data, told, at = text.encode(), Told(), ctypes.c_uint64()
-    refuse(text, library().zs_bounds(data, len(data), array.array("Q", [steps])[0], told, at), at.value)
-    return Bounds(told.seen, told.least, told.most if told.has_most else None, told.longest,
-                  told.total if told.has_total else None)
+    data, reply, at = text.encode(), Told(), ctypes.c_uint64()
+    refuse(text, library().zs_bounds(data, len(data), array.array("Q", [steps])[0], reply, at), at.value)
+    return Bounds(reply.seen, reply.least, reply.most if reply.has_most else None, reply.longest,
+                  reply.total if reply.has_total else None)

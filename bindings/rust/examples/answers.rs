@@ -1,4 +1,6 @@
-//! Steps schedules for tests/tools/test_library.py and tests/million_steps.py, by the words that bindings/c/answers.c names.
+//! Steps schedules for tests/tools/test_library.py and tests/million_steps.py.
+//!
+//! bindings/c/answers.c says what the arguments, the requests and the lines of output are.
 use std::time::Instant;
 use zsched::{Answer, Fault, Schedule, Stepper};
 
@@ -29,31 +31,33 @@ enum Way {
 }
 
 /// A fault's number and place.
-type Refusal = (u32, u64);
+type Failure = (u32, u64);
 
-fn refusal(fault: Fault) -> Refusal {
+fn failure(fault: Fault) -> Failure {
     fault.number()
 }
 
-/// The words of a text's state before any step.
-fn begun(text: &str) -> Result<Vec<u64>, Refusal> {
+/// Returns the words of a text's state before any step.
+fn begun(text: &str) -> Result<Vec<u64>, Failure> {
     let (mut size, mut at) = (0, 0);
-    // SAFETY: the pointer and the length are those of a text that is borrowed for the call, and the others are variables.
+    // SAFETY: the pointer and the length are those of a text that is borrowed for the call, and the
+    // others are variables.
     let number = unsafe { zs_state_size(text.as_ptr(), text.len(), &mut size, &mut at) };
     if number != 0 {
         return Err((number, at));
     }
     let mut words = vec![0; size as usize];
-    // SAFETY: so they are here, and the words are borrowed for the call.
+    // SAFETY: as above, and the words are borrowed for the call.
     let number = unsafe { zs_begin(text.as_ptr(), text.len(), words.as_mut_ptr(), words.len(), &mut at) };
     if number == 0 { Ok(words) } else { Err((number, at)) }
 }
 
-/// One step of a state.
-fn stepped(text: &str, words: &mut [u64], moment: u64, input: u64) -> Result<Answer, Refusal> {
+/// Makes one step of a state.
+fn stepped(text: &str, words: &mut [u64], moment: u64, input: u64) -> Result<Answer, Failure> {
     let (mut reply, mut out) = ([0; 4], vec![0; ROOM]);
     let (state, len) = (words.as_mut_ptr(), words.len());
-    // SAFETY: the pointers and lengths are those of slices that are borrowed for the call, and overlap nothing.
+    // SAFETY: the pointers and lengths are those of slices that are borrowed for the call, and
+    // overlap nothing.
     let number = unsafe {
         zs_step(text.as_ptr(), text.len(), state, len, moment, input, &mut reply, out.as_mut_ptr(), ROOM)
     };
@@ -66,38 +70,38 @@ fn stepped(text: &str, words: &mut [u64], moment: u64, input: u64) -> Result<Ans
 }
 
 impl Way {
-    fn new(way: &str, text: &str) -> Result<Way, Refusal> {
+    fn new(way: &str, text: &str) -> Result<Way, Failure> {
         match way {
-            "list" => Schedule::new(text).map(Way::List).map_err(refusal),
+            "list" => Schedule::new(text).map(Way::List).map_err(failure),
             "state" => begun(text).map(|words| Way::State(text.to_owned(), words)),
-            _ => Stepper::new(text).map(Way::Program).map_err(refusal),
+            _ => Stepper::new(text).map(Way::Program).map_err(failure),
         }
     }
 
-    fn after(&mut self, moment: u64, input: u64) -> Result<Answer, Refusal> {
+    fn after(&mut self, moment: u64, input: u64) -> Result<Answer, Failure> {
         match self {
-            Way::List(schedule) => schedule.after(moment, input).map_err(refusal),
+            Way::List(schedule) => schedule.after(moment, input).map_err(failure),
             Way::State(text, words) => stepped(text, words, moment, input),
-            Way::Program(stepper) => stepper.after(moment, input).map_err(refusal),
+            Way::Program(stepper) => stepper.after(moment, input).map_err(failure),
         }
     }
 }
 
-/// The words of a request, which end with a fault if there is one.
-fn steps(way: &str, text: &str, numbers: &[u64], said: &mut Vec<String>) -> Result<(), Refusal> {
+/// Appends the words of a request's line of output. Returns the fault of the first step that fails.
+fn steps(way: &str, text: &str, numbers: &[u64], said: &mut Vec<String>) -> Result<(), Failure> {
     let mut schedule = Way::new(way, text)?;
     if numbers.is_empty() {
         said.push("0,0".to_owned());
     }
     for pair in numbers.chunks(2) {
-        let answer = schedule.after(pair[0], pair[1])?;
-        let (number, next) = (u32::from(answer.next.is_none()), answer.next.unwrap_or(0));
-        said.push(format!("{number},{next},{},{}", answer.visits, answer.output));
+        let step = schedule.after(pair[0], pair[1])?;
+        let (number, next) = (u32::from(step.next.is_none()), step.next.unwrap_or(0));
+        said.push(format!("{number},{next},{},{}", step.visits, step.output));
     }
     Ok(())
 }
 
-/// The line of a request.
+/// Returns a request's line of output.
 fn line(way: &str, request: &str) -> String {
     let mut words = request.split_whitespace();
     let digits = words.next().expect("a text").as_bytes()[1..].chunks(2);
@@ -111,14 +115,14 @@ fn line(way: &str, request: &str) -> String {
     said.join(" ")
 }
 
-/// The KiB of memory that the process has.
+/// Returns the resident memory of the process, in KiB.
 fn memory() -> String {
     let status = std::fs::read_to_string("/proc/self/status").expect("a process");
     let (_, rest) = status.split_once("VmRSS:").expect("its memory");
     rest.split_whitespace().next().expect("a number").to_owned()
 }
 
-/// Steps the program of a policy so many times.
+/// Steps the program of a policy `count` times.
 fn many(count: u64, policy: &str) -> Result<(), Fault> {
     let (mut schedule, mut moment) = (Stepper::new(policy)?, 0);
     for _ in 0..10 {

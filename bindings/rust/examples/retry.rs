@@ -1,4 +1,4 @@
-//! A real retry: a client asks a server on this machine, which is busy at first, until it answers.
+//! A real retry: a client calls a server on this machine until it is ready. It is busy at first.
 use std::io::{Read, Write};
 use std::net::{SocketAddr, TcpListener, TcpStream};
 use std::thread;
@@ -6,18 +6,18 @@ use std::time::Instant;
 
 const SCHEDULE: &str = "((exponential(20) || spaced(100)) && recurs(5))";
 
-/// Turns the first clients away, and answers the next one.
+/// Sends "busy" to the first `busy` clients, and "ready" to the next one.
 fn serve(listener: TcpListener, busy: usize) {
     for (number, client) in listener.incoming().enumerate() {
         let Ok(mut client) = client else { return };
-        let answer = if number < busy { "busy" } else { "ready" };
-        if client.write_all(answer.as_bytes()).is_err() || number == busy {
+        let text = if number < busy { "busy" } else { "ready" };
+        if client.write_all(text.as_bytes()).is_err() || number == busy {
             return;
         }
     }
 }
 
-/// What the server answers: its text, or the code 503 where it is busy and 502 where it can't be reached.
+/// Returns the server's text, or the code 503 if it is busy, or 502 if it can't be reached.
 fn fetch(server: SocketAddr) -> Result<String, u64> {
     let mut text = String::new();
     let mut client = TcpStream::connect(server).map_err(|_| 502_u64)?;
@@ -31,12 +31,12 @@ fn main() -> Result<(), Box<dyn std::error::Error>> {
     let serving = thread::spawn(move || serve(listener, 3));
     let begun = Instant::now();
     let mut attempts = 0;
-    let answer = zsched::retry(SCHEDULE, |code| *code, || {
+    let text = zsched::retry(SCHEDULE, |code| *code, || {
         attempts += 1;
         fetch(server)
     })?;
-    println!("{answer:?} after {attempts} attempts");
-    assert_eq!((answer.as_deref(), attempts), (Ok("ready"), 4));
+    println!("{text:?} after {attempts} attempts");
+    assert_eq!((text.as_deref(), attempts), (Ok("ready"), 4));
     assert!(begun.elapsed().as_millis() >= 140);
     serving.join().expect("the server ends");
     Ok(())

@@ -4,15 +4,16 @@
 //! use zsched::Schedule;
 //!
 //! let mut schedule = Schedule::new("(exponential(100) && recurs(5))")?;
-//! let answer = schedule.after(7, 503)?;
-//! assert_eq!((answer.next, answer.output.as_str()), (Some(107), "(100,0)"));
+//! let step = schedule.after(7, 503)?;
+//! assert_eq!((step.next, step.output.as_str()), (Some(107), "(100,0)"));
 //! # Ok::<(), zsched::Fault>(())
 //! ```
 //!
-//! `Schedule` only answers, and so does `Stepper`, whose state has a fixed size; `retry` really sleeps. The answers are
-//! proved, the sleeping is not.
+//! `Schedule` doesn't sleep, and neither does `Stepper`, whose state has a fixed size; `retry`
+//! really sleeps. The results are proved, the sleeping is not.
 //!
-//! Without the feature `std`, which is on unless it is turned off, all but `retry` is there; it needs `alloc`.
+//! Without the feature `std`, which is on by default, everything but `retry` and `retry_by` is
+//! available, over `alloc`.
 
 #![cfg_attr(not(feature = "std"), no_std)]
 
@@ -32,7 +33,7 @@ use std::time::{Duration, Instant};
 pub struct Seen {
     /// The moment, in milliseconds from any start.
     pub moment: u64,
-    /// The input.
+    /// The input, any number.
     pub input: u64,
 }
 
@@ -79,25 +80,26 @@ const DONE: u32 = 1;
 const FALLS: u32 = 3;
 const ROOM: usize = 256;
 
-/// What a schedule answers at a step.
+/// The result of a step.
 #[derive(Clone, Debug, PartialEq, Eq)]
 pub struct Answer {
-    /// The moment at which the next attempt may begin; none where the schedule is done.
+    /// The moment at which the next attempt may begin, in milliseconds; `None` if the schedule is
+    /// done.
     pub next: Option<u64>,
     /// The text of the step's output.
     pub output: String,
-    /// How many nodes of the schedule the step visited.
+    /// The number of nodes of the schedule that the step visited.
     pub visits: u64,
 }
 
-/// Why there is no answer.
+/// Why a call failed.
 #[derive(Clone, Copy, Debug, PartialEq, Eq)]
 pub enum Fault {
-    /// There was no step.
+    /// The list has no step.
     NoPair,
-    /// The moment of this step, from 0, is below that of the step before it.
+    /// The moment of the step `at`, from 0, is below that of the step before it.
     Falls { at: u64 },
-    /// The moment is below that of the step before it, which a `Stepper` made.
+    /// The moment is below that of the last step of the `Stepper`.
     Earlier,
     /// The schedule has `collectAll`, so its state has no fixed size.
     KeepsList,
@@ -105,17 +107,17 @@ pub enum Fault {
     NoProgram,
     /// The words of a state are those of another schedule.
     OtherState,
-    /// Memory ran out.
+    /// An allocation failed.
     Memory,
-    /// The text spells no schedule, which shows at this byte.
+    /// The text spells no schedule, found at the byte `at`.
     NoTerm { at: u64 },
     /// The schedule is deeper than 64 or weighs more than 1,000.
     TooBig,
-    /// The number that begins at this byte is above `u64::MAX`.
+    /// The number that begins at the byte `at` is above `u64::MAX`.
     BadNumber { at: u64 },
     /// A factor of an `exponential` is 0.
     BadFactor,
-    /// A pick or a function meets an output that it doesn't fit.
+    /// A pick or a function doesn't fit the output that it is applied to.
     NoKind,
     /// A window of a `windowed` is 0.
     BadWindow,
@@ -136,11 +138,11 @@ impl Fault {
             14 => Fault::BadFactor,
             15 => Fault::NoKind,
             16 => Fault::BadWindow,
-            _ => unreachable!("libzsched answered {number}, which zsched.h doesn't name for a text that is UTF-8"),
+            _ => unreachable!("libzsched returned {number}, which zsched.h doesn't name for a text in UTF-8"),
         }
     }
 
-    /// Its number and place in `zsched.h`.
+    /// Returns its number and place, as `zsched.h` defines them; the place is 0 if it has none.
     pub fn number(self) -> (u32, u64) {
         match self {
             Fault::NoPair => (2, 0),
@@ -161,7 +163,7 @@ impl Fault {
 }
 
 impl fmt::Display for Fault {
-    /// The library's text.
+    /// Writes the library's text.
     fn fmt(&self, f: &mut fmt::Formatter<'_>) -> fmt::Result {
         let (number, at) = self.number();
         let mut out = [0; ROOM];
@@ -173,32 +175,34 @@ impl fmt::Display for Fault {
 
 impl core::error::Error for Fault {}
 
-/// The version of the library: a million times the first of its numbers, a thousand times the second, and the third.
+/// Returns the version of the library as one number: 1000000 * major + 1000 * minor + patch.
 pub fn version() -> u32 {
-    // SAFETY: it is given nothing.
+    // SAFETY: the call takes no argument.
     unsafe { zs_version() }
 }
 
-/// Whether a text is a schedule, or the first fault of it.
+/// Checks that a text is a schedule; returns its first fault if it is none.
 pub fn check(text: &str) -> Result<(), Fault> {
     let mut at = 0;
-    // SAFETY: the pointer and the length are those of a text that is borrowed for the call, and `at` is a variable.
+    // SAFETY: the pointer and the length are those of a text that is borrowed for the call, and
+    // `at` is a variable.
     let number = unsafe { zs_check(text.as_ptr(), text.len(), &mut at) };
     if number == NEXT { Ok(()) } else { Err(Fault::of(number, at)) }
 }
 
-/// The answer of a text's schedule at the last of some steps, the oldest first.
+/// Returns the result of a text's schedule at the last of some steps, which are in order, oldest
+/// first.
 pub fn answer(text: &str, seen: &[Seen]) -> Result<Answer, Fault> {
     let mut out = vec![0; ROOM];
-    let (mut number, mut reply) = ask(text, seen, &mut out);
+    let (mut number, mut reply) = call(text, seen, &mut out);
     if reply.size > out.len() as u64 {
         out.resize(reply.size as usize, 0);
-        (number, reply) = ask(text, seen, &mut out);
+        (number, reply) = call(text, seen, &mut out);
     }
-    told(number, &reply, &out)
+    result_of(number, &reply, &out)
 }
 
-fn told(number: u32, reply: &Reply, out: &[u8]) -> Result<Answer, Fault> {
+fn result_of(number: u32, reply: &Reply, out: &[u8]) -> Result<Answer, Fault> {
     if number > DONE {
         return Err(Fault::of(number, reply.at));
     }
@@ -210,10 +214,11 @@ fn next_of(number: u32, reply: &Reply) -> Option<u64> {
     (number == NEXT).then_some(reply.next)
 }
 
-fn ask(text: &str, seen: &[Seen], out: &mut [u8]) -> (u32, Reply) {
+fn call(text: &str, seen: &[Seen], out: &mut [u8]) -> (u32, Reply) {
     let mut reply = Reply::default();
-    // SAFETY: the pointers and lengths are those of slices that are borrowed for the call, `out` and `reply` alone of them
-    // mutably, so these overlap nothing; and `zs_answer` asks no more of a caller.
+    // SAFETY: the pointers and lengths are those of slices that are borrowed for the call. Only
+    // `out` and `reply` are borrowed mutably, so they overlap nothing. `zs_answer` requires no more
+    // of its arguments.
     let number = unsafe {
         zs_answer(text.as_ptr(), text.len(), seen.as_ptr(), seen.len(), &mut reply, out.as_mut_ptr(), out.len())
     };
@@ -228,13 +233,13 @@ pub struct Schedule {
 }
 
 impl Schedule {
-    /// The schedule of a text, before its first step.
+    /// Returns the schedule of a text, before its first step.
     pub fn new(text: &str) -> Result<Schedule, Fault> {
         check(text)?;
         Ok(Schedule { text: text.to_owned(), seen: Vec::new() })
     }
 
-    /// The schedule of a text that has seen these steps, the oldest first.
+    /// Returns the schedule of a text that has seen these steps, oldest first.
     pub fn resume(text: &str, seen: Vec<Seen>) -> Result<Schedule, Fault> {
         if seen.is_empty() {
             return Schedule::new(text);
@@ -243,17 +248,19 @@ impl Schedule {
         Ok(Schedule { text: text.to_owned(), seen })
     }
 
-    /// The text.
+    /// Returns the text.
     pub fn text(&self) -> &str {
         &self.text
     }
 
-    /// The steps so far.
+    /// Returns the steps so far, oldest first.
     pub fn seen(&self) -> &[Seen] {
         &self.seen
     }
 
-    /// One step more, at a moment in milliseconds and with an input. After a fault the schedule is as it was.
+    /// Makes one more step, at a moment in milliseconds and with an input, and returns its result.
+    ///
+    /// After a fault the schedule is unchanged.
     pub fn after(&mut self, moment: u64, input: u64) -> Result<Answer, Fault> {
         self.seen.push(Seen { moment, input });
         answer(&self.text, &self.seen).inspect_err(|_| {
@@ -262,8 +269,9 @@ impl Schedule {
     }
 }
 
-/// A schedule with a state of fixed size in place of its steps, so a step takes no longer after many of them than after one.
-/// Its text is read once.
+/// A schedule with a state of fixed size in place of its steps.
+///
+/// So a step takes no longer after many steps than after one. Its text is read once.
 ///
 /// ```
 /// use zsched::{Fault, Stepper};
@@ -282,21 +290,22 @@ pub struct Stepper {
     text: String,
     program: Vec<u64>,
     state: Vec<u64>,
-    // The state before the last step, which is made again if its output's text doesn't fit.
+    // The state before the last step. That step is made again if its output's text doesn't fit.
     before: Vec<u64>,
 }
 
 impl Stepper {
-    /// The schedule of a text, before its first step.
+    /// Returns the schedule of a text, before its first step.
     pub fn new(text: &str) -> Result<Stepper, Fault> {
         let (mut size, mut state_size, mut at) = (0, 0, 0);
-        // SAFETY: the pointer and the length are those of a text that is borrowed for the call, and the others are variables.
+        // SAFETY: the pointer and the length are those of a text that is borrowed for the call, and
+        // the others are variables.
         let number = unsafe { zs_program_size(text.as_ptr(), text.len(), &mut size, &mut state_size, &mut at) };
         if number != NEXT {
             return Err(Fault::of(number, at));
         }
         let (mut program, mut state) = (vec![0; size as usize], vec![0; state_size as usize]);
-        // SAFETY: so they are here, and the words are borrowed for the call.
+        // SAFETY: as above, and the words are borrowed for the call.
         let number = unsafe { zs_compile(text.as_ptr(), text.len(), program.as_mut_ptr(), program.len(), &mut at) };
         if number != NEXT {
             return Err(Fault::of(number, at));
@@ -309,8 +318,9 @@ impl Stepper {
         Ok(Stepper { text: text.to_owned(), program, before: state.clone(), state })
     }
 
-    /// The schedule of a text with a state that `state` told, or `OtherState`. Words that were changed behind the first
-    /// aren't found.
+    /// Returns the schedule of a text with a state that `state` returned, or `OtherState`.
+    ///
+    /// Words that were changed after the first aren't detected.
     pub fn resume(text: &str, state: &[u64]) -> Result<Stepper, Fault> {
         let mut stepper = Stepper::new(text)?;
         if state.len() != stepper.state.len() || state[0] != stepper.state[0] {
@@ -320,42 +330,48 @@ impl Stepper {
         Ok(stepper)
     }
 
-    /// The text.
+    /// Returns the text.
     pub fn text(&self) -> &str {
         &self.text
     }
 
-    /// The words of the state, whose number depends on the text alone. The first tells of which schedule they are.
+    /// Returns the words of the state.
+    ///
+    /// Their number depends on the text alone. The first identifies the schedule.
     pub fn state(&self) -> &[u64] {
         &self.state
     }
 
-    /// One step more, at a moment in milliseconds and with an input. After a fault the schedule is as it was.
+    /// Makes one more step, at a moment in milliseconds and with an input, and returns its result.
+    ///
+    /// After a fault the schedule is unchanged.
     pub fn after(&mut self, moment: u64, input: u64) -> Result<Answer, Fault> {
         let mut out = [0; ROOM];
         self.before.copy_from_slice(&self.state);
         let (number, reply) = self.step(moment, input, &mut out)?;
         if reply.size <= ROOM as u64 {
-            return told(number, &reply, &out);
+            return result_of(number, &reply, &out);
         }
         let mut out = vec![0; reply.size as usize];
         self.state.copy_from_slice(&self.before);
         let (number, reply) = self.step(moment, input, &mut out)?;
-        told(number, &reply, &out)
+        result_of(number, &reply, &out)
     }
 
-    /// The same, but only the moment at which the next attempt may begin; none where the schedule is done. It allocates nothing.
+    /// Makes the same step, and returns only the moment at which the next attempt may begin; `None`
+    /// if the schedule is done. It allocates nothing.
     pub fn next_after(&mut self, moment: u64, input: u64) -> Result<Option<u64>, Fault> {
         self.step(moment, input, &mut []).map(|(number, reply)| next_of(number, &reply))
     }
 
-    /// What the library tells of a step. After a fault it leaves the state as it was.
+    /// Makes a step, and returns what the library returned. After a fault the state is unchanged.
     fn step(&mut self, moment: u64, input: u64, out: &mut [u8]) -> Result<(u32, Reply), Fault> {
         let mut reply = Reply::default();
         let (program, len) = (self.program.as_ptr(), self.program.len());
         let (state, state_len) = (self.state.as_mut_ptr(), self.state.len());
-        // SAFETY: the pointers and lengths are those of slices that are borrowed for the call, all but the program mutably,
-        // so these overlap nothing; and `zs_program_step` asks no more of a caller.
+        // SAFETY: the pointers and lengths are those of slices that are borrowed for the call. All
+        // but the program are borrowed mutably, so they overlap nothing. `zs_program_step` requires
+        // no more of its arguments.
         let number = unsafe {
             zs_program_step(program, len, state, state_len, moment, input, &mut reply, out.as_mut_ptr(), out.len())
         };
@@ -375,7 +391,7 @@ impl PartialEq for Stepper {
 
 impl Eq for Stepper {}
 
-/// A schedule with a state of fixed size, but for one with `collectAll`, which keeps its steps.
+/// A schedule with a state of fixed size; one with `collectAll` stores its steps instead.
 #[cfg(feature = "std")]
 enum Follower {
     Flat(Stepper),
@@ -394,16 +410,18 @@ impl Follower {
     fn next_after(&mut self, moment: u64, input: u64) -> Result<Option<u64>, Fault> {
         match self {
             Follower::Flat(stepper) => stepper.next_after(moment, input),
-            Follower::Listed(schedule) => schedule.after(moment, input).map(|answer| answer.next),
+            Follower::Listed(schedule) => schedule.after(moment, input).map(|result| result.next),
         }
     }
 }
 
-/// Tries until there is a value or the schedule is done, and sleeps between two attempts. The input of an error is what
-/// `input_of` says. Moments are counted in milliseconds from the begin of the first attempt. Time and memory don't grow with
-/// the number of attempts, but for a schedule with `collectAll`, whose output grows.
+/// Retries until there is a value or the schedule is done, and sleeps between two attempts.
 ///
-/// The outer fault is that of the text.
+/// The input of an error is what `input_of` returns. Moments are in milliseconds from the start of
+/// the first attempt. Time and memory don't grow with the number of attempts, except for a schedule
+/// with `collectAll`, whose output grows.
+///
+/// The outer fault is that of the text, or `Memory`.
 #[cfg(feature = "std")]
 pub fn retry<T, E>(
     text: &str,
@@ -414,7 +432,10 @@ pub fn retry<T, E>(
     retry_by(text, input_of, attempt, || start.elapsed().as_millis() as u64, std::thread::sleep)
 }
 
-/// The same by a clock in milliseconds, which doesn't fall, and a sleep of the caller's.
+/// Retries as `retry` does, with the caller's clock and sleep.
+///
+/// `now` returns milliseconds, which don't fall. If they do, the outer fault is `Earlier` or
+/// `Falls`.
 #[cfg(feature = "std")]
 pub fn retry_by<T, E>(
     text: &str,
@@ -441,7 +462,8 @@ pub fn retry_by<T, E>(
 mod tests {
     use super::*;
 
-    /// Fails so many times, under a clock that only sleeps move on: the waits, and what came of it.
+    /// Retries an attempt that fails `failures` times, by a clock that only sleeps advance. Returns
+    /// the waits and the result.
     fn tried(text: &str, failures: u64) -> (Vec<u64>, Result<u64, u64>) {
         let (clock, mut waits, mut attempts) = (core::cell::Cell::new(0), Vec::new(), 0);
         let attempt = || {
@@ -470,7 +492,7 @@ mod tests {
     }
 
     #[test]
-    fn many_attempts_take_no_memory_of_their_own() {
+    fn the_state_after_many_attempts_is_as_long_as_before() {
         let (waits, ended) = tried("spaced(1)", 200_000);
         assert_eq!((waits.len(), ended), (200_000, Ok(200_001)));
         let mut stepper = Stepper::new("(spaced(1) && recurs(9))").expect("a schedule");
@@ -488,10 +510,10 @@ mod tests {
         let (mut stepper, mut next) = (Stepper::new(&policy).expect("a schedule"), Stepper::new(&policy).expect("a schedule"));
         let mut schedule = Schedule::new(&policy).expect("a schedule");
         for moment in [3, 5, 8] {
-            let answer = stepper.after(moment, 7).expect("a step");
-            assert!(answer.output.len() > ROOM);
-            assert_eq!(next.next_after(moment, 7), Ok(answer.next));
-            assert_eq!(schedule.after(moment, 7), Ok(answer));
+            let result = stepper.after(moment, 7).expect("a step");
+            assert!(result.output.len() > ROOM);
+            assert_eq!(next.next_after(moment, 7), Ok(result.next));
+            assert_eq!(schedule.after(moment, 7), Ok(result));
             let before = stepper.clone();
             assert_eq!((stepper.after(2, 7), stepper.next_after(2, 7)), (Err(Fault::Earlier), Err(Fault::Earlier)));
             assert_eq!((&stepper, &next), (&before, &before));

@@ -1,5 +1,6 @@
-// Command answers steps schedules for tests/tools/test_library.py and tests/million_steps.py, by the words that
-// bindings/c/answers.c names.
+// Command answers steps schedules for tests/tools/test_library.py and tests/million_steps.py.
+//
+// bindings/c/answers.c says what the arguments, the requests and the lines of output are.
 package main
 
 /*
@@ -36,7 +37,7 @@ type stated struct {
 	words []uint64
 }
 
-// first is where bytes lie, or nil if there are none.
+// first returns the address of bytes, or nil if there are none.
 func first(data []byte) *C.uint8_t {
 	if len(data) == 0 {
 		return nil
@@ -44,7 +45,7 @@ func first(data []byte) *C.uint8_t {
 	return (*C.uint8_t)(&data[0])
 }
 
-func refusal(number C.uint32_t, at C.uint64_t) error {
+func errorOf(number C.uint32_t, at C.uint64_t) error {
 	if number <= 1 {
 		return nil
 	}
@@ -53,12 +54,12 @@ func refusal(number C.uint32_t, at C.uint64_t) error {
 
 func newStated(text string) (*stated, error) {
 	data, size, at := []byte(text), C.uint64_t(0), C.uint64_t(0)
-	if err := refusal(C.zs_state_size(first(data), C.size_t(len(data)), &size, &at), at); err != nil {
+	if err := errorOf(C.zs_state_size(first(data), C.size_t(len(data)), &size, &at), at); err != nil {
 		return nil, err
 	}
 	words := make([]uint64, size)
 	number := C.zs_begin(first(data), C.size_t(len(data)), (*C.uint64_t)(&words[0]), C.size_t(size), &at)
-	return &stated{data, words}, refusal(number, at)
+	return &stated{data, words}, errorOf(number, at)
 }
 
 func (it *stated) After(moment, input uint64) (zsched.Answer, error) {
@@ -66,13 +67,13 @@ func (it *stated) After(moment, input uint64) (zsched.Answer, error) {
 	out := make([]byte, room)
 	number := C.zs_step(first(it.text), C.size_t(len(it.text)), (*C.uint64_t)(&it.words[0]), C.size_t(len(it.words)),
 		C.uint64_t(moment), C.uint64_t(input), &reply, first(out), room)
-	if err := refusal(number, reply.at); err != nil {
+	if err := errorOf(number, reply.at); err != nil {
 		return zsched.Answer{}, err
 	}
 	return zsched.Answer{Done: number == 1, Next: uint64(reply.next), Output: string(out[:reply.size]), Visits: uint64(reply.visits)}, nil
 }
 
-// begun is the schedule of a text, which is stepped in this way.
+// begun returns the schedule of a text, which is stepped in this way.
 func begun(way, text string) (follower, error) {
 	switch way {
 	case "state":
@@ -83,7 +84,7 @@ func begun(way, text string) (follower, error) {
 	return zsched.New(text)
 }
 
-// faulty is the word of an error.
+// faulty returns the word of an error.
 func faulty(err error) string {
 	var fault *zsched.Fault
 	if !errors.As(err, &fault) {
@@ -92,7 +93,7 @@ func faulty(err error) string {
 	return fmt.Sprintf("%d,%d", fault.Number, fault.At)
 }
 
-// steps is the line of a request whose moments and inputs are given as words.
+// steps returns a request's line of output. The moments and inputs are given as words.
 func steps(way, text string, words []string) string {
 	schedule, err := begun(way, text)
 	if err != nil {
@@ -105,27 +106,27 @@ func steps(way, text string, words []string) string {
 	for i := 0; i+1 < len(words); i += 2 {
 		moment, _ := strconv.ParseUint(words[i], 10, 64)
 		input, _ := strconv.ParseUint(words[i+1], 10, 64)
-		answer, err := schedule.After(moment, input)
+		result, err := schedule.After(moment, input)
 		if err != nil {
 			return strings.Join(append(said, faulty(err)), " ")
 		}
 		number := 0
-		if answer.Done {
+		if result.Done {
 			number = 1
 		}
-		said = append(said, fmt.Sprintf("%d,%d,%d,%s", number, answer.Next, answer.Visits, answer.Output))
+		said = append(said, fmt.Sprintf("%d,%d,%d,%s", number, result.Next, result.Visits, result.Output))
 	}
 	return strings.Join(said, " ")
 }
 
-// memory is the KiB of memory that the process has.
+// memory returns the resident memory of the process, in KiB.
 func memory() string {
 	status, _ := os.ReadFile("/proc/self/status")
 	_, rest, _ := strings.Cut(string(status), "VmRSS:")
 	return strings.Fields(rest)[0]
 }
 
-// many steps the program of a policy so many times.
+// many steps the program of a policy count times.
 func many(count int, policy string) error {
 	schedule, err := zsched.NewStepper(policy)
 	if err != nil {
@@ -135,11 +136,11 @@ func many(count int, policy string) error {
 	for tenth := 0; tenth < 10; tenth++ {
 		start := time.Now()
 		for i := 0; i < count/10; i++ {
-			answer, err := schedule.After(moment, code)
+			result, err := schedule.After(moment, code)
 			if err != nil {
 				return err
 			}
-			moment = answer.Next
+			moment = result.Next
 		}
 		fmt.Println(time.Since(start).Nanoseconds(), memory())
 	}

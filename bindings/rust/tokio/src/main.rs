@@ -1,4 +1,5 @@
-//! A retry under tokio: a client asks a server on this machine, which is busy at first, and blocks no thread while it waits.
+//! A retry under tokio: a client calls a server on this machine, which is busy at first, and blocks
+//! no thread while it waits.
 use std::future::Future;
 use std::net::SocketAddr;
 use std::time::{Duration, Instant};
@@ -9,7 +10,8 @@ use zsched::{Fault, Stepper};
 const SCHEDULE: &str = "((exponential(20) || spaced(100)) && recurs(5))";
 const BUSY: usize = 3;
 
-/// Tries until there is a value or the schedule is done, and sleeps between two attempts. The outer fault is that of the text.
+/// Retries until there is a value or the schedule is done, and sleeps between two attempts. The
+/// outer fault is that of the text.
 async fn retry<T, E, A: Future<Output = Result<T, E>>>(
     text: &str,
     input_of: impl Fn(&E) -> u64,
@@ -29,7 +31,7 @@ async fn retry<T, E, A: Future<Output = Result<T, E>>>(
     }
 }
 
-/// Turns the first clients away, and answers the next one.
+/// Sends "busy" to the first `BUSY` clients, and "ready" to the next one.
 async fn serve(listener: TcpListener) -> std::io::Result<()> {
     for number in 0..=BUSY {
         let (mut client, _) = listener.accept().await?;
@@ -38,7 +40,7 @@ async fn serve(listener: TcpListener) -> std::io::Result<()> {
     Ok(())
 }
 
-/// What the server answers: its text, or the code 503 where it is busy and 502 where it can't be reached.
+/// Returns the server's text, or the code 503 if it is busy, or 502 if it can't be reached.
 async fn fetch(server: SocketAddr) -> Result<String, u64> {
     let mut text = String::new();
     let mut client = TcpStream::connect(server).await.map_err(|_| 502_u64)?;
@@ -52,13 +54,13 @@ async fn main() -> Result<(), Box<dyn std::error::Error>> {
     let server = listener.local_addr()?;
     let serving = tokio::spawn(serve(listener));
     let (start, mut attempts) = (Instant::now(), 0);
-    let answer = retry(SCHEDULE, |code| *code, || {
+    let text = retry(SCHEDULE, |code| *code, || {
         attempts += 1;
         fetch(server)
     })
     .await?;
-    println!("{answer:?} after {attempts} attempts");
-    assert_eq!((answer.as_deref(), attempts), (Ok("ready"), BUSY + 1));
+    println!("{text:?} after {attempts} attempts");
+    assert_eq!((text.as_deref(), attempts), (Ok("ready"), BUSY + 1));
     assert!(start.elapsed().as_millis() >= 140);
     serving.await??;
     Ok(())
