@@ -15,10 +15,11 @@ import xml.etree.ElementTree
 from unittest import mock
 
 import support
+from commands import run_here
 from measured import measured
 from report_samples import (GREATEST, NO_REPORTS, REPORTS, RETRIED, RUNNING, SUMMARIES, WAITING, long_report,
                             random_report, wide_report)
-from zsched_tools import columns, lines, load, progress
+from zsched_tools import columns, lines, load, progress, report_command
 from zsched_tools import summary as summary_tool
 from zsched_tools.axis import Scale, View
 from zsched_tools.command import Refused
@@ -33,11 +34,16 @@ TOOL = support.TOP / "tools" / "zsched-report"
 FORMS = ["lines", "summary", "svg", "html"]
 
 
-def tool(*words, text=""):
-    """Runs the command: status, standard output, standard error."""
+def process(*words, text=""):
+    """Runs the command in another process: status, standard output, standard error."""
     ended = subprocess.run([sys.executable, TOOL, *words], input=text.encode("latin-1"), capture_output=True,
                            check=False)
     return ended.returncode, ended.stdout.decode(), ended.stderr.decode()
+
+
+def tool(*words, text=""):
+    """Runs the command in this process."""
+    return run_here(report_command.main, TOOL.name, *words, given=text.encode("latin-1"))
 
 
 def known_reports():
@@ -101,9 +107,9 @@ class JsonLines(unittest.TestCase):
         with tempfile.NamedTemporaryFile("w") as file:
             file.write(WAITING)
             file.flush()
-            self.assertEqual(tool("lines", file.name), (0, lines_of(WAITING), ""))
-        self.assertEqual(tool("lines", text=WAITING), (0, lines_of(WAITING), ""))
-        self.assertEqual(tool("from-lines", text=lines_of(WAITING)), (0, WAITING, ""))
+            self.assertEqual(process("lines", file.name), (0, lines_of(WAITING), ""))
+        self.assertEqual(process("lines", text=WAITING), (0, lines_of(WAITING), ""))
+        self.assertEqual(process("from-lines", text=lines_of(WAITING)), (0, WAITING, ""))
 
     def test_other_white_space_and_another_order_of_keys_are_the_same_lines(self):
         others = "".join(json.dumps(json.loads(line), sort_keys=True) + "\n" for line in lines_of(WAITING).splitlines())
@@ -179,7 +185,7 @@ class Refusals(unittest.TestCase):
             file.flush()
             for form in FORMS:
                 for words, text, place in [([file.name], "", file.name), ([], cut, "standard input")]:
-                    status, out, errors = tool(form, *words, text=text)
+                    status, out, errors = process(form, *words, text=text)
                     self.assertEqual((status, errors),
                                      (2, f"zsched-report: {place}: ends after line 12, where an end is due, "
                                          "and has no last line 'polls TOTAL'\n"))
@@ -194,7 +200,7 @@ class Refusals(unittest.TestCase):
 
     def test_a_file_that_is_not_there_ends_with_3(self):
         for words in [*([form, "/nowhere/x"] for form in FORMS), ["join", "/nowhere/x"]]:
-            self.assertEqual(tool(*words), (3, "", "zsched-report: /nowhere/x: No such file or directory\n"))
+            self.assertEqual(process(*words), (3, "", "zsched-report: /nowhere/x: No such file or directory\n"))
 
     def test_a_reader_that_goes_away_ends_it_quietly_but_for_join(self):
         with tempfile.NamedTemporaryFile("w") as file:
@@ -231,7 +237,7 @@ class Refusals(unittest.TestCase):
 
     def test_wrong_words_end_with_2(self):
         for words in [[], ["picture"], ["svg", "a", "b"], ["lines", "--title", "x"], ["join"]]:
-            status, out, errors = tool(*words)
+            status, out, errors = process(*words)
             self.assertEqual((status, out), (2, ""), words)
             self.assertIn("usage: zsched-report", errors)
 
@@ -280,7 +286,7 @@ class Summary(unittest.TestCase):
         self.assertEqual({line.index(" repeat ") for line in told[1:3]}, {told[0].index(" mode ")})
 
     def test_a_report_without_jobs(self):
-        self.assertEqual(tool("summary", text="polls 0\n"), (0, "0 jobs; 0 attempts; 0 polls\n", ""))
+        self.assertEqual(process("summary", text="polls 0\n"), (0, "0 jobs; 0 attempts; 0 polls\n", ""))
 
     def test_an_output_that_is_long_is_cut(self):
         out = "[" + ",".join(["1"] * 500) + "]"
@@ -347,7 +353,7 @@ class Load(unittest.TestCase):
             ["from", "begun", "ok", "err", "running", "waiting"], ["0", "ms", "6", "3", "2", "1", "1"],
             ["2.5", "s", "1", "1", "0", "1", "0"], ["5", "s", "0", "1", "0", "0", "1"], [],
             ["7", "attempts:", "5", "ok,", "2", "err,", "0", "running", "at", "the", "horizon"]]))
-        self.assertEqual(tool("load", text="polls 0\n"), (0, "0 attempts: 0 ok, 0 err, 0 running at the horizon\n", ""))
+        self.assertEqual(process("load", text="polls 0\n"), (0, "0 attempts: 0 ok, 0 err, 0 running at the horizon\n", ""))
 
     def test_too_many_steps_are_refused(self):
         self.assertEqual(tool("load", "--every", "1ms", text=long_report(20_000)),
@@ -799,7 +805,7 @@ class Pictures(unittest.TestCase):
 
     def test_the_command_writes_picture_and_page(self):
         for form, make in [("svg", draw), ("html", page)]:
-            status, out, errors = tool(form, "--title", "T", "--job", "beat", text=WAITING)
+            status, out, errors = process(form, "--title", "T", "--job", "beat", text=WAITING)
             self.assertEqual((status, errors), (0, ""))
             made = "".join(make(rows_of(io.StringIO(WAITING), ["beat"]), "T"))
             self.assertEqual(out.replace("\n", ""), made.replace("\n", ""))
@@ -836,7 +842,7 @@ class Join(unittest.TestCase):
     def test_jobs_stand_in_order_and_polls_are_added(self):
         parts = [self.part("a", RETRIED), self.part("b", WAITING), self.part("c", "polls 0\n")]
         whole = RETRIED.removesuffix("polls 3\n") + WAITING.removesuffix("polls 9\n") + "polls 12\n"
-        self.assertEqual(tool("join", *parts), (0, whole, ""))
+        self.assertEqual(process("join", *parts), (0, whole, ""))
         self.assertEqual(tool("join", parts[0]), (0, RETRIED, ""))
         self.assertEqual(tool("lines", text=whole)[0], 0)
 
@@ -880,7 +886,8 @@ class Join(unittest.TestCase):
             self.assertTrue(said.startswith("foreign: line 11 has another horizon"), said)
 
     def test_what_is_no_file_is_refused(self):
-        self.assertEqual(self.refused("/dev/null"), "/dev/null: is no regular file, and a part is read twice")
+        said = "zsched-report: /dev/null: is no regular file, and a part is read twice\n"
+        self.assertEqual(process("join", "/dev/null"), (2, "", said))
 
     def test_a_missing_part_is_told_by_name_and_nothing_is_written(self):
         missing = os.path.join(self.folder.name, "missing")
