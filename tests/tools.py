@@ -22,7 +22,8 @@ sys.path[:0] = [str(HERE), str(HERE / "tools"), str(HERE.parent / "tools")]
 # Files that call the library.
 OVER_LIBRARY = ["test_library", "test_library_steps", "test_library_install"]
 # Those that take longest begin first.
-LONGEST = ["test_page", "test_report", "test_explain", "test_plan", "test_package", "test_scale"]
+LONGEST = ["test_explain", "test_page", "test_benches", "test_tools", "test_report", "test_population", "test_package",
+           "test_plan", "test_reference"]
 LAST = re.compile(r"(\d+) passed, (\d+) failed")
 IMPORTED = re.compile(r"^(?:import|from) ([\w.]+)", re.M)
 
