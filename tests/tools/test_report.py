@@ -489,11 +489,51 @@ class Fast(unittest.TestCase):
             rows.append([step * every, begun, ok, err, running, open_ - running])
         return jobs, rows
 
+    def repeated(self, rng, text, jobs):
+        """A report of so many jobs, each with the lines of one of a report's."""
+        bodies = [part.partition(" ")[2] for part in ("\n" + text[:text.rindex("polls ", 0, -1)]).split("\njob ")[1:]]
+        bodies = [body.rstrip("\n") + "\n" for body in bodies]
+        made = [f"job r{number} {rng.choice(bodies)}" for number in range(jobs)]
+        polls = sum(int(it) for it in re.findall(r"^end .* polls (\d+)$", "".join(made), re.M))
+        return "".join(made) + f"polls {polls}\n"
+
+    def test_jobs_with_equal_lines_are_read_once(self):
+        rng = random.Random(3)
+        for text in [RETRIED, RUNNING, WAITING, REPORTS["never"], random_report(rng, 5)]:
+            equal = self.repeated(rng, text, 50)
+            found = []
+            with mock.patch.object(columns, "_shown_slowly") as slow:
+                for _ in columns.shown(io.BytesIO(equal.encode()), lambda block: found.append(len(block.texts.modes))):
+                    pass
+            slow.assert_not_called()
+            # The last one has the total behind it.
+            self.assertLessEqual(sum(found), text.count("job ") + 1)
+            self.assertEqual(self.lines_of_pieces(equal), self.lines_of_reader(equal))
+
+    def test_changes_of_equal_jobs(self):
+        rng, refused = random.Random(9), 0
+        with mock.patch.object(columns, "ALONE", 10**9):
+            for _ in range(600):
+                text = self.repeated(rng, rng.choice([RETRIED, WAITING, REPORTS["never"], RUNNING]), 5).splitlines(keepends=True)
+                line = rng.choice([*text, "polls 3\n", "job x retry\n"])
+                what = rng.randrange(4)
+                if what < 3:
+                    # A line is left out, said once more somewhere, or both after one job of each kind.
+                    places = [place for place, it in enumerate(text) if it == line] or [rng.randrange(len(text))]
+                    for place in reversed(places[:rng.choice([1, 9])]):
+                        text[place:place + 1] = [[], [line, line], [text[place], "polls 3\n"]][what]
+                with mock.patch.object(columns, "PIECE", rng.choice([20, 200, 10**6])):
+                    found = self.lines_of_pieces("".join(text))
+                self.assertEqual(found, self.lines_of_reader("".join(text)))
+                refused += found[1] is not None
+        self.assertTrue(300 < refused < 500, refused)
+
     def test_summary_and_load_are_those_of_the_records(self):
         rng = random.Random(11)
         with mock.patch.object(columns, "ALONE", 10**9):
-            for length in [60, 500, 500, 10**6, 10**6, 10**6]:
-                text = random_report(rng, 40)
+            for length, kinds in [(60, 40), (60, 9), (500, 40), (500, 40), *[(10**6, 40)] * 3, (10**6, 9), (10**6, 4)]:
+                text = random_report(rng, kinds)
+                text = text if kinds == 40 else self.repeated(rng, text, 40)
                 jobs, rows = self.figures_of_reader(text, 100)
                 with mock.patch.object(columns, "PIECE", length), mock.patch.object(columns, "_shown_slowly") as slow:
                     out = []
