@@ -94,7 +94,8 @@ def run_over_library(names, folder):
 
 def compile_sources(folder):
     """Compiles into a folder what the tests and the commands import, which each process would else compile when it starts.
-    A Python that looks there doesn't find the library that it was installed with as compiled, so that goes there too."""
+    A Python that looks there doesn't look for its own library's compiled files, so these go there too: a start of
+    zsched-report takes 0.13 s of processor time in place of 0.5."""
     os.environ["PYTHONPYCACHEPREFIX"] = sys.pycache_prefix = folder
     sources = [HERE, HERE.parent / "tools"]
     for place in sources:
