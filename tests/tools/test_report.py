@@ -514,7 +514,7 @@ class Fast(unittest.TestCase):
         rng, refused = random.Random(9), 0
         with mock.patch.object(columns, "ALONE", 10**9):
             for _ in range(600):
-                text = self.repeated(rng, rng.choice([RETRIED, WAITING, REPORTS["never"], RUNNING]), 5).splitlines(keepends=True)
+                text = self.repeated(rng, rng.choice([RETRIED, WAITING, REPORTS["never"], RUNNING]), 8).splitlines(keepends=True)
                 line = rng.choice([*text, "polls 3\n", "job x retry\n"])
                 what = rng.randrange(4)
                 if what < 3:

@@ -1,8 +1,9 @@
 """A report read fast: pieces of its text, in which the attempts of all jobs become columns of numbers.
 
-Jobs whose lines after the name are equal are read once. One pattern matches the different ones of a whole piece, and what
-isn't shown isn't parsed. It accepts nothing that `report.Reader` rejects. A piece in which it is unsure (a fault, or a number of 20 digits) is read line by line by a
-Reader, which decides, and names the fault's line. Pieces of a long report are read by several processes."""
+Of jobs whose lines after the name are equal one is read, if that leaves at most half of them. One pattern matches the
+jobs of a whole piece, and what isn't shown isn't parsed. It accepts nothing that `report.Reader` rejects. A piece in
+which it is unsure (a fault, or a number of 20 digits) is read line by line by a Reader, which decides, and names the
+fault's line. Pieces of a long report are read by several processes."""
 import collections
 import io
 import itertools
@@ -108,7 +109,8 @@ class Block:
 
     def __init__(self, names, places, texts, before):
         self.names, self.places, self.texts, self.before = names, places, texts, before
-        self.times = _times(places) if self.is_shared() else [1] * len(places)
+        # Places rise in the order in which their first jobs stand.
+        self.times = list(collections.Counter(places).values()) if self.is_shared() else [1] * len(places)
         self.begins, self.ends = [list(map(int, texts.words[place::_WORDS])) for place in (1, 2)]
         self.edges = list(itertools.accumulate(texts.counts, initial=0))
         self.last_begins, self.last_ends, self.ats = map(_numbers_of, (texts.begins, texts.ends, texts.ats))
@@ -182,10 +184,12 @@ class Block:
         """Pairs of a number and the block of a job from each place that has so many jobs."""
         if not self.is_shared():
             return [(1, self)]
-        found = {}
-        for place, job in dict(zip(reversed(self.places), range(len(self.places) - 1, -1, -1))).items():
+        firsts, found = {}, {}
+        for job, place in enumerate(self.places):
+            firsts.setdefault(place, job)
+        for place, job in firsts.items():
             found.setdefault(self.times[place], []).append(job)
-        return [(times, self.of(sorted(jobs))) for times, jobs in found.items()]
+        return [(times, self.of(jobs)) for times, jobs in found.items()]
 
     def attempts(self, job):
         """A job's attempts in this piece as objects."""
@@ -249,11 +253,6 @@ def _open_after(text, cut, going):
     return Open(*name, *map(int, before.groups()))
 
 
-def _times(places):
-    """The number of jobs at each place."""
-    return list(collections.Counter(sorted(places)).values())
-
-
 def _numbers_of(texts):
     """The numbers of texts, of which an empty one is None."""
     return list(map(int, texts)) if all(texts) else [int(text) if text else None for text in texts]
@@ -266,7 +265,7 @@ def long(out):
 
 def _parted(piece):
     """The names of a piece's jobs, for each the place of its lines among the different ones, and these as a text without
-    names. In a piece that begins in the middle of a job all jobs are taken as different."""
+    names. If over half of the jobs differ, or the piece begins in the middle of a job, all are taken as different."""
     head = f"job {piece.open.name} {piece.open.mode}\n" if piece.open is not None else ""
     text = head + piece.text.decode("latin-1")
     if not text.startswith("job "):
@@ -275,7 +274,7 @@ def _parted(piece):
     if text[-1] != "\n" or not _NAMES.fullmatch(" ".join([*names, ""])):
         raise Unsure
     found = dict.fromkeys(bodies) if piece.open is None else bodies
-    if len(found) == len(bodies):
+    if len(found) > len(bodies) // 2:
         return names, range(len(bodies)), "job " + "\njob ".join(bodies) + "\n"
     place_of = {body: place for place, body in enumerate(found)}
     return names, list(map(place_of.__getitem__, bodies)), "job " + "\njob ".join(found) + "\n"
