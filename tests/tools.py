@@ -22,8 +22,10 @@ sys.path[:0] = [str(HERE), str(HERE / "tools"), str(HERE.parent / "tools")]
 # Files that call the library.
 OVER_LIBRARY = ["test_library", "test_library_steps", "test_library_install"]
 # Those that take longest begin first.
-LONGEST = ["test_page", "test_report", "test_explain", "test_plan", "test_package", "test_scale"]
+LONGEST = ["test_explain", "test_page", "test_benches", "test_tools", "test_report", "test_population", "test_package",
+           "test_plan", "test_reference"]
 LAST = re.compile(r"(\d+) passed, (\d+) failed")
+IMPORTED = re.compile(r"^(?:import|from) ([\w.]+)", re.M)
 
 
 class Counted(unittest.TextTestResult):
@@ -90,11 +92,23 @@ def run_over_library(names, folder):
         return list(pool.map(lambda name: run_apart(name, **variables), names))
 
 
+def compile_sources(folder):
+    """Compiles into a folder what the tests and the commands import, which each process would else compile when it starts.
+    A Python that looks there doesn't look for its own library's compiled files, so these go there too: a start of
+    zsched-report takes 0.13 s of processor time in place of 0.5."""
+    os.environ["PYTHONPYCACHEPREFIX"] = sys.pycache_prefix = folder
+    sources = [HERE, HERE.parent / "tools"]
+    for place in sources:
+        compileall.compile_dir(place, quiet=1)
+    found = {name for place in sources for file in place.rglob("*.py") for name in IMPORTED.findall(file.read_text())}
+    known = sorted(name for name in found if name.partition(".")[0] in sys.stdlib_module_names)
+    subprocess.run([sys.executable, "-c", f"import {', '.join(known)}"], check=True,
+                   env={**os.environ, "PYTHONDONTWRITEBYTECODE": ""})
+
+
 def run_all(files, room):
     """Runs files side by side, those over the library once it is built; returns the counts."""
-    # Each command compiles its sources when it starts, unless they are compiled here.
-    os.environ["PYTHONPYCACHEPREFIX"] = sys.pycache_prefix = f"{room}/compiled"
-    compileall.compile_dir(HERE.parent / "tools", quiet=1)
+    compile_sources(f"{room}/compiled")
     order = {name: place for place, name in enumerate(LONGEST)}
     alone = sorted(set(files) - set(OVER_LIBRARY), key=lambda name: (order.get(name, len(order)), name))
     over = [name for name in OVER_LIBRARY if name in files]

@@ -1,4 +1,5 @@
 """What the tests of commands share: a folder, a run in this process, and the colours on a terminal."""
+import gc
 import io
 import os
 import pathlib
@@ -27,6 +28,8 @@ def run_here(main, *words, given=b""):
             status = main()
         except SystemExit as ended:
             status = ended.code
+        finally:
+            gc.enable()
     streams["stdout"].flush()
     return status, streams["stdout"].buffer.getvalue().decode(), streams["stderr"].getvalue()
 

@@ -1,6 +1,7 @@
 """docs/play.html: its evaluator beside tests/reference.py and what it makes of the fields, by node; and the page in a
 real browser, chromium. What isn't installed is skipped."""
 import collections
+import functools
 import json
 import pathlib
 import re
@@ -103,11 +104,26 @@ def page_answers(plans):
         feeder.join()
 
 
+@functools.cache
+def calling():
+    """The scripts of the page for `calls`, which all tests share."""
+    child = started("calls")
+    unittest.addModuleCleanup(child.communicate)
+    return child
+
+
 def called(*calls):
     """What functions of the page give."""
-    with started("calls") as child:
-        output, _ = child.communicate("".join(f"{json.dumps(call)}\n" for call in calls).encode())
-    return [json.loads(line) for line in output.splitlines()]
+    child, text = calling(), "".join(f"{json.dumps(call)}\n" for call in calls).encode()
+
+    def feed():
+        child.stdin.write(text)
+        child.stdin.flush()
+    feeder = threading.Thread(target=feed)
+    feeder.start()
+    found = [json.loads(child.stdout.readline()) for _ in calls]
+    feeder.join()
+    return found
 
 
 def question(**changed):

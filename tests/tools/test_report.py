@@ -15,10 +15,11 @@ import xml.etree.ElementTree
 from unittest import mock
 
 import support
+from commands import run_here
 from measured import measured
 from report_samples import (GREATEST, NO_REPORTS, REPORTS, RETRIED, RUNNING, SUMMARIES, WAITING, long_report,
                             random_report, wide_report)
-from zsched_tools import columns, lines, load, progress
+from zsched_tools import columns, lines, load, progress, report_command
 from zsched_tools import summary as summary_tool
 from zsched_tools.axis import Scale, View
 from zsched_tools.command import Refused
@@ -33,11 +34,16 @@ TOOL = support.TOP / "tools" / "zsched-report"
 FORMS = ["lines", "summary", "svg", "html"]
 
 
-def tool(*words, text=""):
-    """Runs the command: status, standard output, standard error."""
+def process(*words, text=""):
+    """Runs the command in another process: status, standard output, standard error."""
     ended = subprocess.run([sys.executable, TOOL, *words], input=text.encode("latin-1"), capture_output=True,
                            check=False)
     return ended.returncode, ended.stdout.decode(), ended.stderr.decode()
+
+
+def tool(*words, text=""):
+    """Runs the command in this process."""
+    return run_here(report_command.main, TOOL.name, *words, given=text.encode("latin-1"))
 
 
 def known_reports():
@@ -101,9 +107,9 @@ class JsonLines(unittest.TestCase):
         with tempfile.NamedTemporaryFile("w") as file:
             file.write(WAITING)
             file.flush()
-            self.assertEqual(tool("lines", file.name), (0, lines_of(WAITING), ""))
-        self.assertEqual(tool("lines", text=WAITING), (0, lines_of(WAITING), ""))
-        self.assertEqual(tool("from-lines", text=lines_of(WAITING)), (0, WAITING, ""))
+            self.assertEqual(process("lines", file.name), (0, lines_of(WAITING), ""))
+        self.assertEqual(process("lines", text=WAITING), (0, lines_of(WAITING), ""))
+        self.assertEqual(process("from-lines", text=lines_of(WAITING)), (0, WAITING, ""))
 
     def test_other_white_space_and_another_order_of_keys_are_the_same_lines(self):
         others = "".join(json.dumps(json.loads(line), sort_keys=True) + "\n" for line in lines_of(WAITING).splitlines())
@@ -179,7 +185,7 @@ class Refusals(unittest.TestCase):
             file.flush()
             for form in FORMS:
                 for words, text, place in [([file.name], "", file.name), ([], cut, "standard input")]:
-                    status, out, errors = tool(form, *words, text=text)
+                    status, out, errors = process(form, *words, text=text)
                     self.assertEqual((status, errors),
                                      (2, f"zsched-report: {place}: ends after line 12, where an end is due, "
                                          "and has no last line 'polls TOTAL'\n"))
@@ -194,7 +200,7 @@ class Refusals(unittest.TestCase):
 
     def test_a_file_that_is_not_there_ends_with_3(self):
         for words in [*([form, "/nowhere/x"] for form in FORMS), ["join", "/nowhere/x"]]:
-            self.assertEqual(tool(*words), (3, "", "zsched-report: /nowhere/x: No such file or directory\n"))
+            self.assertEqual(process(*words), (3, "", "zsched-report: /nowhere/x: No such file or directory\n"))
 
     def test_a_reader_that_goes_away_ends_it_quietly_but_for_join(self):
         with tempfile.NamedTemporaryFile("w") as file:
@@ -231,7 +237,7 @@ class Refusals(unittest.TestCase):
 
     def test_wrong_words_end_with_2(self):
         for words in [[], ["picture"], ["svg", "a", "b"], ["lines", "--title", "x"], ["join"]]:
-            status, out, errors = tool(*words)
+            status, out, errors = process(*words)
             self.assertEqual((status, out), (2, ""), words)
             self.assertIn("usage: zsched-report", errors)
 
@@ -280,7 +286,7 @@ class Summary(unittest.TestCase):
         self.assertEqual({line.index(" repeat ") for line in told[1:3]}, {told[0].index(" mode ")})
 
     def test_a_report_without_jobs(self):
-        self.assertEqual(tool("summary", text="polls 0\n"), (0, "0 jobs; 0 attempts; 0 polls\n", ""))
+        self.assertEqual(process("summary", text="polls 0\n"), (0, "0 jobs; 0 attempts; 0 polls\n", ""))
 
     def test_an_output_that_is_long_is_cut(self):
         out = "[" + ",".join(["1"] * 500) + "]"
@@ -347,7 +353,7 @@ class Load(unittest.TestCase):
             ["from", "begun", "ok", "err", "running", "waiting"], ["0", "ms", "6", "3", "2", "1", "1"],
             ["2.5", "s", "1", "1", "0", "1", "0"], ["5", "s", "0", "1", "0", "0", "1"], [],
             ["7", "attempts:", "5", "ok,", "2", "err,", "0", "running", "at", "the", "horizon"]]))
-        self.assertEqual(tool("load", text="polls 0\n"), (0, "0 attempts: 0 ok, 0 err, 0 running at the horizon\n", ""))
+        self.assertEqual(process("load", text="polls 0\n"), (0, "0 attempts: 0 ok, 0 err, 0 running at the horizon\n", ""))
 
     def test_too_many_steps_are_refused(self):
         self.assertEqual(tool("load", "--every", "1ms", text=long_report(20_000)),
@@ -483,11 +489,51 @@ class Fast(unittest.TestCase):
             rows.append([step * every, begun, ok, err, running, open_ - running])
         return jobs, rows
 
+    def repeated(self, rng, text, jobs):
+        """A report of so many jobs, each with the lines of one of a report's."""
+        bodies = [part.partition(" ")[2] for part in ("\n" + text[:text.rindex("polls ", 0, -1)]).split("\njob ")[1:]]
+        bodies = [body.rstrip("\n") + "\n" for body in bodies]
+        made = [f"job r{number} {rng.choice(bodies)}" for number in range(jobs)]
+        polls = sum(int(it) for it in re.findall(r"^end .* polls (\d+)$", "".join(made), re.M))
+        return "".join(made) + f"polls {polls}\n"
+
+    def test_jobs_with_equal_lines_are_read_once(self):
+        rng = random.Random(3)
+        for text in [RETRIED, RUNNING, WAITING, REPORTS["never"], random_report(rng, 5)]:
+            equal = self.repeated(rng, text, 50)
+            found = []
+            with mock.patch.object(columns, "_shown_slowly") as slow:
+                for _ in columns.shown(io.BytesIO(equal.encode()), lambda block: found.append(len(block.texts.modes))):
+                    pass
+            slow.assert_not_called()
+            # The last one has the total behind it.
+            self.assertLessEqual(sum(found), text.count("job ") + 1)
+            self.assertEqual(self.lines_of_pieces(equal), self.lines_of_reader(equal))
+
+    def test_changes_of_equal_jobs(self):
+        rng, refused = random.Random(9), 0
+        with mock.patch.object(columns, "ALONE", 10**9):
+            for _ in range(600):
+                text = self.repeated(rng, rng.choice([RETRIED, WAITING, REPORTS["never"], RUNNING]), 8).splitlines(keepends=True)
+                line = rng.choice([*text, "polls 3\n", "job x retry\n"])
+                what = rng.randrange(4)
+                if what < 3:
+                    # A line is left out, said once more somewhere, or both after one job of each kind.
+                    places = [place for place, it in enumerate(text) if it == line] or [rng.randrange(len(text))]
+                    for place in reversed(places[:rng.choice([1, 9])]):
+                        text[place:place + 1] = [[], [line, line], [text[place], "polls 3\n"]][what]
+                with mock.patch.object(columns, "PIECE", rng.choice([20, 200, 10**6])):
+                    found = self.lines_of_pieces("".join(text))
+                self.assertEqual(found, self.lines_of_reader("".join(text)))
+                refused += found[1] is not None
+        self.assertTrue(300 < refused < 500, refused)
+
     def test_summary_and_load_are_those_of_the_records(self):
         rng = random.Random(11)
         with mock.patch.object(columns, "ALONE", 10**9):
-            for length in [60, 500, 500, 10**6, 10**6, 10**6]:
-                text = random_report(rng, 40)
+            for length, kinds in [(60, 40), (60, 9), (500, 40), (500, 40), *[(10**6, 40)] * 3, (10**6, 9), (10**6, 4)]:
+                text = random_report(rng, kinds)
+                text = text if kinds == 40 else self.repeated(rng, text, 40)
                 jobs, rows = self.figures_of_reader(text, 100)
                 with mock.patch.object(columns, "PIECE", length), mock.patch.object(columns, "_shown_slowly") as slow:
                     out = []
@@ -799,7 +845,7 @@ class Pictures(unittest.TestCase):
 
     def test_the_command_writes_picture_and_page(self):
         for form, make in [("svg", draw), ("html", page)]:
-            status, out, errors = tool(form, "--title", "T", "--job", "beat", text=WAITING)
+            status, out, errors = process(form, "--title", "T", "--job", "beat", text=WAITING)
             self.assertEqual((status, errors), (0, ""))
             made = "".join(make(rows_of(io.StringIO(WAITING), ["beat"]), "T"))
             self.assertEqual(out.replace("\n", ""), made.replace("\n", ""))
@@ -836,7 +882,7 @@ class Join(unittest.TestCase):
     def test_jobs_stand_in_order_and_polls_are_added(self):
         parts = [self.part("a", RETRIED), self.part("b", WAITING), self.part("c", "polls 0\n")]
         whole = RETRIED.removesuffix("polls 3\n") + WAITING.removesuffix("polls 9\n") + "polls 12\n"
-        self.assertEqual(tool("join", *parts), (0, whole, ""))
+        self.assertEqual(process("join", *parts), (0, whole, ""))
         self.assertEqual(tool("join", parts[0]), (0, RETRIED, ""))
         self.assertEqual(tool("lines", text=whole)[0], 0)
 
@@ -880,7 +926,8 @@ class Join(unittest.TestCase):
             self.assertTrue(said.startswith("foreign: line 11 has another horizon"), said)
 
     def test_what_is_no_file_is_refused(self):
-        self.assertEqual(self.refused("/dev/null"), "/dev/null: is no regular file, and a part is read twice")
+        said = "zsched-report: /dev/null: is no regular file, and a part is read twice\n"
+        self.assertEqual(process("join", "/dev/null"), (2, "", said))
 
     def test_a_missing_part_is_told_by_name_and_nothing_is_written(self):
         missing = os.path.join(self.folder.name, "missing")

@@ -1,8 +1,9 @@
 """A report read fast: pieces of its text, in which the attempts of all jobs become columns of numbers.
 
-One pattern matches the jobs of a whole piece, and what isn't shown isn't parsed. It accepts nothing that
-`report.Reader` rejects. A piece in which it is unsure (a fault, or a number of 20 digits) is read line by line by a
-Reader, which decides, and names the fault's line. Pieces of a long report are read by several processes."""
+Of jobs whose lines after the name are equal one is read, if that leaves at most half of them. One pattern matches the
+jobs of a whole piece, and what isn't shown isn't parsed. It accepts nothing that `report.Reader` rejects. A piece in
+which it is unsure (a fault, or a number of 20 digits) is read line by line by a Reader, which decides, and names the
+fault's line. Pieces of a long report are read by several processes."""
 import collections
 import io
 import itertools
@@ -22,7 +23,7 @@ MOST_OUTPUTS = 2**16
 
 _NUMBER = "(?:0|[1-9][0-9]{0,18}+)"
 _OUTPUT = "(?:(?>" + r"[0-9(),\[\]]++|Left(?=\()|Right(?=\()" + "))++"
-_NAME = r"([A-Za-z0-9._-]{1,64}+)"
+_LETTER = "[A-Za-z0-9._-]"
 _LAST = maybe(rf"attempt ({_NUMBER}) ({_NUMBER})\.\.(?:({_NUMBER}) (ok|err) ({_NUMBER})\n"
               + maybe(rf"step ({_NUMBER}) out ({_OUTPUT}) done\n") + r"| running\n)")
 _END = rf"end (succeeded|failed|finished|unfinished)(?: ({_OUTPUT}))? at ({_NUMBER}) polls ({_NUMBER})\n"
@@ -36,10 +37,11 @@ def _goes_on(mode):
 
 
 _RUNS = "|".join(rf"(?<={mode}\n){run_of(_goes_on(mode))}" for mode in ASKED)
-# A job, as far as it is in the piece; or else all that remains of the piece.
-_JOB = re.compile(rf"job {_NAME} (retry|repeat)\n({_RUNS})" + maybe(_LAST + _END) + r"|([\s\S]+)")
+# A job without its name, as far as it is in the piece; or else all that remains of the piece.
+_JOB = re.compile(rf"job (retry|repeat)\n({_RUNS})" + maybe(_LAST + _END) + r"|([\s\S]+)")
+_NAMES = re.compile(run_of(rf"{_LETTER}{{1,64}}+ "))
 _TOTAL = re.compile(r"polls (0|[1-9][0-9]*+)\n")
-_HEAD = re.compile(rf"job {_NAME} (retry|repeat)\n".encode())
+_HEAD = re.compile(rf"job ({_LETTER}{{1,64}}+) (retry|repeat)\n".encode())
 _BEFORE = re.compile(rf"attempt ({_NUMBER}) {_NUMBER}\.\.({_NUMBER}) (?:ok|err) {_NUMBER}\n"
                      rf"step {_NUMBER} out {_OUTPUT} next ({_NUMBER})\n".encode())
 _SHORT_OUTPUTS = re.compile(run_of(rf"(?:{_NUMBER}|\({_NUMBER},{_NUMBER}\))\n"))
@@ -75,10 +77,9 @@ class Piece(NamedTuple):
 
 
 class Texts(NamedTuple):
-    """The words of a piece. `words` has seven for each attempt after which the schedule continues, of all jobs: those
-    of WORDS. The other columns have one a job: the number of such attempts, then the words of the attempt after which
-    it doesn't continue and of the ending, which are empty if there is none."""
-    names: tuple
+    """The words of the different jobs of a piece. `words` has seven for each attempt after which the schedule continues, of
+    all of them: those of WORDS. The other columns have one a job: the number of such attempts, then the words of the
+    attempt after which it doesn't continue and of the ending, which are empty if there is none."""
     modes: tuple
     counts: list
     words: list
@@ -97,15 +98,19 @@ class Texts(NamedTuple):
 
 
 class Block:
-    """The jobs of a piece in columns of numbers. `begins`, `ends` and `waits` are those of the attempts after which the
-    schedule continues, job after job; those of job j are at edges[j] up to edges[j + 1]. A wait is the time up to the
-    job's next attempt; without one, up to the horizon, or 0 if the job goes on in the next piece. `last_begins` and
-    `last_ends` are those of the attempt after which it doesn't continue; None if there is none, or if it runs.
-    `first_begins` are those of the jobs' first attempts in this piece, or None.
+    """The jobs of a piece: `names`, and for each job the place of its lines in the columns, which have each different job
+    once. `times` has the number of jobs at each place.
+    `begins`, `ends` and `waits` are those of the attempts after which the schedule continues, place after place; those of
+    place j are at edges[j] up to edges[j + 1]. A wait is the time up to the job's next attempt; without one, up to the
+    horizon, or 0 if the job goes on in the next piece. `last_begins` and `last_ends` are those of the attempt after which
+    it doesn't continue; None if there is none, or if it runs. `first_begins` are those of the jobs' first attempts in this
+    piece, or None.
     The first job had the attempts up to `before.number` in earlier pieces; `lead` is the wait after these."""
 
-    def __init__(self, texts, before):
-        self.texts, self.before = texts, before
+    def __init__(self, names, places, texts, before):
+        self.names, self.places, self.texts, self.before = names, places, texts, before
+        # Places rise in the order in which their first jobs stand.
+        self.times = list(collections.Counter(places).values()) if self.is_shared() else [1] * len(places)
         self.begins, self.ends = [list(map(int, texts.words[place::_WORDS])) for place in (1, 2)]
         self.edges = list(itertools.accumulate(texts.counts, initial=0))
         self.last_begins, self.last_ends, self.ats = map(_numbers_of, (texts.begins, texts.ends, texts.ats))
@@ -128,14 +133,14 @@ class Block:
 
     def _lead(self):
         """The wait between the attempts of the first job in earlier pieces and what follows; None if there is none."""
-        if self.before.end is None or not self.texts.names:
+        if self.before.end is None or not self.names:
             return None
         found = [moment for moment in [self.first_begins[0], self.ats[0]] if moment is not None]
         return found[0] - self.before.end if found else None
 
     def polls(self):
-        """For each job the number of moments at which its attempts began or ended in this piece."""
-        texts, tails = self.texts, {}
+        """For each place the number of moments at which the attempts began or ended in this piece."""
+        texts = self.texts
         found = [2 * count + (begin != "") + (end != "")
                  for count, begin, end in zip(texts.counts, texts.begins, texts.ends)]
         if 0 in self.waits:
@@ -150,35 +155,56 @@ class Block:
 
     def ending(self, job):
         """A job's ending, or None if it goes on."""
-        texts = self.texts
-        how, result = texts.hows[job], texts.results[job]
+        texts, place = self.texts, self.places[job]
+        how, result = texts.hows[place], texts.results[place]
         if not how:
             return None
         has_value = how in ("succeeded", "failed")
-        return Ending(how, int(result) if has_value else None, result if how == "finished" else None, self.ats[job],
-                      int(texts.polls[job]))
+        return Ending(how, int(result) if has_value else None, result if how == "finished" else None, self.ats[place],
+                      int(texts.polls[place]))
 
     def of(self, jobs):
-        """The block of some of the jobs, by their numbers in order."""
-        texts, edges = self.texts, self.edges
-        words = itertools.chain.from_iterable(texts.words[_WORDS * edges[job]:_WORDS * edges[job + 1]] for job in jobs)
-        columns = {name: [getattr(texts, name)[job] for job in jobs]
+        """The block of some of the jobs, by their numbers in order, each at a place of its own."""
+        texts, edges, places = self.texts, self.edges, [self.places[job] for job in jobs]
+        words = itertools.chain.from_iterable(texts.words[_WORDS * edges[it]:_WORDS * edges[it + 1]] for it in places)
+        columns = {name: [getattr(texts, name)[it] for it in places]
                    for name in Texts._fields if name not in ("words", "total")}
-        return Block(Texts(words=list(words), total=texts.total, **columns), self.before if 0 in jobs else Open("", ""))
+        return Block([self.names[job] for job in jobs], range(len(jobs)),
+                     Texts(words=list(words), total=texts.total, **columns), self.before if 0 in jobs else Open("", ""))
+
+    def is_shared(self):
+        """Whether there are jobs with equal lines."""
+        return len(self.places) > len(self.texts.modes)
+
+    def is_last_alone(self):
+        """Whether no job but the last one has its lines at the last place."""
+        return not self.places or self.places[-1] == len(self.times) - 1 and self.times[-1] == 1
+
+    def groups(self):
+        """Pairs of a number and the block of a job from each place that has so many jobs."""
+        if not self.is_shared():
+            return [(1, self)]
+        firsts, found = {}, {}
+        for job, place in enumerate(self.places):
+            firsts.setdefault(place, job)
+        for place, job in firsts.items():
+            found.setdefault(self.times[place], []).append(job)
+        return [(times, self.of(jobs)) for times, jobs in found.items()]
 
     def attempts(self, job):
         """A job's attempts in this piece as objects."""
-        texts, first, edge = self.texts, self.edges[job], self.edges[job + 1]
-        words, asked = texts.words[_WORDS * first:_WORDS * edge], ASKED[texts.modes[job]]
+        place = self.places[job]
+        texts, first, edge = self.texts, self.edges[place], self.edges[place + 1]
+        words, asked = texts.words[_WORDS * first:_WORDS * edge], ASKED[texts.modes[place]]
         waits = [self.lead if job == 0 else None, *self.waits[first:edge]]
         found = [Attempt(int(number), begin, end, asked, int(value), waited, long(out), int(following))
                  for number, begin, end, value, waited, out, following
                  in zip(words[0::_WORDS], self.begins[first:edge], self.ends[first:edge], words[3::_WORDS], waits,
                         words[5::_WORDS], words[6::_WORDS])]
-        if texts.numbers[job]:
-            value, out = texts.values[job], texts.outs[job]
-            found.append(Attempt(int(texts.numbers[job]), self.last_begins[job], self.last_ends[job],
-                                 texts.outcomes[job] or "running", int(value) if value else None, waits[-1],
+        if texts.numbers[place]:
+            value, out = texts.values[place], texts.outs[place]
+            found.append(Attempt(int(texts.numbers[place]), self.last_begins[place], self.last_ends[place],
+                                 texts.outcomes[place] or "running", int(value) if value else None, waits[-1],
                                  out or None))
         return found
 
@@ -237,20 +263,36 @@ def long(out):
     return out.replace("L(", "Left(").replace("R(", "Right(")
 
 
-def _texts(piece):
-    """The words of a piece, of which the form of each line is right."""
+def _parted(piece):
+    """The names of a piece's jobs, for each the place of its lines among the different ones, and these as a text without
+    names. If over half of the jobs differ, or the piece begins in the middle of a job, all are taken as different."""
     head = f"job {piece.open.name} {piece.open.mode}\n" if piece.open is not None else ""
-    found = _JOB.findall(head + piece.text.decode("latin-1"))
+    text = head + piece.text.decode("latin-1")
+    if not text.startswith("job "):
+        return (), (), text
+    names, _, bodies = zip(*[part.partition(" ") for part in text[4:-1].split("\njob ")])
+    if text[-1] != "\n" or not _NAMES.fullmatch(" ".join([*names, ""])):
+        raise Unsure
+    found = dict.fromkeys(bodies) if piece.open is None else bodies
+    if len(found) > len(bodies) // 2:
+        return names, range(len(bodies)), "job " + "\njob ".join(bodies) + "\n"
+    place_of = {body: place for place, body in enumerate(found)}
+    return names, list(map(place_of.__getitem__, bodies)), "job " + "\njob ".join(found) + "\n"
+
+
+def _texts(text):
+    """The words of different jobs, of which the form of each line is right."""
+    found = _JOB.findall(text)
     total = None
     if found and found[-1][-1]:
         match = _TOTAL.fullmatch(found.pop()[-1])
         if match is None:
             raise Unsure
         total = int(match[1])
-    names, modes, runs, *rest = list(zip(*found))[:-1] if found else [()] * 14
+    modes, runs, *rest = list(zip(*found))[:-1] if found else [()] * 13
     counts = [run.count("\n") // 2 for run in runs]
     words = "".join(runs).encode("ascii").translate(_SPACES, _LETTERS).decode("ascii").split()
-    return Texts(names, modes, counts, words, *rest, total)
+    return Texts(modes, counts, words, *rest, total)
 
 
 def _check_numbers(texts, number):
@@ -272,12 +314,16 @@ def _check_numbers(texts, number):
         raise Unsure
 
 
-def _check_endings(texts):
-    """Each job must end as its last attempt says. A job that has no ending must be the last in the piece."""
+def _check_endings(block):
+    """Each job must end as its last attempt says. A job that has no ending must be the last in the piece, and so must the
+    one before the total."""
+    texts = block.texts
     found = set(zip(texts.modes, texts.outcomes, map(bool, texts.steps), texts.hows))
     if not found <= _ENDED:
         if not found <= _ENDED | _GOING or texts.total is not None or "" in texts.hows[:-1]:
             raise Unsure
+    if (texts.total is not None or "" in texts.hows) and not block.is_last_alone():
+        raise Unsure
     if "finished" in texts.hows or texts.results != texts.values:
         wanted = [out if how == "finished" else value for how, value, out in zip(texts.hows, texts.values, texts.outs)]
         if list(texts.results) != wanted:
@@ -353,17 +399,18 @@ def _passed(piece, block):
         counted[0] = polls[0]
     if polls != counted:
         raise Unsure
-    return Passed(piece.text.count(b"\n"), sum(polls), polls_before, going, open_polls, horizon, latest, texts.total)
+    sent = sum(map(operator.mul, polls, block.times))
+    return Passed(piece.text.count(b"\n"), sent, polls_before, going, open_polls, horizon, latest, texts.total)
 
 
 def _open_of(block, piece):
     """The job that goes on after a piece."""
-    texts = block.texts
+    texts, name = block.texts, block.names[-1]
     if not texts.counts[-1]:
-        is_first = piece.open is not None and len(texts.names) == 1
-        return piece.open if is_first else Open(texts.names[-1], texts.modes[-1])
-    number = texts.counts[-1] + (block.before.number if len(texts.names) == 1 else 0)
-    return Open(texts.names[-1], texts.modes[-1], number, block.ends[-1], int(texts.words[-1]))
+        is_first = piece.open is not None and len(block.names) == 1
+        return piece.open if is_first else Open(name, texts.modes[-1])
+    number = texts.counts[-1] + (block.before.number if len(block.names) == 1 else 0)
+    return Open(name, texts.modes[-1], number, block.ends[-1], int(texts.words[-1]))
 
 
 _outputs = set()
@@ -372,11 +419,12 @@ _outputs = set()
 def _fast(view, piece):
     """What is known after a piece and what a view shows of it; None if the fast way is unsure."""
     try:
-        texts = _texts(piece)
+        names, places, text = _parted(piece)
+        texts = _texts(text)
         _check_numbers(texts, piece.open.number if piece.open is not None else 0)
-        _check_endings(texts)
         _check_outputs(texts, _outputs)
-        block = Block(texts, piece.open or Open("", ""))
+        block = Block(names, places, texts, piece.open or Open("", ""))
+        _check_endings(block)
         return _passed(piece, block), view(block)
     except (Unsure, ValueError):
         return None
@@ -454,7 +502,8 @@ class _Gathered:
     def block(self, before):
         """All of it."""
         names, modes, counts, *rest = list(zip(*self.jobs)) if self.jobs else [()] * 14
-        return Block(Texts(names, modes, list(counts), self.words, *rest, self.total), before or Open("", ""))
+        texts = Texts(modes, list(counts), self.words, *rest, self.total)
+        return Block(names, range(len(names)), texts, before or Open("", ""))
 
 
 def _slow(reader, text, gathered):

@@ -53,7 +53,7 @@ def _state(file, path):
 def _marks(block):
     """What `join` keeps of a piece: the names of the jobs that begin in it."""
     names = Names()
-    names.add_each(block.texts.names[1 if block.before.name else 0:])
+    names.add_each(block.names[1 if block.before.name else 0:])
     return names
 
 

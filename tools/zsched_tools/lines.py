@@ -5,6 +5,7 @@ Each attempt is an object of type `attempt`, each job's ending one of type `end`
 report has them."""
 import itertools
 import json
+import operator
 
 from zsched_tools import columns
 from zsched_tools.command import Refused
@@ -36,9 +37,16 @@ def json_line(job, record):
     return f'{{"type":"total","polls":{record.polls}}}'
 
 
+# In place of the names of jobs with equal lines, which are made once.
+_NAME = "\0"
 # Between the words of an attempt after which the schedule continues. The first and the outcome are its job's.
 _BETWEEN = ["", None, ',"begin":', None, ',"end":', None, "", None, ',"waited":', None, ',"out":"', None, '","next":',
             None, "}\n"]
+
+
+def _names(block):
+    """The name in the lines of each place."""
+    return itertools.repeat(_NAME) if block.is_shared() else block.names
 
 
 def _attempt_pieces(block, waits):
@@ -48,8 +56,7 @@ def _attempt_pieces(block, waits):
     outs = words[5::stride]
     if any(map("\n".join(outs).__contains__, "LR")):
         outs = columns.long("\n".join(outs)).split("\n")
-    heads = [f'{{"type":"attempt","job":"{name}","mode":"{mode}","attempt":'
-             for name, mode in zip(texts.names, texts.modes)]
+    heads = [f'{{"type":"attempt","job":"{name}","mode":"{mode}","attempt":' for name, mode in zip(_names(block), texts.modes)]
     outcomes = [f',"outcome":"{columns.ASKED[mode]}","value":' for mode in texts.modes]
     for place, pieces in enumerate([heads, outcomes]):
         found[6 * place::step] = itertools.chain.from_iterable(map(itertools.repeat, pieces, texts.counts))
@@ -60,10 +67,10 @@ def _attempt_pieces(block, waits):
 
 
 def _attempt_texts(block):
-    """For each job the JSON lines of the attempts after which its schedule continues, and the wait before the next."""
+    """For each place the JSON lines of the attempts after which a job's schedule continues, and the wait before the next."""
     texts, edges, step = block.texts, block.edges, len(_BETWEEN)
     if not texts.words:
-        return [""] * len(texts.names), ["null"] * len(texts.names)
+        return [""] * len(texts.modes), ["null"] * len(texts.modes)
     waits = ["", *map(str, block.waits)]
     after = [waits[edge] if count else "null" for count, edge in zip(texts.counts, edges[1:])]
     for edge in edges[:-1]:
@@ -75,12 +82,12 @@ def _attempt_texts(block):
 
 
 def _end_texts(block, waits):
-    """For each job the JSON lines of the attempt after which its schedule doesn't continue, and of its ending."""
+    """For each place the JSON lines of the attempt after which a job's schedule doesn't continue, and of its ending."""
     texts = block.texts
     if block.lead is not None and not texts.counts[0]:
         waits[0] = str(block.lead)
     for (name, mode, number, begin, end, outcome, value, out, how, result, at, polls), waited in zip(
-            zip(texts.names, texts.modes, texts.numbers, texts.begins, texts.ends, texts.outcomes, texts.values,
+            zip(_names(block), texts.modes, texts.numbers, texts.begins, texts.ends, texts.outcomes, texts.values,
                 texts.outs, texts.hows, texts.results, texts.ats, texts.polls), waits):
         text = ""
         if number:
@@ -99,6 +106,9 @@ def _lines_of(block):
     """The JSON lines of a piece of a report."""
     runs, waits = _attempt_texts(block)
     found = list(itertools.chain.from_iterable(zip(runs, _end_texts(block, waits))))
+    if block.is_shared():
+        texts = list(map(operator.add, found[::2], found[1::2]))
+        found = [texts[place].replace(_NAME, name) for name, place in zip(block.names, block.places)]
     if block.texts.total is not None:
         found.append(json_line(None, Total(block.texts.total)) + "\n")
     return "".join(found)

@@ -39,6 +39,12 @@ class Load:
 
     def take(self, block):
         """Adds a piece of a report. Returns the load itself."""
+        for times, part in block.groups():
+            self._take(part, times)
+        return self
+
+    def _take(self, block, times):
+        """Adds jobs, each of which is there so many times."""
         texts, ends = block.texts, {"ok": [], "err": []}
         for mode, moments in _by_mode(block):
             ends[columns.ASKED[mode]].append(moments)
@@ -51,8 +57,11 @@ class Load:
                 (self.err, itertools.chain.from_iterable(ends["err"])),
                 (self.joined, filter(_is_known, joined)),
                 (self.left, (at for at, how in zip(block.ats, texts.hows) if how not in ("", "unfinished")))]:
-            counter.update(map(operator.floordiv, moments, itertools.repeat(self.every)))
-        return self
+            steps = map(operator.floordiv, moments, itertools.repeat(self.every))
+            if times == 1:
+                counter.update(steps)
+            else:
+                counter.update({step: times * count for step, count in collections.Counter(steps).items()})
 
     def take_job(self, attempts, ending):
         """Adds one job's attempts, each an `Attempt`."""

@@ -162,11 +162,12 @@ class Crowd:
     def view(self, block):
         """What is drawn of a piece: the names of jobs that end in it, the attempts if jobs are few, and the load."""
         if self.chosen:
-            block = block.of([job for job, name in enumerate(block.texts.names) if name in self.chosen])
-        names, hows = block.texts.names, block.texts.hows
+            block = block.of([job for job, name in enumerate(block.names) if name in self.chosen])
+        names, places, texts = block.names, block.places, block.texts
         jobs = range(len(names)) if len(names) <= picture.MOST_JOBS else None
-        kept = jobs and [(names[job], block.texts.modes[job], block.attempts(job), block.ending(job)) for job in jobs]
-        return [name for name, how in zip(names, hows) if how], kept, Load(1).take(block).fitted()
+        kept = jobs and [(names[job], texts.modes[places[job]], block.attempts(job), block.ending(job)) for job in jobs]
+        ended = [name for name, place in zip(names, places) if texts.hows[place]]
+        return ended, kept, Load(1).take(block).fitted()
 
     def add(self, names, kept, load):
         """One piece more."""

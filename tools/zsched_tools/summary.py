@@ -28,9 +28,8 @@ class Options(NamedTuple):
 
 
 class Figures(NamedTuple):
-    """What is known of jobs, as columns with an entry a job. Times are milliseconds. What goes on at the horizon, an
-    attempt or a wait, counts up to there."""
-    names: list
+    """What is known of jobs, as columns with an entry a place of a block. Times are milliseconds. What goes on at the
+    horizon, an attempt or a wait, counts up to there."""
     modes: list
     hows: list
     results: list
@@ -43,9 +42,9 @@ class Figures(NamedTuple):
     waited: list
     longest: list
 
-    def of(self, jobs):
-        """Some of the jobs."""
-        return Figures(*(column[jobs] for column in self))
+    def of(self, places):
+        """Some of the places."""
+        return Figures(*(column[places] for column in self))
 
     def joined_with(self, later):
         """One job whose attempts go on in the next piece: all of them."""
@@ -55,7 +54,8 @@ class Figures(NamedTuple):
         return later._replace(begins=begins, longest=[max(self.longest[0], later.longest[0])], **sums)
 
 
-SORTS = {"end": lambda figures: figures.ats, "name": lambda figures: figures.names,
+# What the table is sorted by, for each place; None for the names.
+SORTS = {"end": lambda figures: figures.ats, "name": None,
          "attempts": lambda figures: [-count for count in figures.attempts]}
 
 
@@ -80,7 +80,7 @@ def _sums(values, edges):
 
 
 def _figures(block):
-    """The figures of a piece's jobs."""
+    """The figures at each place of a block."""
     texts, edges, waits = block.texts, block.edges, block.waits
     lasts = [0 if begin is None else (at if end is None else end) - begin
              for begin, end, at in zip(block.last_begins, block.last_ends, block.ats)]
@@ -94,8 +94,7 @@ def _figures(block):
                   for count, mode, outcome in zip(texts.counts, texts.modes, texts.outcomes)]
                  for asked in ("ok", "err")]
     begins = [None, *block.first_begins[1:]] if block.before.number else block.first_begins
-    return Figures(texts.names, texts.modes, texts.hows, texts.results, block.ats, begins, attempts, oks, errs, busy,
-                   waited, longest)
+    return Figures(texts.modes, texts.hows, texts.results, block.ats, begins, attempts, oks, errs, busy, waited, longest)
 
 
 class _Known(dict):
@@ -121,28 +120,30 @@ def ending_text(how, result, widest=WIDEST_ENDING):
     return text if len(text) <= widest else text[:widest - 2] + ".."
 
 
-def _rows(figures):
+def _rows(names, places, figures):
     """The lines of the table, with tabs between the cells, and the greatest width of each column."""
     times = [list(map(_durations.__getitem__, column))
              for column in (figures.ats, figures.busy, figures.waited, figures.longest)]
     counts = [list(map(_counts.__getitem__, column)) for column in (figures.attempts, figures.oks, figures.errs)]
-    cells = [figures.names, figures.modes, list(map(ending_text, figures.hows, figures.results)), times[0], *counts,
-             *times[1:]]
-    widths = [max(map(len, column), default=0) for column in cells]
-    return "\n".join([*map("\t".join, zip(*cells)), ""]), widths
+    cells = [figures.modes, list(map(ending_text, figures.hows, figures.results)), times[0], *counts, *times[1:]]
+    widths = [max(map(len, column), default=0) for column in [names, *cells]]
+    rest = [f"\t{row}\n" for row in map("\t".join, zip(*cells))]
+    return "".join(map(operator.add, names, map(rest.__getitem__, places))), widths
 
 
-def _chunk(options, figures):
-    """Jobs that ended."""
-    rows, widths = ("", []) if options.one_line else _rows(figures)
-    times, well = [at - begin for how, at, begin in zip(figures.hows, figures.ats, figures.begins)
-                   if how != "unfinished"], 0
+def _chunk(options, names, places, figures):
+    """Jobs that ended: their names, and the place of each among the figures."""
+    rows, widths, keys, well = "", [], [], 0
+    hows, ats, begins, attempts = [list(map(column.__getitem__, places)) for column in (
+        figures.hows, figures.ats, figures.begins, figures.attempts)]
+    times = [at - begin for how, at, begin in zip(hows, ats, begins) if how != "unfinished"]
     if options.within is not None:
-        hows = [how for how in figures.hows if how != "unfinished"]
-        well = sum(how in WELL and time <= options.within for how, time in zip(hows, times))
-    keys = list(SORTS[options.sort](figures)) if options.sort and not options.one_line else []
-    return Chunk(rows, widths, keys, array.array("Q", sorted(times)), well, collections.Counter(figures.hows),
-                 sum(figures.attempts))
+        well = sum(how in WELL and at - begin <= options.within for how, at, begin in zip(hows, ats, begins))
+    if not options.one_line:
+        rows, widths = _rows(names, places, figures)
+        by = SORTS.get(options.sort)
+        keys = list(map(by(figures).__getitem__, places)) if by else names if options.sort else []
+    return Chunk(rows, widths, keys, array.array("Q", sorted(times)), well, collections.Counter(hows), sum(attempts))
 
 
 class Crowd:
@@ -151,10 +152,14 @@ class Crowd:
     def __init__(self):
         self.begun, self.ended = collections.Counter(), collections.Counter()
 
-    def add(self, begins, ends):
-        """The moments of a piece, in any order."""
-        self.begun.update(begins)
-        self.ended.update(ends)
+    def add(self, times, begins, ends):
+        """Moments in any order, each of which is there so many times."""
+        for counter, moments in [(self.begun, begins), (self.ended, ends)]:
+            if times == 1:
+                counter.update(moments)
+            else:
+                for moment in moments:
+                    counter[moment] += times
 
     def most(self):
         """The most attempts that ran at once, and the first moment at which so many did."""
@@ -174,24 +179,25 @@ def _moments(runs, lasts):
 
 class _Found(NamedTuple):
     """What a piece shows: the rest of the job that it begins in, the jobs that begin and end in it, the job that goes on
-    after it, when attempts began and ended, and the total if it is there."""
-    first: Figures | None
+    after it, when attempts began and ended, each with the number of jobs, and the total if it is there."""
+    first: tuple | None
     whole: Chunk
-    last: Figures | None
-    begins: array.array
-    ends: array.array
+    last: tuple | None
+    moments: list
     total: int | None
 
 
 def _shown(options, block):
     """What a piece shows."""
-    figures, texts = _figures(block), block.texts
-    count = len(texts.names)
-    first = 1 if block.before.name and count else 0
-    edge = count - 1 if count > first and not texts.hows[-1] else count
-    return _Found(figures.of(slice(first)) if first else None, _chunk(options, figures.of(slice(first, edge))),
-                  figures.of(slice(edge, None)) if edge < count else None,
-                  _moments(block.begins, block.last_begins), _moments(block.ends, block.last_ends), texts.total)
+    figures, names, hows = _figures(block), block.names, block.texts.hows
+    first = 1 if block.before.name and names else 0
+    last = 1 if len(hows) > first and not hows[-1] else 0
+    places = [place - first for place in block.places[first:len(names) - last]]
+    moments = [(times, _moments(part.begins, part.last_begins), _moments(part.ends, part.last_ends))
+               for times, part in block.groups()]
+    return _Found((names[0], figures.of(slice(1))) if first else None,
+                  _chunk(options, names[first:len(names) - last], places, figures.of(slice(first, len(hows) - last))),
+                  (names[-1], figures.of(slice(-1, None))) if last else None, moments, block.texts.total)
 
 
 class Summary:
@@ -204,13 +210,16 @@ class Summary:
     def add(self, found):
         """One piece more."""
         if found.first is not None:
-            self.open = found.first if self.open is None else self.open.joined_with(found.first)
-            if self.open.hows[0]:
-                self.chunks.append(_chunk(self.options, self.open))
+            name, figures = found.first
+            figures = figures if self.open is None else self.open[1].joined_with(figures)
+            self.open = name, figures
+            if figures.hows[0]:
+                self.chunks.append(_chunk(self.options, [name], [0], figures))
                 self.open = None
         self.chunks.append(found.whole)
         self.open = found.last or self.open
-        self.crowd.add(found.begins, found.ends)
+        for times, begins, ends in found.moments:
+            self.crowd.add(times, begins, ends)
         self.total = self.total if found.total is None else found.total
 
     def jobs(self):
