@@ -26,7 +26,7 @@ export class Fault extends Error {
 export class Schedule {
   /**
    * Makes the schedule of a text, which has seen these steps, as `seen` returns them. Throws a
-   * Fault if the text is no schedule.
+   * Fault if the text is no schedule, and a RangeError if a step lacks its input.
    */
   constructor(text: string | Uint8Array, seen?: Iterable<bigint>);
   /** The moment and the input of each step so far, in turn, oldest first. */

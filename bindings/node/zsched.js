@@ -61,12 +61,15 @@ class Schedule {
 
   /**
    * Makes the schedule of a text, which has seen these steps, as `seen` returns them. Throws a
-   * Fault if the text is no schedule.
+   * Fault if the text is no schedule, and a RangeError if a step lacks its input.
    */
   constructor(text, seen = []) {
     check(text);
     this.#text = Buffer.from(text);
     this.#seen = BigUint64Array.from(seen);
+    if (this.#seen.length % 2 !== 0) {
+      throw new RangeError('a step has a moment and an input');
+    }
   }
 
   /** The moment and the input of each step so far, in turn, oldest first. */
@@ -167,6 +170,7 @@ function begun(text) {
  * before.
  */
 async function sleep(millis, signal) {
+  signal?.throwIfAborted();
   for (let rest = millis; rest > 0n; rest -= BigInt(LONGEST)) {
     await new Promise((resolve, reject) => {
       const stop = () => {

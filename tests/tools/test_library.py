@@ -95,7 +95,7 @@ public final class Steps {
 '''
 # Retries of the binding for Node, and steps that are refused.
 NODE_RETRIES = """
-const { Fault, Stepper, check, retry } = require('./zsched.js');
+const { Fault, Schedule, Stepper, check, retry } = require('./zsched.js');
 const failing = (times, text) => { let left = times; return () => { if (left-- > 0) throw new Error(text); return text; }; };
 const refused = (call) => { try { call(); } catch (fault) { console.log(`${fault.message}, ${fault.number} ${fault.at}`); } };
 (async () => {
@@ -109,6 +109,10 @@ const refused = (call) => { try { call(); } catch (fault) { console.log(`${fault
   const control = new AbortController();
   setTimeout(() => control.abort(new Error('stopped')), 20);
   await retry('spaced(100000)', failing(9, 'mine'), { signal: control.signal }).catch((error) => console.log(error.message));
+  const late = new AbortController();
+  await retry('spaced(100000)', async () => { late.abort(new Error('stopped late')); throw new Error('mine'); }, { signal: late.signal })
+    .catch((error) => console.log(error.message));
+  try { new Schedule('recurs(3)', [1n, 2n, 3n]); } catch (error) { console.log(error.message); }
   refused(() => check('?'));
   const stepper = new Stepper('(exponential(10) && recurs(3))');
   stepper.after(1, 2);
@@ -754,6 +758,7 @@ class FromNode(unittest.TestCase):
         lines = said.splitlines()
         self.assertEqual(lines[:-1], [
             "third after 3", "4th, given up", "mine, TypeError: Cannot convert undefined to a BigInt", "stopped",
+            "stopped late", "a step has a moment and an input",
             "no term at byte 0, 11 0", "the moment is below that of the step before it, 3 0", "the state of another program, 9 0",
             "the state of another program, 9 0", "a schedule with collectAll has no state of fixed size, 6 0"])
         self.assertEqual(lines[-1].partition(",")[2], "1,10,20,0,1")
