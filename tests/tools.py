@@ -1,8 +1,8 @@
 #!/usr/bin/env python3
 """The tests of the commands in tools/, of the documents' plans and of the package: each file tests/tools/test_*.py, by
-unittest, as many files side by side as there are processors. `tests/tools.py NAME ..` runs the named files alone
-(test_explain, or explain). The library is built once, beside the other files, and then those that call it run. A test that
-needs a program that isn't on this machine is skipped, by name. The last line is 'N passed, M failed'."""
+unittest, as many files, or classes of long files, side by side as there are processors. `tests/tools.py NAME ..` runs the
+named files alone (test_explain, or explain). The library is built once, beside the other files, and then those that call it
+run. A test that needs a program that isn't on this machine is skipped, by name. The last line is 'N passed, M failed'."""
 import compileall
 import concurrent.futures
 import os
@@ -22,8 +22,10 @@ sys.path[:0] = [str(HERE), str(HERE / "tools"), str(HERE.parent / "tools")]
 # Files that call the library.
 OVER_LIBRARY = ["test_library", "test_library_steps", "test_library_install"]
 # Those that take longest begin first.
-LONGEST = ["test_explain", "test_page", "test_benches", "test_tools", "test_report", "test_population", "test_package",
-           "test_plan", "test_reference"]
+LONGEST = ["test_explain.Large", "test_page.Evaluator", "test_page.Browser", "test_benches", "test_tools", "test_report",
+           "test_population", "test_package", "test_plan", "test_reference"]
+# Files whose classes run side by side.
+PARTED = ["test_explain", "test_page"]
 LAST = re.compile(r"(\d+) passed, (\d+) failed")
 IMPORTED = re.compile(r"^(?:import|from) ([\w.]+)", re.M)
 
@@ -92,6 +94,18 @@ def run_over_library(names, folder):
         return list(pool.map(lambda name: run_apart(name, **variables), names))
 
 
+def classes_of(name):
+    """The classes of tests in a file."""
+    suites, found = [unittest.defaultTestLoader.loadTestsFromName(name)], set()
+    while suites:
+        for test in suites.pop():
+            if isinstance(test, unittest.TestSuite):
+                suites.append(test)
+            else:
+                found.add(f"{name}.{type(test).__qualname__}")
+    return sorted(found)
+
+
 def compile_sources(folder):
     """Compiles into a folder what the tests and the commands import, which each process would else compile when it starts.
     A Python that looks there doesn't look for its own library's compiled files, so these go there too: a start of
@@ -110,7 +124,8 @@ def run_all(files, room):
     """Runs files side by side, those over the library once it is built; returns the counts."""
     compile_sources(f"{room}/compiled")
     order = {name: place for place, name in enumerate(LONGEST)}
-    alone = sorted(set(files) - set(OVER_LIBRARY), key=lambda name: (order.get(name, len(order)), name))
+    parted = [it for name in files if name not in OVER_LIBRARY for it in (classes_of(name) if name in PARTED else [name])]
+    alone = sorted(parted, key=lambda name: (order.get(name, len(order)), name))
     over = [name for name in OVER_LIBRARY if name in files]
     with concurrent.futures.ThreadPoolExecutor(len(os.sched_getaffinity(0))) as pool, \
             concurrent.futures.ThreadPoolExecutor(1) as beside:
