@@ -169,12 +169,13 @@ class Planted:
         """Picks a survivor, or none, for the programs that start from now on."""
         os.environ["ZS_CHOSEN"] = str(self.numbers.get(survivor.path, 0) if survivor else 0)
 
-    def program(self, crate, *words, level="-O0"):
-        """A program of the copy, or with the word --test that of a crate's tests, built without proofs."""
-        program = self.folder / f"{crate}.built{level}"
+    def program(self, crate, *words):
+        """A program of the copy, or with the word --test that of a crate's tests, built without proofs. Tests are run a
+        few times, so that they aren't optimized."""
+        program = self.folder / f"{crate}.built"
         if not program.exists():
             try:
-                unproved.build(self.folder / "crates" / crate, program, *words, level=level,
+                unproved.build(self.folder / "crates" / crate, program, *words, level="-O0" if words else "-O2",
                                RT_ALLOW_C=",".join(self.with_c))
             except unproved.NotBuilt as cause:
                 raise Misfit(f"{crate}: {cause}") from None
@@ -206,7 +207,7 @@ def failed_growth(planted, name):
     most = dataclasses.replace(row.most, instructions=CHOOSING * row.most.instructions)
     row = dataclasses.replace(row, most=most)
     failures = Failures()
-    growth.judge(failures, growth.Meter(planted.folder, {row.runs: [planted.program(row.runs, level="-O2")]}), row, False)
+    growth.judge(failures, growth.Meter(planted.folder, {row.runs: [planted.program(row.runs)]}), row, False)
     return failures.names
 
 

@@ -79,7 +79,7 @@ def copy_kit(kit, target, program, level):
     (target / "c" / "asan.a").write_bytes(b"!<arch>\n")
 
 
-def build(crate, program, *words, level="-O0", **more):
+def build(crate, program, *words, level="-O2", **more):
     """Builds the program of a crate's folder into a file, or with the word --test that of its
     tests, under more variables: by a level of optimizing, or with checks if it is None. What
     `rt try` does after that isn't waited for."""
