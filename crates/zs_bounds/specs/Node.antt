@@ -67,8 +67,8 @@ part_state t a = fresh_state t.fresh (node_schedule a) (node_state a)
 abbrev pub turn_states : Turn → Turn → Node → Node → StateRange
 turn_states t u a b = turns t.is_on u.is_on (part_state t a) (part_state u b)
 
--- ---- what first steps may return: those of both parts in turn, of a part that is collected, and of
--- a part that may be reset
+-- ---- what first steps may return: of both parts in turn, of a part that is collected, and of a
+-- ---- part that may be reset
 
 -- What is known of the first steps of a schedule's parts. Leaves have none.
 pub data Firsts : Type 0 where

@@ -138,7 +138,7 @@ impl Reads {
         }
     }
 
-    // Puts what is read of a range where nothing is.
+    // Puts what is read of a range in the place of nothing.
     pub(crate) fn put(self, range: OutRange, out: &mut OutRange)
         requires empty { output_range_of out.old ≡ nothing }
         ensures value { output_range_of out.new ≡ read_range self (output_range_of range) }

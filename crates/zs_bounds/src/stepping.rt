@@ -20,7 +20,7 @@ use crate::span::Span;
 use std::alloc::{AllocError, Global};
 use zs_term::{Func, Pick, Test};
 
-// One step, in place: what it may decide. What is read of its output is put where nothing is.
+// One step, in place: what it may decide. What is read of its output is put into `out`.
 #[cycle(stepping)]
 pub(crate) fn step(
     alloc: Global,
