@@ -74,7 +74,7 @@ def libc_of(path):
     told = ran(["objdump", "-p", path]).decode()
     others = set(re.findall(r"^ +NEEDED +(\S+)", told, re.M)) - LIBC
     if others:
-        raise Refused(f"{path}: it needs more than the C library: {', '.join(sorted(others))}")
+        raise Refused(f"{path}: it needs libraries other than the C library: {', '.join(sorted(others))}")
     versions = re.findall(r"\bGLIBC_(\d+)\.(\d+)", told)
     if not versions:
         raise Refused(f"{path}: it names no version of the C library")

@@ -83,7 +83,7 @@ def made_library(folder=MADE):
     found = [folder / "libzsched.so", folder / "libzsched.a"]
     for path in found:
         if not path.exists():
-            raise Refused(f"there is no {path}: tools/make-library makes it")
+            raise Refused(f"{path} is missing: tools/make-library makes it")
     return found
 
 

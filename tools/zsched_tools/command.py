@@ -29,7 +29,7 @@ def run(tool, work):
         return _told(tool, refused, REFUSED)
     except BrokenPipeError:
         _drop_output()
-        return _told(tool, "the reader of standard output went away", FAILED)
+        return _told(tool, "the reader of standard output closed it", FAILED)
     except OSError as failure:
         _drop_output()
         place = f"{failure.filename}: " if failure.filename else ""
@@ -37,7 +37,7 @@ def run(tool, work):
     except MemoryError:
         return _told(tool, "out of memory", FAILED)
     except KeyboardInterrupt:
-        return _told(tool, "broken off", 130)
+        return _told(tool, "interrupted", 130)
 
 
 def _drop_output():

@@ -13,22 +13,24 @@ from zsched_tools.cause import WIDTH, shown
 
 ABOUT = """Runs zsched on a plan, and shows where the plan's fault is.
 
-The first line on standard error is that of the program. If the plan is rejected,
-these follow: the place as FILE:LINE:COLUMN, both counted from 1, a column being a
-character; the line, cut if it is long; what is wrong there, and what to write, if
-that is known; the name of the job. If the plan is accepted, 'FILE: no fault' is
-written to standard output. zsched itself writes the report.
+The first line on standard error is zsched's. If the plan is rejected, these follow:
+  - the place as FILE:LINE:COLUMN, counted from 1; a column is a character
+  - the line, cut if it is long
+  - what is wrong there, and what to write instead, if that is known
+  - the name of the job
+If the plan is accepted, standard output gets 'FILE: no fault'. zsched itself writes
+the report.
 
-With --all the faults after the first one follow: each that was found is mended in
-a copy, which is run again. A plan that may have more than 100000000 attempts gets a
-warning, and is run with a clock of one moment, on which it has the same faults."""
+With --all the later faults are shown too: the command mends each fault in a copy and
+runs the copy. A plan that may have more than 100000000 attempts gets a warning. It is
+run with a clock of one moment, on which it has the same faults."""
 STATUSES = """exit status, that of zsched:
   0  the plan has no fault
   2  the plan is rejected, or an option is wrong
-  3  reading or writing failed, also that of the command itself
-  4  there was no memory or no thread
+  3  reading or writing failed, in zsched or in this command
+  4  no memory, or no thread
   128 and more: a signal ended zsched
-and 1 where zsched isn't found"""
+and 1 if zsched isn't found"""
 MOST_FAULTS = 10
 # The seconds after which a plan with fewer jobs is tried.
 PATIENCE = 2
@@ -54,10 +56,10 @@ def words():
     found = Words(prog="zsched-explain", description=ABOUT, epilog=STATUSES,
                   formatter_class=argparse.RawDescriptionHelpFormatter)
     found.add_argument("plan", nargs="?", default="-", metavar="PLAN.json",
-                       help="the plan's file; - or none for standard input")
+                       help="the plan's file; standard input by default, or if it is -")
     found.add_argument("--zsched", metavar="PATH",
-                       help="the program; else that of the variable ZSCHED, the built or the installed one")
-    found.add_argument("--all", action="store_true", help="show all faults of the plan and not the first alone")
+                       help="the program; by default that of the variable ZSCHED, else the built or the installed one")
+    found.add_argument("--all", action="store_true", help="show all faults of the plan, not only the first")
     found.add_argument("--most", type=_number, default=MOST_FAULTS, metavar="N",
                        help=f"how many faults --all shows at most ({MOST_FAULTS})")
     colors.add_color(found)

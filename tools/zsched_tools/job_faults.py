@@ -116,9 +116,9 @@ def name(_jobs, job):
     odd = re.search(r"[^A-Za-z0-9._-]", said)
     if odd:
         at = node.place_in(odd.start())
-        what = "a space may not stand in a name" if odd[0] == " " else f"{shown(odd[0])} may not stand in a name"
-        return Cause(at, node.place_in(odd.end()) - at, what, f"{help}: letters, digits, - _ and . may stand in it")
-    return over(node, f"the name has {len(said)} bytes, and may have {MAX_NAME}", help)
+        what = "a name can't contain a space" if odd[0] == " " else f"a name can't contain {shown(odd[0])}"
+        return Cause(at, node.place_in(odd.end()) - at, what, f"{help}: letters, digits, - _ and . are allowed")
+    return over(node, f"the name has {len(said)} bytes, and at most {MAX_NAME} are allowed", help)
 
 
 def same_name(jobs, job):
@@ -144,7 +144,7 @@ def script_fault(job, cause):
         return over(script, "the script is empty", f"write an entry for each attempt, as [ {_ENTRY} ]")
     if cause.startswith("more than"):
         extra = next(entry for number, entry in enumerate(script.items()) if number == MAX_ENTRIES)
-        return Cause(extra.at, 1, f"this is one entry more than {MAX_ENTRIES}", "leave it out: the last entry repeats")
+        return Cause(extra.at, 1, f"this is one entry more than {MAX_ENTRIES}", "remove it: the last entry repeats")
     for entry in script.items(_TIMED):
         ms = entry.get("ms")
         if ms.whole() == 0:

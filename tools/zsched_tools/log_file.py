@@ -45,7 +45,7 @@ def _column(head, chosen, known, option):
     places = [plain.index(name) for name in known if name in plain] if chosen is None else []
     if places:
         return places[0]
-    what = "no column is known for it" if chosen is None else f"there is no column {shown(chosen)}"
+    what = "no known column" if chosen is None else f"no column {shown(chosen)}"
     raise Refused(f"1: {option}: {what}; the columns are {listed([shown(name) for name in names])}")
 
 
@@ -60,7 +60,7 @@ class Reader:
         self.rows = csv.reader(itertools.chain([first], lines), delimiter=mark, strict=True)
         self.head = next(self._rows(), [])
         if not self.head:
-            raise Refused("1: there is nothing here")
+            raise Refused("1: the file is empty")
         self.columns = [_column(self.head, log.name, NAMES, "--name"),
                         _column(self.head, log.time, TIMES, "--time"),
                         _column(self.head, log.status, STATUSES, "--status")]
@@ -89,7 +89,7 @@ class Reader:
         try:
             yield from self.rows
         except csv.Error as fault:
-            raise Refused(f"{self.rows.line_num}: no CSV: {fault}") from None
+            raise Refused(f"{self.rows.line_num}: not CSV: {fault}") from None
 
     def jobs(self):
         """The names that a plan allows, with their scripts."""
@@ -106,9 +106,9 @@ class Reader:
 
     def _entry(self, time, status):
         if not _NUMBER.fullmatch(time):
-            raise self.refused(f'"{shown(time)}" is no length of time: write 24 or 24.11', 1)
+            raise self.refused(f'"{shown(time)}" is not a length of time: write 24 or 24.11', 1)
         if not status.isascii() or not status.isdigit() or int(status[:20]) > MOST_CODE:
-            raise self.refused(f'"{shown(status)}" is no status: write a whole number', 2)
+            raise self.refused(f'"{shown(status)}" is not a status: write a whole number', 2)
         unit = f"{time} {self.unit}"
         ms = whole(Decimal(time) * UNITS[self.unit], unit, self.line, self.notes)
         outcome = "err" if int(status) >= self.log.errors_from else "ok"

@@ -120,7 +120,7 @@ def view_within(first, last, view):
     """The moments of a view, and those that are given where it names none."""
     first, last = first if view.first is None else view.first, last if view.last is None else view.last
     if first >= last and view != View(is_log=view.is_log):
-        raise Refused(f"has nothing from {first} ms to {last} ms: --from has to be before --to")
+        raise Refused(f"has nothing from {first} ms to {last} ms: --from must be before --to")
     return first, last
 
 

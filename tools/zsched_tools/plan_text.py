@@ -23,7 +23,7 @@ class Number(str):
 
 
 def _no_number(word):
-    raise ValueError(f"{word} is no number")
+    raise ValueError(f"{word} is not a number")
 
 
 # A job of JSON lines as programs write it: ASCII, no escapes, numbers in digits alone. Others are decoded.
@@ -97,9 +97,9 @@ class Source:
         """Takes white space and one of some symbols, and returns them."""
         space = self.space()
         if self.is_at_end():
-            self.refuse(f"the text ends where {' or '.join(wanted)} is due")
+            self.refuse(f"the text ends, but {' or '.join(wanted)} is expected")
         if self.text[self.at] not in wanted:
-            self.refuse(f"{' or '.join(wanted)} is due, and not {shown(self.text[self.at:self.at + 20])}")
+            self.refuse(f"{' or '.join(wanted)} is expected, not {shown(self.text[self.at:self.at + 20])}")
         self.at += 1
         return space + self.text[self.at - 1]
 
@@ -122,7 +122,7 @@ class Source:
             text.encode("latin-1").decode("utf-8")
         except UnicodeDecodeError as fault:
             self.at += fault.start
-            self.refuse("the text is no UTF-8")
+            self.refuse("the text is not UTF-8")
         self.at = end
         return text, value
 
@@ -132,7 +132,7 @@ class Source:
         self.at = fault.pos if is_at_place else self.at
         if self.at >= len(self.text):
             self.refuse("the text ends in the middle of a value")
-        self.refuse(f"no JSON: {fault.msg if is_at_place else fault}")
+        self.refuse(f"not JSON: {fault.msg if is_at_place else fault}")
 
 
 def _job(text, value, line):
@@ -203,11 +203,11 @@ class PlanText:
         while self.after[-1] == ",":
             text, key = self._key()
             if key == "jobs":
-                self.source.refuse("the key 'jobs' stands twice")
+                self.source.refuse("the key 'jobs' is repeated")
             self.after += text + self.source.value()[0] + self.source.symbol(",}")
         self.after += self.source.space()
         if not self.source.is_at_end():
-            self.source.refuse("something stands after the end of the plan")
+            self.source.refuse("there is text after the end of the plan")
 
 
 class LinesText:
@@ -247,7 +247,7 @@ class LinesText:
         lines = text_lines(self.file, LONGEST_PLAN)
         text = next(lines, None)
         if text is None:
-            raise Refused("is empty, where a plan's document without its jobs is due")
+            raise Refused("is empty, but a plan's document without its jobs is expected")
         value = self._value(1, text)
         if not isinstance(value, dict) or "jobs" in value:
             raise Refused("line 1: this isn't a plan's document without its jobs")
@@ -268,10 +268,10 @@ class LinesText:
             text.encode("latin-1").decode("utf-8")
             return _DECODER.decode(text)
         except UnicodeDecodeError:
-            raise Refused(f"line {number}: the text is no UTF-8") from None
+            raise Refused(f"line {number}: the text is not UTF-8") from None
         except RecursionError:
             raise Refused(f"line {number}: a value is nested too deeply") from None
         except json.JSONDecodeError as fault:
-            raise Refused(f"line {number}, column {fault.colno}: no JSON: {fault.msg}") from None
+            raise Refused(f"line {number}, column {fault.colno}: not JSON: {fault.msg}") from None
         except ValueError as fault:
-            raise Refused(f"line {number}: no JSON: {fault}") from None
+            raise Refused(f"line {number}: not JSON: {fault}") from None

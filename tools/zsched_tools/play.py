@@ -1,6 +1,6 @@
-"""A page on this machine: one types schedules and what their attempts do, and sees the picture and the report, or the
-fault with its place. It is docs/play.html, whose reports are then runs of zsched. Nothing is loaded from elsewhere,
-nothing leaves the machine."""
+"""Serves a page on this machine. You type schedules and what their attempts do, and see the picture and the report, or
+the fault with its place. It is docs/play.html, with reports by zsched. It loads nothing from other hosts, and sends
+nothing to them."""
 import argparse
 import bisect
 import http.server
@@ -134,7 +134,7 @@ class Server(http.server.ThreadingHTTPServer):
         """A browser that went away is no fault; any other is told in one line."""
         fault = sys.exc_info()[1]
         if not isinstance(fault, (ConnectionError, TimeoutError)):
-            print(f"zsched-play: a request could not be answered: {fault!r}", file=sys.stderr)
+            print(f"zsched-play: a request failed: {fault!r}", file=sys.stderr)
 
     def url(self):
         """Where the page is."""
@@ -156,20 +156,20 @@ class Handler(http.server.BaseHTTPRequestHandler):
         if len(host) != 1 or host[0].lower() not in self.server.hosts:
             return 421, "the Host of this request isn't this server's"
         if methods is None:
-            return 404, "there is only the page at /"
+            return 404, "not found; the page is at /"
         if self.command not in methods:
-            return 405, f"this method isn't served here; {' and '.join(methods)} is"
+            return 405, f"this method isn't allowed; allowed: {' and '.join(methods)}"
         if origin is not None and origin.lower().removeprefix("http://") not in self.server.hosts:
-            return 403, "a page of another origin may not ask here"
+            return 403, "requests from pages of another origin aren't allowed"
         return self.refusal_of_body() if self.command == "POST" else None
 
     def refusal_of_body(self):
         """The same for a plan's length."""
         size = self.headers.get("Content-Length")
         if size is None or "Transfer-Encoding" in self.headers:
-            return 411, "a plan is sent with its length"
+            return 411, "a plan needs its length in Content-Length"
         if not re.fullmatch("[0-9]{1,18}", size):
-            return 400, "the length of the plan is no number"
+            return 400, "the length of the plan is not a number"
         if int(size) > LONGEST_BODY:
             return 413, f"a plan is at most {LONGEST_BODY} bytes long"
         return None
@@ -224,7 +224,7 @@ class Handler(http.server.BaseHTTPRequestHandler):
 def port_of(word):
     """A port's number."""
     if not re.fullmatch("[0-9]{1,5}", word) or int(word) > 65535:
-        raise argparse.ArgumentTypeError(f"{word} is no port: 0 to 65535")
+        raise argparse.ArgumentTypeError(f"{word} is not a port: 0 to 65535")
     return int(word)
 
 
@@ -257,8 +257,8 @@ def main():
     """The command line."""
     words = argparse.ArgumentParser(
         prog="zsched-play", description=__doc__,
-        epilog="Ctrl-C ends it, with status 0. Status 2: wrong words, no program, or a port that can't be had.")
-    words.add_argument("--port", type=port_of, default=PORT, help=f"the port ({PORT}); 0 picks one, and it is printed")
+        epilog="Ctrl-C ends it, with status 0. Status 2: a wrong argument, no program, or a port that isn't free.")
+    words.add_argument("--port", type=port_of, default=PORT, help=f"the port ({PORT}); 0 picks a free one")
     words.add_argument("--zsched", metavar="PATH", help="the program (ZSCHED, or the one that is built or on PATH)")
     words.add_argument("--bounds", metavar="PATH", help="zsched-bounds (ZSCHED_BOUNDS, or the one that is built or on PATH)")
     release.add_version(words)

@@ -36,13 +36,13 @@ def read_yaml(text):
         loader = yaml.SafeLoader(text)
         node = loader.get_single_node()
         if node is None:
-            raise Wrong(Cause(0, 0, "there is nothing here"))
+            raise Wrong(Cause(0, 0, "the file is empty"))
         return _Yaml(yaml, loader, text).value(node, 0)
     except yaml.MarkedYAMLError as fault:
         mark = fault.problem_mark or fault.context_mark
-        raise Wrong(Cause(min(mark.index, len(text)), 1, f"no YAML: {fault.problem}")) from None
+        raise Wrong(Cause(min(mark.index, len(text)), 1, f"not YAML: {fault.problem}")) from None
     except yaml.reader.ReaderError as fault:
-        raise Wrong(Cause(fault.position, 1, f"no YAML: {fault.reason}")) from None
+        raise Wrong(Cause(fault.position, 1, f"not YAML: {fault.reason}")) from None
     finally:
         if loader is not None:
             loader.dispose()
@@ -80,11 +80,11 @@ class _Yaml:
         for name, _ in node.value:
             at = name.start_mark.index
             if not isinstance(name, self.yaml.ScalarNode):
-                raise Wrong(Cause(at, 1, "this key is no text"))
+                raise Wrong(Cause(at, 1, "this key is not a text"))
             line = line_of(self.text, at)
             if name.value in lines and name.value != "<<":
                 what = f'the key "{shown(name.value)}" is on line {lines[name.value]} too'
-                raise Wrong(Cause(at, len(name.value), what, "leave one of them out"))
+                raise Wrong(Cause(at, len(name.value), what, "remove one of them"))
             lines[name.value] = line
         self.loader.flatten_mapping(node)
         return {key(name.value, name.start_mark.index): self.value(item, depth + 1)
@@ -101,7 +101,7 @@ def read_toml(text):
         if line:
             before = text.split("\n")[:int(line) - 1]
             at = sum(len(row) + 1 for row in before) + int(column) - 1
-        raise Wrong(Cause(min(at, len(text)), 1, f"no TOML: {what}")) from None
+        raise Wrong(Cause(min(at, len(text)), 1, f"not TOML: {what}")) from None
     except RecursionError:
         raise Wrong(Cause(0, 0, "this is nested too deeply")) from None
     return _Toml(text, _toml_places(text)).value(tree, (), 0)
@@ -158,7 +158,7 @@ class _Toml:
             return _scalar(data, at, self.text) if path in self.places else Value(data, at)
         if isinstance(data, float):
             if not _NUMBER.fullmatch(repr(data)):
-                raise Wrong(Cause(at, 1, f"{data} is no number of a plan"))
+                raise Wrong(Cause(at, 1, f"{data} is not a number of a plan"))
             return Value(Raw(repr(data)), at)
         if not isinstance(data, (bool, int)):
             raise Wrong(Cause(at, 1, "a plan has no dates", "write milliseconds"))

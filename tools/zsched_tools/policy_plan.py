@@ -91,7 +91,7 @@ def _entries_in_words(value, notes):
         words = _ATTEMPT.fullmatch(part)
         length = words and milliseconds(words[1])
         if length is None:
-            raise Wrong(Cause(at, size, f'"{shown(part.strip())}" is no attempt', _AN_ATTEMPT))
+            raise Wrong(Cause(at, size, f'"{shown(part.strip())}" is not an attempt', _AN_ATTEMPT))
         _, outcome, code, times = words.groups()
         if not 1 <= int(times or 1) <= MOST_ENTRIES - len(found):
             raise Wrong(Cause(at, size, f"a script has 1 to {MOST_ENTRIES} attempts"))
@@ -163,7 +163,7 @@ class Policies:
 def _policy_jobs(policies):
     """A job for each name of the table `policies`, whose values are schedules."""
     if not isinstance(policies.data, dict):
-        raise Wrong(Cause(policies.at, 1, "policies has to be a table of names and schedules",
+        raise Wrong(Cause(policies.at, 1, "policies must be a table of names and schedules",
                           "write a line for each, as payments: recurs(3)"))
     return [Value({key("name", name.at): Value(str(name), name.at, name.at),
                    key("schedule", name.at): schedule}, name.at)
@@ -173,7 +173,7 @@ def _policy_jobs(policies):
 def plan_of(root, until, notes):
     """The plan of a file. If it has neither horizon nor ticks, `until` is the horizon."""
     if not isinstance(root.data, dict):
-        raise Wrong(Cause(root.at, 1, "the file has to be a table of keys", "write horizon: 60000"))
+        raise Wrong(Cause(root.at, 1, "the file must be a table of keys", "write horizon: 60000"))
     given = {name: value for name, value in root.data.items() if name not in DEFAULTS}
     defaults = {key("mode", root.at): Value("retry", root.at)}
     defaults.update((name, value) for name, value in root.data.items() if name in DEFAULTS)

@@ -110,18 +110,18 @@ class Reader:
         form, taker = _FORMS.get(text[:1], _NO_FORM)
         match = form.fullmatch(text)
         if self.total is not None:
-            self._refuse("stands after the last line", text)
+            self._refuse("is after the last line", text)
         if match is None:
-            self._refuse("is no line of a report", text)
+            self._refuse("isn't a line of a report", text)
         return taker(self, match)
 
     def close(self):
         """Rejects a report that has no last line."""
         if self.line == 0:
-            raise Refused("is empty, and no report")
+            raise Refused("is empty, not a report")
         if self.total is None:
-            raise Refused(f"ends after line {self.line}, where {self._due()} is due, "
-                          "and has no last line 'polls TOTAL'")
+            raise Refused(f"ends after line {self.line}, but {self._due()} is expected, "
+                          "and there is no last line 'polls TOTAL'")
 
     def _refuse(self, why, text):
         raise Refused(f"line {self.line} {why}: {shown(text)}")
@@ -140,7 +140,7 @@ class Reader:
         return "an end"
 
     def _misplaced(self, match):
-        self._refuse(f"stands where {self._due()} is due", match[0])
+        self._refuse(f"is misplaced, expected {self._due()}", match[0])
 
     def _number(self, text, match):
         """A number of a line, which is at most 2^64 - 1."""
@@ -164,7 +164,7 @@ class Reader:
             self._misplaced(match)
         waited = None if last is None else begin - last.end
         if last is not None and (waited < 0 or begin < last.next):
-            self._refuse("begins before the schedule goes on", match[0])
+            self._refuse("begins before the schedule continues", match[0])
         self.polls += waited != 0
         if end is None:
             self.attempt = Attempt(wanted, self._number(begin, match), None, "running", None, waited)

@@ -111,7 +111,7 @@ def _members(node, where, known, needed):
         if known is not None and key not in known:
             _refuse(name, f'{where} has no key "{shown(key)}"', _key_help(key, known))
         if key in found:
-            _refuse(name, f'the key "{shown(key)}" is here twice', "leave one of them out")
+            _refuse(name, f'the key "{shown(key)}" is repeated', "remove one of them")
         found[key] = value
     for key in needed:
         if key not in found:
@@ -193,13 +193,13 @@ class _Reading:
         number = _whole(parts["number"], "the number of clients", 1, MOST_CLIENTS)
         start = _time(parts["start"], "the start") if "start" in parts else 0
         if "within" in parts and "per_second" in parts:
-            _refuse(parts["per_second"], 'clients come "within" a time or so many "per_second", not both')
+            _refuse(parts["per_second"], 'clients start "within" a time or at a rate "per_second", not both')
         if "per_second" in parts:
             rate = _whole(parts["per_second"], "the clients per second", 1, MOST_CLIENTS)
             self.scenario.starts = [start + THOUSAND * it // rate for it in range(number)]
             self.scenario.coming = f"{rate:,} a second"
         else:
-            time = _time(parts["within"], "the time within which clients come") if "within" in parts else 0
+            time = _time(parts["within"], "the time within which clients start") if "within" in parts else 0
             self.scenario.starts = [start + time * it // number for it in range(number)]
             self.scenario.coming = f"within {duration(time)}" if time else "all at once"
 
@@ -219,7 +219,7 @@ class _Reading:
             _refuse(node, 'an outcome has "ms" and one of "ok" and "err"', 'write {"ms": 50, "err": 503}')
         is_ok = "ok" in parts
         if name == "up" and not is_ok or name in ("down", "full") and is_ok:
-            _refuse(node, f'a service that is {name} answers with {"ok" if name == "up" else "err"}',
+            _refuse(node, f'a service that is {name} returns {"ok" if name == "up" else "err"}',
                     'a state in which it fails is "down"' if name == "up" else "")
         value = _whole(parts["ok" if is_ok else "err"], "a code")
         return Outcome(_whole(parts["ms"], "ms", 1, LAST_MOMENT), is_ok, value)
@@ -249,7 +249,7 @@ class _Reading:
         state = STATES.index(_word(parts["is"], '"is"', STATES[:FULL])) if "is" in parts else UP
         capacity = _whole(parts["capacity"], "the capacity", 1, MOST_CLIENTS) if "capacity" in parts else None
         if capacity is not None and state == DOWN:
-            _refuse(parts["capacity"], "a service that is down has no capacity", 'leave out "capacity", or "is"')
+            _refuse(parts["capacity"], "a service that is down has no capacity", 'remove "capacity", or "is"')
         return Window(begin, end, state, capacity)
 
     def _budget(self, node):
@@ -261,7 +261,7 @@ class _Reading:
         code = _whole(parts["err"], "err") if "err" in parts else 0
         if any(code == outcome.value for outcome in self.scenario.outcomes if not outcome.is_ok):
             _refuse(parts.get("err", node), f"{code} is an error code of the service too",
-                    'write "err": with another code, for clients that the budget lets retry no more')
+                    'write "err": with another code, for clients whose retries the budget rejects')
         retry = _thousandths(parts["retry"], "retry") if "retry" in parts else 5 * THOUSAND
         self.scenario.budget = Budget(like, _thousandths(parts["tokens"], "tokens"),
                                       _thousandths(parts["ok"], "ok") if "ok" in parts else default,
@@ -271,10 +271,10 @@ class _Reading:
         """The policies by name."""
         parts = _members(node, "policies", None, [])
         if not parts:
-            _refuse(node, "there is no policy", 'write {"NAME": "SCHEDULE"}, as {"backoff": "exponential(100)"}')
+            _refuse(node, "policies is empty", 'write {"NAME": "SCHEDULE"}, as {"backoff": "exponential(100)"}')
         for name, (key, value) in zip(parts, node.members()):
             if not re.fullmatch("[A-Za-z0-9_-][A-Za-z0-9._-]{0,63}", name):
-                _refuse(key, "a name has 1 to 64 letters, digits, - _ and .", "its files are named for it")
+                _refuse(key, "a name has 1 to 64 letters, digits, - _ and .", "the names of its files begin with it")
             if value.kind != "text":
                 _refuse(value, f"the policy {name} must be the text of a schedule", 'as "exponential(100)"')
             try:

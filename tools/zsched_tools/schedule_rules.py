@@ -129,13 +129,13 @@ def _mapped(piece, function, kind):
     """The kind of a function's answer; raises NoKind."""
     if function in ("_1", "_2"):
         if kind[0] != "pair":
-            _refuse(piece, f"{function} of {_shown(kind)}", "pairs come of && and || alone")
+            _refuse(piece, f"{function} of {_shown(kind)}", "only && and || make pairs")
         return kind[int(function[1])]
     if function == "size" and kind[0] != "list":
-        _refuse(piece, f"the size of {_shown(kind)}", "lists come of collectAll alone")
+        _refuse(piece, f"the size of {_shown(kind)}", "only collectAll makes lists")
     if function == "merge":
         if kind[0] != "sum":
-            _refuse(piece, f"merge of {_shown(kind)}", "merge stands behind an andThenEither")
+            _refuse(piece, f"merge of {_shown(kind)}", "merge follows an andThenEither")
         if kind[1] != kind[2]:
             _refuse(piece, f"merge of {_shown(kind[1])} with {_shown(kind[2])}",
                     "map both sides of the andThenEither to one kind first, as by .map(_1)")
@@ -151,10 +151,10 @@ def _test(piece, pick, kind):
         _refuse(piece, f"{_shown(kind)} is compared with a number",
                 _path(kind, _written(piece).replace("(", "({} ")))
     if pick == "size" and kind[0] != "list":
-        _refuse(piece, f"the size of {_shown(kind)}", "lists come of collectAll alone")
+        _refuse(piece, f"the size of {_shown(kind)}", "only collectAll makes lists")
     if pick in ("_1", "_2"):
         if kind[0] != "pair":
-            _refuse(piece, f"{pick} of {_shown(kind)}", "pairs come of && and || alone")
+            _refuse(piece, f"{pick} of {_shown(kind)}", "only && and || make pairs")
         part = kind[int(pick[1])]
         if part != NUMBER:
             _refuse(piece, f"{pick} is {_shown(part)}, and is compared with a number",

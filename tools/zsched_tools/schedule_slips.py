@@ -31,7 +31,7 @@ def _template(spot, _):
     if not found:
         return None
     return spot.cause(found.end(), "this template isn't filled in",
-                      "write the value here: zsched reads the plan as it is, and fills in nothing")
+                      "write the value here: zsched reads the plan as it is, and fills in no templates")
 
 
 def _cron(spot, _):
@@ -42,7 +42,7 @@ def _cron(spot, _):
     minutes = re.fullmatch(r"\*/([0-9]{1,4}) \* \* \* \*", text)
     period = int(minutes[1]) * 60000 if minutes else _PERIODS.get(text)
     written = f"write fixed({period})" if period else "write fixed(N) for each N milliseconds"
-    return spot.cause(len(spot.rest.rstrip()), "this is a line of cron, and there is no calendar here",
+    return spot.cause(len(spot.rest.rstrip()), "this is a line of cron, but a schedule has no calendar",
                       f"{written}; docs/RECIPES.md has \"On the hour\"")
 
 
@@ -52,7 +52,7 @@ def _exponent(spot, _):
     if not found or not spot.last().isdigit():
         return None
     value = Fraction(spot.last()[:19] + found[1]) * 10**int(found[2])
-    help = f"write {value}" if value.denominator == 1 and value < 2**64 else "write the number in digits alone"
+    help = f"write {value}" if value.denominator == 1 and value < 2**64 else "write the number with only digits"
     return spot.cause(found.end(), "a number has no exponent", help)
 
 
@@ -72,7 +72,7 @@ def _named(spot, expected):
     what = "a number has no name"
     leaf, given = (spot.last(2), []) if spot.last() == "(" else (spot.last(4), [spot.last(2)])
     if leaf not in NUMBERED_LEAVES:
-        return spot.cause(found.end(), what, f"write {found[2]} alone")
+        return spot.cause(found.end(), what, f"write only {found[2]}")
     if given and found[1].lower() in _CAPS:
         written = f"({leaf}({given[0]}) || spaced({found[2]}))"
         return spot.cause(found.end(), what, f"a cap is another schedule: write {written}")
@@ -112,7 +112,7 @@ def _limit_of_time(spot, _):
         time = re.sub(r"\D*([0-9]+).*", r"\1", in_milliseconds(time))
     if not time.isdigit():
         return None
-    return spot.cause(len("upTo"), "there is no upTo", f"write ({before} && elapsed.whileOutput(< {time})).map(_1)")
+    return spot.cause(len("upTo"), "a schedule has no upTo", f"write ({before} && elapsed.whileOutput(< {time})).map(_1)")
 
 
 def _odd_mark(spot, _):

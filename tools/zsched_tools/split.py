@@ -44,7 +44,7 @@ class Parts:
     def begin(self, before):
         """Begins the next part."""
         if len(self.sums) == MOST_PARTS:
-            raise Refused(f"the plan has more than {MOST_PARTS} parts: take a greater N")
+            raise Refused(f"the plan has more than {MOST_PARTS} parts: use a greater N")
         self.end()
         self.sums.append(Sums())
         self.file = open(self._path(len(self.sums)), "wb")
@@ -101,7 +101,7 @@ class Parts:
         for number, sums in enumerate(self.sums, 1):
             if sums.length + len(text) > LONGEST_PLAN:
                 raise Refused(f"part {number} has {sums.length + len(text)} bytes, and a plan has at most {LONGEST_PLAN}: "
-                              "take a smaller N")
+                              "use a smaller N")
             with open(self._path(number), "ab") as file:
                 file.write(text)
             sums.plan.update(text)
@@ -131,7 +131,7 @@ def _write_parts(path, form, parts):
     repeated = first_repeat(repeats, _named(path, form)) if repeats else None
     if repeated is not None:
         name, first, second = repeated
-        raise Refused(f"line {second}: the name {name} stands in the job on line {first} too")
+        raise Refused(f"line {second}: the job on line {first} has the name {name} too")
 
 
 def write_parts(path, is_lines, most, folder, progress=None):
@@ -139,12 +139,12 @@ def write_parts(path, is_lines, most, folder, progress=None):
     refused, no folder is made."""
     folder = pathlib.Path(folder)
     if folder.exists() and (not folder.is_dir() or any(folder.iterdir())):
-        raise Refused(f"{folder}: is there, and isn't an empty folder")
+        raise Refused(f"{folder}: exists, and isn't an empty folder")
     if not os.path.isfile(path) and os.path.exists(path):
-        raise Refused(f"{path}: is no regular file, and a plan may be read twice")
+        raise Refused(f"{path}: is not a regular file, and a plan may be read twice")
     making = folder.with_name(folder.name + ".partial")
     if making.exists():
-        raise Refused(f"{making}: is there; another split makes it, or one was broken off: then remove it")
+        raise Refused(f"{making}: exists: another split writes it, or an interrupted one left it; in that case remove it")
     making.mkdir()
     parts = Parts(making, most, progress)
     try:

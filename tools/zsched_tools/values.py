@@ -37,7 +37,7 @@ def over(node, what, help=""):
 
 def not_of_kind(node, kind, what, help=""):
     """The cause where a value isn't of its kind, else None."""
-    return None if node.kind == kind else over(node, f"{what} is {_A[node.kind]}, and has to be {_A[kind]}", help)
+    return None if node.kind == kind else over(node, f"{what} is {_A[node.kind]}, but must be {_A[kind]}", help)
 
 
 def meant_for(key, known):
@@ -79,7 +79,7 @@ def _key_help(said, where, known):
     """What was meant by an unknown key."""
     for owner, keys in _OWNERS:
         if said in keys:
-            return f'"{said}" stands in {owner}'
+            return f'"{said}" is a key of {owner}'
     meant = meant_for(said, known)
     if meant:
         return f'did you mean "{meant}"?'
@@ -87,7 +87,7 @@ def _key_help(said, where, known):
         return "a schedule counts: recurs(N), joined by && to the one that waits"
     if said.startswith(("//", "#", "_", "$")) or said.lower() in ("comment", "description", "note"):
         return "leave it out: a plan has no comments"
-    return f"{where} takes {listed(known)}; leave this one out"
+    return f"{where} takes {listed(known)}; remove this one"
 
 
 def not_whole(node, key):
@@ -109,7 +109,7 @@ def _whole_help(node, key):
             return in_milliseconds(said).replace(":", ", without quotes:", 1)
         if re.fullmatch(r"0|[1-9][0-9]{0,18}", said.strip()):
             return f"write {said.strip()}, without quotes"
-        return "write a whole number" + (", as 1: a code stands for a cause" if key in ("ok", "err") else "")
+        return "write a whole number" + (", as 1: a code represents a cause" if key in ("ok", "err") else "")
     if node.kind == "null":
         return "write a whole number" + ("" if key in ("horizon", "ticks", "ms") else ", or leave the key out")
     if node.kind in ("true", "false"):
@@ -125,12 +125,12 @@ def _number_help(source, key):
         return f"the greatest number is {MAX_WHOLE}"
     value = Fraction(source) if re.fullmatch(r"[0-9]{1,20}(\.[0-9]{1,20})?([eE][+-]?[0-9]{1,2})?", source) else None
     if value is None:
-        return "write digits alone, without point and exponent"
+        return "write only digits, without point and exponent"
     if value.denominator == 1 and value <= MAX_WHOLE:
-        return f"write {value}: digits alone, without point and exponent"
+        return f"write {value}: only digits, without point and exponent"
     if key in TIMES and (value * 1000).denominator == 1 and value < 10**12:
         return f"times are whole milliseconds: write {value * 1000} if these are seconds"
-    return "write digits alone, without point and exponent"
+    return "write only digits, without point and exponent"
 
 
 def out_of_range(node, key, least, most, help=""):
