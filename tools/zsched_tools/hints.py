@@ -1,4 +1,4 @@
-"""What was meant, perhaps: near words, durations with units, and the names of ZIO that a plan writes otherwise."""
+"""What the user may have meant: similar words, durations with units, and names of ZIO that a plan spells differently."""
 import difflib
 import re
 from fractions import Fraction
@@ -38,7 +38,7 @@ _TESTS = "left out: write the function into the test, as whileInput(>= 500) for 
 _AFTER = "write (A andThenEither B).map(merge)"
 _SHAPES = "left out: a step has one input, a whole number, for all parts of a schedule"
 
-# Names of ZIO, and other words, that no schedule has here.
+# Names of ZIO, and other words, that a schedule doesn't have.
 ZIO = {
     "Schedule": "leave Schedule. out: write recurs(3), spaced(100) ..",
     "upTo": "write (S && elapsed.whileOutput(< D)).map(_1)",
@@ -57,7 +57,7 @@ ZIO = {
     "recurUntilEquals": "write identity.whileInput(!= N)",
     "collectWhile": "write S.whileOutput(C N).collectAll",
     "collectUntil": f"write S.whileOutput(C N).collectAll with {_OPPOSITE}",
-    "resetAfter": "write (S && elapsed).resetWhen(_2 >= D).map(_1); it resets D after its first step, whatever happened since",
+    "resetAfter": "write (S && elapsed).resetWhen(_2 >= D).map(_1); it resets D after its first step in any case",
     "once": "write recurs(1)",
     "stop": "write recurs(0)",
     "count": "write forever",
@@ -133,7 +133,7 @@ ZIO = {
 
 _IN_ANY_CASE = {name.lower(): help for name, help in ZIO.items()}
 
-# Symbols that no schedule has here, the longest first.
+# Symbols that a schedule doesn't have, the longest first.
 SYMBOLS = {
     ">>>": _FEEDS,
     "<<<": _FEEDS,
@@ -160,7 +160,7 @@ SYMBOLS = {
 
 
 def near(word, words):
-    """The word of these that this one was meant to be, perhaps; None where none is near."""
+    """The word of `words` that is most similar to this one, or None if no word is similar."""
     if len(word) > 40:
         return None
     plain = {known.lower(): known for known in words}
@@ -170,7 +170,7 @@ def near(word, words):
 
 def zio(word):
     """What to write for a name of ZIO, in capitals or not; also for one that ends in ZIO or M, whose function is an
-    effect. None where the word is no such name."""
+    effect. None if the word is no such name."""
     if word.lower() in _IN_ANY_CASE:
         return _IN_ANY_CASE[word.lower()]
     base = re.sub(r"(ZIO|M)$", "", word)
@@ -178,7 +178,7 @@ def zio(word):
 
 
 def milliseconds(text):
-    """The milliseconds that a text tells, as '10s', '1.5', '2 minutes', '1h30m' or 'PT5S': a Fraction, or None."""
+    """The milliseconds of a duration's text, as '10s', '1.5', '2 minutes', '1h30m' or 'PT5S': a Fraction, or None."""
     text = text.strip()
     if len(text) > 60:
         return None
@@ -194,7 +194,7 @@ def milliseconds(text):
 
 
 def in_milliseconds(text):
-    """What to write for a text that tells a duration, or an empty text."""
+    """What to write for the text of a duration, or an empty text."""
     length = milliseconds(text)
     if length is None:
         return ""

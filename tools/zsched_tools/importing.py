@@ -64,7 +64,7 @@ def _source(path):
 
 
 def _until(word):
-    """The horizon of a plan that names none."""
+    """The horizon of a plan that has no horizon."""
     length = milliseconds(word)
     if length is None or length.denominator != 1 or length > MAX_MOMENT:
         raise argparse.ArgumentTypeError(f"{word} is not a duration: write 60000, 90s or 1h")
@@ -128,7 +128,7 @@ def _say(text):
 
 
 def _report(notes, path, line):
-    """Says what was changed. `line` gives the line of a place."""
+    """Reports the changes. `line` returns the line of a place."""
     for place, text in notes.lines():
         _say(f"{shown(path, WIDTH)}:{line(place)}: {text}")
 
@@ -138,7 +138,7 @@ def _of_log(given):
     _check_schedule(given)
     log, notes = Log(given.name, given.time, given.status, given.unit, given.errors_from), Notes()
     try:
-        # What isn't UTF-8 can only be in names, which are changed, and in columns that aren't read.
+        # Bytes that aren't UTF-8 can only be in names, which are changed, and in columns that aren't read.
         with open(given.file, encoding="utf-8-sig", errors="replace", newline="") as lines:
             jobs = [job_text(name, given.schedule, given.mode, script)
                     for name, script in Reader(lines, log, notes).jobs()]
@@ -149,7 +149,7 @@ def _of_log(given):
 
 
 def _check_schedule(given):
-    """Has the program check the schedule of a log's jobs."""
+    """Runs the program to check the schedule of a log's jobs."""
     source = Source("--schedule", given.schedule)
     script = [Value({key("ms", 0): Value(1, 0), key("ok", 0): Value(0, 0)}, 0)]
     job = {"name": "log", "mode": "retry", "schedule": given.schedule, "script": script}
@@ -175,7 +175,7 @@ def _of_policies(given, read):
 
 
 def check(source, plan, zsched):
-    """Has the program check a plan. A fault is shown at its place in the source."""
+    """Runs the program to check a plan. A fault is shown at its place in the source."""
     try:
         found = program.find(zsched)
     except program.NoProgram as missing:

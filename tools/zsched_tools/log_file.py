@@ -12,7 +12,7 @@ from zsched_tools.policy_plan import MOST_ENTRIES, Names, is_allowed, whole
 
 UNITS = {"ms": Decimal(1), "s": Decimal(1000), "us": Decimal("0.001"), "ns": Decimal("0.000001")}
 MOST_CODE = 2**64 - 1
-# The columns that are looked for, in this order, without regard to capitals.
+# The known columns, in the order of the search, in any case of letters.
 NAMES = ["request_id", "request", "trace_id", "name", "id", "job", "key"]
 TIMES = ["latency", "duration", "elapsed", "took", "time", "ms"]
 STATUSES = ["status_code", "http_status", "status", "code"]
@@ -71,7 +71,7 @@ class Reader:
         """By the names in the log, the line on which each is first, and its script."""
         found = {}
         for row in self._rows():
-            # A row may have line ends within quotes; it is named by the line on which it ends.
+            # A row may have line ends within quotes; its number is that of the line on which it ends.
             self.line = self.rows.line_num
             if not row:
                 continue
@@ -85,7 +85,7 @@ class Reader:
         return found
 
     def _rows(self):
-        """The rows that are left."""
+        """The remaining rows."""
         try:
             yield from self.rows
         except csv.Error as fault:
@@ -101,8 +101,8 @@ class Reader:
 
     def refused(self, what, column=None):
         """The error of a line, perhaps of a column."""
-        where = "" if column is None else f"column {shown(self.head[self.columns[column]])}: "
-        return Refused(f"{self.line}: {where}{what}")
+        place = "" if column is None else f"column {shown(self.head[self.columns[column]])}: "
+        return Refused(f"{self.line}: {place}{what}")
 
     def _entry(self, time, status):
         if not _NUMBER.fullmatch(time):

@@ -1,4 +1,4 @@
-"""Why a text is no JSON, in words: what stands in the place of a value, a key, a colon or a comma."""
+"""Why a text is not JSON, in words: what it has instead of a value, a key, a colon or a comma."""
 import re
 
 from zsched_tools.cause import Cause, line_of, shown
@@ -23,7 +23,7 @@ _PACKED = {
     b"\xfd7zXZ": ("this is a file packed by xz", "unpack it: xzcat plan.json.xz | zsched"),
     b"PK\x03\x04": ("this is a zip file", "unpack it: unzip -p plan.zip | zsched"),
 }
-# How texts begin that are something else, what they are, and what to do.
+# How other texts begin, what they are, and what to do.
 _OTHER_TEXTS = [
     (r"```", "this is Markdown, and a plan is only JSON", "remove the lines that begin with ```"),
     (r"(?i)<(?:!doctype|html)", "this is an HTML page, not a plan", "check the download: perhaps it is an error page"),
@@ -38,7 +38,7 @@ _OTHER_TEXTS = [
 
 
 def other_text(text, at):
-    """The cause at a place where a text stops to be JSON, if it is something else as a whole, or None."""
+    """The cause at the place at which a text stops being JSON, if the whole text is something else, or None."""
     line = text.rfind("\n", 0, at) + 1
     if re.compile(r"<{7} |={7}$|>{7} ", re.M).match(text, line):
         return Cause(at, 1, "this is a conflict mark of a merge",
@@ -86,13 +86,13 @@ def more_text(text, at):
 
 
 def too_large(at, end):
-    """The number that stands from here to there is larger than any 64-bit float."""
+    """The number from `at` to `end` is larger than any 64-bit float."""
     return Cause(at, end - at, "this number is too large for any reader of JSON",
                  "the greatest number of a plan is 18446744073709551615")
 
 
 def _comment(text, at):
-    """The cause where a comment begins here, else None."""
+    """The cause if a comment begins here, else None."""
     if not text.startswith(_COMMENTS, at):
         return None
     end = text.find("\n", at)
@@ -139,12 +139,12 @@ def _early_end(reading, at):
 
 
 def _place_before(text, at):
-    """The place of what stands last before this one, white space left out; a bracket is open, so something does."""
+    """The place of the last character before this one that isn't white space. A bracket is open, so there is one."""
     return len(text[:at].rstrip(_SPACE)) - 1
 
 
 def _missing_value(reading, at):
-    """A mark stands where a value is expected."""
+    """A mark, but a value is expected."""
     text, mark = reading.text, reading.text[at]
     before = _place_before(text, at)
     last = text[before]
@@ -160,7 +160,7 @@ def _missing_value(reading, at):
 
 
 def _bad_number(text, at):
-    """A number that JSON writes otherwise."""
+    """A number that isn't in JSON's form."""
     source = re.compile(r"[+-]?[0-9A-Za-z_.]*(?:(?<=[eE])[+-][0-9]*)?").match(text, at)[0] or text[at]
     if source[0] == "+":
         return Cause(at, len(source), "a number has no plus before it", f"write {shown(source[1:])}")
@@ -170,7 +170,7 @@ def _bad_number(text, at):
 
 
 def _bare_word(text, at, word):
-    """A word stands where a value is expected."""
+    """A word, but a value is expected."""
     if word in _CONSTANTS:
         return Cause(at, len(word), f"JSON has no {word}", f"{_CONSTANTS[word]} is JSON's word, but no value of a plan")
     if word in ("NaN", "Infinity", "inf", "nan"):
@@ -191,7 +191,7 @@ def _odd_letter(text, at):
 
 
 def _bad_string(text, at):
-    """A text in quotes that doesn't end, or that has what may not stand in it."""
+    """A text in quotes that doesn't end, or that has a character that isn't allowed."""
     letters = (r'[^"\\\x00-\x1f]++|\\["\\/bfnrt]|\\u(?![dD][89a-fA-F])[0-9a-fA-F]{4}'
                r'|\\u[dD][89abAB][0-9a-fA-F]{2}\\u[dD][c-fC-F][0-9a-fA-F]{2}')
     plain = re.compile('"' + run_of(letters)).match(text, at)
@@ -233,7 +233,7 @@ def no_key(reading, at):
 
 
 def _missing_key(reading, at):
-    """A mark stands where a key is expected."""
+    """A mark, but a key is expected."""
     text, mark = reading.text, reading.text[at]
     before = _place_before(text, at)
     if text[before] == "," and mark == "}":
@@ -248,7 +248,7 @@ def _missing_key(reading, at):
 
 
 def no_colon(reading, at, end):
-    """No colon follows the key that stands from here to there."""
+    """No colon follows the key from `at` to `end`."""
     text = reading.text
     rest = reading.skip(end)
     mark = text[rest:rest + 1]
@@ -265,7 +265,7 @@ def no_colon(reading, at, end):
 
 
 def no_comma(reading, end, at):
-    """No comma follows the value that ends there, but what stands here."""
+    """The value that ends at `end` is followed by what is at `at`, not by a comma."""
     text = reading.text
     opened = reading.open[-1]
     is_object, closing = text[opened] == "{", _CLOSING[text[opened]]
@@ -290,14 +290,14 @@ def no_comma(reading, end, at):
 
 
 def _stray_colon(text, opened, at, is_object):
-    """A colon or an = behind a value."""
+    """A colon or an = after a value."""
     if not is_object and text[at] == ":":
         return Cause(at, 1, "a list has a colon", 'write { } around "key": value')
     return Cause(at, 1, f"this {text[at]} follows a value", "a comma is missing before it, or there is one quote too many")
 
 
 def _tail(text, end):
-    """Letters or digits stand right behind a number or a word."""
+    """Letters or digits directly after a number or a word."""
     begin = end
     while begin > 0 and (text[begin - 1].isalnum() or text[begin - 1] in "+-._"):
         begin -= 1

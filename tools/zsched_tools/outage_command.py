@@ -1,4 +1,4 @@
-"""The command zsched-outage: many clients meet an outage, and each run is confirmed by the program."""
+"""The command zsched-outage: simulates many clients in an outage, and the program confirms each run."""
 import argparse
 import contextlib
 import os
@@ -25,8 +25,9 @@ from zsched_tools.split import MOST_JOBS, write_parts
 
 TOOL = "zsched-outage"
 MOST_PASSES = 50
-DESCRIPTION = """Simulates many clients, each with a retry policy, in an outage: a service that is down, slow or full. Prints a
-table with a column for each policy: attempts, peaks of load, times to success, and the number of clients that gave up.
+DESCRIPTION = """Simulates many clients, each with a retry policy, in an outage: a service that is down, slow or full.
+Prints a table with a column for each policy: attempts, peaks of load, times to success, and the number of clients that
+gave up.
 
   zsched-outage outage.json
   zsched-outage outage.json -o outage --html outage.html
@@ -82,12 +83,12 @@ error; 3 if reading, writing or the program fails."""
 
 
 def _drawn_by(scenario, name):
-    """A source of draws as that of the first client of a policy."""
+    """A source of random numbers as that of the first client of a policy."""
     return random.Random(f"{scenario.seed} {name}")
 
 
 def _check_policies(scenario, zsched):
-    """Lets the program read the first client's schedule of each policy. FaultAt has the place in the scenario."""
+    """Runs the program to check the first client's schedule of each policy. FaultAt has the place in the scenario."""
     for name, (policy, node) in scenario.policies.items():
         schedule = policy.schedule(_drawn_by(scenario, name))
         script = f'"script":[{scenario.outcomes[0].entry()}]'
@@ -105,15 +106,15 @@ def _quoted(text):
 
 
 def _settled(scenario, zsched, name, most_passes, say):
-    """The jobs of the plan of a policy, the endings that were simulated, and the number of passes."""
+    """The jobs of the plan of a policy, the simulated endings, and the number of passes."""
     search = Search(scenario, zsched, schedules_of(scenario, name), most_passes)
     walk = search.settle(lambda words: say(f"{name}: {words}"))
     return list(search.final_jobs(walk)), walk.endings, search.passes
 
 
 def simulate(scenario, zsched, name, most_passes, say):
-    """The run of one policy: its jobs, plans, the most jobs of a plan, reports and figures. Unsettled and Uncertified
-    end it."""
+    """The run of one policy: its jobs, plans, the most jobs of a plan, reports and figures. It raises
+    Unsettled or Uncertified."""
     try:
         jobs, endings, passes = _settled(scenario, zsched, name, most_passes, say)
         plans, most = cut_plans(scenario.horizon, jobs)
@@ -149,7 +150,7 @@ def write_files(folder, name, horizon, found):
 
 
 def warn_of_parts(scenario, name):
-    """Says, before a policy runs, that its plan will be more than one: by the schedules of its clients alone."""
+    """Warns, before a policy runs, if its jobs exceed one plan; it checks only the schedules of the clients."""
     count, size = len(scenario.starts), sum(map(len, schedules_of(scenario, name)))
     if count > MOST_JOBS or size > LONGEST_PLAN:
         print(f"{TOOL}: policy {name}: {count:,} jobs with schedules of {size:,} bytes are more than one plan of "
@@ -158,7 +159,7 @@ def warn_of_parts(scenario, name):
 
 @contextlib.contextmanager
 def _made(path):
-    """A folder that gets its name when all of its files are written, and is removed if something fails before; None
+    """A folder that is renamed to its final name after all files are written, and removed if something fails before; None
     without a path."""
     if path is None:
         yield None
@@ -168,7 +169,7 @@ def _made(path):
         raise Refused(f"{folder}: exists, and isn't an empty folder")
     making = folder.with_name(folder.name + ".partial")
     if making.exists():
-        raise Refused(f"{making}: exists: another run writes it, or an interrupted one left it; in that case remove it")
+        raise Refused(f"{making}: exists: another run writes it, or an interrupted one left it (then remove it)")
     making.mkdir()
     try:
         yield making
@@ -178,7 +179,7 @@ def _made(path):
 
 
 def _all(given, scenario, zsched):
-    """Simulates all policies, one after another, and writes what is asked for; returns the figures of each."""
+    """Simulates all policies, one after another, and writes the requested files; returns the figures of each."""
     figures = {}
     with _made(given.folder) as folder, Now() as progress:
         for name in scenario.policies:
@@ -205,7 +206,7 @@ def _print(given, scenario, figures):
 
 
 def work(given):
-    """Does what the words ask for; returns the exit status."""
+    """Runs the command with its arguments; returns the exit status."""
     name = "standard input" if given.scenario == "-" else given.scenario
     data = sys.stdin.buffer.read() if given.scenario == "-" else pathlib.Path(given.scenario).read_bytes()
     for path in filter(None, [given.folder, given.svg, given.html]):
@@ -242,7 +243,7 @@ def _passes(word):
 
 
 def arguments():
-    """The words of the command line."""
+    """The parser of the command line."""
     form = argparse.RawDescriptionHelpFormatter
     parser = argparse.ArgumentParser(prog=TOOL, description=DESCRIPTION, epilog=EPILOG, formatter_class=form)
     parser.add_argument("scenario", metavar="SCENARIO.json", help="the scenario's file; - for standard input")

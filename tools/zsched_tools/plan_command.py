@@ -1,4 +1,4 @@
-"""The command zsched-plan: a large plan as many plans, and another file as a plan."""
+"""The command zsched-plan: cuts a large plan into plans, and converts other files to a plan."""
 import argparse
 
 from zsched_tools import colors, command, release, starting
@@ -41,7 +41,7 @@ def _split(given):
 
 
 def _arguments():
-    """The words of the command line."""
+    """The parser of the command line."""
     form = argparse.RawDescriptionHelpFormatter
     parser = argparse.ArgumentParser(prog=TOOL, description=DESCRIPTION, epilog=EPILOG, formatter_class=form)
     release.add_version(parser)

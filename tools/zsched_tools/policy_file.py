@@ -1,14 +1,14 @@
 """A YAML or TOML file as values with their places.
 
-PyYAML gives the place of each value. Python's reader of TOML gives none: the lines are looked
-through for headers and keys, and what isn't found so has the place of what it is in."""
+PyYAML gives the place of each value. Python's reader of TOML doesn't: this module
+searches the lines for headers and keys. A value that isn't found has the place of its parent."""
 import re
 import tomllib
 
 from zsched_tools.cause import Cause, line_of, shown
 from zsched_tools.placed import DEEPEST, Raw, Value, Wrong, key
 
-# More than the longest plan has. An alias in a list of aliases may stand for any number of values.
+# More than the longest plan has. An alias in a list of aliases may represent any number of values.
 MOST_VALUES = 5_000_000
 NO_YAML = "YAML needs PyYAML, and it isn't installed (Debian: python3-yaml; pip: PyYAML)"
 
@@ -20,13 +20,13 @@ _TOML_PLACE = re.compile(r"(.*) \(at (?:line (\d+), column (\d+)|end of document
 
 
 def _scalar(data, at, text):
-    """A text as a Value, with its characters' places if the file has it as it is."""
+    """A text as a Value, with the places of its characters if the file has it unchanged."""
     quoted = text[at:at + 1] in ("'", '"')
     return Value(data, at, at + quoted if text.startswith(data, at + quoted) else None)
 
 
 def read_yaml(text):
-    """The value that a YAML document is."""
+    """The value of a YAML document."""
     try:
         import yaml
     except ImportError:
@@ -92,7 +92,7 @@ class _Yaml:
 
 
 def read_toml(text):
-    """The value that a TOML document is."""
+    """The value of a TOML document."""
     try:
         tree = tomllib.loads(text)
     except tomllib.TOMLDecodeError as fault:
@@ -120,7 +120,7 @@ def _header_path(names, is_item, counts):
 
 
 def _toml_places(text):
-    """Where the keys and values of a TOML document begin, by their paths."""
+    """The starts of the keys and values of a TOML document, by their paths."""
     found, counts, base, here = {(): (0, 0)}, {}, (), 0
     for line in text.split("\n"):
         header, assigned = _HEADER.fullmatch(line.rstrip("\r")), _ASSIGNED.match(line)
@@ -144,7 +144,7 @@ class _Toml:
         self.text, self.places = text, places
 
     def value(self, data, path, outer):
-        """The value at a path, within what has the place `outer`."""
+        """The value at a path, whose parent has the place `outer`."""
         at = self.places.get(path, (outer, outer))[1]
         if len(path) == DEEPEST:
             raise Wrong(Cause(at, 1, f"this is nested deeper than {DEEPEST}"))

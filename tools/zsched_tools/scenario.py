@@ -1,4 +1,5 @@
-"""A scenario: clients, a service whose state goes by the moment, and policies. Read from JSON; a fault has its place.
+"""A scenario: clients, a service whose state depends on the moment, and policies. It is read from JSON; a fault has its
+place.
 
 All moments and durations are milliseconds here; in the file they are whole numbers or texts such as "1.5s"."""
 import fractions
@@ -78,7 +79,7 @@ DEFAULTS = [Outcome(40, True, 200), Outcome(50, False, 503), Outcome(2000, True,
 
 
 def read_scenario(data):
-    """The scenario of a file's bytes. FaultAt says what is wrong with them, and where."""
+    """The scenario of a file's bytes. FaultAt has a fault and its place."""
     try:
         text = data.decode()
     except UnicodeDecodeError as bad:
@@ -91,7 +92,7 @@ def read_scenario(data):
 
 
 def _of_scenario(cause):
-    """A cause that speaks of plans, for a scenario."""
+    """A cause that mentions plans, in the words of scenarios."""
     what, help = (re.sub(r"\b(a|the|no) plan\b", r"\1 scenario", words)
                   for words in [cause.what, cause.help.removeprefix(not_json.FROM)])
     return cause._replace(what=what, help=help.replace(not_json.SKETCH, SKETCH))
@@ -124,7 +125,7 @@ _SAMPLES = {"horizon": '"3min"', "clients": '{"number": 1000, "within": "1s"}', 
 
 
 def _key_help(key, known):
-    """What to write in place of an unknown key."""
+    """What to write instead of an unknown key."""
     if key in ("jobs", "workers", "grain", "ticks"):
         return "this is a key of a plan, which zsched runs; a scenario has clients, windows and policies"
     meant = near(key, known)
@@ -155,7 +156,7 @@ def _whole(node, what, least=0, most=2**64 - 1):
 
 
 def _word(node, what, words):
-    """One of some words."""
+    """A text that is one of some words."""
     found = node.string() if node.kind == "text" else None
     if found not in words:
         meant = near(found, words) if found else None
@@ -188,7 +189,7 @@ class _Reading:
         self._policies(parts["policies"])
 
     def _clients(self, node):
-        """How many clients there are, and when each comes."""
+        """The number of clients, and the moment at which each starts."""
         parts = _members(node, "clients", ["number", "within", "per_second", "start"], ["number"])
         number = _whole(parts["number"], "the number of clients", 1, MOST_CLIENTS)
         start = _time(parts["start"], "the start") if "start" in parts else 0
@@ -204,8 +205,8 @@ class _Reading:
             self.scenario.coming = f"within {duration(time)}" if time else "all at once"
 
     def _outcomes(self, node):
-        """How an attempt ends in each state of the service. A full service answers like one that is down, unless
-        "full" is given."""
+        """How an attempt ends in each state of the service. A full service returns the outcome of one that is down,
+        unless "full" is given."""
         parts = {} if node is None else _members(node, "outcomes", STATES, [])
         found = [self._outcome(parts[name], name) if name in parts else default
                  for name, default in zip(STATES, DEFAULTS)]
@@ -284,6 +285,6 @@ class _Reading:
 
 
 def in_text(node, cause):
-    """A cause in what a text says as one in the document."""
+    """A cause in the content of a text, with its place in the document."""
     at = node.place_in(cause.at)
     return cause._replace(at=at, size=node.place_in(cause.at + cause.size) - at)

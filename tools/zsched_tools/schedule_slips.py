@@ -1,4 +1,4 @@
-"""What other tools write in place of a schedule: templates, cron lines, arguments with names, exponents."""
+"""What other tools write instead of a schedule: templates, cron lines, arguments with names, exponents."""
 import re
 import unicodedata
 from fractions import Fraction
@@ -17,7 +17,7 @@ _LONGEST = 60
 
 
 def slip(spot, expected):
-    """The Cause of a slip at a Spot, which expects something, or None."""
+    """The Cause of a slip at a Spot, or None. `expected` is what has to follow there."""
     for look in (_template, _cron, _exponent, _duration, _named, _third_number, _deep_pick, _limit_of_time, _odd_mark):
         found = look(spot, expected)
         if found:
@@ -26,7 +26,7 @@ def slip(spot, expected):
 
 
 def _template(spot, _):
-    """A template that nothing filled in."""
+    """A template that wasn't filled in."""
     found = _TEMPLATE.match(spot.rest)
     if not found:
         return None
@@ -57,7 +57,7 @@ def _exponent(spot, _):
 
 
 def _duration(spot, expected):
-    """A duration of ISO 8601 in a number's place."""
+    """A duration of ISO 8601 instead of a number."""
     found = _ISO.match(spot.rest)
     if expected != "number" or not found or len(found[0]) < 3:
         return None
@@ -102,7 +102,7 @@ def _deep_pick(spot, _):
 
 
 def _limit_of_time(spot, _):
-    """`upTo` of ZIO, whose schedule and time are there."""
+    """`upTo` of ZIO, with its schedule and time."""
     found = re.match(r"upTo *\(([^()]*)\)", spot.rest)
     before = spot.text[:spot.at].rstrip(" .")
     if not found or spot.last() != "." or before.count("(") != before.count(")") or len(before) > _LONGEST:
@@ -116,7 +116,7 @@ def _limit_of_time(spot, _):
 
 
 def _odd_mark(spot, _):
-    """A mark that ends or begins something elsewhere."""
+    """A mark that other languages use, as a semicolon."""
     letter = spot.rest[0]
     plain = unicodedata.normalize("NFKC", letter)
     if letter == ";":

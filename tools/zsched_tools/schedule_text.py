@@ -1,5 +1,5 @@
-"""Why no schedule is spelled at a place of a text, in words. The program tells the place; what may stand there follows
-from the tokens before it."""
+"""Why a text is not a schedule, in words. The program reports the place; the tokens before it determine what is expected
+there."""
 import re
 from typing import NamedTuple
 
@@ -17,7 +17,7 @@ _TESTS = {"comparison": "a comparison and a number, as < 5", "pick": "a comparis
 
 
 class Spot(NamedTuple):
-    """A place of a text at which no spelling goes on, with the tokens before it and the text from it on."""
+    """A place of a text at which no schedule continues, with the tokens before it and the text from it on."""
     text: str
     at: int
     before: list
@@ -28,11 +28,11 @@ class Spot(NamedTuple):
         return Cause(self.at, size, what, help)
 
     def last(self, back=1):
-        """The last token before, or one further back; empty where there is none."""
+        """The last token before, or one further back; empty if it is missing."""
         return self.before[-back][0] if len(self.before) >= back else ""
 
     def token(self):
-        """The token that stands here; empty where none does."""
+        """The token here; empty if the text has no token here."""
         found = TOKEN.match(self.rest)
         return found[0] if found else ""
 
@@ -51,7 +51,7 @@ def cause_of(text, fault):
 
 
 def _no_term(spot):
-    """The cause of a place at which no spelling goes on."""
+    """The cause of a place at which no schedule continues."""
     if not spot.rest:
         return _ended(spot)
     expected = expectation(spot.before)
@@ -60,7 +60,7 @@ def _no_term(spot):
 
 
 def expectation(before):
-    """What has to follow on these tokens: 'schedule', 'more' (after a whole one), 'method', 'open' or 'close' (of
+    """What must follow these tokens: 'schedule', 'more' (after a whole one), 'method', 'open' or 'close' (of
     parentheses), 'second' (a comma or the end of the arguments), or an argument: 'number', 'comparison', 'pick' (or a
     comparison), 'function'."""
     spot = Spot("", 0, before, "")
@@ -82,8 +82,8 @@ def expectation(before):
 
 
 def innermost(before):
-    """The innermost pair of parentheses that is still open, around whole schedules: its token and its operator, or None
-    for each that isn't there."""
+    """The innermost pair of parentheses that is still open, around whole schedules: its token and its operator, each None
+    if it is missing."""
     depth, operator = 0, None
     for token in reversed(before):
         depth += (token[0] == ")") - (token[0] == "(")
@@ -95,12 +95,12 @@ def innermost(before):
 
 
 def _open_count(spot):
-    """How many parentheses are open."""
+    """The number of open parentheses."""
     return spot.text.count("(", 0, spot.at) - spot.text.count(")", 0, spot.at)
 
 
 def _ended(spot):
-    """The text ends, and no schedule does."""
+    """The text ends within a schedule."""
     expected, count = expectation(spot.before), _open_count(spot)
     if not spot.before:
         return spot.cause(0, "the schedule is empty", 'write one, as "recurs(3)"')
@@ -118,7 +118,7 @@ def _ended(spot):
 
 
 def _after_number(spot):
-    """The cause of what stands right behind a number, as a unit or a point, else None."""
+    """The cause of a unit, a point or digits directly after a number, else None."""
     count = spot.last()
     if not count.isdigit():
         return None
@@ -148,7 +148,7 @@ def _fraction(spot, number, size):
 
 
 def _in_scala(spot, expected):
-    """The cause of an argument in Scala's words, as _ < 5 or x => x + 1, else None."""
+    """The cause of an argument in Scala's syntax, as _ < 5 or x => x + 1, else None."""
     if expected not in ("comparison", "pick", "function"):
         return None
     part = re.match(r"(?:\w+ *=> *)?\w+\._([12])", spot.rest)
@@ -162,7 +162,7 @@ def _in_scala(spot, expected):
 
 
 def _foreign(spot):
-    """The cause of a symbol or a name that no schedule has, else None."""
+    """The cause of a symbol or a name that isn't one of schedules, else None."""
     rest, token = spot.rest, spot.token()
     doubled = spot.last() + rest[0]
     if spot.last() in COMPARISONS and doubled in SYMBOLS:
@@ -177,7 +177,7 @@ def _foreign(spot):
 
 
 def _odd_letter(spot):
-    """The cause of a letter that no token begins with, else None."""
+    """The cause of a letter that can't begin a token, else None."""
     letter = spot.rest[0]
     if spot.token() or letter.isdigit() and letter.isascii():
         return None
@@ -199,7 +199,7 @@ def _odd_letter(spot):
 
 
 def _misspelled(spot, words):
-    """The cause of a word that no schedule has, else None."""
+    """The cause of a word that isn't one of schedules, else None."""
     word = spot.token()
     if not word.isalpha() or word in _WORDS:
         return None
@@ -209,7 +209,7 @@ def _misspelled(spot, words):
 
 
 def _no_schedule(spot):
-    """Something else stands where a schedule has to begin."""
+    """A schedule is expected, but something else is here."""
     token = spot.token()
     if token in METHODS:
         return spot.cause(len(token), f"{token} follows a schedule", f"write S.{token}..")
@@ -224,7 +224,7 @@ def _no_schedule(spot):
 
 
 def _no_more(spot):
-    """Something else than a method, an operator or a closing parenthesis stands behind a schedule."""
+    """A schedule is followed by something other than a method, an operator or a closing parenthesis."""
     token, last = spot.token(), spot.last()
     opened, operator = innermost(spot.before)
     if token == "(" and last in BARE_LEAVES + ["collectAll"]:
@@ -248,7 +248,7 @@ def _no_more(spot):
 
 
 def _second_operator(spot, token, opened, operator):
-    """An operator stands outside of parentheses, or beside another one."""
+    """An operator is outside of parentheses, or next to another one."""
     if not opened and _open_count(spot) <= 0:
         text = spot.text.strip()
         alone = sum(spot.text.count(operator) for operator in OPERATORS) == 1
@@ -287,7 +287,7 @@ def _no_method(spot):
 
 
 def _no_open(spot):
-    """No parenthesis follows on a word that needs one."""
+    """No parenthesis follows a word that needs one."""
     word = spot.last()
     examples = {"map": "map(+ 1)", "exponential": "exponential(100)"}
     example = examples.get(word, f"{word}(< 5)" if word in METHODS else f"{word}(3)")
@@ -295,7 +295,7 @@ def _no_open(spot):
 
 
 def _no_number(spot):
-    """No number stands where one has to."""
+    """A number is expected, but it is missing."""
     token = spot.token()
     zeros = re.match(r"0[0-9]+", spot.rest)
     if zeros:
@@ -308,7 +308,7 @@ def _no_number(spot):
 
 
 def _no_test(spot, expected):
-    """No comparison stands where one has to."""
+    """A comparison is expected, but it is missing."""
     token = spot.token()
     if token.isdigit():
         return spot.cause(len(token), "a comparison is missing before this number", f"write = {token}, < {token} ..")
@@ -319,7 +319,7 @@ def _no_test(spot, expected):
 
 
 def _no_function(spot):
-    """No function stands where one has to."""
+    """A function is expected, but it is missing."""
     token = spot.token()
     if token.isdigit():
         return spot.cause(len(token), "a number is not a function", f"write as {token}, + {token} or * {token}")

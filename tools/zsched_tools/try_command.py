@@ -18,7 +18,7 @@ from zsched_tools.trying import MOST_AFTER, plan_of, tried_in
 
 TOOL = "zsched-try"
 EXCEEDED = 1
-# With this status the program says that it is out of memory, or of threads.
+# The program's status if it is out of memory or of threads.
 NO_MEMORY = 4
 LAST_MOMENT = 999_999_999_999_999
 DESCRIPTION = """Runs policies from the command line, all on the same attempts, and prints a line for each: how it ends,
@@ -45,7 +45,7 @@ program or writing fails."""
 
 
 def _time(least):
-    """A reader of durations of at least so many milliseconds."""
+    """A parser of durations of at least `least` milliseconds."""
     def read(word):
         try:
             found = milliseconds(word)
@@ -76,7 +76,7 @@ def _count(most):
 
 
 def _entries(given):
-    """The entries of the script that all policies get."""
+    """The entries of the script of all policies."""
     usual = (40, "err", 503) if given.mode == "retry" else (40, "ok", 200)
     first = given.fails or usual
     if given.after is None:
@@ -115,7 +115,7 @@ def _not_proved(given, bounds):
 
 
 def _bounds(given):
-    """What the policies do for every input, or nothing of each if the program for it isn't there and isn't required."""
+    """The bounds of the policies for every input; None for each if zsched-bounds isn't found and isn't required."""
     try:
         path = program.find_bounds(given.bounds)
     except program.NoProgram as missing:
@@ -129,7 +129,7 @@ def _bounds(given):
 
 
 def _wrong(given, line):
-    """Shows the fault of a policy, of which the program wrote this line; returns the status."""
+    """Shows the fault of a policy in this line of the program; returns the status."""
     place = re.fullmatch(r"zsched: job (\d+): schedule: (.+)", line)
     if place is None:
         raise Refused(line.removeprefix("zsched: "))
@@ -137,8 +137,8 @@ def _wrong(given, line):
     text = given.policies[number]
     cause = schedule_text.cause_of(text, fault) or schedule_rules.cause_of(text, fault)
     cause = cause or Cause(0, len(text), f"the fault is in this schedule: {fault}")
-    where = f"policy {number + 1}, " if len(given.policies) > 1 else ""
-    place = f"{TOOL}: {where}byte {len(text[:cause.at].encode())}"
+    policy_text = f"policy {number + 1}, " if len(given.policies) > 1 else ""
+    place = f"{TOOL}: {policy_text}byte {len(text[:cause.at].encode())}"
     for shown in place_lines(place, text, cause, Paint(given.color, sys.stderr)):
         print(shown, file=sys.stderr)
     return REFUSED
@@ -166,7 +166,7 @@ def _print_all(given, report, all_bounds):
 
 
 def work(given):
-    """Does what the words ask for; returns the exit status."""
+    """Runs the command with its arguments; returns the exit status."""
     for number, policy in enumerate(given.policies, 1):
         try:
             policy.encode()
@@ -190,7 +190,7 @@ def work(given):
 
 
 def arguments():
-    """The words of the command line."""
+    """The parser of the command line."""
     form = argparse.RawDescriptionHelpFormatter
     parser = argparse.ArgumentParser(prog=TOOL, description=DESCRIPTION, epilog=EPILOG, formatter_class=form)
     parser.add_argument("policies", metavar="POLICY", nargs="+", help="a schedule")
@@ -198,7 +198,7 @@ def arguments():
                         help="runs again after each error (retry, the default) or after each success (repeat)")
     parser.add_argument("--fails", type=_entry, metavar="ATTEMPT",
                         help="each attempt: '40 err 503', under repeat '40 ok 200'")
-    parser.add_argument("--after", type=_count(MOST_AFTER), metavar="N", help="only the first N attempts end as --fails says")
+    parser.add_argument("--after", type=_count(MOST_AFTER), metavar="N", help="how many attempts end as --fails says")
     parser.add_argument("--then", type=_entry, metavar="ATTEMPT", help="each attempt after these: '35 ok 200'")
     parser.add_argument("--until", type=_time(0), default=_time(0)("1d"), metavar="TIME", help="the horizon: 1d")
     parser.add_argument("--max-total", type=_time(0), metavar="TIME", help="the latest end")
