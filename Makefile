@@ -1,4 +1,4 @@
-# The library for services. `make` proves and builds it; `make install DESTDIR=DIR PREFIX=/usr` puts it into a system.
+# The library for services. `make` proves and builds it; `make install DESTDIR=DIR PREFIX=/usr` installs it.
 PREFIX = /usr/local
 LIBDIR = lib
 # The folder of the built library.

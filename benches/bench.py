@@ -1,15 +1,14 @@
 #!/usr/bin/env python3
-"""Measures zsched beside the same behaviour in plain Rust (benches/baseline), and prints Markdown tables.
+"""Measures zsched and the same behaviour in plain Rust (benches/baseline), and prints Markdown tables.
 
     python3 benches/bench.py                 the plans of benches/plans.py: a row each
     python3 benches/bench.py --check         the same bytes from both on examples/, tests/plans/ and these plans
     python3 benches/bench.py --growth        how cost grows, as tables and a picture
 
-The programs run in turn, and medians of the runs are told: wall and processor time and peak memory, zsched's before
-the baseline's, and then zsched's over the baseline's. Instructions are counted by `perf` where it can, and by valgrind
-where --callgrind asks for it, then on plans of a tenth of the size. On a machine that does other work, trust processor
-time and instructions alone. Exit status: 0, 1 where bytes differ or a run failed, 2 where the words or a program are
-wrong."""
+The programs run in turn. The tables have the medians of wall time, processor time and peak memory: zsched's, the
+baseline's, and their ratio. `perf` counts the instructions, if it can. If it can't, and with --callgrind, valgrind counts
+them on plans of a tenth of the size. On a machine that does other work, trust only processor time and instructions.
+Exit status: 0, 1 if bytes differ or a run failed, 2 if an argument or a program is wrong."""
 import argparse
 import os
 import pathlib
@@ -30,21 +29,21 @@ from zsched_tools import program
 BASELINE = HERE / "baseline" / "target" / "release" / "baseline"
 NAMES = ["zsched", "baseline"]
 RUNS = 5
-# Exit statuses of a plan's report, and of a plan that is refused.
+# Exit statuses of a report, and of a rejected plan.
 ENDED = [0, 2]
 
 
 def median_of(runs):
-    """The medians of several runs. Where one ended with another status than the first, that one's status is told."""
+    """The medians of several runs, with the first status that differs from the first run's, if there is one."""
     other = [run.status for run in runs if run.status != runs[0].status]
     middle = [statistics.median(values) for values in zip(*((run.wall, run.processor, run.memory) for run in runs))]
     return measure.Run(*middle, (other or [runs[0].status])[0])
 
 
 def in_turn(programs, plan, runs):
-    """So many runs of each program on a plan, in turn: the medians of each."""
-    told = [[measure.run(each, plan) for each in programs] for _ in range(runs)]
-    medians = [median_of(one) for one in zip(*told)]
+    """Runs each program `runs` times on a plan, in turn, and returns the medians of each."""
+    measured = [[measure.run(each, plan) for each in programs] for _ in range(runs)]
+    medians = [median_of(one) for one in zip(*measured)]
     for name, median in zip(NAMES, medians):
         if median.status not in ENDED:
             raise measure.Failed(f"{name} ended with status {median.status} on {plan.name}")
@@ -52,7 +51,7 @@ def in_turn(programs, plan, runs):
 
 
 def answers(programs, plan, folder):
-    """What zsched left of a plan, and whether the baseline left the same: status, output and standard error."""
+    """The Shot of zsched on a plan, and whether that of the baseline is the same: status, output and standard error."""
     one, other = (measure.shot(each, plan, folder) for each in programs)
     return one, one == other
 
@@ -60,7 +59,7 @@ def answers(programs, plan, folder):
 # ---- the table of the plans
 
 def instructions(programs, plan, small, callgrind):
-    """How many instructions each program takes, or None: by perf on the plan, or by callgrind on the small one."""
+    """The number of instructions of each program, or None: by perf on the plan, or by callgrind on the small one."""
     counted = [measure.instructions_by_perf(each, plan) for each in programs]
     if None not in counted:
         return counted
@@ -75,12 +74,12 @@ def cells(pair, scale, digits):
 
 def row(name, medians, counted, size, equal):
     """A plan's row."""
-    told = [f"`{name}`", f"{size / 1e6:.1f}"]
-    told += cells([run.wall for run in medians], 1000, 0)
-    told += cells([run.processor for run in medians], 1000, 0)
-    told += cells([run.memory for run in medians], 1e-6, 1)
-    told += cells(counted, 1e-6, 1) if counted else ["", ""]
-    return f"| {' | '.join(told)} | {'yes' if equal else 'NO'} |"
+    fields = [f"`{name}`", f"{size / 1e6:.1f}"]
+    fields += cells([run.wall for run in medians], 1000, 0)
+    fields += cells([run.processor for run in medians], 1000, 0)
+    fields += cells([run.memory for run in medians], 1e-6, 1)
+    fields += cells(counted, 1e-6, 1) if counted else ["", ""]
+    return f"| {' | '.join(fields)} | {'yes' if equal else 'NO'} |"
 
 
 def head_of_table():
@@ -91,7 +90,7 @@ def head_of_table():
 
 
 def tell_plans(programs, given, folder):
-    """Prints the table. Answers whether all bytes were the same."""
+    """Prints the table. Returns whether all bytes were the same."""
     all_same = True
     print(head_of_table(), flush=True)
     small = dict(plans.write(folder / "small", 10 * given.divisor, given.only)) if given.callgrind else {}
@@ -107,12 +106,12 @@ def tell_plans(programs, given, folder):
 # ---- the other commands
 
 def check(programs, given, folder):
-    """Compares the bytes on all plans. Answers whether they were the same."""
+    """Compares the bytes on all plans. Returns whether they were the same."""
     repository = [] if given.only else sorted([*TOP.glob("examples/*.json"), *TOP.glob("tests/plans/*.json")])
     made = [path for _, path in plans.write(folder, given.divisor, given.only)]
     different = [path for path in [*repository, *made] if not answers(programs, path, folder)[1]]
     for path in different:
-        print(f"{path}: other bytes")
+        print(f"{path}: different bytes")
     print(f"{len(repository) + len(made) - len(different)} passed, {len(different)} failed")
     return not different
 
@@ -148,12 +147,12 @@ def parser():
     what.add_argument("--check", action="store_true", help="compare the bytes, and measure nothing")
     what.add_argument("--growth", action="store_true", help="measure how cost grows")
     words.add_argument("--only", action="append", metavar="NAME", choices=list(plans.plans()),
-                       help="this plan alone; may stand again")
+                       help="only this plan; may be repeated")
     words.add_argument("--runs", type=plans.at_least_one, default=RUNS, metavar="N",
                        help=f"runs of each program ({RUNS})")
     words.add_argument("--divisor", type=plans.at_least_one, default=1, metavar="N",
                        help="divide the sizes of the plans, for a quick try (1)")
-    words.add_argument("--callgrind", action="store_true", help="count instructions by valgrind where perf can't")
+    words.add_argument("--callgrind", action="store_true", help="count instructions by valgrind if perf can't")
     words.add_argument("--attempts", type=plans.at_least_one, default=growth.ATTEMPTS, metavar="N",
                        help=f"the most attempts of --growth ({growth.ATTEMPTS}; ten times as many take gigabytes)")
     words.add_argument("--picture", default=HERE / "growth.svg", metavar="FILE",
@@ -166,7 +165,7 @@ def parser():
 
 
 def main(words):
-    """Does what the command line says, and answers the exit status."""
+    """Runs the command of the command line, and returns the exit status."""
     given = parser().parse_args(words)
     todo = check if given.check else tell_growth if given.growth else tell_plans
     try:

@@ -25,7 +25,7 @@ class Point(NamedTuple):
 
 
 class Line(NamedTuple):
-    """A line of a panel: what it is called, and its pairs of a size and a value."""
+    """A line of a panel: its name, and its pairs of a size and a value."""
     name: str
     values: list
 
@@ -44,7 +44,7 @@ def up_to(most, least=10):
 
 
 def axes(divisor=1, attempts=ATTEMPTS):
-    """What is measured. The divisor divides the greatest numbers of jobs and attempts, and leaves a decade of each."""
+    """What is measured. The divisor divides the greatest numbers of jobs and attempts; a decade of each remains."""
     def of_jobs(count):
         return plans.jobs_at_once(count, 1, 1)
 
@@ -76,7 +76,7 @@ def exponent(values):
     return round(slope, 2) + 0.0  # The sum is never -0.0.
 
 
-# What is told of a run, and how it is written.
+# The quantities of a run, and their titles.
 QUANTITIES = {
     "processor": (lambda run: run.processor * 1000, "processor ms"),
     "wall": (lambda run: run.wall * 1000, "wall ms"),
@@ -137,7 +137,7 @@ def megabytes(value):
 
 
 def panels(names, measured):
-    """The panels: time above, memory below. Against the workers wall time is shown too, since they are there for it."""
+    """The panels: time above, memory below. The panel of the workers shows wall time too, which they are to reduce."""
     times, memories = [], []
     for axis, points in measured:
         lines = lines_of(names, points, "processor")
@@ -156,7 +156,7 @@ def decades(values):
 
 
 def place(value, ends, length):
-    """Where a value stands on an axis of this length."""
+    """The place of a value on an axis of this length."""
     return (math.log10(value) - ends[0]) / (ends[1] - ends[0]) * length
 
 
@@ -191,8 +191,8 @@ def drawn_panel(panel):
     parts = [f'<text x="{LEFT}" y="16" font-weight="bold">{panel.title}</text>']
     for number, line in enumerate(panel.lines):
         x, y = LEFT + number % 2 * 112, 34 + number // 2 * 15
-        told = f"{line.name}: {exponent(line.values):.2f}"
-        parts.append(f'<text x="{x}" y="{y}" fill="{COLORS[number]}">{told}</text>')
+        label = f"{line.name}: {exponent(line.values):.2f}"
+        parts.append(f'<text x="{x}" y="{y}" fill="{COLORS[number]}">{label}</text>')
     parts += grid(ends_x, ends_y, panel.value)
     parts += [drawn_line(line, number, ends_x, ends_y) for number, line in enumerate(panel.lines)]
     return "\n".join(parts)

@@ -1,9 +1,9 @@
 """One run of a program: its time, memory and instructions.
 
-wait4 tells the peak memory as `ru_maxrss`, which is at least that of the process that the program was started from. So
-a program is started from a small shell that ends at once, and becomes a child of this process then: what is told is at
-least 1 MB, and not the size of Python. It waits for a line on a pipe until the shell is gone, and the time begins
-there."""
+wait4 returns the peak memory as `ru_maxrss`, which is at least that of the process that started the program. So a small
+shell starts the program and exits at once, and the program becomes a child of this process. The measured peak is then at
+least 1 MB, not the size of Python. The program waits for a line on a pipe until the shell has exited. The time begins at
+that line."""
 import ctypes
 import os
 import re
@@ -16,7 +16,7 @@ from typing import NamedTuple
 # Orphans of this process become its children: prctl's PR_SET_CHILD_SUBREAPER.
 SET_CHILD_SUBREAPER = 36
 
-# The words: seconds of processor time, program, files of input, output and errors.
+# The arguments: seconds of processor time, program, files of input, output and errors.
 SHELL = ('exec 3<&0; ulimit -t "$1"; '
          '{ read go <&3; exec "$2" <"$3" >"$4" 2>"$5" 3<&-; } & echo $!')
 
@@ -34,20 +34,20 @@ class Run(NamedTuple):
 
 
 class Shot(NamedTuple):
-    """What a run left: its status, output and standard error."""
+    """What a run returned: its status, output and standard error."""
     status: int
     output: bytes
     errors: bytes
 
 
 def adopt_orphans():
-    """Has orphans of this process become its children."""
+    """Makes orphans of this process its children."""
     if ctypes.CDLL(None, use_errno=True).prctl(SET_CHILD_SUBREAPER, 1, 0, 0, 0) != 0:
         raise Failed(f"prctl: {os.strerror(ctypes.get_errno())}")
 
 
 def started(program, plan, output, errors, seconds):
-    """A program that waits to be let go: its process, and the pipe that lets it go."""
+    """Starts a program that waits for a line: returns its process, and the pipe for the line."""
     words = ["sh", "-c", SHELL, "sh", str(seconds), program, plan, output, errors]
     shell = subprocess.Popen(words, stdin=subprocess.PIPE, stdout=subprocess.PIPE)
     with shell.stdout:
@@ -57,7 +57,7 @@ def started(program, plan, output, errors, seconds):
 
 
 def run(program, plan, output=os.devnull, errors=os.devnull, seconds=600):
-    """One run of a program on a plan's file. Past so many seconds of processor time it is killed."""
+    """Runs a program on a plan's file. It is killed after `seconds` of processor time."""
     adopt_orphans()
     process, pipe = started(program, plan, output, errors, seconds)
     waited = False
@@ -76,7 +76,7 @@ def run(program, plan, output=os.devnull, errors=os.devnull, seconds=600):
 
 
 def shot(program, plan, folder, seconds=600):
-    """One run, with what it left. The folder takes two files for a moment."""
+    """Runs a program, and returns its Shot. The folder gets two temporary files."""
     output, errors = os.path.join(folder, "output"), os.path.join(folder, "errors")
     status = run(program, plan, output, errors, seconds).status
     with open(output, "rb") as out, open(errors, "rb") as err:
@@ -84,18 +84,18 @@ def shot(program, plan, folder, seconds=600):
 
 
 def instructions_by_perf(program, plan):
-    """How many instructions a run takes in all, or None where `perf` isn't there or can't count them."""
+    """The number of instructions of a run, or None if `perf` is missing or can't count them."""
     if shutil.which("perf") is None:
         return None
-    with tempfile.NamedTemporaryFile("r") as told, open(plan, "rb") as text:
-        words = ["perf", "stat", "-x", ",", "-e", "instructions:u", "-o", told.name, program]
+    with tempfile.NamedTemporaryFile("r") as counts, open(plan, "rb") as text:
+        words = ["perf", "stat", "-x", ",", "-e", "instructions:u", "-o", counts.name, program]
         subprocess.run(words, stdin=text, stdout=subprocess.DEVNULL, stderr=subprocess.DEVNULL, check=False)
-        counted = re.search(r"^(\d+),", told.read(), re.MULTILINE)
+        counted = re.search(r"^(\d+),", counts.read(), re.MULTILINE)
     return int(counted.group(1)) if counted else None
 
 
 def instructions_by_callgrind(program, plan):
-    """How many instructions a run takes by valgrind's count, which is the same at each run on one thread."""
+    """The number of instructions of a run by valgrind's count, which is the same at each run on one thread."""
     if shutil.which("valgrind") is None:
         raise Failed("valgrind isn't installed")
     words = ["valgrind", "--tool=callgrind", f"--callgrind-out-file={os.devnull}", program]
@@ -103,5 +103,5 @@ def instructions_by_callgrind(program, plan):
         ended = subprocess.run(words, stdin=text, stdout=subprocess.DEVNULL, stderr=subprocess.PIPE, check=False)
     counted = re.search(rb"Collected : (\d+)", ended.stderr)
     if counted is None:
-        raise Failed(f"valgrind counted nothing of {program}: status {ended.returncode}")
+        raise Failed(f"valgrind printed no count for {program}: status {ended.returncode}")
     return int(counted.group(1))

@@ -3,9 +3,9 @@
 
     python3 benches/plans.py FOLDER [--divisor 10] [--only NAME ..]
 
-Nothing is random: the same words make the same bytes. `--divisor 10` makes plans of a tenth of the size: a tenth of the
-attempts of one job, of the jobs, ticks or bytes; schedules stay as deep and as large as they are. Exit status: 0, or 2
-where the words or the folder are wrong."""
+Nothing is random: the same arguments make the same bytes. `--divisor 10` makes plans of a tenth of the size: a tenth of
+the attempts of one job, of the jobs, ticks or bytes. The depth and size of schedules don't change. Exit status: 0, or 2
+if an argument or the folder is wrong."""
 import argparse
 import json
 import pathlib
@@ -30,7 +30,7 @@ def plan(jobs, horizon=LAST_MOMENT, **more):
 
 
 def balanced(leaves, leaf="forever"):
-    """The intersection of so many leaves, as a tree of the least depth: twice as many nodes, less one."""
+    """The intersection of n leaves, as a tree of the least depth. It has 2n - 1 nodes."""
     if leaves == 1:
         return leaf
     left = leaves // 2
@@ -38,7 +38,7 @@ def balanced(leaves, leaf="forever"):
 
 
 def picked(leaves):
-    """Such a tree, of each of whose pairs the first is picked: three times as many nodes, less two, and one number as output."""
+    """The same tree with the first of each pair picked. It has 3n - 2 nodes, and its output is one number."""
     if leaves == 1:
         return "forever"
     left = leaves // 2
@@ -52,55 +52,55 @@ def deep():
 
 
 def attempts_with_delays(count):
-    """One job of so many attempts that fail, with 3 ms between them."""
+    """One job of `count` attempts that fail, with 3 ms between them."""
     schedule = "(spaced(3) && identity.whileOutput(< 100)).map(_1)"
     return plan([job("a", schedule, [{"ms": 1, "err": 7}], mode="retry")], horizon=4 * count)
 
 
 def jobs_at_once(count, workers, grain):
-    """So many equal jobs of 20 attempts, all due at the same moments."""
+    """`count` equal jobs of 20 attempts, all due at the same moments."""
     script = [{"ms": 5, "ok": 1}]
     jobs = [job(f"j{number}", "(recurs(19) && spaced(10))", script) for number in range(count)]
     return plan(jobs, horizon=1000, workers=workers, grain=grain)
 
 
 def heavy_jobs_at_once(count, workers, grain):
-    """So many jobs of 100 attempts over 511 nodes each, all due at the same moments."""
+    """`count` jobs of 100 attempts over 511 nodes each, all due at the same moments."""
     schedule = picked(171)
     return plan([job(f"j{number}", schedule) for number in range(count)], horizon=100, workers=workers, grain=grain)
 
 
 def scattered_timers(count):
-    """So many jobs of 20 attempts, which begin apart and wait for different times."""
+    """`count` jobs of 20 attempts, which begin at different moments and wait for different times."""
     jobs = [job(f"j{number}", f"(recurs(19) && spaced({1000 + number * 7919 % 9001}))", start=number * 37 % 10007)
             for number in range(count)]
     return plan(jobs)
 
 
 def steps_of(schedule, steps):
-    """One job of so many attempts under a schedule that goes on at once."""
+    """One job of `steps` attempts under a schedule that continues at once."""
     return plan([job("a", schedule)], horizon=steps)
 
 
 def long_scripts(count):
-    """So many jobs with scripts of 1,000 entries, some 43,000 bytes each, none of which begins a second attempt."""
+    """`count` jobs with scripts of 1,000 entries, about 43,000 bytes each. No job begins a second attempt."""
     script = [{"ms": 999_999_000 + place, "ok": 10_000_000_000_000_000 + place} for place in range(1000)]
     return plan([job(f"long-{number}", "forever", script) for number in range(count)], horizon=0)
 
 
 def long_schedules(count):
-    """So many jobs with schedules of 60 nodes, none of which is stepped."""
+    """`count` jobs with schedules of 60 nodes, which are never stepped."""
     schedule = balanced(30, "recurs(1000)") + ".map(_1)"
     return plan([job(f"j{number}", schedule) for number in range(count)], horizon=0)
 
 
 def parentheses(count):
-    """One job with a schedule of so many open parentheses, which is refused at its end."""
+    """One job with a schedule of `count` open parentheses, which is rejected at its end."""
     return plan([job("a", "(" * count)])
 
 
 def listed_ticks(count):
-    """A clock of so many listed ticks, and a job of at most 1,000 attempts on it."""
+    """A clock of `count` listed ticks, and a job of at most 1,000 attempts on it."""
     return plan([job("a", "spaced(3000)")], horizon=None, ticks=list(range(0, 3 * count, 3)))
 
 
@@ -141,7 +141,7 @@ def at_least_one(text):
 
 
 def write(folder, divisor=1, only=None):
-    """Writes the plans into a folder, which is made where it isn't there: pairs of a name and a file."""
+    """Writes the plans into a folder, which is made if it is missing. Yields pairs of a name and a file."""
     folder = pathlib.Path(folder)
     folder.mkdir(parents=True, exist_ok=True)
     for name, make in plans(divisor).items():
@@ -154,9 +154,9 @@ def write(folder, divisor=1, only=None):
 def main(words):
     """The command line."""
     arguments = argparse.ArgumentParser(description=__doc__, formatter_class=argparse.RawDescriptionHelpFormatter)
-    arguments.add_argument("folder", help="where the files go")
+    arguments.add_argument("folder", help="the folder for the files")
     arguments.add_argument("--divisor", type=at_least_one, default=1, help="divides the sizes (1)")
-    arguments.add_argument("--only", action="append", metavar="NAME", choices=list(plans()), help="this plan alone")
+    arguments.add_argument("--only", action="append", metavar="NAME", choices=list(plans()), help="only this plan")
     given = arguments.parse_args(words)
     try:
         for name, path in write(given.folder, given.divisor, given.only):

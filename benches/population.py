@@ -1,15 +1,15 @@
 #!/usr/bin/env python3
-"""Measures a population of many jobs on this machine: cut by zsched-plan, each part run by zsched and its digest made, as
-many parts at a time as there are processors, joined by zsched-report with the manifest and by lines; the one program
-zsched-population and the pipe without parts by GNU parallel, if they are there, whose reports must have the same bytes; and
-the forms of the whole report.
+"""Measures a population of many jobs on this machine. zsched-plan cuts it, zsched runs the parts, as many at a time as
+there are processors, and sha256sum makes their digests. zsched-report joins the reports with the manifest, and without it
+by lines. If they are installed, zsched-population and the pipe by GNU parallel run the population too; their reports must
+have the same bytes. Last it measures the forms of the whole report.
 
     python3 benches/population.py [--jobs 1000000] [--part 10000] [--folder FOLDER]
 
-Prints a Markdown table with a row a step: wall time, the processor time of all its processes, the peak memory of the
-largest of them, jobs a second of wall time, and the megabytes that it read a second of wall and of processor time. The jobs
-are those of the plan `jobs_1_1`: 20 attempts each. A million of them take some 3.5 GB of files, which are removed. Exit
-status: 0, 1 where a step failed or a joined report isn't that of all jobs, 2 where the words or a program are wrong."""
+Prints a Markdown table with a row for each step: wall time, the processor time of all its processes, the peak memory of
+the largest of them, jobs a second of wall time, and the megabytes read a second of wall and of processor time. The jobs
+are those of the plan `jobs_1_1`: 20 attempts each. A million of them take about 3.5 GB of files, which are removed. Exit
+status: 0, 1 if a step failed or a joined report isn't that of all jobs, 2 if an argument or a program is wrong."""
 import argparse
 import concurrent.futures
 import filecmp
@@ -57,7 +57,7 @@ def ran(words, output=os.devnull, source=os.devnull, environment=None):
 
 
 def run_parts(zsched, parts):
-    """Runs each part, as many at a time as there are processors, and puts its report beside it."""
+    """Runs the parts, as many at a time as there are processors, and writes each report next to its part."""
     begun = time.perf_counter()
     with concurrent.futures.ThreadPoolExecutor(len(os.sched_getaffinity(0))) as pool:
         runs = list(pool.map(lambda part: measure.run(zsched, part, part.with_suffix(".report")), parts))
@@ -73,7 +73,7 @@ def make_digests(parts):
 
 
 def has_parallel():
-    """Whether GNU parallel is installed. Another program has that name too."""
+    """Whether GNU parallel is installed; another program has the same name."""
     found = shutil.which("parallel")
     return found is not None and subprocess.run([found, "--version"], capture_output=True, check=False).stdout.startswith(b"GNU")
 
@@ -98,12 +98,12 @@ def run_pipe(zsched, folder, most):
 
 
 def size(paths):
-    """How many bytes some files have together."""
+    """The total size of some files in bytes."""
     return sum(path.stat().st_size for path in paths)
 
 
 def steps(zsched, folder, count, most):
-    """The steps, each with its name, its run and the bytes that it reads. They end where one failed."""
+    """The steps, each with its name, its run and the bytes that it reads. A step that fails is the last one."""
     population, parts, whole = folder / "population.jsonl", folder / "parts", folder / "whole.report"
     report = TOP / "tools" / "zsched-report"
     write_population(population, count)
@@ -151,9 +151,9 @@ def table(zsched, folder, count, most):
 def main(words):
     """The command line: the exit status."""
     arguments = argparse.ArgumentParser(description=__doc__, formatter_class=argparse.RawDescriptionHelpFormatter)
-    arguments.add_argument("--jobs", type=plans.at_least_one, default=1_000_000, help="how many jobs (1000000)")
+    arguments.add_argument("--jobs", type=plans.at_least_one, default=1_000_000, help="the number of jobs (1000000)")
     arguments.add_argument("--part", type=plans.at_least_one, default=10_000, help="the most jobs of a part (10000)")
-    arguments.add_argument("--folder", help="where the files lie meanwhile (the one for temporary files)")
+    arguments.add_argument("--folder", help="the folder for the files of the run (the one for temporary files)")
     arguments.add_argument("--zsched", metavar="PATH", help="the program (that of ZSCHED, or else the built one)")
     chosen = arguments.parse_args(words)
     try:

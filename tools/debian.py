@@ -1,4 +1,4 @@
-"""What each Debian package of this tree has: version, dates, changelog, copyright, sums, and how it is built."""
+"""The common parts of the Debian packages of this tree: version, dates, changelog, copyright, sums, and the build."""
 import datetime
 import gzip
 import hashlib
@@ -28,7 +28,7 @@ License: Apache-2.0
 
 
 def ran(words, **more):
-    """The output of a program that has to succeed."""
+    """Runs a program, and returns its output. Raises Refused if the program fails."""
     ended = subprocess.run(words, capture_output=True, check=False, **more)
     if ended.returncode:
         raise Refused(f"{words[0]}: {ended.stderr.decode(errors='replace').strip()}")
@@ -36,7 +36,7 @@ def ran(words, **more):
 
 
 def newest():
-    """The newest release in CHANGELOG.md: its version, which VERSION gives too, its date, and what its lines say."""
+    """The newest release in CHANGELOG.md: its version, which is that of VERSION, its date, and the texts of its lines."""
     version = (TOP / "VERSION").read_text().strip()
     part = (TOP / "CHANGELOG.md").read_text().split("\n## ")[1]
     heading = re.match(r"(\S+) \((\d+-\d+-\d+)\)\n", part)
@@ -52,7 +52,7 @@ def moment():
 
 
 def maintainer():
-    """The maintainer, whom DEBFULLNAME and DEBEMAIL name."""
+    """The maintainer by DEBFULLNAME and DEBEMAIL."""
     return f"{os.environ.get('DEBFULLNAME', 'zsched')} <{os.environ.get('DEBEMAIL', 'zsched@localhost')}>"
 
 
@@ -64,32 +64,32 @@ def machine():
 def changelog(source):
     """Debian's changelog of a package: the newest release of CHANGELOG.md."""
     version, day, lines = newest()
-    told = "\n".join(textwrap.fill(line, 78, initial_indent="  * ", subsequent_indent="    ") for line in lines)
-    return (f"{source} ({version}) unstable; urgency=medium\n\n{told}\n\n"
+    items = "\n".join(textwrap.fill(line, 78, initial_indent="  * ", subsequent_indent="    ") for line in lines)
+    return (f"{source} ({version}) unstable; urgency=medium\n\n{items}\n\n"
             f" -- {maintainer()}  {day.strftime('%a, %d %b %Y %H:%M:%S +0000')}\n")
 
 
 def libc_of(path):
-    """The least C library that the program needs. It may need no other library."""
-    told = ran(["objdump", "-p", path]).decode()
-    others = set(re.findall(r"^ +NEEDED +(\S+)", told, re.M)) - LIBC
+    """The least version of the C library that the program needs. A need of another library is an error."""
+    headers = ran(["objdump", "-p", path]).decode()
+    others = set(re.findall(r"^ +NEEDED +(\S+)", headers, re.M)) - LIBC
     if others:
-        raise Refused(f"{path}: it needs more than the C library: {', '.join(sorted(others))}")
-    versions = re.findall(r"\bGLIBC_(\d+)\.(\d+)", told)
+        raise Refused(f"{path}: it needs libraries other than the C library: {', '.join(sorted(others))}")
+    versions = re.findall(r"\bGLIBC_(\d+)\.(\d+)", headers)
     if not versions:
         raise Refused(f"{path}: it names no version of the C library")
     return "{}.{}".format(*max((int(major), int(minor)) for major, minor in versions))
 
 
 def put(place, data, mode=0o644):
-    """A file with its folders."""
+    """Writes a file, and makes its folders."""
     place.parent.mkdir(parents=True, exist_ok=True)
     place.write_bytes(data.encode() if isinstance(data, str) else data)
     place.chmod(mode)
 
 
 def zipped(data):
-    """The bytes, packed by gzip with no date and no name."""
+    """The bytes, compressed by gzip without date and name."""
     return gzip.compress(data.encode() if isinstance(data, str) else data, 9, mtime=0)
 
 
@@ -100,7 +100,7 @@ def put_papers(root, name):
 
 
 def put_control(root, fields, description):
-    """What dpkg reads: the package's fields, its size, and the sum of each file."""
+    """Writes the files for dpkg: the package's fields, its size, and the sum of each file."""
     files = sorted(file for file in root.rglob("*") if file.is_file() and not file.is_symlink())
     files = [file for file in files if "DEBIAN" not in file.relative_to(root).parts]
     folders = sum(1 for file in root.rglob("*") if file.is_dir() or file.is_symlink())
@@ -112,7 +112,7 @@ def put_control(root, fields, description):
 
 
 def built(root, name, out):
-    """Builds a package of the files below a root, and answers its path."""
+    """Builds a package of the files below a root, and returns its path."""
     for file in [root, *root.rglob("*")]:
         if file.is_dir():
             file.chmod(0o755)
@@ -124,7 +124,7 @@ def built(root, name, out):
 
 
 def need_tools():
-    """Refuses the work where a program that it needs isn't there."""
+    """Raises Refused if a necessary program isn't installed."""
     for tool in ["dpkg", "dpkg-deb", "objdump", "strip"]:
         if shutil.which(tool) is None:
             raise Refused(f"{tool} isn't installed (Debian: {'dpkg' if 'dpkg' in tool else 'binutils'})")

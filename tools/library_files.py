@@ -49,7 +49,7 @@ endif()
 
 
 def ran(words, **more):
-    """What a program prints that has to succeed."""
+    """Runs a program, and returns its output. Raises Refused if the program fails."""
     try:
         ended = subprocess.run([str(it) for it in words], stdout=subprocess.PIPE, stderr=subprocess.STDOUT, text=True,
                                check=False, **more)
@@ -66,7 +66,7 @@ def version():
 
 
 def symbols():
-    """The version script of the shared library: which functions it has, and the version that names each."""
+    """The version script of the shared library: its functions, each with the version that exports it."""
     nodes = {}
     for name, node in re.findall(r"^function (\S+) (\S+)$", ABI, re.M):
         nodes.setdefault(node, []).append(name)
@@ -83,26 +83,26 @@ def made_library(folder=MADE):
     found = [folder / "libzsched.so", folder / "libzsched.a"]
     for path in found:
         if not path.exists():
-            raise Refused(f"there is no {path}: tools/make-library makes it")
+            raise Refused(f"{path} is missing: tools/make-library makes it")
     return found
 
 
 def put(place, data, mode=0o644):
-    """A file with its folders."""
+    """Writes a file, and makes its folders."""
     place.parent.mkdir(parents=True, exist_ok=True)
     place.write_bytes(data.encode() if isinstance(data, str) else data)
     place.chmod(mode)
 
 
 def put_shared(root, libdir, shared):
-    """The shared library under its own name, and a link with its soname."""
+    """The shared library under its full name, and a link with its soname."""
     name = f"libzsched.so.{version()}"
     put(root / libdir / name, shared.read_bytes())
     link(root / libdir / SONAME, name)
 
 
 def put_development(root, prefix, libdir, archive):
-    """What programs are built with: the header, the archive, the linker's link, and the files for pkg-config and CMake."""
+    """The files for building programs: header, archive, the linker's link, and those for pkg-config and CMake."""
     base = root / prefix.strip("/")
     put(base / "include" / "zsched.h", (TOP / "include" / "zsched.h").read_bytes())
     put(base / libdir / "libzsched.a", archive.read_bytes())
@@ -116,7 +116,7 @@ def put_development(root, prefix, libdir, archive):
 
 
 def link(place, target):
-    """A link in place of what was there."""
+    """Makes a link, and replaces an earlier file."""
     place.parent.mkdir(parents=True, exist_ok=True)
     place.unlink(missing_ok=True)
     place.symlink_to(target)

@@ -285,7 +285,7 @@ class Installed(unittest.TestCase):
         words = [TOP / "tools/install-library", "--destdir", path("other"), "--prefix", "usr"]
         ended = subprocess.run(words, capture_output=True, text=True, check=False)
         self.assertEqual((ended.returncode, ended.stdout, ended.stderr),
-                         (2, "", "install-library: --prefix usr: it has to begin with '/'\n"))
+                         (2, "", "install-library: --prefix usr: it must begin with '/'\n"))
 
 
 @unittest.skipIf(DEBIAN, f"not installed: {', '.join(DEBIAN)} (Debian: dpkg, binutils)")

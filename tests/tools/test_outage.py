@@ -299,12 +299,12 @@ class Certificates(WithFiles):
                                      "attempt 4 3100..3300 ok 200\nend succeeded 200 at 3300",
                                      "attempt 3 2400..2600 ok 200\nend succeeded 200 at 2600")
         wanted = self.WANTED[:2] + [Ending("succeeded", 200, 2600, 3)]
-        self.assertEqual(self.refused(early, wanted), "job c2: simulated still going on; the report has succeeded 200 "
+        self.assertEqual(self.refused(early, wanted), "job c2: simulated unfinished; the report has succeeded 200 "
                                                       "at 2600 after 3 attempts")
 
     def test_jobs_that_lack_or_have_other_names(self):
         self.assertIn("has 2 jobs, and 3 clients", self.refused(SMALL_REPORT.partition("\njob c2")[0] + "\npolls 14\n"))
-        self.assertIn("has job x, where c1 is due", self.refused(SMALL_REPORT.replace("job c1", "job x")))
+        self.assertIn("has job x, but c1 is expected", self.refused(SMALL_REPORT.replace("job c1", "job x")))
 
     def test_the_command_ends_with_status_1(self):
         changing = self.folder / "zsched"
@@ -428,9 +428,9 @@ class Files(WithFiles):
         self.assertEqual((status, list(self.folder.iterdir())), (1, []))
         for option in ["-o", "--svg", "--html"]:
             status, _, err = tool(SMALL, option, self.folder / "none" / "out")
-            self.assertEqual((status, err), (2, f"zsched-outage: {self.folder}/none/out: there is no such folder\n"))
+            self.assertEqual((status, err), (2, f"zsched-outage: {self.folder}/none/out: its folder doesn't exist\n"))
         (self.folder / "out.partial").mkdir()
-        self.assertIn("another run makes it", tool(SMALL, "-o", self.folder / "out")[2])
+        self.assertIn("another run writes it", tool(SMALL, "-o", self.folder / "out")[2])
 
     def test_the_pictures_are_whole_and_have_all_policies(self):
         found = read(self.DRAWN)
@@ -530,23 +530,23 @@ WRONG = [
     ('"horizon": "5s", ', "", '¦{"clients"', 'the scenario has no "horizon"', 'write "horizon": "3min"'),
     ('"number": 3', '"number": 0', '"number": ¦0', "must be a whole number from 1 to 1000000", ""),
     ('"per_second": 2', '"per_second": 2, "within": 5', '"per_second": ¦2', "not both", ""),
-    ('"per_second": 2', '"number": 2', '¦"number": 2', "is here twice", "leave one of them out"),
+    ('"per_second": 2', '"number": 2', '¦"number": 2', "is repeated", "remove one of them"),
     ('"down"}', '"dwn"}', '¦"dwn"', 'must be "up", "down" or "slow"', 'did you mean "down"?'),
-    ('"down"}', '"down", "capacity": 5}', '"capacity": ¦5', "a service that is down has no capacity", "leave out"),
+    ('"down"}', '"down", "capacity": 5}', '"capacity": ¦5', "a service that is down has no capacity", "remove"),
     (', "is": "down"', "", '¦{"from": 0', "this window changes nothing", '"is": "down"'),
     ('"from": "1s"', '"from": "0.9s"', '¦"0.9s"', "begins before the one before it ends", "in order"),
     ('"to": "1s"', '"to": 0', '"to": ¦0', "ends before it begins", ""),
     ('"ok": 200', '"ok": 200, "err": 3', '"up": ¦{', 'an outcome has "ms" and one of', ""),
-    ('"err": 503', '"ok": 503', '"down": ¦{', "a service that is down answers with err", ""),
+    ('"err": 503', '"ok": 503', '"down": ¦{', "a service that is down returns err", ""),
     ('"ms": 100', '"ms": 0', '"ms": ¦0', "ms must be a whole number from 1 to", ""),
-    ("spaced(400)", "spaced(400", '"spaced(400¦"', "the schedule ends here", ") is missing"),
+    ("spaced(400)", "spaced(400", '"spaced(400¦"', "the schedule ends too early", ") is missing"),
     ("spaced(400)", "exponential(rand(5))", "¦rand(5)", "rand takes 2 whole numbers", "write rand(LO, HI)"),
     ("spaced(400)", "exponential(rand(9, 5))", "¦rand(9, 5)", "the first number is greater", "write rand(5, 9)"),
     ("spaced(400)", "jitter(1, 2, 241)", "¦jitter(1, 2, 241)", "jitter has 241 delays", "write 1 to 240"),
     ("spaced(400)", "(jitter(1, 2, 3) && recur(1))", "¦recur(1)", "recur", "recurs"),
     ('"spaced(400)"', "7", '"steady": ¦7', "the policy steady must be the text of a schedule", ""),
-    ('"steady"', '"../steady"', '¦"../steady"', "a name has 1 to 64 letters", "files are named for it"),
-    ('{"steady": "spaced(400)"}', "{}", '"policies": ¦{}', "there is no policy", "SCHEDULE"),
+    ('"steady"', '"../steady"', '¦"../steady"', "a name has 1 to 64 letters", "names of its files begin with it"),
+    ('{"steady": "spaced(400)"}', "{}", '"policies": ¦{}', "policies is empty", "SCHEDULE"),
     ('"policies"', '"budget": {"like": "grpc", "tokens": 5, "err": 503}, "policies"', '"tokens": 5, "err": ¦503',
      "503 is an error code of", "another code"),
     ('"policies"', '"budget": {"like": "aws", "tokens": 0.0001}, "policies"', "¦0.0001", "must be a number of tokens",
@@ -581,7 +581,7 @@ class Faults(unittest.TestCase):
         self.assertEqual((status, err.partition(": \"is\"")[0]), (2, f"zsched-outage: standard input:{line}:{column}"))
 
     def test_what_is_no_json_or_no_text(self):
-        for data, cause in [(b"", "there is nothing here"), (b'{"horizon": 5', ""), (b"\xff{}", "no UTF-8"),
+        for data, cause in [(b"", "the scenario is empty"), (b'{"horizon": 5', ""), (b"\xff{}", "not UTF-8"),
                             (b"[]", "braces"), (b"horizon: 5", "YAML, and a scenario is JSON")]:
             with self.subTest(data):
                 status, out, err = tool(None, text=data)

@@ -119,9 +119,9 @@ class Blocks(WithPlans):
                 with mock.patch.object(plan_text, "BLOCK", length):
                     self.assertEqual(self.parts("\n".join(lines), most, is_lines=True), wanted)
                     text = "\n".join([*lines[:7], "x", *lines[7:]])
-                    with self.assertRaisesRegex(Refused, "line 8, column 1: no JSON"):
+                    with self.assertRaisesRegex(Refused, "line 8, column 1: not JSON"):
                         write_parts(self.plan(text), True, most, self.folder / "none")
-                    with self.assertRaisesRegex(Refused, "line 14: the name p4 stands in the job on line 9 too"):
+                    with self.assertRaisesRegex(Refused, "line 14: the job on line 9 has the name p4 too"):
                         write_parts(self.plan("\n".join([*lines[:-2], plain[4], ""])), True, most, self.folder / "none")
 
 
@@ -165,48 +165,48 @@ class Manifest(WithPlans):
 
 # What is no plan to be cut, and what is said of it.
 NO_PLANS = [
-    ("", "line 1: the text ends where { is due"),
-    ("\n\n[]", "line 3: { is due, and not '[]'"),
-    ("\ufeff{}", "line 1: { is due"),
+    ("", "line 1: the text ends, but { is expected"),
+    ("\n\n[]", "line 3: { is expected, not '[]'"),
+    ("\ufeff{}", "line 1: { is expected"),
     ('{"horizon":1}', "line 1: the plan has no key 'jobs'"),
-    ("{}", "line 1: no JSON: Expecting value"),
-    ('{"jobs"', "line 1: the text ends where : is due"),
-    ('{"jobs":{}}', "line 1: [ is due, and not '{}}'"),
-    ('{"jobs":[\n{"name":"a"}', "line 2: the text ends where , or ] is due"),
+    ("{}", "line 1: not JSON: Expecting value"),
+    ('{"jobs"', "line 1: the text ends, but : is expected"),
+    ('{"jobs":{}}', "line 1: [ is expected, not '{}}'"),
+    ('{"jobs":[\n{"name":"a"}', "line 2: the text ends, but , or ] is expected"),
     ('{"jobs":[\n{"name":"a"},\n{"name":"b"', "line 3: the text ends in the middle of a value"),
-    ('{"jobs":[\n{"name":"a"},\n]}', "line 3: no JSON: Expecting value"),
-    ('{"jobs":[\n{"name":"a"}\n{"name":"b"}]}', "line 3: , or ] is due, and not '{\"name\":\"b\"}]}'"),
-    ('{"jobs":[\n{"name":a}]}', "line 2: no JSON: Expecting value"),
-    ('{"jobs":[\n{"name":"a\n"}]}', "line 2: no JSON: Invalid control character at"),
-    ('{"jobs":[\n{"name":"a","x":01}]}', "line 2: no JSON: Expecting ',' delimiter"),
-    ('{"jobs":[\n{"name":"a","x":NaN}]}', "line 2: no JSON: NaN is no number"),
+    ('{"jobs":[\n{"name":"a"},\n]}', "line 3: not JSON: Expecting value"),
+    ('{"jobs":[\n{"name":"a"}\n{"name":"b"}]}', "line 3: , or ] is expected, not '{\"name\":\"b\"}]}'"),
+    ('{"jobs":[\n{"name":a}]}', "line 2: not JSON: Expecting value"),
+    ('{"jobs":[\n{"name":"a\n"}]}', "line 2: not JSON: Invalid control character at"),
+    ('{"jobs":[\n{"name":"a","x":01}]}', "line 2: not JSON: Expecting ',' delimiter"),
+    ('{"jobs":[\n{"name":"a","x":NaN}]}', "line 2: not JSON: NaN is not a number"),
     ('{"jobs":[\n{"name":"a"},\n7]}', "line 3: the job that begins here isn't an object with a name"),
     ('{"jobs":[\n{"name":"a"},\n{"mode":"retry"}]}', "line 3: the job that begins here isn't an object with a name"),
     ('{"jobs":[{"name":7}]}', "line 1: the job that begins here isn't an object with a name"),
-    ('{"jobs":[{"name":"a"}]', "line 1: the text ends where , or } is due"),
-    ('{"jobs":[{"name":"a"}]}\n\nx', "line 3: something stands after the end of the plan"),
-    ('{"jobs":[],\n"\\u006aobs":[]}', "line 2: the key 'jobs' stands twice"),
+    ('{"jobs":[{"name":"a"}]', "line 1: the text ends, but , or } is expected"),
+    ('{"jobs":[{"name":"a"}]}\n\nx', "line 3: there is text after the end of the plan"),
+    ('{"jobs":[],\n"\\u006aobs":[]}', "line 2: the key 'jobs' is repeated"),
     ('{"jobs":[],\n7:1}', "line 2: a key of the document isn't a text"),
-    ('{"horizon":[1,\n2 3],"jobs":[]}', "line 2: no JSON: Expecting ',' delimiter"),
+    ('{"horizon":[1,\n2 3],"jobs":[]}', "line 2: not JSON: Expecting ',' delimiter"),
     ('{"jobs":[\n{"name":"a"},\n{"name":"b"},\n{"name":"\\u0061"}]}',
-     "line 4: the name a stands in the job on line 2 too"),
+     "line 4: the job on line 2 has the name a too"),
     ('{"jobs":[\n' + "[" * 100_000, "line 2: a value is nested too deeply"),
-    (b'{"jobs":[\n{"name":"a"},\n{"name":"\xff"}]}', "line 3: the text is no UTF-8"),
+    (b'{"jobs":[\n{"name":"a"},\n{"name":"\xff"}]}', "line 3: the text is not UTF-8"),
 ]
 NO_LINES = [
-    ("", "is empty, where a plan's document without its jobs is due"),
+    ("", "is empty, but a plan's document without its jobs is expected"),
     ("7\n", "line 1: this isn't a plan's document without its jobs"),
     ('{"jobs":[]}\n', "line 1: this isn't a plan's document without its jobs"),
     ('{"horizon":1}', "line 1 is cut, since no newline ends it: '{\"horizon\":1}'"),
     ('{}\n{"name":"a"}\n{"name":"b"', "line 3 is cut"),
-    ('{}\n{"name":"a"}\n{"name":"b"\n', "line 3, column 12: no JSON"),
-    ('{}\n{"name":"a"}\n\n', "line 3, column 1: no JSON"),
-    ('{}\n{"name":"a"}{"name":"b"}\n', "line 2, column 13: no JSON: Extra data"),
+    ('{}\n{"name":"a"}\n{"name":"b"\n', "line 3, column 12: not JSON"),
+    ('{}\n{"name":"a"}\n\n', "line 3, column 1: not JSON"),
+    ('{}\n{"name":"a"}{"name":"b"}\n', "line 2, column 13: not JSON: Extra data"),
     ('{}\n[]\n', "line 2: the job that begins here isn't an object with a name"),
-    ('{}\n{"name":"a","x":-Infinity}\n', "line 2: no JSON: -Infinity is no number"),
-    ('{}\n{"name":"a"}\n{"name":"a"}\n', "line 3: the name a stands in the job on line 2 too"),
+    ('{}\n{"name":"a","x":-Infinity}\n', "line 2: not JSON: -Infinity is not a number"),
+    ('{}\n{"name":"a"}\n{"name":"a"}\n', "line 3: the job on line 2 has the name a too"),
     ("{}\n" + "[" * 100_000 + "\n", "line 2: a value is nested too deeply"),
-    (b'{}\n{"name":"\xc3"}\n', "line 2: the text is no UTF-8"),
+    (b'{}\n{"name":"\xc3"}\n', "line 2: the text is not UTF-8"),
 ]
 
 
@@ -237,7 +237,7 @@ class Refusals(WithPlans):
     def test_a_part_that_no_run_would_take(self):
         job = '{"name":"%d","x":"' + "x" * 6_000_000 + '"}'
         text = '{"jobs":[' + ",".join(job % number for number in range(3)) + "]}"
-        said = "part 1 has 18000070 bytes, and a plan has at most 16777216: take a smaller N"
+        said = "part 1 has 18000070 bytes, and a plan has at most 16777216: use a smaller N"
         with self.assertRaisesRegex(Refused, said):
             write_parts(self.plan(text), False, 3, self.folder / "parts")
         self.assertEqual(len(self.parts(text, 2)), 2)
@@ -249,7 +249,7 @@ class Refusals(WithPlans):
         self.assertEqual(tool("split", 5, self.folder / "none", "-o", self.folder / "p"),
                          (3, "", f"zsched-plan: {self.folder / 'none'}: No such file or directory\n"))
         self.assertEqual(tool("split", 5, "/dev/null", "-o", self.folder / "p"),
-                         (2, "", "zsched-plan: /dev/null: is no regular file, and a plan may be read twice\n"))
+                         (2, "", "zsched-plan: /dev/null: is not a regular file, and a plan may be read twice\n"))
         self.assertEqual([it.name for it in self.folder.iterdir()], ["plan"])
 
     def test_folders_that_have_something_are_left_alone(self):
@@ -257,7 +257,7 @@ class Refusals(WithPlans):
         (self.folder / "parts").mkdir()
         (self.folder / "parts" / "part-000001.json").write_text("mine")
         self.assertEqual(tool("split", 5, path, "-o", self.folder / "parts"),
-                         (2, "", f"zsched-plan: {self.folder / 'parts'}: is there, and isn't an empty folder\n"))
+                         (2, "", f"zsched-plan: {self.folder / 'parts'}: exists, and isn't an empty folder\n"))
         (self.folder / "p.partial").mkdir()
         (self.folder / "p.partial" / "kept").write_text("mine")
         self.assertEqual(tool("split", 5, path, "-o", self.folder / "p")[0], 2)

@@ -137,17 +137,17 @@ polls 5
     def test_what_is_wrong_is_shown_with_line_and_column(self):
         entries = "id,ms,status\n" + "a,1,200\n" * 1001
         for text, said in [
-                ("", "1: there is nothing here"),
-                ("a,b\n", "1: --name: no column is known for it; the columns are a and b"),
-                ("id,ms\n", "1: --status: no column is known for it; the columns are id and ms"),
+                ("", "1: the file is empty"),
+                ("a,b\n", "1: --name: no known column; the columns are a and b"),
+                ("id,ms\n", "1: --status: no known column; the columns are id and ms"),
                 ("id,ms,status\na,1,200\nb,1\n", "3: 2 columns, and line 1 has 3"),
-                ("id,ms,status\na,1,200\nb,1.5e3,200\n", '3: column ms: "1.5e3" is no length of time: write 24 or 24.11'),
-                ("id,ms,status\na,-1,200\n", '2: column ms: "-1" is no length of time: write 24 or 24.11'),
-                ("id,ms,status\na,1,OK\n", '2: column status: "OK" is no status: write a whole number'),
+                ("id,ms,status\na,1,200\nb,1.5e3,200\n", '3: column ms: "1.5e3" is not a length of time: write 24 or 24.11'),
+                ("id,ms,status\na,-1,200\n", '2: column ms: "-1" is not a length of time: write 24 or 24.11'),
+                ("id,ms,status\na,1,OK\n", '2: column status: "OK" is not a status: write a whole number'),
                 ("id,ms,status\na,1,18446744073709551616\n",
-                 '2: column status: "18446744073709551616" is no status: write a whole number'),
-                ('id,ms,status\n"a"b,1,200\n', "2: no CSV: ',' expected after '\"'"),
-                ('id,ms,status\na,1,200\n"b,1,200\n', "3: no CSV: unexpected end of data"),
+                 '2: column status: "18446744073709551616" is not a status: write a whole number'),
+                ('id,ms,status\n"a"b,1,200\n', "2: not CSV: ',' expected after '\"'"),
+                ('id,ms,status\na,1,200\n"b,1,200\n', "3: not CSV: unexpected end of data"),
                 (entries, '1002: "a" has more than 1000 attempts')]:
             with self.subTest(said):
                 self.assertEqual(self.made("log.csv", text, "--schedule", "recurs(3)"),
@@ -212,9 +212,9 @@ class Policies(Imported):
 # What is changed in YAML and in TOML, and where and what the fault is: line, column, words, caret's length.
 FAULTS_OF_YAML = [
     ("recurs(2)", "recur(2)", 6, 28, "there is no recur", 5),
-    ("recurs(5))", "recurs(5)", 5, 44, "the schedule ends here, too soon", 1),
-    ("fixed(60000)", "\"fixed(60000\"", 10, 27, "the schedule ends here, too soon", 1),
-    ("fixed(60000)", ">-\n      fixed(60000", 10, 15, "the schedule ends here, too soon", 1),
+    ("recurs(5))", "recurs(5)", 5, 44, "the schedule ends too early", 1),
+    ("fixed(60000)", "\"fixed(60000\"", 10, 27, "the schedule ends too early", 1),
+    ("fixed(60000)", ">-\n      fixed(60000", 10, 15, "the schedule ends too early", 1),
     ("mode: repeat", "mode: loop", 9, 11, 'there is no mode "loop"', 1),
     ("start: 1.5s", "begin: 1.5s", 11, 5, 'a job has no key "begin"', 1),
     ("start: 1.5s", "start: 1.5x", 11, 12, '"start" is a text', 1),
@@ -222,30 +222,30 @@ FAULTS_OF_YAML = [
     ("ms: 0.4", "ms: -1", 12, 19, '"ms" is no whole number', 1),
     ("1h", "1000000000000000", 2, 10, '"horizon" is 1000000000000000, and may be 0 to 999999999999999', 1),
     ("1h", "1.5", 2, 10, '"horizon" is no whole number', 1),
-    ("fixed(60000)", '"fixed(\\ud800)"', 10, 15, "\\ud800 is half a character", 1),
+    ("fixed(60000)", '"fixed(\\ud800)"', 10, 15, "\\ud800 is half of a character", 1),
     ("horizon: 1h", "horizon: 1h\nhorizon: 2h", 3, 1, 'the key "horizon" is on line 2 too', 7),
     ("name: poll", "name: search", 8, 11, 'a job before it is named "search" too', 1),
-    (" x2, 35.4", " x2, 35.4 4", 3, 23, '"35.4 4 ok 200" is no attempt', 14),
-    ("x2", "x999999", 3, 9, '"40 err 503 x999999" is no attempt', 18),
+    (" x2, 35.4", " x2, 35.4 4", 3, 23, '"35.4 4 ok 200" is not an attempt', 14),
+    ("x2", "x999999", 3, 9, '"40 err 503 x999999" is not an attempt', 18),
     ("x2", "x1000", 3, 26, "a script has 1 to 1000 attempts", 12),
-    ("policies:", "policies: 7 #", 5, 3, "no YAML: expected <block end>, but found '<block mapping start>'", 1),
-    ("'(spaced(200) && recurs(2))'", "*x", 6, 11, "no YAML: found undefined alias 'x'", 1),
-    ("- name", "- {a: 1}: 2\n    name", 8, 5, "this key is no text", 1),
+    ("policies:", "policies: 7 #", 5, 3, "not YAML: expected <block end>, but found '<block mapping start>'", 1),
+    ("'(spaced(200) && recurs(2))'", "*x", 6, 11, "not YAML: found undefined alias 'x'", 1),
+    ("- name", "- {a: 1}: 2\n    name", 8, 5, "this key is not a text", 1),
 ]
 FAULTS_OF_TOML = [
     ("recurs(2)", "recur(2)", 5, 27, "there is no recur", 5),
-    ("recurs(5))", "recurs(5)", 4, 46, "the schedule ends here, too soon", 1),
-    ("fixed(60000)", "fixed(60000", 9, 24, "the schedule ends here, too soon", 1),
+    ("recurs(5))", "recurs(5)", 4, 46, "the schedule ends too early", 1),
+    ("fixed(60000)", "fixed(60000", 9, 24, "the schedule ends too early", 1),
     ('"repeat"', '"loop"', 8, 8, 'there is no mode "loop"', 1),
     ("start =", "begin =", 10, 1, 'a job has no key "begin"', 1),
     ('"2 s"\nok', '"2 s"\nok = 1\nerr', 14, 1, 'the entry has "ok" and "err"', 1),
     ('"2 s"\nok = 0', '"2 s"\nok = 1.5', 16, 6, '"ok" is no whole number', 1),
     ("ms = 0.4", "ms = 1979-05-27", 12, 6, "a plan has no dates", 1),
-    ("ms = 0.4", "ms = inf", 12, 6, "inf is no number of a plan", 1),
+    ("ms = 0.4", "ms = inf", 12, 6, "inf is not a number of a plan", 1),
     ('"poll"', '"search"', 7, 8, 'a job before it is named "search" too', 1),
-    ('x2, 35.4', 'x2, 35.4 4', 2, 25, '"35.4 4 ok 200" is no attempt', 14),
-    ("[[jobs]]", "[[jobs]", 6, 7, "no TOML: Expected ']]' at the end of an array declaration", 1),
-    ("[policies]", "policies = 7\n[x]", 3, 12, "policies has to be a table of names and schedules", 1),
+    ('x2, 35.4', 'x2, 35.4 4', 2, 25, '"35.4 4 ok 200" is not an attempt', 14),
+    ("[[jobs]]", "[[jobs]", 6, 7, "not TOML: Expected ']]' at the end of an array declaration", 1),
+    ("[policies]", "policies = 7\n[x]", 3, 12, "policies must be a table of names and schedules", 1),
 ]
 
 
@@ -296,9 +296,9 @@ class Faults(Imported):
 
     def test_files_that_are_none(self):
         for name, text, said in [
-                ("p.json", "{}", "p.json: the name ends with none of .csv, .tsv, .yaml, .yml, .toml"),
+                ("p.json", "{}", "p.json: the name must end with one of .csv, .tsv, .yaml, .yml, .toml"),
                 ("log.csv", LOG, "log.csv: a log needs --schedule, as --schedule 'recurs(3)'"),
-                ("p.toml", b"a = 1\nb = '\xff'", "p.toml:2: the text is no UTF-8"),
+                ("p.toml", b"a = 1\nb = '\xff'", "p.toml:2: the text is not UTF-8"),
                 ("p.toml", "a = " + "[" * 5000, "p.toml:1:1: this is nested too deeply")]:
             with self.subTest(said):
                 status, out, errors = self.made(name, text)
@@ -311,9 +311,9 @@ class Faults(Imported):
         many = "a: &a 1\n" + "".join(f"{after}: &{after} [{','.join([f'*{name}'] * 10)}]\n"
                                      for name, after in zip("abcdefghi", "bcdefghij"))
         for text, what in [("a: &a [*a]\n", "1:4: this is nested deeper than 20"),
-                           ("", "1:1: there is nothing here"), ("- 1\n", "1:1: the file has to be a table of keys"),
-                           ("a: 1\n---\nb: 1\n", "2:1: no YAML: but found another document"),
-                           ("a: \x01\n", "1:4: no YAML: special characters are not allowed")]:
+                           ("", "1:1: the file is empty"), ("- 1\n", "1:1: the file must be a table of keys"),
+                           ("a: 1\n---\nb: 1\n", "2:1: not YAML: but found another document"),
+                           ("a: \x01\n", "1:4: not YAML: special characters are not allowed")]:
             with self.subTest(what):
                 status, _, errors = self.made("p.yaml", text)
                 self.assertEqual((status, errors.split("\n")[0]), (2, f"zsched-plan: p.yaml:{what}"))

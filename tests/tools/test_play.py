@@ -318,7 +318,7 @@ class CommandLine(unittest.TestCase):
             with self.subTest(word):
                 status, output, errors = self.ended(f"--port={word}")
                 self.assertEqual((status, output), (2, b""))
-                self.assertIn(b"is no port", errors)
+                self.assertIn(b"is not a port", errors)
 
     def test_a_port_that_is_taken_is_told(self):
         with socket.socket() as taken:

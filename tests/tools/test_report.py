@@ -157,7 +157,7 @@ class Refusals(unittest.TestCase):
             for count in range(1, len(kept)):
                 with self.subTest(f"{name}, {count} lines"):
                     fault = fault_of(lines_of, "".join(kept[:count]))
-                    self.assertTrue(fault and fault.startswith(f"ends after line {count}, where "), fault)
+                    self.assertTrue(fault and fault.startswith(f"ends after line {count}, but "), fault)
 
     def test_a_report_cut_in_the_middle_of_a_line(self):
         for end in range(1, len(WAITING)):
@@ -187,8 +187,8 @@ class Refusals(unittest.TestCase):
                 for words, text, place in [([file.name], "", file.name), ([], cut, "standard input")]:
                     status, out, errors = process(form, *words, text=text)
                     self.assertEqual((status, errors),
-                                     (2, f"zsched-report: {place}: ends after line 12, where an end is due, "
-                                         "and has no last line 'polls TOTAL'\n"))
+                                     (2, f"zsched-report: {place}: ends after line 12, but an end is expected, "
+                                         "and there is no last line 'polls TOTAL'\n"))
                     self.assertEqual(out, "" if form != "lines" else "".join(
                         line + "\n" for line in lines_of(WAITING).splitlines()[:-2]))
 
@@ -196,7 +196,7 @@ class Refusals(unittest.TestCase):
         for form in FORMS:
             status, out, errors = tool(form, text="\xff\x00\n")
             self.assertEqual((status, out), (2, ""))
-            self.assertTrue(errors.startswith("zsched-report: standard input: line 1 is no line of a report"), errors)
+            self.assertTrue(errors.startswith("zsched-report: standard input: line 1 isn't a line of a report"), errors)
 
     def test_a_file_that_is_not_there_ends_with_3(self):
         for words in [*([form, "/nowhere/x"] for form in FORMS), ["join", "/nowhere/x"]]:
@@ -207,7 +207,7 @@ class Refusals(unittest.TestCase):
             file.write(long_report(20_000))
             file.flush()
             for form, status, said in [("lines", 141, b""), ("load --every 10ms", 141, b""),
-                                       ("join", 3, b"zsched-report: the reader of standard output went away\n")]:
+                                       ("join", 3, b"zsched-report: the reader of standard output closed it\n")]:
                 command = f"{sys.executable} {TOOL} {form} {file.name} | head -n 1 > {os.devnull}; exit ${{PIPESTATUS[0]}}"
                 ended = subprocess.run(["bash", "-c", command], capture_output=True, check=False)
                 self.assertEqual((ended.returncode, ended.stderr), (status, said), form)
@@ -764,7 +764,7 @@ class Pictures(unittest.TestCase):
         for words in [["--from", "5s", "--to", "5s"], ["--from", "1min"]]:
             status, out, errors = tool("svg", *words, text=RUNNING)
             self.assertEqual((status, out), (2, ""))
-            self.assertIn("--from has to be before --to", errors)
+            self.assertIn("--from must be before --to", errors)
         self.assertIn('"x" is not a duration', tool("svg", "--from", "x", text=RUNNING)[2])
 
     def test_a_part_of_time_has_its_load_alone(self):
@@ -892,9 +892,9 @@ class Join(unittest.TestCase):
             bad = self.part("bad", RETRIED[:end])
             for parts in [[bad, good], [good, bad]]:
                 self.assertTrue(self.refused(*parts).startswith("bad: "), end)
-        self.assertEqual(self.refused(good, self.part("bad", "{}\n")), "bad: line 1 is no line of a report: '{}'")
+        self.assertEqual(self.refused(good, self.part("bad", "{}\n")), "bad: line 1 isn't a line of a report: '{}'")
         self.assertEqual(self.refused(self.part("bad", RETRIED + RETRIED.replace("job a", "job b")), good),
-                         "bad: line 7 stands after the last line: 'job b retry'")
+                         "bad: line 7 is after the last line: 'job b retry'")
 
     def test_repeated_parts_are_refused_by_name(self):
         first, second = self.part("first", RETRIED), self.part("second", WAITING)

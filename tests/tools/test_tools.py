@@ -88,7 +88,7 @@ class Tools(unittest.TestCase):
                     with os.fdopen(writer, "wb", 0) as output:
                         run = subprocess.run(shlex.split(line), stdin=subprocess.DEVNULL, stdout=output,
                                              stderr=subprocess.PIPE, text=True, timeout=300, check=False)
-                    wanted = ((3, "zsched-report: the reader of standard output went away\n") if " join " in line
+                    wanted = ((3, "zsched-report: the reader of standard output closed it\n") if " join " in line
                               else (-signal.SIGPIPE, ""))
                     self.assertEqual((run.returncode, run.stderr), wanted)
 

@@ -293,7 +293,7 @@ class Faults(unittest.TestCase):
 
     def test_a_policy(self):
         self.assertEqual(tool("recurs(1) && recurs(2)"), (2, "", """\
-zsched-try: byte 10: this && stands in no parentheses
+zsched-try: byte 10: this && is outside of parentheses
   |
 1 | recurs(1) && recurs(2)
   |           ^^

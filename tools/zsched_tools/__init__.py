@@ -1,1 +1,1 @@
-"""What the commands beside the program share."""
+"""Code that the commands in tools/ share."""

@@ -6,7 +6,7 @@ from zsched_tools.faults import Plan
 from zsched_tools.program import MAX_BYTES
 
 MOST_JOBS = 10000
-# Whole numbers in whose place any other one does as well: no 0, and none that may be too large.
+# Whole numbers that any other such number may replace: not 0, and small enough for every key.
 _NUMBER = re.compile(r"(?<![\w.+-])[1-9][0-9]{0,14}(?![\w.])")
 _NAME = re.compile(r"[A-Za-z0-9._-]{1,64}")
 _OF_JOB = re.compile(r"(zsched: job )([0-9]+)(: .*)", re.S)
@@ -26,7 +26,7 @@ class Fewer:
 
 
 def fewer(data):
-    """A plan that has the first fault of the plan with these bytes, in at most half of its jobs; None if there is none."""
+    """A plan that has the first fault of the plan with these bytes, in at most half of its jobs; else None."""
     plan = Plan(data)
     if len(data) > MAX_BYTES or plan.no_utf8 is not None or plan.no_json is not None or plan.root.kind != "object":
         return None
@@ -40,7 +40,7 @@ def fewer(data):
 
 
 def _first_ones(jobs):
-    """The numbers of the jobs that are like no earlier one. One whose name may have a fault is like no other one."""
+    """The numbers of the jobs that differ from every earlier one. A job whose name may have a fault differs from all."""
     named = [_name_of(job) for job in jobs]
     many = collections.Counter(name.string() for name in named if name)
     seen, found = set(), []
@@ -56,7 +56,7 @@ def _first_ones(jobs):
 
 
 def _name_of(job):
-    """The name of a job that has one, else None."""
+    """The name of a job if it is a text, else None."""
     name = job.get("name") if job.kind == "object" else None
     return name if name and name.kind == "text" else None
 

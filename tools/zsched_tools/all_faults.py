@@ -1,7 +1,7 @@
-"""All faults of a plan, one after another: each that was found is mended in a copy, and the program is run again.
+"""All faults of a plan, one after another: each fault found is mended in a copy, and the program runs on the copy.
 
-A job with a fault becomes one without, and a key or a number of the document is left out or replaced. What takes their
-place has as many lines, so that a cause that names a line names that of the plan."""
+A job with a fault becomes one without a fault, and a key or a number of the document is removed or replaced. The
+replacement has the same number of lines, so line numbers in causes remain those of the plan."""
 import itertools
 import json
 
@@ -64,7 +64,7 @@ def all_faults(refusal, data, most):
 
 
 def _mend(mended, plan, found):
-    """Mends a fault that was found in a Plan, which is the mended text so far; answers whether that can be done."""
+    """Mends a fault that was found in a Plan, which is the mended text so far. Returns whether that is possible."""
     if found.job is not None:
         job = next(itertools.islice(plan.root.get("jobs").items(), found.job, None))
         good = {"name": f"mended.{found.job}", "mode": "retry", "schedule": "forever", "script": [{"ms": 1, "ok": 1}]}
@@ -82,13 +82,13 @@ def _mend(mended, plan, found):
 
 
 def _replace(mended, begin, end, text):
-    """Replaces a piece of the mended text, which no piece was put in."""
+    """Replaces a piece of the mended text that wasn't replaced before."""
     mended.replace(mended.place(begin), mended.place(end - 1) + 1, text)
     return True
 
 
 def _around(text, begin, end, is_last):
-    """The piece of a member with the comma behind it, or before it if it is the last one."""
+    """The piece of a member with the comma after it, or before it if it is the last one."""
     if not is_last:
         return begin, text.index(",", end) + 1
     comma = text.rfind(",", 0, begin)

@@ -1,4 +1,4 @@
-"""The time axis of a picture: where a moment stands, and which moments are labelled."""
+"""The time axis of a picture: the places of moments, and the moments that have a label."""
 import math
 from typing import NamedTuple
 
@@ -15,7 +15,7 @@ _TIMES = _STEPS + [DAY * many * 10**power for power in range(12) for many in [1,
 
 
 class View(NamedTuple):
-    """The part of time that a picture shows: its first and last moment, None for what is sensible; and whether its axis
+    """The part of time that a picture shows: its first and last moment, None for a default; and whether its axis
     is logarithmic."""
     first: int | None = None
     last: int | None = None
@@ -33,7 +33,7 @@ class Scale:
         self.whole = math.log1p((self.last - first) / unit) if unit else self.last - first
 
     def at(self, moment):
-        """The pixel of a moment; one before the first is with the first, one past the last with the last."""
+        """The pixel of a moment. A moment before the first has the first's pixel, one after the last has the last's."""
         time = min(max(moment, self.first), self.last) - self.first
         return self.left + (self.right - self.left) * (math.log1p(time / self.unit) if self.unit else time) / self.whole
 
@@ -53,8 +53,8 @@ def step_between_labels(time, room):
 
 
 def labels(scale):
-    """The moments that get a label, with the labels; and the moment that they count from, where it isn't 0. Labels that
-    would be long count from a moment near the first."""
+    """The moments that get a label, with the labels; and the moment that they count from, or 0. Labels that
+    would be long count from the first moment."""
     if scale.unit:
         return _labels_of_times(scale)
     step = step_between_labels(scale.last - scale.first, scale.right - scale.left)
@@ -79,8 +79,8 @@ def _labels_of_times(scale):
 
 def shown_moments(attempts, horizon):
     """The first and the last moment that a picture of some jobs' attempts shows. The time before the first attempt is
-    left out where it would take more than a quarter of the room, and the horizon where it would leave the attempts
-    less than a quarter."""
+    left out if it would take more than a quarter of the width. The horizon is left out if the attempts would have less
+    than a quarter."""
     first = min([listed[0].begin for listed in attempts if listed], default=0)
     lasts = [listed[-1] for listed in attempts if listed]
     last = max([attempt.begin if attempt.end is None else attempt.end for attempt in lasts], default=0)

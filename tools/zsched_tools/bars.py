@@ -1,15 +1,15 @@
-"""The shapes of a picture: attempts that stand apart, blocks of many, and the marks of endings.
+"""The shapes of a picture: single attempts, blocks of many, and the marks of endings.
 
-An outcome is told by its shape as well as by its colour: an attempt that succeeded is tall and round, one that failed
-is low and square."""
+Both shape and colour show an outcome: an attempt that succeeded is tall and round, one that failed is low and square."""
 from dataclasses import dataclass
 
 from zsched_tools.drawing import path, place, rectangle, titled
 from zsched_tools.durations import duration
 from zsched_tools.report import Attempt
 
-# In pixels: an attempt as wide as ALONE is always drawn alone, and none is drawn narrower than NARROWEST. Narrow ones
-# that are nearer than NEAR share a block, up to the width BLOCK. No shape is made narrower than LEAST for the next one.
+# In pixels: an attempt of at least the width ALONE has a separate shape, and every shape is at least NARROWEST wide.
+# Narrow attempts that are nearer than NEAR share a block, up to the width BLOCK. A shape is cut for the next one, but not
+# below the width LEAST.
 ALONE = 4.0
 NARROWEST = 3.0
 NEAR = 1.5
@@ -60,12 +60,12 @@ class Shapes:
 
     @staticmethod
     def _keep_inside(shape, right):
-        """The last shape ends with the plot, or a little after it where it would be too narrow to see."""
+        """The last shape ends with the plot, or a little after it if it would be too narrow to see."""
         shape.right = max(min(shape.right, right), shape.left + NARROWEST)
 
 
 def attempt_title(attempt, name):
-    """All of an attempt, in words."""
+    """The text of an attempt: number, moments, outcome, wait and step."""
     if attempt.end is None:
         words = f"attempt {attempt.number} of {name}: {attempt.begin} ms .., still running at the horizon"
     else:
@@ -80,7 +80,7 @@ def attempt_title(attempt, name):
 
 
 def shape_title(shape, name):
-    """What a shape stands for, in words."""
+    """The text of a shape: its attempt, or the number of its attempts."""
     if shape.count == 1:
         return attempt_title(shape.first, name)
     return (f"attempts {shape.first.number} to {shape.last.number} of {name}: {shape.first.begin}..{shape.last.end} "
@@ -105,7 +105,7 @@ def draw_shape(shape, middle, height, name):
 
 
 def draw_many(shape, right, top, low, bottom):
-    """A block of many: tall where none failed, low where all did. Of a mixed one the lower part tells the share that
+    """A block of many: tall if no attempt failed, low if all failed. In a mixed block the lower part shows the share that
     failed, the upper part the share that succeeded."""
     share = shape.failed / shape.count
     if share == 0:

@@ -1,4 +1,4 @@
-"""What a policy does for every input, as the program zsched-bounds prints it: lines of JSON, and each in one line of words."""
+"""The bounds of a policy for every input, as the program zsched-bounds prints them: lines of JSON, each shown as text."""
 import json
 from dataclasses import dataclass
 
@@ -20,7 +20,7 @@ def rounded(ms):
 @dataclass
 class Bounds:
     """The least and the most attempts until a policy gives up, the longest wait and all waits together in milliseconds,
-    and the number of steps that were looked at. None is a number that isn't known."""
+    and the number of steps that were evaluated. None is an unknown number."""
     least: int
     most: int | None
     longest: int
@@ -40,8 +40,8 @@ class Bounds:
         return self.most is not None or self.seen < MOST_STEPS
 
     def waits(self):
-        """The waits in words. Later steps than those that were looked at may have longer ones. A limit over the last moment
-        of a plan limits nothing."""
+        """The waits in words. Steps after the evaluated ones may have longer waits. A limit above the last moment of a plan
+        limits nothing."""
         if self.longest > LAST_MOMENT:
             return "waits without a proved limit"
         if not self.has_all_waits():
@@ -58,14 +58,14 @@ class Bounds:
 
 
 def bounds_of(line):
-    """What a line of the program says."""
+    """The bounds in a line of the program."""
     read = json.loads(line)
     return Bounds(read["attempts"]["least"], read["attempts"]["most"], read["longest_wait"], read["total_wait"],
                   read["steps_seen"])
 
 
 def run(path, policies, seconds=None):
-    """What the program at this path says of each policy. Past the seconds subprocess.TimeoutExpired is raised."""
+    """The bounds of each policy by the program at this path. subprocess.TimeoutExpired is raised after the seconds."""
     status, printed, errors = program.run(path, "".join(f"{policy}\n" for policy in policies).encode(), seconds)
     if status:
         raise ChildProcessError(program.failure(status, errors, "zsched-bounds"))

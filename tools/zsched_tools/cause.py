@@ -5,7 +5,7 @@ WIDTH = 100
 
 
 class Cause(NamedTuple):
-    """What is wrong: where in the text, over how many characters, in words, and what to write."""
+    """A fault: its place in the text, its number of characters, what is wrong, and what to write."""
     at: int
     size: int
     what: str
@@ -24,5 +24,5 @@ def listed(words, last="and"):
 
 
 def line_of(text, at):
-    """The number of the line in which a place stands, from 1."""
+    """The number of the line of a place, from 1."""
     return text.count("\n", 0, at) + 1

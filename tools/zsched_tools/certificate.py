@@ -1,7 +1,7 @@
-"""The certificate of a simulated policy: the program's report of its plan, held against the scenario.
+"""The certificate of a simulated policy: the program's report of its plan, compared with the scenario.
 
-Each ending and number of attempts must be those that were simulated. And each attempt of the report must end as the
-scenario says for the moment at which the report has it begin, which is looked up anew."""
+Each ending and number of attempts must be the simulated one. Each attempt of the report must end as the scenario says for
+the moment at which it begins in the report; that outcome is computed again from the report."""
 import re
 from array import array
 from dataclasses import dataclass
@@ -46,15 +46,15 @@ def clients_in(report):
 
 
 def certified(scenario, simulated, reports):
-    """The clients in the reports of a plan's parts. Uncertified says where they differ from the endings that were
-    simulated, or from the scenario."""
+    """The clients in the reports of a plan's parts. Uncertified says how they differ from the simulated endings, or
+    from the scenario."""
     clients = [client for report in reports for client in clients_in(report)]
     if len(clients) != len(simulated):
         raise Uncertified(f"the report has {len(clients)} jobs, and {len(simulated)} clients were simulated")
     code = scenario.budget.code if scenario.budget else None
     for number, (client, wanted) in enumerate(zip(clients, simulated)):
         if client.name != name_of(number):
-            raise Uncertified(f"the report has job {client.name}, where {name_of(number)} is due")
+            raise Uncertified(f"the report has job {client.name}, but {name_of(number)} is expected")
         _hold(client, wanted)
     walk = Walk(scenario, [Run(client.begins, b"", _tail(client.ending, code)) for client in clients])
     for client, ending, kinds in zip(clients, walk.endings, walk.found):
@@ -64,21 +64,21 @@ def certified(scenario, simulated, reports):
 
 
 def _tail(ending, code):
-    """How a run with this ending ends. Of one that the budget ended the bucket has to say so."""
+    """The tail of a run with this ending. If the budget ended the run, the walk over the bucket must find that ending."""
     if ending.how == "failed":
         return CUT if ending.value == code else DONE
     return GOES_ON if ending.how == "unfinished" else CUT
 
 
 def _hold(client, wanted):
-    """A client ends as it should."""
+    """Raises Uncertified unless a client has the wanted ending."""
     if client.ending != wanted:
-        words = "still going on" if wanted is None else wanted.words()
+        words = "unfinished" if wanted is None else wanted.words()
         raise Uncertified(f"job {client.name}: simulated {words}; the report has {client.ending.words()}")
 
 
 def _hold_attempts(scenario, client, kinds):
-    """Each attempt of a client ends as the scenario says."""
+    """Raises Uncertified unless each attempt of a client ends as the scenario says."""
     for number, (kind, length) in enumerate(zip(kinds, client.lengths)):
         ms, is_ok, value = scenario.outcomes[kind & ~DENIED]
         if kind & DENIED:

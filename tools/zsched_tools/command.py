@@ -12,13 +12,13 @@ _colored = ["auto"]
 
 
 class Refused(Exception):
-    """What the user gave is rejected. The text says the place: a file, a line."""
+    """Input that is rejected. The text has the place: a file, a line."""
 
 
 def run(tool, work):
-    """Does a command's work and returns its exit status: 0, 2 if what was given is rejected, 3 if reading or writing
-    failed, 130 if the user interrupted it. Each of these but 0 has one line on standard error.
-    `starting.run` does the same, but says nothing when the reader of standard output goes away."""
+    """Does a command's work and returns its exit status: 0, 2 if the input is rejected, 3 if reading or writing
+    failed, 130 if the user interrupted it. Each status except 0 has one line on standard error. `starting.run` does the
+    same, but writes no line if the reader of standard output closes it."""
     if sys.stdout is None:
         return _told(tool, "standard output is closed", FAILED)
     try:
@@ -29,7 +29,7 @@ def run(tool, work):
         return _told(tool, refused, REFUSED)
     except BrokenPipeError:
         _drop_output()
-        return _told(tool, "the reader of standard output went away", FAILED)
+        return _told(tool, "the reader of standard output closed it", FAILED)
     except OSError as failure:
         _drop_output()
         place = f"{failure.filename}: " if failure.filename else ""
@@ -37,18 +37,18 @@ def run(tool, work):
     except MemoryError:
         return _told(tool, "out of memory", FAILED)
     except KeyboardInterrupt:
-        return _told(tool, "broken off", 130)
+        return _told(tool, "interrupted", 130)
 
 
 def _drop_output():
-    """Python flushes standard output once more when it ends, and must find nothing closed or full there. A stream in
-    memory is unchanged."""
+    """Redirects standard output to /dev/null: Python flushes it once more at exit, which must not fail. A stream in memory
+    is unchanged."""
     with contextlib.suppress(io.UnsupportedOperation):
         os.dup2(os.open(os.devnull, os.O_WRONLY), sys.stdout.fileno())
 
 
 def color(choice):
-    """Says when the line with which a command ends is coloured: auto, always or never."""
+    """Sets when the last line of a command is coloured: auto, always or never."""
     _colored[0] = choice
 
 

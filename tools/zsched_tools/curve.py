@@ -34,13 +34,13 @@ class Curve:
         return "".join(f"{line}\n" for line in [CSV_HEAD, *(",".join(map(str, row)) for row in self.rows())])
 
     def peak(self, since=0):
-        """The most attempts that begin in one second from a moment on, and the first such second; None if none does."""
+        """The most attempts that begin in one second from a moment on, and the first such second; None without attempts."""
         seconds = [(count, -second) for second, count in self.begun.items() if second * THOUSAND >= since]
         return (max(seconds)[0], -max(seconds)[1]) if seconds else None
 
 
 def share_of(ordered, percent):
-    """The least of some ordered values that at least so many percent of them don't pass, or None."""
+    """The least of some ordered values such that at least `percent` of 100 are at most that value, or None."""
     return ordered[-(-len(ordered) * percent // 100) - 1] if ordered else None
 
 

@@ -35,7 +35,7 @@ def _style_of(window):
 
 
 class Layout:
-    """Where everything is: panels from top to bottom, seconds from left to right."""
+    """The places of everything: panels from top to bottom, seconds from left to right."""
 
     def __init__(self, scenario, figures, width):
         self.scenario, self.figures, self.width = scenario, figures, width
@@ -120,7 +120,7 @@ def _grid(layout, top):
 
 
 def _height(layout, top, load):
-    """Where a load is in a panel."""
+    """The place of a load in a panel."""
     return top + PANEL * (1 - load / layout.steps[-1])
 
 

@@ -16,7 +16,7 @@ _WHOLES = re.compile(run_of(f"(?:0|[1-9][0-9]{{0,18}}+){W},{W}"))
 
 
 def shape(plan):
-    """An object with `jobs` and one of `horizon` and `ticks`, each of its own kind."""
+    """An object with `jobs` and one of `horizon` and `ticks`, each of the right kind."""
     if plan.kind != "object":
         help = f"write {_FRAME}, with the jobs in its list" if plan.kind == "list" else f"write {_FRAME}"
         return not_of_kind(plan, "object", "the plan", help)
@@ -46,7 +46,7 @@ def _shape_causes(plan):
 
 
 def keys(plan):
-    """No key stands beside those of the table."""
+    """The document has no keys except those of the table."""
     return unknown_key(plan, "the plan", DOCUMENT_KEYS)
 
 
@@ -68,7 +68,7 @@ def _range_causes(plan):
 
 
 def _tick_cause(ticks):
-    """The cause of a list of ticks that is no clock, or None."""
+    """The cause of an invalid list of ticks, or None."""
     parts = ticks.source[1:-1].split(",")
     if not parts[0].strip():
         return over(ticks, "there are no ticks", "write at least one moment, as [0]")

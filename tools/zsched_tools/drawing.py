@@ -37,8 +37,8 @@ def root(width, height, label, is_file=True):
 def rectangle(left, top, right, bottom, style, title=None, corner=0.0):
     """A filled rectangle of one of the styles."""
     rounded = f' rx="{place(corner)}"' if corner else ""
-    where = f'x="{place(left)}" y="{place(top)}" width="{place(right - left)}" height="{place(bottom - top)}"'
-    return f'<rect class="{style}" {where}{rounded}' + (f">{titled(title)}</rect>" if title else "/>")
+    box = f'x="{place(left)}" y="{place(top)}" width="{place(right - left)}" height="{place(bottom - top)}"'
+    return f'<rect class="{style}" {box}{rounded}' + (f">{titled(title)}</rect>" if title else "/>")
 
 
 def path(steps, style, title=None):
@@ -49,10 +49,10 @@ def path(steps, style, title=None):
 def text(left, base, words, style, anchor="start", title=None):
     """A text on its base line; `anchor` says which end of it, or its middle, is at `left`."""
     anchored = "" if anchor == "start" else f' text-anchor="{anchor}"'
-    told = titled(title) if title else ""
-    return f'<text class="{style}" x="{place(left)}" y="{place(base)}"{anchored}>{html.escape(words)}{told}</text>'
+    titles = titled(title) if title else ""
+    return f'<text class="{style}" x="{place(left)}" y="{place(base)}"{anchored}>{html.escape(words)}{titles}</text>'
 
 
 def titled(words):
-    """What is shown of an element where the pointer rests on it."""
+    """The text that is shown while the pointer rests on an element."""
     return f"<title>{html.escape(words)}</title>"

@@ -82,8 +82,8 @@ class Policy:
 
 
 def drawn(random, least, most):
-    """A whole number from least to most, each as likely as the others. Only `random.random` is used, whose numbers are
-    the same for a seed in all versions of Python."""
+    """A whole number from least to most, each equally likely. It uses only `random.random`, whose numbers for a
+    seed are the same in all versions of Python."""
     return least + int(random.random() * (most - least + 1))
 
 

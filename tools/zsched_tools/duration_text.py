@@ -9,7 +9,7 @@ _PLAIN = re.compile("[0-9]{1,30}")
 
 
 def milliseconds(text):
-    """The milliseconds of a duration. A ValueError says in words what is wrong with the text."""
+    """The milliseconds of a duration. A ValueError has the text of the fault."""
     text = text.strip()
     if _PLAIN.fullmatch(text):
         return int(text)

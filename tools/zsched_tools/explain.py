@@ -1,6 +1,6 @@
-"""The command zsched-explain: runs the program on a plan, and shows where in the plan its fault is.
+"""The command zsched-explain: runs the program on a plan, and shows the place of its fault in the plan.
 
-While the program runs the plan is looked through, for what takes longest to find; what that needs is imported then."""
+While the program runs, a thread scans the plan, which takes longest. The modules for that are imported then."""
 import argparse
 import os
 import subprocess
@@ -13,32 +13,34 @@ from zsched_tools.cause import WIDTH, shown
 
 ABOUT = """Runs zsched on a plan, and shows where the plan's fault is.
 
-The first line on standard error is that of the program. If the plan is rejected,
-these follow: the place as FILE:LINE:COLUMN, both counted from 1, a column being a
-character; the line, cut if it is long; what is wrong there, and what to write, if
-that is known; the name of the job. If the plan is accepted, 'FILE: no fault' is
-written to standard output. zsched itself writes the report.
+The first line on standard error is zsched's. If the plan is rejected, these follow:
+  - the place as FILE:LINE:COLUMN, counted from 1; a column is a character
+  - the line, cut if it is long
+  - what is wrong there, and what to write instead, if that is known
+  - the name of the job
+If the plan is accepted, standard output gets 'FILE: no fault'. zsched itself writes
+the report.
 
-With --all the faults after the first one follow: each that was found is mended in
-a copy, which is run again. A plan that may have more than 100000000 attempts gets a
-warning, and is run with a clock of one moment, on which it has the same faults."""
+With --all the later faults are shown too: the command mends each fault in a copy and
+runs the copy. A plan that may have more than 100000000 attempts gets a warning. It is
+run with a clock of one moment, on which it has the same faults."""
 STATUSES = """exit status, that of zsched:
   0  the plan has no fault
   2  the plan is rejected, or an option is wrong
-  3  reading or writing failed, also that of the command itself
-  4  there was no memory or no thread
+  3  reading or writing failed, in zsched or in this command
+  4  no memory, or no thread
   128 and more: a signal ended zsched
-and 1 where zsched isn't found"""
+and 1 if zsched isn't found"""
 MOST_FAULTS = 10
 # The seconds after which a plan with fewer jobs is tried.
 PATIENCE = 2
 
 
 class Words(argparse.ArgumentParser):
-    """The command's words."""
+    """The command's arguments."""
 
     def error(self, message):
-        """Ends the command, with what is wrong with its words."""
+        """Exits with status 2, and writes what is wrong with the arguments."""
         self.exit(2, f"{self.prog}: {message}\n{self.format_usage()}")
 
 
@@ -50,14 +52,14 @@ def _number(word):
 
 
 def words():
-    """What the command takes."""
+    """The parser of the arguments."""
     found = Words(prog="zsched-explain", description=ABOUT, epilog=STATUSES,
                   formatter_class=argparse.RawDescriptionHelpFormatter)
     found.add_argument("plan", nargs="?", default="-", metavar="PLAN.json",
-                       help="the plan's file; - or none for standard input")
+                       help="the plan's file; standard input by default, or if it is -")
     found.add_argument("--zsched", metavar="PATH",
-                       help="the program; else that of the variable ZSCHED, the built or the installed one")
-    found.add_argument("--all", action="store_true", help="show all faults of the plan and not the first alone")
+                       help="the program; by default that of the variable ZSCHED, else the built or the installed one")
+    found.add_argument("--all", action="store_true", help="show all faults of the plan, not only the first")
     found.add_argument("--most", type=_number, default=MOST_FAULTS, metavar="N",
                        help=f"how many faults --all shows at most ({MOST_FAULTS})")
     colors.add_color(found)
@@ -66,7 +68,7 @@ def words():
 
 
 def main(arguments=None):
-    """Runs the command, by default with the words that it was called with. Returns its exit status."""
+    """Runs the command, by default with the arguments of the process. Returns its exit status."""
     taken = starting.parsed(words(), arguments)
     try:
         return _explain("standard input" if taken.plan == "-" else taken.plan, taken)
@@ -77,7 +79,7 @@ def main(arguments=None):
 
 
 def _explain(name, taken):
-    """Explains the plan, which has this name in what is written. Returns the exit status."""
+    """Explains the plan, which messages call by this name. Returns the exit status."""
     paint = colors.Paint(taken.color, sys.stderr)
     try:
         zsched = program.find(taken.zsched)
@@ -99,11 +101,11 @@ def _explain(name, taken):
 
 
 def _tell_all(name, zsched, data, most, paint):
-    """Writes all faults of a plan, of which the program runs no more than one moment. Returns the status."""
+    """Writes all faults of a plan, which the program runs with a clock of one moment. Returns the status."""
     from zsched_tools import all_faults, explanation
 
     def ended(text):
-        """How the program ends on a plan with the faults of this one. One of all jobs that are alike is run first."""
+        """The program's status and line on a plan with the faults of this one. One of all alike jobs runs first."""
         text = plan_size.with_one_tick(text)
         return fault_of_fewer(zsched, text) or outcome(zsched, text)
     count = 0
@@ -123,8 +125,8 @@ def outcome(zsched, data):
 
 
 def fault_of_fewer(zsched, data):
-    """The status and the line of the program on a plan's bytes, by a run of one of all jobs that are alike. None if that
-    has no fault, or if few are alike."""
+    """The status and the line of the program on a plan's bytes, by a run with one of each group of alike jobs. None if
+    that has no fault, or if few jobs are alike."""
     from zsched_tools import alike
     fewer = alike.fewer(data)
     status, line = outcome(zsched, fewer.data) if fewer else (0, "")
@@ -132,13 +134,13 @@ def fault_of_fewer(zsched, data):
 
 
 def _failed(what, status):
-    """Writes to standard error what failed. Returns the status."""
+    """Writes a failure to standard error. Returns the status."""
     print(f"zsched-explain: {what}", file=sys.stderr)
     return status
 
 
 def _plan(name):
-    """The plan's bytes, as many as the program looks at."""
+    """The plan's bytes, at most one more than the program allows."""
     if name == "-":
         return sys.stdin.buffer.read(program.MAX_BYTES + 1)
     with open(name, "rb") as file:
@@ -146,7 +148,7 @@ def _plan(name):
 
 
 class Look(threading.Thread):
-    """A look through a plan's bytes. It is dropped if the command ends before it."""
+    """A thread that scans a plan's bytes. It is dropped if the command ends before it."""
 
     def __init__(self, data):
         super().__init__(daemon=True)
@@ -154,22 +156,22 @@ class Look(threading.Thread):
         self.plan = None
 
     def run(self):
-        """Looks through the plan."""
+        """Scans the plan."""
         from zsched_tools import faults
         self.plan = faults.Plan(self.data)
         self.plan.look()
 
     def explanation(self, name, line, paint):
-        """The lines that show where the fault is of which the program wrote this line, once the look has ended."""
+        """The lines that show the place of the fault in this line of the program. Waits for the scan."""
         from zsched_tools import explanation
         self.join()
         return explanation.explanation(name, self.plan, line, paint)
 
 
 def refusal(zsched, look, seconds=None, data=None):
-    """Runs the program on a plan's bytes, or on those that have its faults, while the look through them begins, and
-    drops its report: its status and its line on standard error. Past the seconds it is killed, and
-    subprocess.TimeoutExpired is raised. Past PATIENCE it is killed if one of all jobs that are alike has the fault."""
+    """Runs the program on a plan's bytes, or on `data` with the same faults, and starts the scan. Returns the status and
+    the line on standard error, and drops the report. After `seconds` the program is killed, and subprocess.TimeoutExpired
+    is raised. After PATIENCE it is killed if a plan with one of each group of alike jobs has the fault."""
     data = look.data if data is None else data
     with tempfile.TemporaryFile() as plan:
         plan.write(data)
@@ -196,7 +198,7 @@ def refusal(zsched, look, seconds=None, data=None):
 
 
 def tell(name, look, status, line, paint=lambda _, text: text):
-    """Writes what the program's status and line say of a plan. Returns the status."""
+    """Writes the explanation of the program's status and line. Returns the status."""
     if status != 0:
         said = f"{paint('bad', line.rstrip())}\n" if line.strip() else line
         sys.stderr.write(said + (look.explanation(name, line, paint) if status == 2 else ""))

@@ -1,4 +1,4 @@
-"""The lines that tell where the fault of a plan is: place, excerpt, cause, help and the job's name."""
+"""The lines that show the fault of a plan: place, excerpt, cause, help and the job's name."""
 import unicodedata
 
 from zsched_tools.cause import WIDTH, line_of, shown
@@ -11,12 +11,12 @@ def unpainted(_, text):
 
 
 def explanation(name, plan, line, paint=unpainted):
-    """The lines that say where in a Plan the fault is of which the program wrote this line."""
+    """The lines that show the place in a Plan of the fault in this line of the program."""
     return fault_lines(name, explained(plan, line.strip().removeprefix("zsched: ")), paint)
 
 
 def fault_lines(name, found, paint=unpainted):
-    """The lines that say where the fault of an Explained is."""
+    """The lines that show the place of an Explained fault."""
     text, cause = found.text, found.cause
     number, begin = line_of(text, cause.at), text.rfind("\n", 0, cause.at) + 1
     source, mark = excerpt(text, begin, cause)
@@ -33,18 +33,18 @@ def fault_lines(name, found, paint=unpainted):
 
 
 def excerpt(text, begin, cause):
-    """The line of a cause, which begins there, cut where it is long, and the caret below it."""
+    """The line of a cause, which starts at `begin`, cut if it is long, and the caret below it."""
     end = text.find("\n", cause.at)
     end = len(text) if end < 0 else end
     end -= text[cause.at:end].endswith("\r")
     first = begin if cause.at - begin <= WIDTH * 3 // 4 else cause.at - WIDTH // 2
     last = min(end, first + WIDTH)
-    before, behind = (shown(part.replace("\t", " "), WIDTH) for part in (text[first:cause.at], text[cause.at:last]))
+    before, after = (shown(part.replace("\t", " "), WIDTH) for part in (text[first:cause.at], text[cause.at:last]))
     if first > begin:
         before = ".. " + before.lstrip()
-    source = before + behind + (" .." if last < end else "")
+    source = before + after + (" .." if last < end else "")
     size = max(1, min(cause.size, last - cause.at))
-    return source, " " * _columns(before) + "^" * max(1, _columns(behind[:size]))
+    return source, " " * _columns(before) + "^" * max(1, _columns(after[:size]))
 
 
 def _columns(text):

@@ -1,4 +1,4 @@
-"""Where the fault of a plan is that the program tells, and what is wrong there, by the rules of docs/FORMATS.md."""
+"""The place of the fault that the program reports, and what is wrong there, by the rules of docs/FORMATS.md."""
 import functools
 import re
 
@@ -14,7 +14,7 @@ _OF_JOB = re.compile(r"job (?P<job>\d+): (?P<cause>.+)")
 
 
 class Explained:
-    """A fault's Cause, in the text of its plan. The number and the name of its job are None where it has none."""
+    """A fault's Cause, in the text of its plan. The number and the name of its job are None if it is in no job."""
 
     def __init__(self, text, cause, job=None, name=None):
         self.text = text
@@ -24,7 +24,7 @@ class Explained:
 
 
 class Plan:
-    """A plan's bytes as a text, and what was found in it so far. `no_utf8` is the place of the first byte that isn't
+    """A plan's bytes as a text, and what the scan found so far. `no_utf8` is the place of the first byte that isn't
     UTF-8, or None."""
 
     def __init__(self, data):
@@ -35,23 +35,23 @@ class Plan:
             self.text, self.no_utf8 = data.decode(errors="replace"), len(data[:bad.start].decode())
 
     def look(self):
-        """Looks for all that takes time to find, before the fault is known."""
+        """Scans for everything that takes time to find, before the fault is known."""
         if self.no_utf8 is None and len(self.data) <= MAX_BYTES and self.no_json is None:
             self.root.document.end_of(self.root.at)
 
     @functools.cached_property
     def no_json(self):
-        """The Cause where the text is no JSON, else None."""
+        """The Cause if the text is not JSON, else None."""
         return json_reading.fault_of(self.text)
 
     @functools.cached_property
     def root(self):
-        """The value that the text is, where it is JSON."""
+        """The value of the text, if it is JSON."""
         return Document(self.text).root()
 
 
 def explained(plan, fault):
-    """The place and the cause of a fault: of a Plan, and of the program's words without 'zsched: '."""
+    """The place and the cause of a fault, from a Plan and the program's message without 'zsched: '."""
     data, text = plan.data, plan.text
     if fault.startswith("plan is longer than"):
         at = len(data[:MAX_BYTES].decode(errors="ignore"))
@@ -66,7 +66,7 @@ def explained(plan, fault):
 
 
 def _in_document(plan, text, fault):
-    """The place and the cause of a fault that stands in a document."""
+    """The place and the cause of a fault in a document."""
     of_document, of_job = _OF_DOCUMENT.fullmatch(fault), _OF_JOB.fullmatch(fault)
     if of_job:
         jobs, number = plan.get("jobs"), int(of_job["job"])
@@ -86,11 +86,11 @@ def _of_job(jobs, job, cause):
 
 
 def _unknown(at):
-    """A place for a fault whose cause these rules don't find."""
+    """The Cause of a fault that these rules don't find."""
     return Cause(at, 1, "the fault is in here")
 
 
 def _name_of(job):
-    """The name of a job, where it has one."""
+    """The name of a job, if it has one."""
     name = job.get("name") if job.kind == "object" else None
     return name.string() if name and name.kind == "text" else None

@@ -1,4 +1,4 @@
-"""What was meant, perhaps: near words, durations with units, and the names of ZIO that a plan writes otherwise."""
+"""What the user may have meant: similar words, durations with units, and names of ZIO that a plan spells differently."""
 import difflib
 import re
 from fractions import Fraction
@@ -28,23 +28,23 @@ UNITS = {unit: length for length, units in _UNITS.items() for unit in units.spli
 _PART = re.compile(r"\s*([0-9]{1,18}(?:\.[0-9]{1,9})?)[ .]*([A-Za-zµ]+)\s*")
 
 _OPPOSITE = "the opposite comparison (< for >=, = for !=)"
-_EFFECTS = "left out: a schedule here runs no effects of its own"
+_EFFECTS = "left out: a schedule runs no effects"
 _CALENDAR = "left out: there is no calendar; moments are milliseconds from the beginning of the plan"
-_DELAYS = "left out, but for (S || spaced(D)).map(_1), a cap, and (S && spaced(D)).map(_1), a least delay"
-_FEEDS = "left out, but for (A && B).map(_2), where B doesn't look at its input"
-_FOLDS = "left out, but for collectAll, and (S && forever).map(_2), the number of repetitions"
-_JOINS = "left out, but for map behind &&, || and andThenEither"
+_DELAYS = "left out, except (S || spaced(D)).map(_1), a cap, and (S && spaced(D)).map(_1), a least delay"
+_FEEDS = "left out, except (A && B).map(_2), if B ignores its input"
+_FOLDS = "left out, except collectAll and (S && forever).map(_2), the number of repetitions"
+_JOINS = "left out, except map after &&, || and andThenEither"
 _TESTS = "left out: write the function into the test, as whileInput(>= 500) for a class of codes"
 _AFTER = "write (A andThenEither B).map(merge)"
-_SHAPES = "left out: a step has one input, a whole number, which all parts of a schedule see"
+_SHAPES = "left out: a step has one input, a whole number, for all parts of a schedule"
 
-# Names of ZIO, and other words, that no schedule has here.
+# Names of ZIO, and other words, that a schedule doesn't have.
 ZIO = {
     "Schedule": "leave Schedule. out: write recurs(3), spaced(100) ..",
     "upTo": "write (S && elapsed.whileOutput(< D)).map(_1)",
     "andThen": _AFTER,
     "then": _AFTER,
-    "jittered": "left out, with all that is random: give each job a delay or a start of its own",
+    "jittered": "left out, as is everything random: give each job a different delay or start",
     "untilInput": f"write .whileInput(..) with {_OPPOSITE}",
     "untilOutput": f"write .whileOutput(..) with {_OPPOSITE}",
     "whileInputEquals": "write .whileInput(= N)",
@@ -57,13 +57,13 @@ ZIO = {
     "recurUntilEquals": "write identity.whileInput(!= N)",
     "collectWhile": "write S.whileOutput(C N).collectAll",
     "collectUntil": f"write S.whileOutput(C N).collectAll with {_OPPOSITE}",
-    "resetAfter": "write (S && elapsed).resetWhen(_2 >= D).map(_1); it begins anew D after its first step, calm or not",
+    "resetAfter": "write (S && elapsed).resetWhen(_2 >= D).map(_1); it resets D after its first step in any case",
     "once": "write recurs(1)",
     "stop": "write recurs(0)",
     "count": "write forever",
     "repetitions": "write (S && forever).map(_2)",
     "succeed": "write forever.map(as N)",
-    "fromFunction": "write identity.map(F), F being + N, * N or as N",
+    "fromFunction": "write identity.map(F), with + N, * N or as N for F",
     "passthrough": "write (S && identity).map(_2)",
     "unit": "write .map(as 0)",
     "as": "write .map(as N)",
@@ -80,9 +80,9 @@ ZIO = {
     "fromDuration": "write (recurs(1) && spaced(D))",
     "fromDurations": "write ((recurs(1) && spaced(D)) andThenEither ((recurs(1) && spaced(E)) andThenEither ..))",
     "delayed": _DELAYS,
-    "addDelay": "write (S && spaced(D)).map(_1) where S goes on at once",
+    "addDelay": "write (S && spaced(D)).map(_1), if S continues at once",
     "modifyDelay": _DELAYS,
-    "delays": "left out: exponential, fibonacci and linear answer their delay",
+    "delays": "left out: exponential, fibonacci and linear output their delay",
     "fold": _FOLDS,
     "unfold": "write forever.map(+ N), for N, N + 1, ..",
     "reconsider": "left out: whileInput, whileOutput and resetWhen decide",
@@ -120,20 +120,20 @@ ZIO = {
     "attempts": "write recurs(N), the number of runs after the first one",
     "tries": "write recurs(N), the number of runs after the first one",
     "maxAttempts": "write recurs(N), the number of runs after the first one",
-    "min": "write (S || spaced(N)), which goes on at the earlier moment",
-    "cap": "write (S || spaced(N)), which goes on at the earlier moment",
-    "capped": "write (S || spaced(N)), which goes on at the earlier moment",
-    "maxDelay": "write (S || spaced(N)), which goes on at the earlier moment",
-    "max": "write (S && spaced(N)), which goes on at the later moment",
+    "min": "write (S || spaced(N)), which continues at the earlier moment",
+    "cap": "write (S || spaced(N)), which continues at the earlier moment",
+    "capped": "write (S || spaced(N)), which continues at the earlier moment",
+    "maxDelay": "write (S || spaced(N)), which continues at the earlier moment",
+    "max": "write (S && spaced(N)), which continues at the later moment",
     "retryN": "write recurs(N)",
     "repeatN": "write recurs(N)",
     "backoff": "write exponential(N), linear(N) or fibonacci(N)",
-    "random": "left out, with all that is random: give each job a delay or a start of its own",
+    "random": "left out, as is everything random: give each job a different delay or start",
 }
 
 _IN_ANY_CASE = {name.lower(): help for name, help in ZIO.items()}
 
-# Symbols that no schedule has here, the longest first.
+# Symbols that a schedule doesn't have, the longest first.
 SYMBOLS = {
     ">>>": _FEEDS,
     "<<<": _FEEDS,
@@ -160,7 +160,7 @@ SYMBOLS = {
 
 
 def near(word, words):
-    """The word of these that this one was meant to be, perhaps; None where none is near."""
+    """The word of `words` that is most similar to this one, or None if no word is similar."""
     if len(word) > 40:
         return None
     plain = {known.lower(): known for known in words}
@@ -170,7 +170,7 @@ def near(word, words):
 
 def zio(word):
     """What to write for a name of ZIO, in capitals or not; also for one that ends in ZIO or M, whose function is an
-    effect. None where the word is no such name."""
+    effect. None if the word is no such name."""
     if word.lower() in _IN_ANY_CASE:
         return _IN_ANY_CASE[word.lower()]
     base = re.sub(r"(ZIO|M)$", "", word)
@@ -178,7 +178,7 @@ def zio(word):
 
 
 def milliseconds(text):
-    """The milliseconds that a text tells, as '10s', '1.5', '2 minutes', '1h30m' or 'PT5S': a Fraction, or None."""
+    """The milliseconds of a duration's text, as '10s', '1.5', '2 minutes', '1h30m' or 'PT5S': a Fraction, or None."""
     text = text.strip()
     if len(text) > 60:
         return None
@@ -194,7 +194,7 @@ def milliseconds(text):
 
 
 def in_milliseconds(text):
-    """What to write for a text that tells a duration, or an empty text."""
+    """What to write for the text of a duration, or an empty text."""
     length = milliseconds(text)
     if length is None:
         return ""

@@ -22,19 +22,19 @@ READERS = {".yaml": read_yaml, ".yml": read_yaml, ".toml": read_toml}
 LOGS = (".csv", ".tsv")
 # A horizon that is in range: fifteen digits at most.
 _HORIZON = re.compile(r'("horizon":)([0-9]{1,15})(?![0-9.eE])')
-ABOUT = """Makes a plan of FILE, and writes it to standard output.
+ABOUT = """Converts FILE to a plan, and writes it to standard output.
 
 A log (.csv, .tsv) has a line for each attempt, with a name, a length of time and a status. The
-lines of one name are the script of one job, in order. The columns are found by their names, as
-request_id, latency_ms and status; --name, --time and --status choose others.
+lines of one name are the script of one job, in order. The command finds the columns by their
+names, as request_id, latency_ms and status; --name, --time and --status choose others.
 
-A policy file (.yaml, .yml, .toml) has the keys of a plan. Durations may be in words, as 1h or 40ms,
-and a script may be a text, as '40 err 503 x3, 35 ok 200'. 'mode', 'start' and 'script' beside
-'jobs' are those of each job that has none. 'policies' is a table of names and schedules, a job
-each.
+A policy file (.yaml, .yml, .toml) has the keys of a plan. Durations may have units, as 1h or 40ms,
+and a script may be a text, as '40 err 503 x3, 35 ok 200'. 'mode', 'start' and 'script' next to
+'jobs' are the defaults of all jobs. 'policies' is a table of names and schedules: each becomes a
+job.
 
-A name that a plan doesn't allow is changed, and lengths of time are rounded to whole milliseconds,
-at least 1; both are reported on standard error. YAML needs PyYAML (Debian: python3-yaml)."""
+A name that a plan doesn't allow is changed. Lengths of time are rounded to whole milliseconds, at
+least 1. Standard error reports both. YAML needs PyYAML (Debian: python3-yaml)."""
 EPILOG = """Exit status: 0; 2 if FILE can't become a plan, with file, line and column on standard
 error; 3 if reading or writing fails."""
 
@@ -60,21 +60,21 @@ def _source(path):
         return Source(path, data.decode("utf-8-sig"))
     except UnicodeDecodeError as fault:
         line = data.count(b"\n", 0, fault.start) + 1
-        raise Refused(f"{path}:{line}: the text is no UTF-8") from None
+        raise Refused(f"{path}:{line}: the text is not UTF-8") from None
 
 
 def _until(word):
-    """The horizon of a plan that names none."""
+    """The horizon of a plan that has no horizon."""
     length = milliseconds(word)
     if length is None or length.denominator != 1 or length > MAX_MOMENT:
-        raise argparse.ArgumentTypeError(f"{word} is no duration: write 60000, 90s or 1h")
+        raise argparse.ArgumentTypeError(f"{word} is not a duration: write 60000, 90s or 1h")
     return int(length)
 
 
 def _code(word):
     """A status, as a whole number."""
     if not word.isascii() or not word.isdigit():
-        raise argparse.ArgumentTypeError(f"{word} is no whole number")
+        raise argparse.ArgumentTypeError(f"{word} is not a whole number")
     return int(word)
 
 
@@ -82,10 +82,10 @@ def add_command(forms, form):
     """Adds the command to those of zsched-plan."""
     given = forms.add_parser("from", description=ABOUT, epilog=EPILOG, formatter_class=form,
                              help="a log (CSV) or a policy file (YAML, TOML) as a plan")
-    given.add_argument("file", metavar="FILE", help="the file; its name says what it is")
+    given.add_argument("file", metavar="FILE", help="the file; the end of its name says what it is")
     given.add_argument("-o", dest="out", metavar="PLAN", help="the plan's file (standard output)")
     given.add_argument("--until", type=_until, default=3_600_000, metavar="TIME",
-                       help="the horizon, if the file names none (1h)")
+                       help="the horizon, if the file has no horizon (1h)")
     log = given.add_argument_group("for a log")
     log.add_argument("--schedule", metavar="TEXT", help="the schedule of each job; a log needs it")
     log.add_argument("--mode", choices=["retry", "repeat"], default="retry", help="(retry)")
@@ -97,7 +97,7 @@ def add_command(forms, form):
     log.add_argument("--errors-from", type=_code, default=400, metavar="N",
                      help="a status of N or more is an error (400)")
     given.add_argument("--zsched", metavar="PATH",
-                       help="the program; else that of ZSCHED, the built or the installed one")
+                       help="the program; by default that of ZSCHED, else the built or the installed one")
     given.set_defaults(work=_from)
 
 
@@ -105,7 +105,7 @@ def _from(given):
     """The command."""
     suffix = pathlib.Path(given.file).suffix.lower()
     if suffix not in [*READERS, *LOGS]:
-        raise Refused(f"{given.file}: the name ends with none of {', '.join([*LOGS, *READERS])}")
+        raise Refused(f"{given.file}: the name must end with one of {', '.join([*LOGS, *READERS])}")
     is_log = suffix in LOGS
     if is_log and given.schedule is None:
         raise Refused(f"{given.file}: a log needs --schedule, as --schedule 'recurs(3)'")
@@ -128,7 +128,7 @@ def _say(text):
 
 
 def _report(notes, path, line):
-    """Says what was changed. `line` gives the line of a place."""
+    """Reports the changes. `line` returns the line of a place."""
     for place, text in notes.lines():
         _say(f"{shown(path, WIDTH)}:{line(place)}: {text}")
 
@@ -138,7 +138,7 @@ def _of_log(given):
     _check_schedule(given)
     log, notes = Log(given.name, given.time, given.status, given.unit, given.errors_from), Notes()
     try:
-        # What isn't UTF-8 can only be in names, which are changed, and in columns that aren't read.
+        # Bytes that aren't UTF-8 can only be in names, which are changed, and in columns that aren't read.
         with open(given.file, encoding="utf-8-sig", errors="replace", newline="") as lines:
             jobs = [job_text(name, given.schedule, given.mode, script)
                     for name, script in Reader(lines, log, notes).jobs()]
@@ -149,7 +149,7 @@ def _of_log(given):
 
 
 def _check_schedule(given):
-    """Has the program check the schedule of a log's jobs."""
+    """Runs the program to check the schedule of a log's jobs."""
     source = Source("--schedule", given.schedule)
     script = [Value({key("ms", 0): Value(1, 0), key("ok", 0): Value(0, 0)}, 0)]
     job = {"name": "log", "mode": "retry", "schedule": given.schedule, "script": script}
@@ -175,7 +175,7 @@ def _of_policies(given, read):
 
 
 def check(source, plan, zsched):
-    """Has the program check a plan. A fault is shown at its place in the source."""
+    """Runs the program to check a plan. A fault is shown at its place in the source."""
     try:
         found = program.find(zsched)
     except program.NoProgram as missing:

@@ -26,7 +26,7 @@ _TIMED = _entry_run("[1-9][0-9]{0,18}+")
 
 
 def shape(_jobs, job):
-    """An object with all that has to be there, each of its own kind, down to the entries of the script."""
+    """An object with all required keys, each of the right kind, down to the entries of the script."""
     if job.kind != "object":
         help = 'write {"name": .., "mode": .., "schedule": .., "script": [ .. ]}'
         return not_of_kind(job, "object", "the job", help)
@@ -83,14 +83,14 @@ def _entry_cause(entry):
 
 
 def _no_outcome(entry):
-    """The cause of an entry that ends neither way."""
+    """The cause of an entry without an outcome."""
     found = first(misnamed(entry, key, "the entry", ENTRY_KEYS) for key in ("ok", "err"))
     return found or Cause(entry.at, 1, 'the entry has neither "ok" nor "err"',
                           'write "ok": 1 for a success, "err": 1 for an error')
 
 
 def keys(_jobs, job):
-    """No key stands beside those of the table, neither in the job nor in an entry."""
+    """The job and its entries have no keys except those of the table."""
     entries = (unknown_key(entry, "an entry", ENTRY_KEYS) for entry in job.get("script").items(_SHAPED))
     return unknown_key(job, "a job", JOB_KEYS) or first(entries)
 
@@ -116,9 +116,9 @@ def name(_jobs, job):
     odd = re.search(r"[^A-Za-z0-9._-]", said)
     if odd:
         at = node.place_in(odd.start())
-        what = "a space may not stand in a name" if odd[0] == " " else f"{shown(odd[0])} may not stand in a name"
-        return Cause(at, node.place_in(odd.end()) - at, what, f"{help}: letters, digits, - _ and . may stand in it")
-    return over(node, f"the name has {len(said)} bytes, and may have {MAX_NAME}", help)
+        what = "a name can't contain a space" if odd[0] == " " else f"a name can't contain {shown(odd[0])}"
+        return Cause(at, node.place_in(odd.end()) - at, what, f"{help}: letters, digits, - _ and . are allowed")
+    return over(node, f"the name has {len(said)} bytes, and at most {MAX_NAME} are allowed", help)
 
 
 def same_name(jobs, job):
@@ -132,7 +132,7 @@ def same_name(jobs, job):
 
 
 def _has_name(job, name):
-    """Whether a job has this name. A job in whose text it doesn't stand, nor an escape, isn't looked at."""
+    """Whether a job has this name. A job whose text has neither the name nor an escape isn't parsed."""
     source = job.source
     return (name in source or "\\" in source) and job.get("name").string() == name
 
@@ -144,7 +144,7 @@ def script_fault(job, cause):
         return over(script, "the script is empty", f"write an entry for each attempt, as [ {_ENTRY} ]")
     if cause.startswith("more than"):
         extra = next(entry for number, entry in enumerate(script.items()) if number == MAX_ENTRIES)
-        return Cause(extra.at, 1, f"this is one entry more than {MAX_ENTRIES}", "leave it out: the last entry repeats")
+        return Cause(extra.at, 1, f"this is one entry more than {MAX_ENTRIES}", "remove it: the last entry repeats")
     for entry in script.items(_TIMED):
         ms = entry.get("ms")
         if ms.whole() == 0:

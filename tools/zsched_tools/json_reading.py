@@ -1,6 +1,6 @@
-"""Where a text stops being JSON, by the rules of the program's reader, which are those of serde_json.
+"""The place at which a text stops being JSON, by the rules of the program's reader, which are those of serde_json.
 
-A run of parts that are flat is passed by one regular expression. What else there is is looked at one by one."""
+One regular expression matches a run of flat parts. All other parts are read one by one."""
 import re
 
 from zsched_tools import not_json
@@ -13,12 +13,12 @@ W = r"[ \t\n\r]*+"
 _ESCAPE = (r'\\(?:["\\/bfnrt]|u(?:(?![dD][89a-fA-F])[0-9a-fA-F]{4}'
            r"|[dD][89abAB][0-9a-fA-F]{2}\\u[dD][c-fC-F][0-9a-fA-F]{2}))")
 _STRING = r'"[^"\\\x00-\x1f]*+' + run_of(_ESCAPE + r'[^"\\\x00-\x1f]*+') + '"'
-# Numbers that a 64-bit float surely holds; the others are looked at closely.
+# Numbers that a 64-bit float can always hold; the others are converted to check.
 _SMALL = (r"(?:[1-9][0-9]{0,199}+|-?(?:0|[1-9][0-9]{0,199}+)" + maybe(r"\.[0-9]++") + maybe("[eE][+-]?[0-9]{1,2}+")
           + r")(?![0-9.eE])")
 _SCALAR = f"(?:{_SMALL}|{_STRING}|true|false|null)"
 _MEMBER = f"{_STRING}{W}:{W}{_SCALAR}{W}"
-# An entry as nearly all are written comes first, since that is faster.
+# The most usual form of an entry is first, since that is faster.
 _PLAIN = rf'"[A-Za-z]*+"{W}:{W}(?:[1-9][0-9]{{0,18}}+|0){W}'
 _FLAT = rf"(?:\{{{W}{_PLAIN},{W}{_PLAIN}\}}|{_SCALAR}|\{{{W}{maybe(_MEMBER + run_of(f',{W}{_MEMBER}'))}\}})"
 
@@ -32,11 +32,11 @@ _MEMBERS = re.compile(run_of(f"{_STRING}{W}:{W}{_FLAT}{W},{W}"))
 
 
 class NotJson(Exception):
-    """The text is no JSON document. Its argument is the Cause."""
+    """The text is not a JSON document. The argument is the Cause."""
 
 
 def fault_of(text):
-    """The Cause of a text that is no JSON document, else None."""
+    """The Cause if a text is not a JSON document, else None."""
     try:
         Reading(text).read()
     except NotJson as found:
@@ -52,7 +52,7 @@ class Reading:
         self.open = []
 
     def read(self):
-        """Passes the one value that the text is; raises NotJson."""
+        """Reads the value of the whole text; raises NotJson."""
         begin = self.skip(0)
         if begin == len(self.text) or self.text.startswith("\ufeff"):
             raise NotJson(not_json.no_plan(self.text))
@@ -61,7 +61,7 @@ class Reading:
             raise NotJson(not_json.more_text(self.text, rest))
 
     def skip(self, at):
-        """The place behind the white space."""
+        """The place after the white space."""
         return _SPACE.match(self.text, at).end()
 
     def end_of(self, at):

@@ -12,7 +12,7 @@ from zsched_tools.policy_plan import MOST_ENTRIES, Names, is_allowed, whole
 
 UNITS = {"ms": Decimal(1), "s": Decimal(1000), "us": Decimal("0.001"), "ns": Decimal("0.000001")}
 MOST_CODE = 2**64 - 1
-# The columns that are looked for, in this order, without regard to capitals.
+# The known columns, in the order of the search, in any case of letters.
 NAMES = ["request_id", "request", "trace_id", "name", "id", "job", "key"]
 TIMES = ["latency", "duration", "elapsed", "took", "time", "ms"]
 STATUSES = ["status_code", "http_status", "status", "code"]
@@ -45,7 +45,7 @@ def _column(head, chosen, known, option):
     places = [plain.index(name) for name in known if name in plain] if chosen is None else []
     if places:
         return places[0]
-    what = "no column is known for it" if chosen is None else f"there is no column {shown(chosen)}"
+    what = "no known column" if chosen is None else f"no column {shown(chosen)}"
     raise Refused(f"1: {option}: {what}; the columns are {listed([shown(name) for name in names])}")
 
 
@@ -60,7 +60,7 @@ class Reader:
         self.rows = csv.reader(itertools.chain([first], lines), delimiter=mark, strict=True)
         self.head = next(self._rows(), [])
         if not self.head:
-            raise Refused("1: there is nothing here")
+            raise Refused("1: the file is empty")
         self.columns = [_column(self.head, log.name, NAMES, "--name"),
                         _column(self.head, log.time, TIMES, "--time"),
                         _column(self.head, log.status, STATUSES, "--status")]
@@ -71,7 +71,7 @@ class Reader:
         """By the names in the log, the line on which each is first, and its script."""
         found = {}
         for row in self._rows():
-            # A row may have line ends within quotes; it is named by the line on which it ends.
+            # A row may have line ends within quotes; its number is that of the line on which it ends.
             self.line = self.rows.line_num
             if not row:
                 continue
@@ -85,11 +85,11 @@ class Reader:
         return found
 
     def _rows(self):
-        """The rows that are left."""
+        """The remaining rows."""
         try:
             yield from self.rows
         except csv.Error as fault:
-            raise Refused(f"{self.rows.line_num}: no CSV: {fault}") from None
+            raise Refused(f"{self.rows.line_num}: not CSV: {fault}") from None
 
     def jobs(self):
         """The names that a plan allows, with their scripts."""
@@ -101,14 +101,14 @@ class Reader:
 
     def refused(self, what, column=None):
         """The error of a line, perhaps of a column."""
-        where = "" if column is None else f"column {shown(self.head[self.columns[column]])}: "
-        return Refused(f"{self.line}: {where}{what}")
+        place = "" if column is None else f"column {shown(self.head[self.columns[column]])}: "
+        return Refused(f"{self.line}: {place}{what}")
 
     def _entry(self, time, status):
         if not _NUMBER.fullmatch(time):
-            raise self.refused(f'"{shown(time)}" is no length of time: write 24 or 24.11', 1)
+            raise self.refused(f'"{shown(time)}" is not a length of time: write 24 or 24.11', 1)
         if not status.isascii() or not status.isdigit() or int(status[:20]) > MOST_CODE:
-            raise self.refused(f'"{shown(status)}" is no status: write a whole number', 2)
+            raise self.refused(f'"{shown(status)}" is not a status: write a whole number', 2)
         unit = f"{time} {self.unit}"
         ms = whole(Decimal(time) * UNITS[self.unit], unit, self.line, self.notes)
         outcome = "err" if int(status) >= self.log.errors_from else "ok"

@@ -1,10 +1,10 @@
-"""The manifest of a plan's parts: what `zsched-plan split` made, so that `zsched-report join` knows what belongs to it.
+"""The manifest of a plan's parts: what `zsched-plan split` made, so that `zsched-report join` knows the parts.
 
 It is a text of lines: the format, the number of parts and jobs, a line for each part in order with its jobs, the
-SHA-256 of its plan and that of its jobs' names, each with a newline; and last the SHA-256 of all lines before. Any change
-of it is found, since the last line is the sum of the others and only one spelling is taken.
+SHA-256 of its plan and that of its jobs' names, each with a newline; and last the SHA-256 of all lines before. `read`
+detects any change, since the last line is the sum of the others and each manifest has only one spelling.
 
-After each run stands a digest beside the report: what `sha256sum part-000001.json part-000001.report` prints."""
+After each run a digest is next to the report: what `sha256sum part-000001.json part-000001.report` prints."""
 import hashlib
 import os
 import re
@@ -47,7 +47,7 @@ def is_manifest(path):
 
 
 def read(path):
-    """The parts of a manifest, in order. What differs in a byte from what `text_of` makes is rejected."""
+    """The parts of a manifest, in order. A text that differs in a byte from that of `text_of` is rejected."""
     with open(path, "rb") as file:
         text = file.read(LONGEST).decode("latin-1")
     lines = text.split("\n")
@@ -66,7 +66,7 @@ def read(path):
 
 
 def digests(path, name):
-    """The SHA-256 of plan and report that stand in a part's digest, a file of `sha256sum`."""
+    """The SHA-256 of plan and report in a part's digest, a file of `sha256sum`."""
     with open(path, "rb") as file:
         text = file.read(2**16)
     found = _DIGEST.fullmatch(text)

@@ -12,25 +12,25 @@ def _mark(name):
 
 
 class Names:
-    """A mark for each name that was added. Whether two names are the same is seen at a second look, at the names whose
-    marks stand twice: `repeats`, then `first_repeat` over the same names."""
+    """A mark for each name that was added. A second pass over the same names compares those whose marks are repeated:
+    `repeats`, then `first_repeat`."""
 
     def __init__(self):
         self.buckets = [array("Q") for _ in range(_BUCKETS)]
 
     def add(self, name):
-        """One name more."""
+        """Adds a name."""
         mark = _mark(name)
         self.buckets[mark % _BUCKETS].append(mark)
 
     def add_each(self, names):
-        """Some names more."""
+        """Adds some names."""
         for name in names:
             mark = hash(name) & _SIXTY_FOUR_BITS
             self.buckets[mark % _BUCKETS].append(mark)
 
     def add_all(self, others):
-        """All names of others more."""
+        """Adds all names of `others`."""
         for bucket, other in zip(self.buckets, others.buckets):
             bucket.extend(other)
 
@@ -44,8 +44,7 @@ class Names:
 
 
 def first_repeat(repeats, named):
-    """The first name that stands a second time, with both places; None where no name does. `named` gives all names
-    again, each with its place."""
+    """The first name that is repeated, with both places, or None. `named` yields all names again, each with its place."""
     places = {}
     for name, place in named:
         if _mark(name) in repeats:

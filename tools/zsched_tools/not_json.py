@@ -1,4 +1,4 @@
-"""Why a text is no JSON, in words: what stands in the place of a value, a key, a colon or a comma."""
+"""Why a text is not JSON, in words: what it has instead of a value, a key, a colon or a comma."""
 import re
 
 from zsched_tools.cause import Cause, line_of, shown
@@ -23,28 +23,28 @@ _PACKED = {
     b"\xfd7zXZ": ("this is a file packed by xz", "unpack it: xzcat plan.json.xz | zsched"),
     b"PK\x03\x04": ("this is a zip file", "unpack it: unzip -p plan.zip | zsched"),
 }
-# How texts begin that are something else, what they are, and what to do.
+# How other texts begin, what they are, and what to do.
 _OTHER_TEXTS = [
-    (r"```", "this is Markdown, and a plan is JSON alone", "leave the lines out that begin with ```"),
-    (r"(?i)<(?:!doctype|html)", "this is a page of HTML, and no plan", "look at what was downloaded: perhaps an error"),
+    (r"```", "this is Markdown, and a plan is only JSON", "remove the lines that begin with ```"),
+    (r"(?i)<(?:!doctype|html)", "this is an HTML page, not a plan", "check the download: perhaps it is an error page"),
     (r"<\?xml", "this is XML, and a plan is JSON", f"write {SKETCH}"),
-    (r"job [A-Za-z0-9._-]+ (?:retry|repeat)\n|polls [0-9]+\n", "this is a report of zsched, and no plan",
-     "give the plan of which zsched made it; zsched-report reads reports"),
+    (r"job [A-Za-z0-9._-]+ (?:retry|repeat)\n|polls [0-9]+\n", "this is a report of zsched, not a plan",
+     "give the plan of this report; zsched-report reads reports"),
     (r"\[\[?[A-Za-z_.]+\]\]?[ \t]*\n|[A-Za-z_]\w*[ \t]*=", "this looks like TOML, and a plan is JSON",
      f"{FROM}write {SKETCH}"),
-    (r"\x00+\Z", "this file has NUL bytes alone: what was in it is lost", "take the plan from a backup"),
-    (r"(?:[^\x00]\x00){2}|(?:\x00[^\x00]){2}", "this is UTF-16, and no UTF-8", "save the plan as UTF-8"),
+    (r"\x00+\Z", "this file has only NUL bytes: its content is lost", "restore the plan from a backup"),
+    (r"(?:[^\x00]\x00){2}|(?:\x00[^\x00]){2}", "this is UTF-16, not UTF-8", "save the plan as UTF-8"),
 ]
 
 
 def other_text(text, at):
-    """The cause at a place where a text stops to be JSON, if it is something else as a whole, or None."""
+    """The cause at the place at which a text stops being JSON, if the whole text is something else, or None."""
     line = text.rfind("\n", 0, at) + 1
     if re.compile(r"<{7} |={7}$|>{7} ", re.M).match(text, line):
-        return Cause(at, 1, "a merge left its marks here",
-                     "take out one side, and the lines <<<<<<<, ======= and >>>>>>>")
+        return Cause(at, 1, "this is a conflict mark of a merge",
+                     "remove one side, and the lines <<<<<<<, ======= and >>>>>>>")
     if re.compile(r"\{[{%]|\$[{(]").match(text, max(0, at - (text[at - 1:at] == "{"))):
-        return Cause(at, 1, "this template isn't filled in", "write the value here: zsched fills in nothing")
+        return Cause(at, 1, "this template isn't filled in", "write the value here: zsched fills in no templates")
     begin = text.lstrip(_SPACE)[:4000]
     for pattern, what, help in _OTHER_TEXTS:
         if re.match(pattern, begin):
@@ -56,47 +56,47 @@ def no_plan(text):
     """The text is empty, or begins with a mark that isn't JSON's."""
     if text.startswith("\ufeff"):
         return Cause(0, 1, "the plan begins with a byte order mark", "save it as UTF-8 without one")
-    return Cause(0, 0, "there is nothing here", f"a plan begins as {SKETCH}")
+    return Cause(0, 0, "the plan is empty", f"a plan begins as {SKETCH}")
 
 
 def no_utf8(data, text, at):
     """The byte at this place of the text isn't UTF-8's."""
     if data[:2] in (b"\xff\xfe", b"\xfe\xff"):
-        return Cause(at, 1, "this is UTF-16, and no UTF-8", "save the plan as UTF-8")
+        return Cause(at, 1, "this is UTF-16, not UTF-8", "save the plan as UTF-8")
     for begin, (what, help) in _PACKED.items():
         if data.startswith(begin):
             return Cause(at, 1, what, help)
     byte = data[len(text[:at].encode())]
-    return Cause(at, 1, f"this byte, {byte:#04x}, is no UTF-8", "save the plan as UTF-8")
+    return Cause(at, 1, f"this byte, {byte:#04x}, is not UTF-8", "save the plan as UTF-8")
 
 
 def more_text(text, at):
     """The document has ended, and more follows."""
     mark = text[at]
     if mark in "}]":
-        return Cause(at, 1, f"this {mark} closes nothing", "take it out, or open before what it closes")
+        return Cause(at, 1, f"this {mark} closes nothing", "remove it, or add the bracket that it closes")
     if mark in "{[":
         is_population = '"jobs"' not in text[:at] and '"name"' in text[at:at + 4000]
         help = "zsched-plan split N --lines makes plans of a document and of jobs in lines" if is_population else \
             "a plan is one document, with one list of jobs"
         return Cause(at, 1, "a second document begins here", help)
     if mark == ":" or re.match(r'\s*"?\w+"?\s*:', text):
-        return Cause(at, 1, "the plan has ended, and more follows", f"a plan stands in braces: {SKETCH}")
-    return _comment(text, at) or Cause(at, 1, "the plan has ended, and more follows", "take it out")
+        return Cause(at, 1, "the plan has ended, and more follows", f"a plan is an object in braces: {SKETCH}")
+    return _comment(text, at) or Cause(at, 1, "the plan has ended, and more follows", "remove it")
 
 
 def too_large(at, end):
-    """The number that stands from here to there is larger than any 64-bit float."""
+    """The number from `at` to `end` is larger than any 64-bit float."""
     return Cause(at, end - at, "this number is too large for any reader of JSON",
                  "the greatest number of a plan is 18446744073709551615")
 
 
 def _comment(text, at):
-    """The cause where a comment begins here, else None."""
+    """The cause if a comment begins here, else None."""
     if not text.startswith(_COMMENTS, at):
         return None
     end = text.find("\n", at)
-    return Cause(at, (end if end >= 0 else len(text)) - at, "JSON has no comments", "take it out")
+    return Cause(at, (end if end >= 0 else len(text)) - at, "JSON has no comments", "remove it")
 
 
 def no_value(reading, at):
@@ -113,7 +113,7 @@ def no_value(reading, at):
     if mark in "+-." or mark.isdigit():
         return _bad_number(text, at)
     if mark in _QUOTES:
-        return Cause(at, 1, "these are no quotes of JSON", 'write "')
+        return Cause(at, 1, "these aren't JSON's quotes", 'write "')
     word = _WORD.match(text, at)
     return _comment(text, at) or (_bare_word(text, at, word[0]) if word else _odd_letter(text, at))
 
@@ -131,46 +131,46 @@ def _no_beginning(text, at):
 def _early_end(reading, at):
     """The text ends before a value does."""
     if not reading.open:
-        return Cause(at, 0, "the plan ends here, too soon")
+        return Cause(at, 0, "the plan ends too early")
     opened = reading.open[-1]
     mark = reading.text[opened]
-    return Cause(at, 0, "the plan ends here, too soon",
+    return Cause(at, 0, "the plan ends too early",
                  f"{_CLOSING[mark]} is missing: the {mark} of line {line_of(reading.text, opened)} is still open")
 
 
 def _place_before(text, at):
-    """The place of what stands last before this one, white space left out; a bracket is open, so something does."""
+    """The place of the last character before this one that isn't white space. A bracket is open, so there is one."""
     return len(text[:at].rstrip(_SPACE)) - 1
 
 
 def _missing_value(reading, at):
-    """A mark stands where a value is expected."""
+    """A mark, but a value is expected."""
     text, mark = reading.text, reading.text[at]
     before = _place_before(text, at)
     last = text[before]
     if last == "," and mark in "]}":
-        return Cause(before, 1, f"a comma stands before {mark}", "take it out: JSON has commas between parts alone")
+        return Cause(before, 1, f"a comma before {mark}", "remove it: JSON has commas only between parts")
     if last == "," and mark == ",":
-        return Cause(at, 1, "a second comma", "take it out")
+        return Cause(at, 1, "a second comma", "remove it")
     if last == ":":
         return Cause(at, 1, f"a value is missing before this {mark}")
     if last == "[" and mark == ",":
-        return Cause(at, 1, "a comma stands before the first item", "take it out")
+        return Cause(at, 1, "a comma before the first item", "remove it")
     return Cause(at, 1, f"no value begins with {mark}")
 
 
 def _bad_number(text, at):
-    """A number that JSON writes otherwise."""
+    """A number that isn't in JSON's form."""
     source = re.compile(r"[+-]?[0-9A-Za-z_.]*(?:(?<=[eE])[+-][0-9]*)?").match(text, at)[0] or text[at]
     if source[0] == "+":
         return Cause(at, len(source), "a number has no plus before it", f"write {shown(source[1:])}")
     if re.fullmatch(r"-?\.[0-9]+", source):
-        return Cause(at, len(source), "a number begins with a digit", "a plan has whole numbers alone")
-    return Cause(at, len(source), "this is no number", "write digits alone")
+        return Cause(at, len(source), "a number begins with a digit", "a plan has only whole numbers")
+    return Cause(at, len(source), "this is not a number", "write only digits")
 
 
 def _bare_word(text, at, word):
-    """A word stands where a value is expected."""
+    """A word, but a value is expected."""
     if word in _CONSTANTS:
         return Cause(at, len(word), f"JSON has no {word}", f"{_CONSTANTS[word]} is JSON's word, but no value of a plan")
     if word in ("NaN", "Infinity", "inf", "nan"):
@@ -184,14 +184,14 @@ def _odd_letter(text, at):
     """A letter or mark that begins nothing."""
     letter = text[at]
     if letter.isspace() or not letter.isprintable():
-        return Cause(at, 1, f"the character U+{ord(letter):04X} is no white space of JSON", "write a space")
+        return Cause(at, 1, f"the character U+{ord(letter):04X} isn't JSON's white space", "write a space")
     if letter == "(":
         return Cause(at, 1, "JSON has no parentheses", "write [ ] or { }; a schedule is a text in quotes")
     return Cause(at, 1, f"no value begins with {letter}")
 
 
 def _bad_string(text, at):
-    """A text in quotes that doesn't end, or that has what may not stand in it."""
+    """A text in quotes that doesn't end, or that has a character that isn't allowed."""
     letters = (r'[^"\\\x00-\x1f]++|\\["\\/bfnrt]|\\u(?![dD][89a-fA-F])[0-9a-fA-F]{4}'
                r'|\\u[dD][89abAB][0-9a-fA-F]{2}\\u[dD][c-fC-F][0-9a-fA-F]{2}')
     plain = re.compile('"' + run_of(letters)).match(text, at)
@@ -199,15 +199,15 @@ def _bad_string(text, at):
     mark = text[stop:stop + 1]
     if mark in ("", "\n", "\r"):
         return Cause(at, stop - at, "this text has no quote at its end",
-                     'write " at its end; a text stands on one line')
+                     'write " at its end; a text is on one line')
     if mark == "\\":
         escape = re.compile(r"\\(?:u[0-9a-fA-F]{0,4}|.?)", re.S).match(text, stop)[0]
         if re.fullmatch(r"\\u[dD][89a-fA-F][0-9a-fA-F]{2}", escape):
-            return Cause(stop, len(escape), f"{escape} is half a character", "write the character, or both halves")
-        return Cause(stop, len(escape), f"{shown(escape)} is no escape of JSON", "write \\\\ for a backslash")
+            return Cause(stop, len(escape), f"{escape} is half of a character", "write the character, or both halves")
+        return Cause(stop, len(escape), f"{shown(escape)} is not an escape of JSON", "write \\\\ for a backslash")
     if mark == "\t":
-        return Cause(stop, 1, "a tab may not stand in a text", "write a space, or \\t")
-    return Cause(stop, 1, f"the character U+{ord(mark):04X} may not stand in a text", "take it out")
+        return Cause(stop, 1, "a text can't contain a tab", "write a space, or \\t")
+    return Cause(stop, 1, f"a text can't contain the character U+{ord(mark):04X}", "remove it")
 
 
 def no_key(reading, at):
@@ -220,7 +220,7 @@ def no_key(reading, at):
     if mark in "]},:":
         return _missing_key(reading, at)
     if mark in _QUOTES:
-        return Cause(at, 1, "these are no quotes of JSON", 'write "')
+        return Cause(at, 1, "these aren't JSON's quotes", 'write "')
     digits = re.compile(r"[0-9]+").match(text, at)
     before = re.compile(r"[0-9]+,[ ]?$").search(text, max(0, at - 40), at)
     if digits and before:
@@ -228,44 +228,44 @@ def no_key(reading, at):
     word = _WORD.match(text, at)
     if word:
         return Cause(at, len(word[0]), "a key without quotes", f'write "{shown(word[0])}"')
-    return _comment(text, at) or Cause(at, 1, f"a key in quotes is expected, and this is {shown(mark)}",
+    return _comment(text, at) or Cause(at, 1, f"this is {shown(mark)}, but a key in quotes is expected",
                                        'the parts of an object are written "key": value')
 
 
 def _missing_key(reading, at):
-    """A mark stands where a key is expected."""
+    """A mark, but a key is expected."""
     text, mark = reading.text, reading.text[at]
     before = _place_before(text, at)
     if text[before] == "," and mark == "}":
-        return Cause(before, 1, "a comma stands before }", "take it out: JSON has commas between parts alone")
+        return Cause(before, 1, "a comma before }", "remove it: JSON has commas only between parts")
     if mark == ",":
-        what = "a second comma" if text[before] == "," else "a comma stands before the first key"
-        return Cause(at, 1, what, "take it out")
+        what = "a second comma" if text[before] == "," else "a comma before the first key"
+        return Cause(at, 1, what, "remove it")
     if mark == "]":
-        return Cause(at, 1, "a ] where a key or a } is expected",
+        return Cause(at, 1, "this is ], but a key or a } is expected",
                      f"the {{ of line {line_of(text, reading.open[-1])} is still open")
     return Cause(at, 1, f"a key is missing before this {mark}")
 
 
 def no_colon(reading, at, end):
-    """No colon follows the key that stands from here to there."""
+    """No colon follows the key from `at` to `end`."""
     text = reading.text
     rest = reading.skip(end)
     mark = text[rest:rest + 1]
     if not mark:
         return _early_end(reading, rest)
     if mark == "=":
-        return Cause(rest, 1, "an = stands in the place of a colon", "write :")
+        return Cause(rest, 1, "this is =, but a colon is expected", "write :")
     if mark in ",}":
-        return Cause(at, end - at, "a text alone, where a key and a value are expected",
+        return Cause(at, end - at, "this is only a text, but a key and a value are expected",
                      'the parts of an object are written "key": value')
     if rest == end and (mark.isalnum() or mark == "_"):
         return _tail(text, end)
-    return Cause(end, 1, "a colon is missing behind this key", "write :")
+    return Cause(end, 1, "a colon is missing after this key", "write :")
 
 
 def no_comma(reading, end, at):
-    """No comma follows the value that ends there, but what stands here."""
+    """The value that ends at `end` is followed by what is at `at`, not by a comma."""
     text = reading.text
     opened = reading.open[-1]
     is_object, closing = text[opened] == "{", _CLOSING[text[opened]]
@@ -273,31 +273,31 @@ def no_comma(reading, end, at):
     if not mark:
         return _early_end(reading, at)
     if mark in "]}":
-        return Cause(at, 1, f"a {mark} where {closing} is expected",
+        return Cause(at, 1, f"this is {mark}, but {closing} is expected",
                      f"the {text[opened]} of line {line_of(text, opened)} is still open: write {closing} before it")
     if at == end and (mark.isalnum() or mark in "._+-"):
         return _tail(text, end)
     if mark == ";":
-        return Cause(at, 1, "a semicolon stands in the place of a comma", "write ,")
+        return Cause(at, 1, "this is a semicolon, but a comma is expected", "write ,")
     if mark in ":=":
         return _stray_colon(text, opened, at, is_object)
     unit = _WORD.match(text, at)
     if unit and text[end - 1].isdigit() and unit[0].lower() in UNITS:
         return _tail(text, end)
     if mark in '"{[' or mark.isalnum() or mark == "-":
-        return Cause(end, 1, "a comma is missing here", "write , behind the part that ends here")
-    return _comment(text, at) or Cause(at, 1, f"a comma or {closing} is expected, and this is {shown(mark)}")
+        return Cause(end, 1, "a comma is missing here", "write , after the part that ends here")
+    return _comment(text, at) or Cause(at, 1, f"this is {shown(mark)}, but a comma or {closing} is expected")
 
 
 def _stray_colon(text, opened, at, is_object):
-    """A colon or an = behind a value."""
+    """A colon or an = after a value."""
     if not is_object and text[at] == ":":
-        return Cause(at, 1, "a colon stands in a list", 'write { } around "key": value')
-    return Cause(at, 1, f"this {text[at]} stands behind a value", "a comma is missing before, or a quote too much")
+        return Cause(at, 1, "a list has a colon", 'write { } around "key": value')
+    return Cause(at, 1, f"this {text[at]} follows a value", "a comma is missing before it, or there is one quote too many")
 
 
 def _tail(text, end):
-    """Letters or digits stand right behind a number or a word."""
+    """Letters or digits directly after a number or a word."""
     begin = end
     while begin > 0 and (text[begin - 1].isalnum() or text[begin - 1] in "+-._"):
         begin -= 1
@@ -305,14 +305,14 @@ def _tail(text, end):
     source = text[begin:end] + tail
     size = len(source)
     if text[end - 1] == '"':
-        return Cause(end, len(tail), "this stands behind the quote that ends a text",
-                     'a quote is missing or too much; inside a text it is written \\"')
+        return Cause(end, len(tail), "this follows the quote that ends a text",
+                     'a quote is missing, or there is one too many; inside a text it is written \\"')
     if not text[begin:begin + 1].isdigit() and text[begin:begin + 1] != "-":
         return Cause(begin, size, "a text without quotes", f'write "{shown(source)}"')
     if re.fullmatch(r"[0-9]+(_[0-9]+)+", source):
-        return Cause(begin, size, "no _ may stand in a number", f"write {shown(source.replace('_', ''))}")
+        return Cause(begin, size, "a number can't contain _", f"write {shown(source.replace('_', ''))}")
     if re.fullmatch(r"0[0-9]+", source):
-        return Cause(begin, size, "a number may not begin with 0", f"write {shown(source.lstrip('0') or '0')}")
+        return Cause(begin, size, "a number can't begin with 0", f"write {shown(source.lstrip('0') or '0')}")
     if re.fullmatch(r"-?[0-9]+\.", source):
-        return Cause(begin, size, "digits are missing behind the point", f"write {shown(source[:-1])}")
-    return Cause(begin, size, "a number with letters behind it", in_milliseconds(source) or "write digits alone")
+        return Cause(begin, size, "digits are missing after the point", f"write {shown(source[:-1])}")
+    return Cause(begin, size, "letters follow a number", in_milliseconds(source) or "write only digits")

@@ -1,9 +1,9 @@
 """The run of all clients of a policy in a scenario, found by running the program alone until no outcome changes.
 
-Each pass runs the clients that are still open as if they were never served, and `Walk` then says, by the moments at
-which their attempts begin, how each of them ends. A client whose attempts failed as they were run is settled; the
-others run again with what was found. The outcomes found are then written as a plan, which the program runs a last time:
-`certificate` holds that report against the scenario."""
+Each pass runs the clients that are still open as if the service served no attempt. From the moments at which their
+attempts begin, `Walk` then computes how each client ends. A client whose attempts failed as they were run is settled; the
+others run again with the computed outcomes. At the end the outcomes are written as a plan, which the program runs once
+more: `certificate` compares that report with the scenario."""
 import json
 import random
 import re
@@ -18,7 +18,7 @@ from zsched_tools.world import CUT, DENIED, DONE, GOES_ON, UNDENIED, Run, Walk
 from zsched_tools.scenario import DOWN
 
 MOST_ENTRIES = 1000
-# How many failures more than are known a client is run with: at first, and later at least.
+# The number of failures after the known ones with which a client is run: in the first pass, and at least later.
 FIRST_LOOK, LESS_LOOK = 32, 16
 _CUT_ENTRY = '{"ms":1,"ok":0}'
 _BEGIN = re.compile(rb"\nattempt \d+ (\d+)\.\.")
@@ -26,7 +26,7 @@ _TAILS = {b"s": CUT, b"f": DONE, b"u": GOES_ON}
 
 
 class Unsettled(Exception):
-    """A scenario that doesn't settle, or that no plan can hold. The text names the clients."""
+    """A scenario that doesn't settle, or that doesn't fit into a plan. The text names the clients."""
 
 
 def name_of(client):
@@ -46,8 +46,8 @@ def schedules_of(scenario, name):
 
 
 def cut_plans(horizon, jobs):
-    """Plans of some jobs, in order, each of which the program takes, and the most jobs of a plan. They are what
-    `zsched-plan split --lines` makes of the same jobs."""
+    """Plans of some jobs, in order, each within the program's limits, and the most jobs of a plan. `zsched-plan split
+    --lines` makes the same plans from these jobs."""
     before, after = f'{{"horizon":{horizon},"jobs":[', "\n]}\n"
     most = MOST_JOBS
     while True:
@@ -60,8 +60,8 @@ def cut_plans(horizon, jobs):
 
 
 def run_plan(zsched, plan):
-    """The report of a plan, of which the program must have no fault. It goes through a file, so that it is in memory
-    once."""
+    """The report of a plan, which must have no fault. It is written to a file first, so that only one copy is in
+    memory."""
     with tempfile.TemporaryFile() as given, tempfile.TemporaryFile() as report:
         given.write(plan)
         given.seek(0)
@@ -82,7 +82,7 @@ def blocks_of(report):
 
 
 def _runs_in(report, kinds):
-    """What a report says of clients that are never served, which were run with these kinds of failure."""
+    """The runs in a report of clients that are never served. `kinds` has the failures with which each was run."""
     for block, of_client in zip(blocks_of(report), kinds):
         end = block.rfind(b"\nend ") + 5
         yield Run(array("Q", map(int, _BEGIN.findall(block))), of_client, _TAILS[block[end:end + 1]])
@@ -116,12 +116,12 @@ class Search:
         raise Unsettled(f"doesn't settle in {self.most_passes} passes; {len(are_open)} clients are open: {names}")
 
     def _failures(self, found):
-        """The failures among the kinds of a client's attempts. Only the last one may be none."""
+        """The failures among the kinds of a client's attempts. Only the last attempt may be a success."""
         kinds = bytes(found.translate(UNDENIED))
         return kinds[:-1] if kinds and self.scenario.outcomes[kinds[-1]].is_ok else kinds
 
     def _look(self, clients, guesses):
-        """Runs some clients with the failures that are known of them and some more, and stores their runs."""
+        """Runs some clients with their known failures and some more, and stores the runs."""
         looked, jobs = [], []
         for client in clients:
             guess = guesses[client]
@@ -154,7 +154,7 @@ class Search:
         return (outcome._replace(value=self.scenario.budget.code) if kind & DENIED else outcome).entry()
 
     def final_jobs(self, walk):
-        """The jobs of the plan in which each attempt ends as was found. Equal entries at the end are written once,
+        """The jobs of the plan in which each attempt has the computed outcome. Equal entries at the end are written once,
         since the last entry repeats."""
         for client, found in enumerate(walk.found):
             kinds = bytes(found) or b"\0"

@@ -1,4 +1,4 @@
-"""The command zsched-outage: many clients meet an outage, and each run is confirmed by the program."""
+"""The command zsched-outage: simulates many clients in an outage, and the program confirms each run."""
 import argparse
 import contextlib
 import os
@@ -25,8 +25,9 @@ from zsched_tools.split import MOST_JOBS, write_parts
 
 TOOL = "zsched-outage"
 MOST_PASSES = 50
-DESCRIPTION = """Many clients, each with a retry policy, meet a service that is down, slow or full. Prints a table with
-a column a policy: attempts, peaks of load, times to success, who gave up.
+DESCRIPTION = """Simulates many clients, each with a retry policy, in an outage: a service that is down, slow or full.
+Prints a table with a column for each policy: attempts, peaks of load, times to success, and the number of clients that
+gave up.
 
   zsched-outage outage.json
   zsched-outage outage.json -o outage --html outage.html
@@ -49,45 +50,45 @@ A scenario is a JSON object. A time is a whole number of milliseconds or a text,
     }
   }
 
-clients    "number" of them. They come all at once, or evenly "within" a time, or so many "per_second"; the first at
-           "start" (0).
-windows    in order and apart. "is" is "down", "slow" or "up" (default); with "capacity" the service serves at most so
-           many of the attempts that begin in a second of the window, and is full for the others. Without "to" a window
-           lasts. At all other times the service is up.
-outcomes   how an attempt ends whose begin finds the service "up", "down", "slow" or "full", as an entry of a plan's
+clients    "number" is how many. They start all at once, evenly "within" a time, or at a rate "per_second"; the first
+           starts at "start" (0).
+windows    in order, without overlap. "is" is "down", "slow" or "up" (default). "capacity" is the most attempts that the
+           service serves of those that begin in one second of the window; for the others it is full. Without "to" a
+           window has no end. At all other times the service is up.
+outcomes   how an attempt ends if the service is "up", "down", "slow" or "full" when it begins, as an entry of a plan's
            script. Defaults: 40 ms ok 200, 50 ms err 503, 2000 ms ok 200; full as down.
-budget     a bucket of tokens for retries that all clients of a policy share; it begins full.
-           {"like": "grpc", "tokens": 100, "ok": 0.1}: a failure takes a token, a success gives "ok" back, and no client
-           retries unless more than half are left.
-           {"like": "aws", "tokens": 500, "retry": 5, "ok": 1}: a retry takes "retry", which it gives back if it is
-           served; a first attempt that is served gives "ok".
+budget     a bucket of tokens for retries that all clients of a policy share. It is full at the start.
+           {"like": "grpc", "tokens": 100, "ok": 0.1}: a failure takes a token, and a success returns "ok" tokens. A
+           client retries only if more than half of the tokens remain.
+           {"like": "aws", "tokens": 500, "retry": 5, "ok": 1}: a retry takes "retry" tokens, and returns them if it is
+           served. A first attempt that is served returns "ok" tokens.
            A client that may not retry fails with the code "err" (0).
-policies   schedules by name. rand(LO, HI) is a number drawn once a client. jitter(BASE, CAP, N) is a schedule of N
-           delays, the k-th drawn from 0 to the smaller of CAP and BASE * 2^(k - 1). The same seed gives the same bytes.
+policies   schedules by name. rand(LO, HI) is a number drawn once for each client. jitter(BASE, CAP, N) is a schedule of
+           N delays, the k-th drawn from 0 to the smaller of CAP and BASE * 2^(k - 1). The same seed gives the same bytes.
 
-How a run is found: the proved program itself runs all clients, as if none were ever served; each attempt's outcome is
-set by the moment at which it was found to begin; and it runs again until no outcome changes. No schedule is stepped
-outside of it. The last run is the certificate: every ending, number of attempts and outcome in it must be the one that
-was simulated. The last row of the table has the number of passes: 2 for an outage in which no client makes more than 32
-attempts, mostly 3 or 4 with a capacity, and more if clients make hundreds of attempts."""
+How a run is simulated: the proved program first runs all clients as if the service served no attempt. The moment at which
+an attempt begins sets its outcome. The program runs the clients again until no outcome changes. Only the program steps
+schedules. The last run is the certificate: every ending, number of attempts and outcome in it must be the simulated one.
+The last row of the table has the number of passes: 2 for an outage in which no client makes more than 32 attempts, mostly
+3 or 4 with a capacity, and more if clients make hundreds of attempts."""
 FILES = """With -o FOLDER, for each policy: NAME.json (the plan), NAME.report (its certified report) and NAME.csv
 (second, begun, ok, err, running: attempts that began and ended in each second, and those that run when it ends). A plan
-that would have more than 10,000 jobs or 16,777,216 bytes is written as JSON lines, NAME.jsonl, and as parts in
-NAME.parts, which `zsched-plan split --lines` makes of it; this is said on standard error before it runs."""
+of more than 10,000 jobs or 16,777,216 bytes is written as JSON lines, NAME.jsonl, and as parts in NAME.parts, as
+`zsched-plan split --lines` makes them. Standard error says so before the plan runs."""
 EPILOG = FILES + """
 
-Exit status: 0; 1 if a scenario doesn't settle (with the clients that are open), or a report isn't the run that was
-simulated (with the job, the policy and both endings); 2 if the scenario or the words are wrong, with file, line and
-column on standard error; 3 if reading, writing or the program fails."""
+Exit status: 0; 1 if a scenario doesn't settle (with the open clients), or a report isn't the simulated run (with the
+job, the policy and both endings); 2 if the scenario or an argument is wrong, with file, line and column on standard
+error; 3 if reading, writing or the program fails."""
 
 
 def _drawn_by(scenario, name):
-    """A source of draws as that of the first client of a policy."""
+    """A source of random numbers as that of the first client of a policy."""
     return random.Random(f"{scenario.seed} {name}")
 
 
 def _check_policies(scenario, zsched):
-    """Lets the program read the first client's schedule of each policy. FaultAt has the place in the scenario."""
+    """Runs the program to check the first client's schedule of each policy. FaultAt has the place in the scenario."""
     for name, (policy, node) in scenario.policies.items():
         schedule = policy.schedule(_drawn_by(scenario, name))
         script = f'"script":[{scenario.outcomes[0].entry()}]'
@@ -105,15 +106,15 @@ def _quoted(text):
 
 
 def _settled(scenario, zsched, name, most_passes, say):
-    """The jobs of the plan of a policy, the endings that were simulated, and the number of passes."""
+    """The jobs of the plan of a policy, the simulated endings, and the number of passes."""
     search = Search(scenario, zsched, schedules_of(scenario, name), most_passes)
     walk = search.settle(lambda words: say(f"{name}: {words}"))
     return list(search.final_jobs(walk)), walk.endings, search.passes
 
 
 def simulate(scenario, zsched, name, most_passes, say):
-    """The run of one policy: its jobs, plans, the most jobs of a plan, reports and figures. Unsettled and Uncertified
-    end it."""
+    """The run of one policy: its jobs, plans, the most jobs of a plan, reports and figures. It raises
+    Unsettled or Uncertified."""
     try:
         jobs, endings, passes = _settled(scenario, zsched, name, most_passes, say)
         plans, most = cut_plans(scenario.horizon, jobs)
@@ -149,7 +150,7 @@ def write_files(folder, name, horizon, found):
 
 
 def warn_of_parts(scenario, name):
-    """Says, before a policy runs, that its plan will be more than one: by the schedules of its clients alone."""
+    """Warns, before a policy runs, if its jobs exceed one plan; it checks only the schedules of the clients."""
     count, size = len(scenario.starts), sum(map(len, schedules_of(scenario, name)))
     if count > MOST_JOBS or size > LONGEST_PLAN:
         print(f"{TOOL}: policy {name}: {count:,} jobs with schedules of {size:,} bytes are more than one plan of "
@@ -158,17 +159,17 @@ def warn_of_parts(scenario, name):
 
 @contextlib.contextmanager
 def _made(path):
-    """A folder that gets its name when all of its files are written, and is removed if something fails before; None
+    """A folder that is renamed to its final name after all files are written, and removed if something fails before; None
     without a path."""
     if path is None:
         yield None
         return
     folder = pathlib.Path(path)
     if folder.exists() and (not folder.is_dir() or any(folder.iterdir())):
-        raise Refused(f"{folder}: is there, and isn't an empty folder")
+        raise Refused(f"{folder}: exists, and isn't an empty folder")
     making = folder.with_name(folder.name + ".partial")
     if making.exists():
-        raise Refused(f"{making}: is there; another run makes it, or one was broken off: then remove it")
+        raise Refused(f"{making}: exists: another run writes it, or an interrupted one left it (then remove it)")
     making.mkdir()
     try:
         yield making
@@ -178,7 +179,7 @@ def _made(path):
 
 
 def _all(given, scenario, zsched):
-    """Simulates all policies, one after another, and writes what is asked for; returns the figures of each."""
+    """Simulates all policies, one after another, and writes the requested files; returns the figures of each."""
     figures = {}
     with _made(given.folder) as folder, Now() as progress:
         for name in scenario.policies:
@@ -205,12 +206,12 @@ def _print(given, scenario, figures):
 
 
 def work(given):
-    """Does what the words ask for; returns the exit status."""
+    """Runs the command with its arguments; returns the exit status."""
     name = "standard input" if given.scenario == "-" else given.scenario
     data = sys.stdin.buffer.read() if given.scenario == "-" else pathlib.Path(given.scenario).read_bytes()
     for path in filter(None, [given.folder, given.svg, given.html]):
         if not pathlib.Path(path).absolute().parent.is_dir():
-            raise Refused(f"{path}: there is no such folder")
+            raise Refused(f"{path}: its folder doesn't exist")
     try:
         zsched = program.find(given.zsched)
         scenario = read_scenario(data)
@@ -237,12 +238,12 @@ def _wrong(name, text, cause, paint):
 def _passes(word):
     """The most passes."""
     if not (word.isascii() and word.isdigit() and len(word) < 6 and int(word)):
-        raise argparse.ArgumentTypeError(f"{word} isn't a number of passes from 1 on")
+        raise argparse.ArgumentTypeError(f"{word} isn't a number of passes from 1 to 99999")
     return int(word)
 
 
 def arguments():
-    """The words of the command line."""
+    """The parser of the command line."""
     form = argparse.RawDescriptionHelpFormatter
     parser = argparse.ArgumentParser(prog=TOOL, description=DESCRIPTION, epilog=EPILOG, formatter_class=form)
     parser.add_argument("scenario", metavar="SCENARIO.json", help="the scenario's file; - for standard input")

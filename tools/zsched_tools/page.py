@@ -1,7 +1,7 @@
-"""A picture as a page whose axis of time zooms. It is whole in itself, and asks nothing of any network.
+"""A picture as a page whose axis of time zooms. It is self-contained, and makes no requests to the network.
 
-The picture in the page is that of a file; where the page's scripts run, they draw it anew as wide as there is room, by
-what docs/play.html draws with."""
+The page contains the picture of a file. If scripts run, they draw it again at the width of the window, with the code of
+docs/play.html."""
 import html
 import json
 
@@ -10,7 +10,7 @@ from zsched_tools.axis import View
 from zsched_tools.lines import json_line, report_lines
 from zsched_tools.strip import draw_strip
 
-# The widths in which the load of many jobs is drawn, and the room beside it.
+# The widths in which the load of many jobs is drawn, and the margin next to it.
 LOAD_WIDTHS = (330, 760, picture.WIDTH)
 BESIDE = 24
 
@@ -41,7 +41,7 @@ TOOLS = """<header>
 <button id="forth" aria-label="later">›</button>
 <button id="all">whole time</button>
 <label><input type="checkbox" id="log"> logarithmic</label>
-<small>Ctrl and the wheel zoom too. What an attempt was is shown where the pointer rests on it.</small>
+<small>Ctrl and the wheel zoom too. Rest the pointer on an attempt to see its data.</small>
 </div>
 <div id="axis" aria-hidden="true"></div>
 </header>
@@ -117,8 +117,8 @@ def page(rows, title, view=View()):
 
 
 def _style_of_widths():
-    """Of the pictures of each width, the widest that fits is shown. The others keep their patterns, which have one name:
-    those of the first picture are drawn with in all of them."""
+    """Shows the widest picture that fits. The patterns have the same names in all pictures, so all use those of the first
+    picture. They stay visible if that picture is hidden."""
     yield "<style>main>div{visibility:hidden;height:0;overflow:hidden}pattern{visibility:visible}\n"
     for width, wider in zip(LOAD_WIDTHS, [*LOAD_WIDTHS[1:], None]):
         bounds = [f"(min-width:{width + BESIDE}px)"] if width > LOAD_WIDTHS[0] else []

@@ -1,14 +1,14 @@
-"""Runs in regular expressions of which no part is given back.
+"""Runs in regular expressions that don't backtrack.
 
-Python before 3.11.5 keeps what the last round of (?:PART)*+ has passed, also where that round failed; the same for ?+.
-A part that is a group (?>PART) gives it back."""
+Python before 3.11.5 doesn't undo what the last round of (?:PART)*+ consumed if that round failed; the same for ?+. With
+an atomic group (?>PART) it does."""
 
 
 def run_of(part):
-    """As many parts as follow one another, or none."""
+    """Zero or more parts in sequence, as many as match."""
     return f"(?:(?>{part}))*+"
 
 
 def maybe(part):
-    """One part, or none."""
+    """Zero or one part."""
     return f"(?:(?>{part}))?+"

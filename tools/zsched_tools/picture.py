@@ -59,8 +59,8 @@ class Row:
 
 
 def rows_of(source, chosen):
-    """The jobs of a report with their attempts: the chosen ones, or all. More than a picture has room for are
-    refused, and so is a name that no job has."""
+    """The jobs of a report with their attempts: the chosen ones, or all. More jobs than a picture has room
+    for are rejected, and so is a name that no job has."""
     rows, attempts, jobs, missing = [], [], 0, set(chosen)
     for job, record in records(source):
         is_chosen = job is not None and (not chosen or job.name in chosen)
@@ -81,7 +81,7 @@ def rows_of(source, chosen):
 
 
 class Layout:
-    """Where everything stands: rows by their number, the plot from left to right, and the words beside it."""
+    """The places of everything: rows by their number, the plot from left to right, and the texts next to it."""
 
     def __init__(self, rows, title, view=View()):
         count = max(1, len(rows))
@@ -106,7 +106,7 @@ class Layout:
         self.foot = self.bottom + (24 + strip.HEIGHT if count >= strip.FEWEST_ROWS else 6)
 
     def middle(self, number):
-        """The height at which a row's attempts stand."""
+        """The height of a row's attempts."""
         return self.top + (number + 0.5) * self.row
 
 
@@ -117,22 +117,22 @@ def view_of(rows, horizon, view):
 
 
 def view_within(first, last, view):
-    """The moments of a view, and those that are given where it names none."""
+    """The moments of a view; `first` and `last` are the defaults."""
     first, last = first if view.first is None else view.first, last if view.last is None else view.last
     if first >= last and view != View(is_log=view.is_log):
-        raise Refused(f"has nothing from {first} ms to {last} ms: --from has to be before --to")
+        raise Refused(f"has nothing from {first} ms to {last} ms: --from must be before --to")
     return first, last
 
 
 def log_unit(rows):
-    """From what time on a logarithmic axis is one: that of the shortest first attempt."""
+    """The unit of a logarithmic axis: the time of the shortest first attempt."""
     firsts = [row.attempts[0] for row in rows if row.attempts]
     times = [attempt.end - attempt.begin for attempt in firsts if attempt.end is not None]
     return max(1, min(times, default=1))
 
 
 def draw_bands(layout, count, right):
-    """The grey bands behind every other row."""
+    """The grey backgrounds of every other row."""
     for number in range(0, count, 2):
         top = layout.top + number * layout.row
         yield rectangle(8, top, right, top + layout.row, "band")
@@ -164,8 +164,8 @@ def draw_moments(layout):
 
 
 def waits_of(row, shapes, scale):
-    """The waits of a job that are long enough to be seen: from where to where, and how long, which is None for one that
-    goes on at the horizon. A wait that begins or ends outside of the picture goes to its edge."""
+    """The waits of a job that are long enough to be seen: the two ends, and the length, which is None for a wait that
+    continues at the horizon. A wait that begins or ends outside of the picture is drawn to its edge."""
     before = [it for it in row.attempts if it.end is not None and it.end < scale.first][-1:]
     after = [it for it in row.attempts if it.begin > scale.last][:1]
     ends = [(scale.left, scale.left, it, it) for it in before]
@@ -181,7 +181,7 @@ def waits_of(row, shapes, scale):
 
 
 def draw_waits(layout, waits, middle):
-    """The time between attempts, with its length where there is room."""
+    """The time between attempts, with its length if there is room."""
     for left, right, time in waits:
         if time is None:
             yield path(f"M{place(right - 5)} {place(middle - 4)}l5 4l-5 4", "arrow")
@@ -219,15 +219,15 @@ def draw_row(layout, number, row):
 
 
 def verdict_title(row):
-    """All of a job's ending, for the words that are cut."""
+    """The full text of a job's ending, for texts that are cut."""
     ending = row.ending
     text = ending_text(ending.how, ending.result(), 200)
     return f"{row.job.name}: {text} at {ending.at} ms, {plural(ending.polls, 'poll')}"
 
 
 def legend(layout, rows):
-    """What the shapes mean: a drawing and its words, for each that the picture has. Answers the elements and the height
-    that they take."""
+    """What the shapes mean: a drawing and its words, for each that the picture has. Returns the elements and their
+    height."""
     drawn = list(legend_entries(layout, rows))
     elements, left, height = [], float(MARGIN), 22
     for draw, words in drawn:
@@ -285,7 +285,7 @@ def draw(rows, title, view=View(), is_file=True):
 
 
 def draw_jobs(layout, rows):
-    """All jobs, with the axis. Names and moments are groups of their own, which a page keeps in sight."""
+    """All jobs, with the axis. Names and moments are separate groups, which a page shows at all times."""
     yield from draw_bands(layout, len(rows), WIDTH - 8)
     yield from draw_grid(layout, len(rows))
     for number, row in enumerate(rows):

@@ -18,7 +18,7 @@ def in_file(name, text, cause):
 
 
 def place_lines(place, text, cause, paint):
-    """The lines that show a cause in a text, after the words for its place."""
+    """The lines that show a cause in a text. The first line begins with `place`."""
     number, begin = line_of(text, cause.at), text.rfind("\n", 0, cause.at) + 1
     source, mark = excerpt(text, begin, cause)
     gutter = " " * len(str(number))

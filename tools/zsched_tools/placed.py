@@ -17,7 +17,7 @@ class Key(str):
 
 
 class Raw(str):
-    """A number that isn't whole, as the file has it."""
+    """A number that isn't whole, as it is written in the file."""
 
 
 class Value(NamedTuple):
@@ -38,7 +38,7 @@ class Wrong(Exception):
 
 
 def _json(data):
-    """A text, a number, a truth value or None as JSON, with escapes only if it can't be without."""
+    """A text, a number, a truth value or None as JSON, with escapes only if they are necessary."""
     is_odd = isinstance(data, str) and _HALF_OF_A_PAIR.search(data) is not None
     return json.dumps(data, ensure_ascii=is_odd)
 
@@ -51,7 +51,7 @@ def key(name, at):
 
 
 class Written:
-    """A plan's text, a job a line. `place` leads from the text back to the file."""
+    """A plan's text, a job a line. `place` maps a place of the text to the file."""
 
     def __init__(self, root):
         self._pieces, self._length, self._marks = [], 0, []
@@ -112,7 +112,7 @@ class Written:
 
 
 def told(name, text, cause, job=None):
-    """The lines that show where in a file's text a cause is. The first has no end."""
+    """The lines that show the place of a cause in a file's text, without a newline at the end."""
     begin = text.rfind("\n", 0, cause.at) + 1
     number = line_of(text, cause.at)
     source, mark = excerpt(text, begin, cause)

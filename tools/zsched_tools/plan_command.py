@@ -1,4 +1,4 @@
-"""The command zsched-plan: a large plan as many plans, and another file as a plan."""
+"""The command zsched-plan: cuts a large plan into plans, and converts other files to a plan."""
 import argparse
 
 from zsched_tools import colors, command, release, starting
@@ -8,17 +8,17 @@ from zsched_tools.summary import plural
 from zsched_tools.importing import add_command as add_from
 
 TOOL = "zsched-plan"
-DESCRIPTION = """A plan cut into parts, for plans of more jobs than one run takes, or for more than one machine.
+DESCRIPTION = """Cuts a plan into parts, for plans of more jobs than one run takes, or for more than one machine.
 
   zsched-plan split 10000 plan.json -o parts
 
-A log of calls (CSV) or a policy file (YAML, TOML) as a plan.
+Converts a log of calls (CSV) or a policy file (YAML, TOML) to a plan.
 
   zsched-plan from log.csv --schedule '(exponential(100) && recurs(5))' > plan.json"""
 SPLIT = """Cuts PLAN by its jobs into plans of at most N jobs, in order: FOLDER/part-000001.json, part-000002.json and
-so on, and FOLDER/manifest, by which `zsched-report join` checks their reports. Each part has the other keys of the
-document. Everything is copied as it was written. If PLAN is rejected, nothing is made. The report of PLAN is the reports
-of its parts, joined by `zsched-report join`; docs/SCALE.md has recipes."""
+so on. FOLDER/manifest lets `zsched-report join` check their reports. Each part has the other keys of the document. The
+text of PLAN is copied unchanged. If PLAN is rejected, no folder is made. `zsched-report join` makes the report of PLAN
+from the reports of its parts; docs/SCALE.md has recipes."""
 EPILOG = """Exit status: 0, with the number of parts and jobs on standard output; 2 if the plan or an option is rejected,
 with the file and the line on standard error; 3 if reading or writing fails."""
 
@@ -41,7 +41,7 @@ def _split(given):
 
 
 def _arguments():
-    """The words of the command line."""
+    """The parser of the command line."""
     form = argparse.RawDescriptionHelpFormatter
     parser = argparse.ArgumentParser(prog=TOOL, description=DESCRIPTION, epilog=EPILOG, formatter_class=form)
     release.add_version(parser)

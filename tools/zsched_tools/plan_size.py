@@ -16,24 +16,24 @@ _COMPARE = {"<": operator.lt, "<=": operator.le, "=": operator.eq, "!=": operato
 
 
 class World(NamedTuple):
-    """What is known of a job beside its schedule: the time that it has, how long an attempt takes at least, and the
-    value or the code of each entry of its script."""
+    """What is known of a job except its schedule: its time, the least length of an attempt, and the value or the code of
+    each entry of its script."""
     time: int
     least: int
     values: list
 
 
 class Bound(NamedTuple):
-    """What is known of a schedule under a job: its attempts at most, the least wait between two of them on average, and
-    what its outputs are: 'elapsed', 'count', 'input', a pair of these, or None."""
+    """What is known of a schedule under a job: its most attempts, the least wait between two of them on average, and the
+    kind of its outputs: 'elapsed', 'count', 'input', a pair of these, or None."""
     count: float
     wait: int
     out: object = None
 
 
 def warning(plan):
-    """What to say of the bytes of a plan whose attempts may be more than MOST_ATTEMPTS, or None. Of a plan that the
-    program rejects nothing is said."""
+    """The warning for the bytes of a plan that may have more than MOST_ATTEMPTS attempts, else None; also None for a plan
+    that the program rejects."""
     try:
         tree = json.loads(plan, parse_float=_no_whole, parse_constant=_no_whole)
         clock = tree["ticks"] if "ticks" in tree else [tree["horizon"]]
@@ -42,7 +42,7 @@ def warning(plan):
         return None
     if most <= MOST_ATTEMPTS:
         return None
-    return f"its attempts may be {most:.1e}, more than {MOST_ATTEMPTS}: the run may take long, and its report much room"
+    return f"its attempts may be {most:.1e}, more than {MOST_ATTEMPTS}: the run may be long, and its report large"
 
 
 def with_one_tick(plan):

@@ -1,7 +1,7 @@
 """A plan's text, read piece by piece: the document around the jobs, and the jobs one by one, each as it was written.
 
-Texts are of single bytes (see `report.as_text`), so that what is written again is what was read. That they are UTF-8 is
-looked at where their values are read."""
+Texts are of single bytes (see `report.as_text`), so that the written bytes are the read bytes. The text is checked for
+UTF-8 when its values are read."""
 import io
 import json
 import re
@@ -19,14 +19,14 @@ _REST_OF_NUMBER = re.compile("[-+.0-9eE]*")
 
 
 class Number(str):
-    """A number as it was written. Nothing reads numbers here, so that no digit is lost."""
+    """A number as it was written. It isn't converted, so that no digit is lost."""
 
 
 def _no_number(word):
-    raise ValueError(f"{word} is no number")
+    raise ValueError(f"{word} is not a number")
 
 
-# A job of JSON lines as programs write it: ASCII, no escapes, numbers in digits alone. Others are decoded.
+# A job of JSON lines as programs write it: ASCII, no escapes, numbers with only digits. Others are decoded.
 _TEXT = r'"[ !#-\[\]-~]*+"'
 _DIGITS = "(?:0|[1-9][0-9]*+)"
 _FLAT = rf"(?:{_TEXT}|{_DIGITS})"
@@ -37,7 +37,7 @@ _REST = rf"{run_of(_MEMBER)} ?\}}"
 _PLAIN_JOB = re.compile(_NAME + _REST)
 _NAMED_LINES = re.compile(rf"^{_NAME}(.*)\n", re.MULTILINE)
 _PLAIN_REST = re.compile(_REST)
-# As many characters of JSON lines are looked at together.
+# The number of characters of JSON lines that are matched together.
 BLOCK = 2**16
 
 _DECODER = json.JSONDecoder(parse_constant=_no_number, parse_float=Number, parse_int=Number)
@@ -51,7 +51,7 @@ class JobText(NamedTuple):
 
 
 class Source:
-    """The text of a file, of which pieces are taken in order."""
+    """The text of a file, read in pieces in order."""
 
     def __init__(self, file):
         self.file = file
@@ -61,17 +61,17 @@ class Source:
         self.lines = 1
 
     def line(self):
-        """The line of what is taken next."""
+        """The number of the line of the next character."""
         self.lines += self.text.count("\n", self.counted, self.at)
         self.counted = self.at
         return self.lines
 
     def refuse(self, why):
-        """Refuses what would be taken next."""
+        """Rejects the next character."""
         raise Refused(f"line {self.line()}: {why}")
 
     def _more(self):
-        """Reads on, and returns whether there was more to read. What was taken is dropped."""
+        """Reads the next piece, and returns whether there was one. Drops the text that was consumed."""
         piece = self.file.read(max(PIECE, len(self.text) - self.at))
         if piece:
             self.line()
@@ -80,7 +80,7 @@ class Source:
         return bool(piece)
 
     def space(self):
-        """Takes white space, and returns it."""
+        """Consumes white space, and returns it."""
         found = ""
         while True:
             end = _SPACE.match(self.text, self.at).end()
@@ -90,25 +90,25 @@ class Source:
                 return found
 
     def is_at_end(self):
-        """Whether all was taken."""
+        """Whether the whole text was consumed."""
         return self.at == len(self.text) and not self._more()
 
     def symbol(self, wanted):
-        """Takes white space and one of some symbols, and returns them."""
+        """Consumes white space and one of some symbols, and returns them."""
         space = self.space()
         if self.is_at_end():
-            self.refuse(f"the text ends where {' or '.join(wanted)} is due")
+            self.refuse(f"the text ends, but {' or '.join(wanted)} is expected")
         if self.text[self.at] not in wanted:
-            self.refuse(f"{' or '.join(wanted)} is due, and not {shown(self.text[self.at:self.at + 20])}")
+            self.refuse(f"{' or '.join(wanted)} is expected, not {shown(self.text[self.at:self.at + 20])}")
         self.at += 1
         return space + self.text[self.at - 1]
 
     def value(self):
-        """Takes a JSON value, and returns its text and its value."""
+        """Consumes a JSON value, and returns its text and its value."""
         while True:
             try:
                 value, end = _DECODER.raw_decode(self.text, self.at)
-                # A number may go on in the next piece.
+                # A number may continue in the next piece.
                 is_open = isinstance(value, Number) and _REST_OF_NUMBER.match(self.text, end).end() == len(self.text)
                 if not is_open or not self._more():
                     break
@@ -122,21 +122,21 @@ class Source:
             text.encode("latin-1").decode("utf-8")
         except UnicodeDecodeError as fault:
             self.at += fault.start
-            self.refuse("the text is no UTF-8")
+            self.refuse("the text is not UTF-8")
         self.at = end
         return text, value
 
     def _refuse_value(self, fault):
-        """Rejects a value at the place where it is no JSON."""
+        """Rejects a value at the place at which it isn't JSON."""
         is_at_place = isinstance(fault, json.JSONDecodeError)
         self.at = fault.pos if is_at_place else self.at
         if self.at >= len(self.text):
             self.refuse("the text ends in the middle of a value")
-        self.refuse(f"no JSON: {fault.msg if is_at_place else fault}")
+        self.refuse(f"not JSON: {fault.msg if is_at_place else fault}")
 
 
 def _job(text, value, line):
-    """A job with its name. What isn't an object with a name is rejected."""
+    """A job with its name. A value that isn't an object with a name is rejected."""
     if not isinstance(value, dict) or type(value.get("name")) is not str:
         raise Refused(f"line {line}: the job that begins here isn't an object with a name")
     return JobText(text, value["name"], line)
@@ -151,7 +151,7 @@ class PlanText:
         self.before = self.after = ""
 
     def jobs(self):
-        """The jobs in order; the white space around a job counts as its own."""
+        """The jobs in order, each with the white space around it."""
         source = self.source
         self._read_before()
         space = source.space()
@@ -165,9 +165,9 @@ class PlanText:
             space += source.space()
             line = source.line()
             text, value = source.value()
-            behind = source.symbol(",]")
-            end = behind[-1]
-            yield _job(space + text + behind[:-1], value, line)
+            rest = source.symbol(",]")
+            end = rest[-1]
+            yield _job(space + text + rest[:-1], value, line)
             space = ""
         self._read_after()
 
@@ -177,7 +177,7 @@ class PlanText:
             yield [job.text], [job.name]
 
     def _key(self):
-        """Takes a key of the document, with the colon and the white space after it. Returns the text and the key."""
+        """Consumes a key of the document, with the colon and the white space after it. Returns the text and the key."""
         space = self.source.space()
         text, key = self.source.value()
         if type(key) is not str:
@@ -203,11 +203,11 @@ class PlanText:
         while self.after[-1] == ",":
             text, key = self._key()
             if key == "jobs":
-                self.source.refuse("the key 'jobs' stands twice")
+                self.source.refuse("the key 'jobs' is repeated")
             self.after += text + self.source.value()[0] + self.source.symbol(",}")
         self.after += self.source.space()
         if not self.source.is_at_end():
-            self.source.refuse("something stands after the end of the plan")
+            self.source.refuse("there is text after the end of the plan")
 
 
 class LinesText:
@@ -231,7 +231,7 @@ class LinesText:
         number = 2
         while block := self.file.read(BLOCK) + self.file.readline(LONGEST_PLAN):
             found, lines = _NAMED_LINES.findall(block), block.split("\n")
-            # Most jobs of a block have the same text after their name, so each text is looked at once.
+            # Most jobs of a block have the same text after their name, so each text is matched once.
             rests = {rest for _, rest in found}
             if lines.pop() == "" and len(found) == len(lines) and all(map(_PLAIN_REST.fullmatch, rests)):
                 yield ["\n" + line for line in lines], [name for name, _ in found]
@@ -243,11 +243,11 @@ class LinesText:
             number += 1
 
     def _lines_after_head(self):
-        """Takes the first line, and returns the lines after it."""
+        """Consumes the first line, and returns the lines after it."""
         lines = text_lines(self.file, LONGEST_PLAN)
         text = next(lines, None)
         if text is None:
-            raise Refused("is empty, where a plan's document without its jobs is due")
+            raise Refused("is empty, but a plan's document without its jobs is expected")
         value = self._value(1, text)
         if not isinstance(value, dict) or "jobs" in value:
             raise Refused("line 1: this isn't a plan's document without its jobs")
@@ -263,15 +263,15 @@ class LinesText:
 
     @staticmethod
     def _value(number, text):
-        """What a line stands for."""
+        """The value of a line."""
         try:
             text.encode("latin-1").decode("utf-8")
             return _DECODER.decode(text)
         except UnicodeDecodeError:
-            raise Refused(f"line {number}: the text is no UTF-8") from None
+            raise Refused(f"line {number}: the text is not UTF-8") from None
         except RecursionError:
             raise Refused(f"line {number}: a value is nested too deeply") from None
         except json.JSONDecodeError as fault:
-            raise Refused(f"line {number}, column {fault.colno}: no JSON: {fault.msg}") from None
+            raise Refused(f"line {number}, column {fault.colno}: not JSON: {fault.msg}") from None
         except ValueError as fault:
-            raise Refused(f"line {number}: no JSON: {fault}") from None
+            raise Refused(f"line {number}: not JSON: {fault}") from None

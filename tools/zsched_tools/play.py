@@ -1,6 +1,6 @@
-"""A page on this machine: one types schedules and what their attempts do, and sees the picture and the report, or the
-fault with its place. It is docs/play.html, whose reports are then runs of zsched. Nothing is loaded from elsewhere,
-nothing leaves the machine."""
+"""Serves a page on this machine. You type schedules and what their attempts do, and see the picture and the report, or
+the fault with its place. It is docs/play.html, with reports by zsched. It loads nothing from other hosts, and sends
+nothing to them."""
 import argparse
 import bisect
 import http.server
@@ -21,7 +21,7 @@ ADDRESS = "127.0.0.1"
 PORT = 8642
 SECONDS = 10
 MEMORY = 1 << 30
-# In a program that ./run built unproved. It maps terabytes, and limits the memory that it uses itself.
+# A program that ./run built unproved contains this. It maps terabytes, and limits its memory itself.
 SANITIZER = b"AddressSanitizer"
 SMALLER = "shorten the horizon, or lengthen the waits"
 LONGEST_BODY = program.MAX_BYTES
@@ -64,8 +64,8 @@ def run(zsched, plan, seconds):
 
 
 def every_input(bounds, plan):
-    """What this zsched-bounds says of each schedule of a plan, if there are as few as the page has policies. It says nothing
-    if it fails: the report is shown all the same."""
+    """The bounds by this zsched-bounds of each schedule of a plan, if the plan has no more schedules than the page has
+    policies. If the program fails, the report is shown without bounds."""
     schedules = list({job["schedule"] for job in json.loads(plan)["jobs"]})
     if bounds is None or len(schedules) > MOST_POLICIES:
         return {}
@@ -113,14 +113,14 @@ def placed(plan, said):
 
 
 def shown(report, size):
-    """The answer for a report, whose end is left out if it is long."""
+    """The response for a report, whose end is left out if it is long."""
     if size > LONGEST_REPORT:
         return {"report": report[:report.rindex(b"\n", 0, LONGEST_SHOWN) + 1].decode(), "size": size, "isCut": True}
     return {"report": report.decode(), "size": size}
 
 
 class Server(http.server.ThreadingHTTPServer):
-    """Serves the page on this machine alone. A run that is under way ends before the server does."""
+    """Serves the page on this machine only. The server waits for its runs before it ends."""
     daemon_threads = False
 
     def __init__(self, port, zsched, seconds, bounds=None):
@@ -131,51 +131,51 @@ class Server(http.server.ThreadingHTTPServer):
         self.hosts = [f"{name}:{self.server_port}" for name in names] + (names if self.server_port == 80 else [])
 
     def handle_error(self, request, client_address):
-        """A browser that went away is no fault; any other is told in one line."""
+        """Ignores a browser that closed its connection; any other fault is reported in one line."""
         fault = sys.exc_info()[1]
         if not isinstance(fault, (ConnectionError, TimeoutError)):
-            print(f"zsched-play: a request could not be answered: {fault!r}", file=sys.stderr)
+            print(f"zsched-play: a request failed: {fault!r}", file=sys.stderr)
 
     def url(self):
-        """Where the page is."""
+        """The address of the page."""
         return f"http://{ADDRESS}:{self.server_port}/"
 
 
 class Handler(http.server.BaseHTTPRequestHandler):
-    """One request. A request that isn't the page's own is refused, and told why."""
+    """One request. A request that doesn't come from the page is rejected, with the reason."""
     timeout = PATIENCE
 
     def version_string(self):
-        """What the responses say of the server."""
+        """The name of the server in the responses."""
         return "zsched-play"
 
     def refusal(self):
-        """The status and the text of a refusal, or None."""
+        """The status and the text if the request is rejected, else None."""
         methods = PATHS.get(self.path.split("?")[0])
         host, origin = self.headers.get_all("Host", []), self.headers.get("Origin")
         if len(host) != 1 or host[0].lower() not in self.server.hosts:
             return 421, "the Host of this request isn't this server's"
         if methods is None:
-            return 404, "there is only the page at /"
+            return 404, "not found; the page is at /"
         if self.command not in methods:
-            return 405, f"this method isn't served here; {' and '.join(methods)} is"
+            return 405, f"this method isn't allowed; allowed: {' and '.join(methods)}"
         if origin is not None and origin.lower().removeprefix("http://") not in self.server.hosts:
-            return 403, "a page of another origin may not ask here"
+            return 403, "requests from pages of another origin aren't allowed"
         return self.refusal_of_body() if self.command == "POST" else None
 
     def refusal_of_body(self):
         """The same for a plan's length."""
         size = self.headers.get("Content-Length")
         if size is None or "Transfer-Encoding" in self.headers:
-            return 411, "a plan is sent with its length"
+            return 411, "a plan needs its length in Content-Length"
         if not re.fullmatch("[0-9]{1,18}", size):
-            return 400, "the length of the plan is no number"
+            return 400, "the length of the plan is not a number"
         if int(size) > LONGEST_BODY:
             return 413, f"a plan is at most {LONGEST_BODY} bytes long"
         return None
 
     def do_GET(self):
-        """Every method: the page, an answer or a refusal. What a refused request sent is read and dropped."""
+        """Handles every method: sends the page, a report or an error. The body of a rejected request is read and dropped."""
         refusal = self.refusal()
         if refusal is not None:
             self.give(refusal[0], "text/plain; charset=utf-8", f"zsched-play: {refusal[1]}\n".encode())
@@ -188,10 +188,10 @@ class Handler(http.server.BaseHTTPRequestHandler):
     do_HEAD = do_POST = do_PUT = do_DELETE = do_PATCH = do_OPTIONS = do_TRACE = do_CONNECT = do_GET
 
     def give_answer(self):
-        """The answer to a plan."""
+        """Sends the response to a plan."""
         plan = self.rfile.read(int(self.headers["Content-Length"]))
-        answered = json.dumps(answer(self.server.zsched, plan, self.server.seconds, self.server.bounds)).encode()
-        self.give(200, "application/json", answered)
+        response = json.dumps(answer(self.server.zsched, plan, self.server.seconds, self.server.bounds)).encode()
+        self.give(200, "application/json", response)
 
     def give(self, status, kind, body):
         """Sends a response."""
@@ -210,7 +210,7 @@ class Handler(http.server.BaseHTTPRequestHandler):
         self.wfile.flush()
 
     def drop_body(self):
-        """Reads what a refused request sent, within reason, so that the refusal arrives before the line is closed."""
+        """Reads the body of a rejected request, up to a limit, so that the error arrives before the connection is closed."""
         size = self.headers.get("Content-Length", "0")
         left = min(int(size), 4 * LONGEST_BODY) if re.fullmatch("[0-9]{1,18}", size) else 0
         while left > 0:
@@ -224,7 +224,7 @@ class Handler(http.server.BaseHTTPRequestHandler):
 def port_of(word):
     """A port's number."""
     if not re.fullmatch("[0-9]{1,5}", word) or int(word) > 65535:
-        raise argparse.ArgumentTypeError(f"{word} is no port: 0 to 65535")
+        raise argparse.ArgumentTypeError(f"{word} is not a port: 0 to 65535")
     return int(word)
 
 
@@ -257,8 +257,8 @@ def main():
     """The command line."""
     words = argparse.ArgumentParser(
         prog="zsched-play", description=__doc__,
-        epilog="Ctrl-C ends it, with status 0. Status 2: wrong words, no program, or a port that can't be had.")
-    words.add_argument("--port", type=port_of, default=PORT, help=f"the port ({PORT}); 0 picks one, and it is printed")
+        epilog="Ctrl-C ends it, with status 0. Status 2: a wrong argument, no program, or a port that isn't free.")
+    words.add_argument("--port", type=port_of, default=PORT, help=f"the port ({PORT}); 0 picks a free one")
     words.add_argument("--zsched", metavar="PATH", help="the program (ZSCHED, or the one that is built or on PATH)")
     words.add_argument("--bounds", metavar="PATH", help="zsched-bounds (ZSCHED_BOUNDS, or the one that is built or on PATH)")
     release.add_version(words)

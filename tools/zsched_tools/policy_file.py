@@ -1,14 +1,14 @@
 """A YAML or TOML file as values with their places.
 
-PyYAML gives the place of each value. Python's reader of TOML gives none: the lines are looked
-through for headers and keys, and what isn't found so has the place of what it is in."""
+PyYAML gives the place of each value. Python's reader of TOML doesn't: this module
+searches the lines for headers and keys. A value that isn't found has the place of its parent."""
 import re
 import tomllib
 
 from zsched_tools.cause import Cause, line_of, shown
 from zsched_tools.placed import DEEPEST, Raw, Value, Wrong, key
 
-# More than the longest plan has. An alias in a list of aliases may stand for any number of values.
+# More than the longest plan has. An alias in a list of aliases may represent any number of values.
 MOST_VALUES = 5_000_000
 NO_YAML = "YAML needs PyYAML, and it isn't installed (Debian: python3-yaml; pip: PyYAML)"
 
@@ -20,13 +20,13 @@ _TOML_PLACE = re.compile(r"(.*) \(at (?:line (\d+), column (\d+)|end of document
 
 
 def _scalar(data, at, text):
-    """A text as a Value, with its characters' places if the file has it as it is."""
+    """A text as a Value, with the places of its characters if the file has it unchanged."""
     quoted = text[at:at + 1] in ("'", '"')
     return Value(data, at, at + quoted if text.startswith(data, at + quoted) else None)
 
 
 def read_yaml(text):
-    """The value that a YAML document is."""
+    """The value of a YAML document."""
     try:
         import yaml
     except ImportError:
@@ -36,13 +36,13 @@ def read_yaml(text):
         loader = yaml.SafeLoader(text)
         node = loader.get_single_node()
         if node is None:
-            raise Wrong(Cause(0, 0, "there is nothing here"))
+            raise Wrong(Cause(0, 0, "the file is empty"))
         return _Yaml(yaml, loader, text).value(node, 0)
     except yaml.MarkedYAMLError as fault:
         mark = fault.problem_mark or fault.context_mark
-        raise Wrong(Cause(min(mark.index, len(text)), 1, f"no YAML: {fault.problem}")) from None
+        raise Wrong(Cause(min(mark.index, len(text)), 1, f"not YAML: {fault.problem}")) from None
     except yaml.reader.ReaderError as fault:
-        raise Wrong(Cause(fault.position, 1, f"no YAML: {fault.reason}")) from None
+        raise Wrong(Cause(fault.position, 1, f"not YAML: {fault.reason}")) from None
     finally:
         if loader is not None:
             loader.dispose()
@@ -80,11 +80,11 @@ class _Yaml:
         for name, _ in node.value:
             at = name.start_mark.index
             if not isinstance(name, self.yaml.ScalarNode):
-                raise Wrong(Cause(at, 1, "this key is no text"))
+                raise Wrong(Cause(at, 1, "this key is not a text"))
             line = line_of(self.text, at)
             if name.value in lines and name.value != "<<":
                 what = f'the key "{shown(name.value)}" is on line {lines[name.value]} too'
-                raise Wrong(Cause(at, len(name.value), what, "leave one of them out"))
+                raise Wrong(Cause(at, len(name.value), what, "remove one of them"))
             lines[name.value] = line
         self.loader.flatten_mapping(node)
         return {key(name.value, name.start_mark.index): self.value(item, depth + 1)
@@ -92,7 +92,7 @@ class _Yaml:
 
 
 def read_toml(text):
-    """The value that a TOML document is."""
+    """The value of a TOML document."""
     try:
         tree = tomllib.loads(text)
     except tomllib.TOMLDecodeError as fault:
@@ -101,7 +101,7 @@ def read_toml(text):
         if line:
             before = text.split("\n")[:int(line) - 1]
             at = sum(len(row) + 1 for row in before) + int(column) - 1
-        raise Wrong(Cause(min(at, len(text)), 1, f"no TOML: {what}")) from None
+        raise Wrong(Cause(min(at, len(text)), 1, f"not TOML: {what}")) from None
     except RecursionError:
         raise Wrong(Cause(0, 0, "this is nested too deeply")) from None
     return _Toml(text, _toml_places(text)).value(tree, (), 0)
@@ -120,7 +120,7 @@ def _header_path(names, is_item, counts):
 
 
 def _toml_places(text):
-    """Where the keys and values of a TOML document begin, by their paths."""
+    """The starts of the keys and values of a TOML document, by their paths."""
     found, counts, base, here = {(): (0, 0)}, {}, (), 0
     for line in text.split("\n"):
         header, assigned = _HEADER.fullmatch(line.rstrip("\r")), _ASSIGNED.match(line)
@@ -144,7 +144,7 @@ class _Toml:
         self.text, self.places = text, places
 
     def value(self, data, path, outer):
-        """The value at a path, within what has the place `outer`."""
+        """The value at a path, whose parent has the place `outer`."""
         at = self.places.get(path, (outer, outer))[1]
         if len(path) == DEEPEST:
             raise Wrong(Cause(at, 1, f"this is nested deeper than {DEEPEST}"))
@@ -158,7 +158,7 @@ class _Toml:
             return _scalar(data, at, self.text) if path in self.places else Value(data, at)
         if isinstance(data, float):
             if not _NUMBER.fullmatch(repr(data)):
-                raise Wrong(Cause(at, 1, f"{data} is no number of a plan"))
+                raise Wrong(Cause(at, 1, f"{data} is not a number of a plan"))
             return Value(Raw(repr(data)), at)
         if not isinstance(data, (bool, int)):
             raise Wrong(Cause(at, 1, "a plan has no dates", "write milliseconds"))

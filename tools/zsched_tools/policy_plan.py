@@ -1,5 +1,5 @@
 """A policy file's values as those of a plan: durations and scripts in words, names that a plan
-allows, and the keys that a job leaves to the file."""
+allows, and the defaults of the file for a job's keys."""
 import re
 
 from zsched_tools.cause import Cause, shown
@@ -14,18 +14,18 @@ _AN_ATTEMPT = "write 40 err 503 or 35ms ok 200, and x3 for three"
 
 
 class Notes:
-    """What was changed in a file: the first change of each kind, and how many there were."""
+    """The changes of a file: the first change of each kind, and the number of changes."""
 
     def __init__(self):
         self.found = {}
 
     def add(self, kind, place, text):
-        """One change more. `place` is where it is in the file."""
+        """Adds a change. `place` is its place in the file."""
         first = self.found.setdefault(kind, [place, text, 0])
         first[2] += 1
 
     def lines(self):
-        """A line a kind of change: its place and what it says."""
+        """A line for each kind of change: its place and its text."""
         for place, text, count in sorted(self.found.values()):
             yield place, text if count == 1 else f"{text}; {count} such changes, this is the first"
 
@@ -42,7 +42,7 @@ def whole(length, unit, place, notes):
 
 
 class Names:
-    """Names that a plan allows, made from any texts. Each is given once."""
+    """Names that a plan allows, made from any texts. No name is returned twice."""
 
     def __init__(self, notes):
         self.notes, self.taken = notes, set()
@@ -91,7 +91,7 @@ def _entries_in_words(value, notes):
         words = _ATTEMPT.fullmatch(part)
         length = words and milliseconds(words[1])
         if length is None:
-            raise Wrong(Cause(at, size, f'"{shown(part.strip())}" is no attempt', _AN_ATTEMPT))
+            raise Wrong(Cause(at, size, f'"{shown(part.strip())}" is not an attempt', _AN_ATTEMPT))
         _, outcome, code, times = words.groups()
         if not 1 <= int(times or 1) <= MOST_ENTRIES - len(found):
             raise Wrong(Cause(at, size, f"a script has 1 to {MOST_ENTRIES} attempts"))
@@ -119,7 +119,7 @@ def script(value, notes):
 
 
 class Policies:
-    """The jobs of a file. `defaults` is what a job has that says nothing else."""
+    """The jobs of a file. `defaults` has the values of keys that a job lacks."""
 
     def __init__(self, defaults, notes):
         self.defaults, self.notes = defaults, notes
@@ -163,7 +163,7 @@ class Policies:
 def _policy_jobs(policies):
     """A job for each name of the table `policies`, whose values are schedules."""
     if not isinstance(policies.data, dict):
-        raise Wrong(Cause(policies.at, 1, "policies has to be a table of names and schedules",
+        raise Wrong(Cause(policies.at, 1, "policies must be a table of names and schedules",
                           "write a line for each, as payments: recurs(3)"))
     return [Value({key("name", name.at): Value(str(name), name.at, name.at),
                    key("schedule", name.at): schedule}, name.at)
@@ -173,7 +173,7 @@ def _policy_jobs(policies):
 def plan_of(root, until, notes):
     """The plan of a file. If it has neither horizon nor ticks, `until` is the horizon."""
     if not isinstance(root.data, dict):
-        raise Wrong(Cause(root.at, 1, "the file has to be a table of keys", "write horizon: 60000"))
+        raise Wrong(Cause(root.at, 1, "the file must be a table of keys", "write horizon: 60000"))
     given = {name: value for name, value in root.data.items() if name not in DEFAULTS}
     defaults = {key("mode", root.at): Value("retry", root.at)}
     defaults.update((name, value) for name, value in root.data.items() if name in DEFAULTS)

@@ -1,5 +1,5 @@
-"""The values of a text that is JSON, with their places. A list or object is read where it is asked for its parts;
-elsewhere it is passed by its brackets alone."""
+"""The values of a text that is JSON, with their places. A list or object is read only when its parts are needed; else
+only its brackets are matched."""
 import functools
 import json
 import re
@@ -23,18 +23,18 @@ _KINDS = {"{": "object", "[": "list", '"': "text", "t": "true", "f": "false", "n
 
 
 class Document:
-    """A text that is JSON. The ends of its lists and objects are kept once they were looked for."""
+    """A text that is JSON. The ends of its lists and objects are cached."""
 
     def __init__(self, text):
         self.text = text
         self.ends = {}
 
     def root(self):
-        """The value that the text is."""
+        """The value of the whole text."""
         return Node(self, self.skip(0))
 
     def skip(self, at):
-        """The place behind the white space."""
+        """The place after the white space."""
         return _SPACE.match(self.text, at).end()
 
     def end_of(self, at):
@@ -50,7 +50,7 @@ class Document:
         return self.ends[at]
 
     def _look_for_end(self, at):
-        """Keeps the end of the list or object that begins here, and those of the ones in it, down to some depth."""
+        """Stores the end of the list or object that begins here, and the ends of those in it, down to a fixed depth."""
         text, here, begins = self.text, at, []
         while begins or here == at:
             here = _TO_BRACKET.match(text, here).end()
@@ -63,7 +63,7 @@ class Document:
                 self.ends[begin] = here
 
     def _end_of_shallow(self, at):
-        """The end of a list that has no list in it, as far as its brackets and quotes alone tell it, else None."""
+        """The end of a list without lists in it, if its brackets and quotes are enough to find it, else None."""
         text = self.text
         if text[at] != "[":
             return None
@@ -86,7 +86,7 @@ class Node:
 
     @property
     def end(self):
-        """The place behind the value."""
+        """The place after the value."""
         return self.document.end_of(self.at)
 
     @property
@@ -95,18 +95,18 @@ class Node:
         return self.document.text[self.at:self.end]
 
     def string(self):
-        """What a text says."""
+        """The content of a text."""
         source = self.source
         return json.loads(source) if "\\" in source else source[1:-1]
 
     def whole(self):
-        """The number, where it is a whole one, else None."""
+        """The number, if it is a whole one, else None."""
         source = self.source if self.kind == "number" else ""
         return int(source) if _DIGITS.fullmatch(source) and int(source) <= MAX_WHOLE else None
 
     def items(self, passing=None):
-        """The items of a list. Those that stand in a run of this pattern are passed and not told: a pattern takes any
-        number of items, each with the comma behind it."""
+        """The items of a list. Items that are in a run of the pattern `passing` are skipped. A pattern matches any number
+        of items, each with the comma after it."""
         return (Node(self.document, at) for at in self._parts(passing))
 
     def members(self):
@@ -116,11 +116,11 @@ class Node:
 
     @functools.cached_property
     def _values(self):
-        """The values of an object by their keys, the last where a key stands twice."""
+        """The values of an object by their keys. Of a repeated key the last value counts."""
         return {name.string(): value for name, value in self.members()}
 
     def get(self, key):
-        """The value at a key, the last where it stands twice; None where it doesn't stand."""
+        """The value of a key, the last one if the key is repeated, or None if it is missing."""
         return self._values.get(key)
 
     def _parts(self, passing):
@@ -137,11 +137,11 @@ class Node:
                 here = document.skip(here + 1)
 
     def place_in(self, index):
-        """Where the character with this index of what a text says stands in the document."""
-        place, left = self.at + 1, index
+        """The place in the document of the character with this index in the content of a text."""
+        place, rest = self.at + 1, index
         for piece in _PIECE.finditer(self.document.text, self.at + 1, self.end - 1):
             length = len(piece[0]) if piece["plain"] else 1
-            if left < length:
-                return place + (left if piece["plain"] else 0)
-            place, left = piece.end(), left - length
+            if rest < length:
+                return place + (rest if piece["plain"] else 0)
+            place, rest = piece.end(), rest - length
         return place

@@ -1,4 +1,4 @@
-"""Work that is shared by processes, one for each processor. Elsewhere than on Linux one process does it."""
+"""Distributes work to processes, one for each processor. On other systems than Linux one process does all work."""
 import itertools
 import multiprocessing
 import os
@@ -6,11 +6,11 @@ import signal
 
 
 def in_order(function, items):
-    """Yields what a function returns for each item, in order. What it raises for one is raised in its place.
+    """Yields what a function returns for each item, in order. An exception for an item is raised in its place.
 
     A process begins as a copy of this one, so a text has the same hash here and there. Each process works on at most
-    one item at a time, and an item is taken from `items` when a process is free for it: at most as many items as there
-    are processors are in memory."""
+    one item at a time, and an item is taken from `items` when a process is free for it. So the number of items in memory
+    is at most the number of processors."""
     items = iter(items)
     count = len(os.sched_getaffinity(0)) if hasattr(os, "sched_getaffinity") else 1
     first = list(itertools.islice(items, 2))
@@ -37,7 +37,7 @@ def in_order(function, items):
 
 
 def _start(function, processes, pipes):
-    """Starts one process more, and adds it and the pipe to it."""
+    """Starts another process, and adds it and its pipe to the lists."""
     context = multiprocessing.get_context("fork")
     near, far = context.Pipe()
     pipes.append(near)
@@ -47,7 +47,7 @@ def _start(function, processes, pipes):
 
 
 def _work(function, pipe, others):
-    """Takes items and gives the function's results, in a separate process. It ends when the other side is gone."""
+    """Receives items and sends the function's results, in a separate process. It ends when the other side is closed."""
     signal.signal(signal.SIGINT, signal.SIG_IGN)
     for other in others:
         other.close()
@@ -67,7 +67,7 @@ def _work(function, pipe, others):
 
 
 def _give(pipe, item):
-    """Gives an item to a process."""
+    """Sends an item to a process."""
     try:
         pipe.send(item)
     except (BrokenPipeError, ConnectionResetError):

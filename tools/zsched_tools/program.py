@@ -1,4 +1,4 @@
-"""Where the program is, one run of it, and the length of the longest plan that it takes."""
+"""The path of the program, one run of it, and the length of its longest plan."""
 import os
 import pathlib
 import shutil
@@ -10,11 +10,11 @@ BUILT = CRATES / "zsched" / "out" / "zsched"
 
 
 class NoProgram(Exception):
-    """The program isn't there. The text says where it was looked for."""
+    """The program wasn't found. The text says where it was searched."""
 
 
 def find(named=None):
-    """The program's path: the one that is named, else that of the variable ZSCHED, else the one that this tree built,
+    """The program's path: the given one, else that of the variable ZSCHED, else the one that this tree built,
     else the one on PATH."""
     for place in [named, os.environ.get("ZSCHED")]:
         if place:
@@ -33,8 +33,8 @@ def find(named=None):
 
 
 def find_beside(name, named=None):
-    """The path of another program, zsched-population or zsched-bounds, looked for as zsched is, with a variable such as
-    ZSCHED_POPULATION; None if there is none."""
+    """The path of another program, zsched-population or zsched-bounds, or None. The search is that for zsched, with a
+    variable such as ZSCHED_POPULATION."""
     for place in [named, os.environ.get(name.upper().replace("-", "_"))]:
         if place:
             if not os.access(place, os.X_OK) or os.path.isdir(place):
@@ -46,23 +46,23 @@ def find_beside(name, named=None):
 
 
 def find_population(named=None):
-    """The path of zsched-population, or None if there is none."""
+    """The path of zsched-population, or None if it isn't found."""
     return find_beside("zsched-population", named)
 
 
 def find_bounds(named=None):
-    """The path of zsched-bounds, or None if there is none."""
+    """The path of zsched-bounds, or None if it isn't found."""
     return find_beside("zsched-bounds", named)
 
 
 def run(program, plan, seconds=None):
-    """Runs the program on a plan's bytes: status, standard output, standard error. Past the seconds it is killed, and
+    """Runs the program on a plan's bytes: status, standard output, standard error. After `seconds` it is killed, and
     subprocess.TimeoutExpired is raised."""
     ended = subprocess.run([program], input=plan, capture_output=True, timeout=seconds, check=False)
     return ended.returncode, ended.stdout, ended.stderr
 
 
 def failure(status, errors, name="zsched"):
-    """What a run says that failed: the program's line on standard error, or how it ended if there is none."""
+    """The message of a failed run: the program's line on standard error, else how it ended."""
     line = errors.decode(errors="replace").strip()
     return line or (f"{name} was ended by signal {-status}" if status < 0 else f"{name} ended with status {status}")

@@ -1,4 +1,4 @@
-"""A line on a terminal that says what a long command does, and how far it is."""
+"""A line on a terminal that shows what a long command does, and its progress."""
 import sys
 import threading
 import time
@@ -12,37 +12,37 @@ def is_shown():
 
 
 def write(line):
-    """Writes the line anew. An empty one takes it away."""
+    """Replaces the line. An empty line removes it."""
     sys.stderr.write(f"\r\x1b[K{line}")
     sys.stderr.flush()
 
 
 class Progress:
-    """Counts what was done of a number of things, or of bytes. The line is shown after two seconds, and then each second."""
+    """Counts finished items or bytes. The line is shown after two seconds, and then every second."""
 
-    def __init__(self, tool, told):
-        self.tool, self.told = tool, told
+    def __init__(self, tool, text_of):
+        self.tool, self.text_of = tool, text_of
         self.done = 0
         self.next = time.monotonic() + FIRST if is_shown() else float("inf")
         self.is_shown = False
 
     def add(self, number):
-        """So many more are done."""
+        """Adds `number` finished items."""
         self.done += number
         if self.next != float("inf") and time.monotonic() >= self.next:
             self.next = time.monotonic() + EVERY
             self.is_shown = True
-            write(f"{self.tool}: {self.told(self.done)}")
+            write(f"{self.tool}: {self.text_of(self.done)}")
 
     def close(self):
-        """Takes the line away."""
+        """Removes the line."""
         if self.is_shown:
             write("")
             self.is_shown = False
 
 
 class Now:
-    """What a command does now, with the seconds since it began. As a context it ends with the work."""
+    """Shows what a command does now, with the seconds since it began, as long as the context is open."""
 
     def __init__(self, every=EVERY):
         self.every, self.words = every, ""
@@ -51,7 +51,7 @@ class Now:
         self.thread = threading.Thread(target=self._show, daemon=True) if is_shown() else None
 
     def say(self, words):
-        """What is done from now on."""
+        """Sets what the command does from now on."""
         self.words = words
 
     def __enter__(self):

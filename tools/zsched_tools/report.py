@@ -1,8 +1,8 @@
-"""Reads a report line by line into records, and rejects what is no whole report, with the line's number.
+"""Reads a report line by line into records. It rejects a text that isn't a whole report, with the line's number.
 
-docs/FORMATS.md has the form of a report. Besides the form of each line this reader compares the lines with each other:
-attempts are numbered from 1 and don't overlap, a step stands where the schedule was asked and only there, an ending is
-that of the last attempt, and the polls are the moments at which attempts began or ended. Numbers are whole and go up to
+docs/FORMATS.md has the form of a report. The reader checks the form of each line, and compares the lines with each other:
+attempts are numbered from 1 and don't overlap, there is a step exactly if the schedule was stepped, an ending is that
+of the last attempt, and the polls are the moments at which attempts began or ended. Numbers are whole and go up to
 2^64 - 1; the total of the last line has no bound, since a joined report may have any number of jobs."""
 import dataclasses
 import io
@@ -17,7 +17,7 @@ LONGEST_LINE = 2**28
 
 _NUMBER = "(?:0|[1-9][0-9]{0,19})"
 _OUTPUT = r"[0-9A-Za-z(),\[\]]+"
-# A part of an output that was looked at before is written as #.
+# A part of an output that was checked before is replaced by #.
 _PART = f"(?:#|{_NUMBER})"
 _SHORT_OUTPUT = re.compile(rf"{_NUMBER}|\({_NUMBER},{_NUMBER}\)")
 _INNERMOST = re.compile(rf"\({_PART},{_PART}\)|(?:Left|Right)\({_PART}\)|\[(?:{_PART}(?:,{_PART})*+)?\]")
@@ -68,8 +68,8 @@ class Total:
 
 
 def is_output(text):
-    """Whether a text is an output of a schedule: its innermost pairs, sides and lists are taken away until a number is
-    left."""
+    """Whether a text is an output of a schedule: its innermost pairs, sides and lists are replaced until only a number
+    remains."""
     if len(text) < 20 and _SHORT_OUTPUT.fullmatch(text):
         return True
     if any(int(digits) > MOST for digits in _TWENTY_DIGITS.findall(text)):
@@ -89,8 +89,8 @@ def shown(text):
 
 
 class Reader:
-    """What is known of a report between two of its lines. A fault has the line's number alone; whoever knows the
-    file's name puts it before."""
+    """What is known of a report between two of its lines. A fault has only the line's number; the caller that
+    knows the file's name puts it before."""
 
     def __init__(self):
         self.line = 0
@@ -110,24 +110,24 @@ class Reader:
         form, taker = _FORMS.get(text[:1], _NO_FORM)
         match = form.fullmatch(text)
         if self.total is not None:
-            self._refuse("stands after the last line", text)
+            self._refuse("is after the last line", text)
         if match is None:
-            self._refuse("is no line of a report", text)
+            self._refuse("isn't a line of a report", text)
         return taker(self, match)
 
     def close(self):
         """Rejects a report that has no last line."""
         if self.line == 0:
-            raise Refused("is empty, and no report")
+            raise Refused("is empty, not a report")
         if self.total is None:
-            raise Refused(f"ends after line {self.line}, where {self._due()} is due, "
-                          "and has no last line 'polls TOTAL'")
+            raise Refused(f"ends after line {self.line}, but {self._due()} is expected, "
+                          "and there is no last line 'polls TOTAL'")
 
     def _refuse(self, why, text):
         raise Refused(f"line {self.line} {why}: {shown(text)}")
 
     def _due(self):
-        """What may be next, in words."""
+        """The records that may be next, in words."""
         last = self.attempt
         if self.job is None:
             return "a job or the last line"
@@ -140,7 +140,7 @@ class Reader:
         return "an end"
 
     def _misplaced(self, match):
-        self._refuse(f"stands where {self._due()} is due", match[0])
+        self._refuse(f"is misplaced, expected {self._due()}", match[0])
 
     def _number(self, text, match):
         """A number of a line, which is at most 2^64 - 1."""
@@ -164,7 +164,7 @@ class Reader:
             self._misplaced(match)
         waited = None if last is None else begin - last.end
         if last is not None and (waited < 0 or begin < last.next):
-            self._refuse("begins before the schedule goes on", match[0])
+            self._refuse("begins before the schedule continues", match[0])
         self.polls += waited != 0
         if end is None:
             self.attempt = Attempt(wanted, self._number(begin, match), None, "running", None, waited)
@@ -204,7 +204,7 @@ class Reader:
         return ending
 
     def _is_ending_of_last(self, ending):
-        """Whether an ending is one that the last attempt leads to."""
+        """Whether an ending follows from the last attempt."""
         last = self.attempt
         if ending.how == "unfinished":
             is_open = last is None or last.end is None or last.next is not None
@@ -252,7 +252,7 @@ _NO_FORM = (re.compile("(?!)"), None)
 
 
 def text_lines(source, longest=LONGEST_LINE, before=0):
-    """The lines of an open text file, without their newlines. A line that has none is rejected. Lines are counted from
+    """The lines of an open text file, without their newlines. A line without one is rejected. Lines are counted from
     the number of those that were before."""
     number = before
     while line := source.readline(longest):
@@ -266,7 +266,7 @@ def text_lines(source, longest=LONGEST_LINE, before=0):
 
 def records(source, reader=None):
     """The records of a report, each with its job: attempts and ending of each job, and last the total without a job.
-    What is before a fault is yielded before the fault is raised."""
+    The records before a fault are yielded before the fault is raised."""
     reader = reader or Reader()
     for text in text_lines(source):
         job = reader.job
@@ -277,7 +277,7 @@ def records(source, reader=None):
 
 
 def as_text(binary):
-    """A binary file as text of single bytes, whose lines end at byte 10 alone."""
+    """A binary file as text of single bytes, whose lines end only at byte 10."""
     return io.TextIOWrapper(binary, encoding="latin-1", newline="\n")
 
 

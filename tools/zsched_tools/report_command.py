@@ -1,4 +1,4 @@
-"""The command zsched-report: a report in other forms, and many reports as one."""
+"""The command zsched-report: converts a report to other forms, and joins many reports."""
 import argparse
 import gc
 import os
@@ -26,16 +26,16 @@ DESCRIPTION = """A report of zsched in other forms, and many reports as one.
   zsched < plan.json > whole.report && zsched-report svg whole.report > whole.svg"""
 EPILOG = """Exit status: 0; 2 if the report or an option is rejected, with the file and the line on standard error; 3 if
 reading or writing fails. If summary, load, svg, html or join rejects a report, it has written nothing.
-If the reader of standard output closes it (`| head`), all but join end by SIGPIPE, without a message.
-docs/FORMATS.md has the form of a report, docs/SCALE.md recipes with join."""
+If the reader of standard output closes it (`| head`), all forms except join end by SIGPIPE, without a message.
+docs/FORMATS.md describes reports, and docs/SCALE.md has recipes with join."""
 LINES = """Writes a report as JSON lines: an object of type attempt for each attempt with its step, one of type end
 for each job, and one of type total at the end. `next` is null if the schedule is done, `out` is null if the schedule
-wasn't stepped, `waited` is the time since the end of the attempt before. Numbers are whole, at most 2^64 - 1: a reader
+wasn't stepped, `waited` is the time since the end of the attempt before. Numbers are whole, at most 2^64 - 1: a program
 that reads them as 64-bit floats loses their last digits. Lines are written while the report is read, so its length
 doesn't matter. If the report is rejected, the lines before the fault are written, the status is 2, and there is no line
 of type total."""
-FROM_LINES = """Writes the report of JSON lines, with the same bytes that `lines` read. Lines of no report are rejected; as
-with `lines`, what is before the fault is written."""
+FROM_LINES = """Writes the report of JSON lines, with the same bytes that `lines` read. Lines that form no report are
+rejected; as with `lines`, the part before the fault is written."""
 SUMMARY = """Writes a table with a line a job: its ending, the moment of the ending, its attempts, the number that succeeded
 (ok) and failed (err), the time that its attempts took (busy), the time between them (waited) and the longest wait. An
 attempt that runs or a wait that continues at the horizon counts up to it. The lines below are the most attempts at once,
@@ -45,25 +45,24 @@ LOAD = """Writes a table with a line for each step of time: the number of attemp
 (err) in it, the number of attempts that run and of jobs that wait for their next attempt at its end. The first line is the
 first step in which something begins, the last line the last step in which something begins or ends. A step includes its
 first moment and not its last."""
-SVG = """Writes a picture: jobs from top to bottom, time from left to right. Rest the pointer on an attempt to see what it
-was; attempts that are too near each other share a striped block. Below more than 16 jobs is a strip with their load; of
-more than 200 jobs only the load is drawn. The picture is 1240 pixels wide, and a narrower window scrolls: on a phone the
-page of `html` is better."""
-HTML = """Writes the picture of `svg` as a page with a time axis that zooms. The page loads nothing from elsewhere."""
+SVG = """Writes a picture: jobs from top to bottom, time from left to right. Rest the pointer on an attempt to see its
+data. Attempts that are too near each other share a striped block. If there are more than 16 jobs, a strip with their load
+is below them; if there are more than 200, only the load is drawn. The picture is 1240 pixels wide, and a narrower window
+scrolls: on a phone the page of `html` is better."""
+HTML = """Writes the picture of `svg` as a page with a time axis that zooms. The page loads nothing from other hosts."""
 JOIN = """Makes one report of the reports of a plan's parts: the jobs of each, in order, and the sum of all polls.
 With the manifest that `zsched-plan split` wrote, each part's report is compared with its digest part-NNNNNN.sha256, which
-is what `sha256sum part-NNNNNN.json part-NNNNNN.report` prints, and its jobs' names with the manifest. It rejects by name
-a part with a changed byte, and one that is swapped, given twice or foreign, and a plan that was changed. If a report or a
-digest is missing, the message has its name, and the status is 3.
-With parts instead of a manifest it compares their lines with each other. It rejects by name a part that is empty, cut or
-no report, a part or a job that is given twice, and a part with another horizon. It doesn't find another digit of a value
-or an output, another name of a job, parts in another order, and a part that isn't given.
-All parts are read before a byte is written, so they must be files and no pipes. docs/SCALE.md has recipes."""
+is what `sha256sum part-NNNNNN.json part-NNNNNN.report` prints, and its jobs' names with the manifest. It rejects,
+with the name, a part with a changed byte, a part that is swapped, repeated or of another plan, and a changed plan. If a
+report or a digest is missing, the message has its name, and the status is 3.
+With parts instead of a manifest it compares their lines with each other. It rejects, with the name, a part that is empty,
+cut or not a report, a repeated part or job, and a part with another horizon. It doesn't detect a changed digit of a value
+or an output, a changed name of a job, parts in another order, or a missing part.
+It reads all parts before it writes a byte, so they must be files, not pipes. docs/SCALE.md has recipes."""
 
 
 def _with_source(given, work):
-    """Does some work with the binary file that was given, or with standard input, and puts its name before what is
-    rejected."""
+    """Calls `work` with the given binary file or standard input. An error of the input gets the name of the file."""
     try:
         if given.file is None:
             if sys.stdin is None:
@@ -76,7 +75,7 @@ def _with_source(given, work):
 
 
 def _progress(size):
-    """What a terminal shows of a report that is read: a share of its size, if that is known."""
+    """The progress line of a report that is read: a share of its size, if that is known."""
     if not size:
         return Progress(TOOL, lambda done: f"{done // 10**6} MB read")
     return Progress(TOOL, lambda done: f"{done // 10**6} of {size // 10**6} MB read, {100 * done // size} %")
@@ -88,7 +87,7 @@ def _write(words):
 
 def _lines(given):
     def work(file, progress):
-        """Writes lines as they come. What a terminal shows of them leaves no room for a progress line."""
+        """Writes lines while the report is read. On a terminal they leave no room for a progress line."""
         write_lines(file, _write, None if sys.stdout.isatty() else progress)
     _with_source(given, work)
 
@@ -114,7 +113,7 @@ def _load(given):
 
 
 def _load_in(file, every, progress):
-    """The load of a report, the steps of which are not too many."""
+    """The load of a report. Too many steps are rejected."""
     found = load.read(file, every, progress)
     found.check()
     return found
@@ -126,7 +125,7 @@ _ROW_ORDERS = {"end": lambda row: row.ending.at, "name": lambda row: row.job.nam
 
 
 def _crowd(given):
-    """The jobs to draw, in order. When they are too many for rows, their load is drawn, with a note."""
+    """The jobs to draw, in order. If they are too many for rows, their load is drawn, with a note."""
     crowd = _with_source(given, lambda file, progress: crowd_of(file, given.job, progress))
     if given.sort:
         crowd.rows.sort(key=_ROW_ORDERS[given.sort])
@@ -170,7 +169,7 @@ def _time(word):
 
 
 def _step(word):
-    """A duration that is longer than nothing."""
+    """A duration of at least 1 ms."""
     found = _time(word)
     if found == 0:
         raise argparse.ArgumentTypeError("a step of time takes at least 1 ms")
@@ -178,19 +177,19 @@ def _step(word):
 
 
 def _add_summary(one):
-    """The words of `summary` alone."""
+    """Adds the arguments that only `summary` has."""
     one.add_argument("--sort", choices=list(SORTS), help="the table's order: by the moment of the end, by name, or the "
                      "most attempts first; else that of the report")
-    one.add_argument("--one-line", action="store_true", help="no table, and the rest in one line")
+    one.add_argument("--one-line", action="store_true", help="only the figures below the table, in one line")
     one.add_argument("--within", metavar="TIME", type=_time,
                      help="say how many jobs succeeded or finished within this time, such as 5s, from their first attempt")
 
 
 def _add_load(one):
-    """The words of `load` alone."""
+    """Adds the arguments that only `load` has."""
     one.add_argument("--every", metavar="TIME", type=_step, default=load.SECOND,
                      help="the length of a step, such as 250ms, 1s or 5min (1s)")
-    one.add_argument("--title", default="", help="words above the picture")
+    one.add_argument("--title", default="", help="the text above the picture")
     form = one.add_mutually_exclusive_group()
     form.add_argument("--csv", action="store_true", help="comma-separated values, with moments in milliseconds")
     form.add_argument("--svg", action="store_true", help="a picture")
@@ -200,31 +199,31 @@ _ADDED = {"summary": _add_summary, "load": _add_load}
 
 
 def _add_view(one):
-    """The words of a picture's axis."""
+    """Adds the arguments of a picture's axis."""
     one.add_argument("--from", dest="first", metavar="TIME", type=_time, help="the first moment drawn, as 1.5s")
     one.add_argument("--to", dest="last", metavar="TIME", type=_time, help="the last moment drawn, as 2min")
-    one.add_argument("--log", action="store_true", help="a logarithmic axis: for times of which some are much longer")
+    one.add_argument("--log", action="store_true", help="a logarithmic axis, if some times are much longer than others")
 
 
 def _arguments():
-    """The words of the command line."""
+    """The parser of the command line."""
     form = argparse.RawDescriptionHelpFormatter
     parser = argparse.ArgumentParser(prog=TOOL, description=DESCRIPTION, epilog=EPILOG, formatter_class=form)
     release.add_version(parser)
     colors.add_color(parser)
     forms = parser.add_subparsers(required=True, metavar="FORM")
-    for name, work, told, short in [
+    for name, work, about, short in [
             ("lines", _lines, LINES, "JSON lines"),
             ("from-lines", _from_lines, FROM_LINES, "the report again, from JSON lines"),
             ("summary", _summary, SUMMARY, "a table with a line a job"),
             ("load", _load, LOAD, "a table with a line for each step of time"),
             ("svg", _svg, SVG, "a picture"),
             ("html", _html, HTML, "a page with the picture, that zooms")]:
-        one = forms.add_parser(name, description=told, epilog=EPILOG, formatter_class=form, help=short)
+        one = forms.add_parser(name, description=about, epilog=EPILOG, formatter_class=form, help=short)
         what = "JSON lines" if name == "from-lines" else "the report"
-        one.add_argument("file", metavar="FILE", nargs="?", help=f"{what}; standard input if there is none")
+        one.add_argument("file", metavar="FILE", nargs="?", help=f"{what}; standard input by default")
         if name in ["svg", "html"]:
-            one.add_argument("--title", default="", help="words above the picture")
+            one.add_argument("--title", default="", help="the text above the picture")
             one.add_argument("--job", metavar="NAME", action="append", default=[],
                              help="draw this job; may be repeated")
             one.add_argument("--sort", choices=list(_ROW_ORDERS), help="the order of the rows: by the moment of the end, "
@@ -241,7 +240,7 @@ def _arguments():
 
 def main():
     """The command line."""
-    # Nothing here refers to itself, and looking for what does takes a quarter of the time of short jobs.
+    # Nothing here has reference cycles, and the search for cycles takes a quarter of the time of short jobs.
     gc.disable()
     given = starting.parsed(_arguments())
     command.color(given.color)

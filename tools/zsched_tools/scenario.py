@@ -1,4 +1,5 @@
-"""A scenario: clients, a service whose state goes by the moment, and policies. Read from JSON; a fault has its place.
+"""A scenario: clients, a service whose state depends on the moment, and policies. It is read from JSON; a fault has its
+place.
 
 All moments and durations are milliseconds here; in the file they are whole numbers or texts such as "1.5s"."""
 import fractions
@@ -78,7 +79,7 @@ DEFAULTS = [Outcome(40, True, 200), Outcome(50, False, 503), Outcome(2000, True,
 
 
 def read_scenario(data):
-    """The scenario of a file's bytes. FaultAt says what is wrong with them, and where."""
+    """The scenario of a file's bytes. FaultAt has a fault and its place."""
     try:
         text = data.decode()
     except UnicodeDecodeError as bad:
@@ -91,7 +92,7 @@ def read_scenario(data):
 
 
 def _of_scenario(cause):
-    """A cause that speaks of plans, for a scenario."""
+    """A cause that mentions plans, in the words of scenarios."""
     what, help = (re.sub(r"\b(a|the|no) plan\b", r"\1 scenario", words)
                   for words in [cause.what, cause.help.removeprefix(not_json.FROM)])
     return cause._replace(what=what, help=help.replace(not_json.SKETCH, SKETCH))
@@ -111,7 +112,7 @@ def _members(node, where, known, needed):
         if known is not None and key not in known:
             _refuse(name, f'{where} has no key "{shown(key)}"', _key_help(key, known))
         if key in found:
-            _refuse(name, f'the key "{shown(key)}" is here twice', "leave one of them out")
+            _refuse(name, f'the key "{shown(key)}" is repeated', "remove one of them")
         found[key] = value
     for key in needed:
         if key not in found:
@@ -124,7 +125,7 @@ _SAMPLES = {"horizon": '"3min"', "clients": '{"number": 1000, "within": "1s"}', 
 
 
 def _key_help(key, known):
-    """What to write in place of an unknown key."""
+    """What to write instead of an unknown key."""
     if key in ("jobs", "workers", "grain", "ticks"):
         return "this is a key of a plan, which zsched runs; a scenario has clients, windows and policies"
     meant = near(key, known)
@@ -155,7 +156,7 @@ def _whole(node, what, least=0, most=2**64 - 1):
 
 
 def _word(node, what, words):
-    """One of some words."""
+    """A text that is one of some words."""
     found = node.string() if node.kind == "text" else None
     if found not in words:
         meant = near(found, words) if found else None
@@ -188,24 +189,24 @@ class _Reading:
         self._policies(parts["policies"])
 
     def _clients(self, node):
-        """How many clients there are, and when each comes."""
+        """The number of clients, and the moment at which each starts."""
         parts = _members(node, "clients", ["number", "within", "per_second", "start"], ["number"])
         number = _whole(parts["number"], "the number of clients", 1, MOST_CLIENTS)
         start = _time(parts["start"], "the start") if "start" in parts else 0
         if "within" in parts and "per_second" in parts:
-            _refuse(parts["per_second"], 'clients come "within" a time or so many "per_second", not both')
+            _refuse(parts["per_second"], 'clients start "within" a time or at a rate "per_second", not both')
         if "per_second" in parts:
             rate = _whole(parts["per_second"], "the clients per second", 1, MOST_CLIENTS)
             self.scenario.starts = [start + THOUSAND * it // rate for it in range(number)]
             self.scenario.coming = f"{rate:,} a second"
         else:
-            time = _time(parts["within"], "the time within which clients come") if "within" in parts else 0
+            time = _time(parts["within"], "the time within which clients start") if "within" in parts else 0
             self.scenario.starts = [start + time * it // number for it in range(number)]
             self.scenario.coming = f"within {duration(time)}" if time else "all at once"
 
     def _outcomes(self, node):
-        """How an attempt ends in each state of the service. A full service answers like one that is down, unless
-        "full" is given."""
+        """How an attempt ends in each state of the service. A full service returns the outcome of one that is down,
+        unless "full" is given."""
         parts = {} if node is None else _members(node, "outcomes", STATES, [])
         found = [self._outcome(parts[name], name) if name in parts else default
                  for name, default in zip(STATES, DEFAULTS)]
@@ -219,7 +220,7 @@ class _Reading:
             _refuse(node, 'an outcome has "ms" and one of "ok" and "err"', 'write {"ms": 50, "err": 503}')
         is_ok = "ok" in parts
         if name == "up" and not is_ok or name in ("down", "full") and is_ok:
-            _refuse(node, f'a service that is {name} answers with {"ok" if name == "up" else "err"}',
+            _refuse(node, f'a service that is {name} returns {"ok" if name == "up" else "err"}',
                     'a state in which it fails is "down"' if name == "up" else "")
         value = _whole(parts["ok" if is_ok else "err"], "a code")
         return Outcome(_whole(parts["ms"], "ms", 1, LAST_MOMENT), is_ok, value)
@@ -249,7 +250,7 @@ class _Reading:
         state = STATES.index(_word(parts["is"], '"is"', STATES[:FULL])) if "is" in parts else UP
         capacity = _whole(parts["capacity"], "the capacity", 1, MOST_CLIENTS) if "capacity" in parts else None
         if capacity is not None and state == DOWN:
-            _refuse(parts["capacity"], "a service that is down has no capacity", 'leave out "capacity", or "is"')
+            _refuse(parts["capacity"], "a service that is down has no capacity", 'remove "capacity", or "is"')
         return Window(begin, end, state, capacity)
 
     def _budget(self, node):
@@ -261,7 +262,7 @@ class _Reading:
         code = _whole(parts["err"], "err") if "err" in parts else 0
         if any(code == outcome.value for outcome in self.scenario.outcomes if not outcome.is_ok):
             _refuse(parts.get("err", node), f"{code} is an error code of the service too",
-                    'write "err": with another code, for clients that the budget lets retry no more')
+                    'write "err": with another code, for clients whose retries the budget rejects')
         retry = _thousandths(parts["retry"], "retry") if "retry" in parts else 5 * THOUSAND
         self.scenario.budget = Budget(like, _thousandths(parts["tokens"], "tokens"),
                                       _thousandths(parts["ok"], "ok") if "ok" in parts else default,
@@ -271,10 +272,10 @@ class _Reading:
         """The policies by name."""
         parts = _members(node, "policies", None, [])
         if not parts:
-            _refuse(node, "there is no policy", 'write {"NAME": "SCHEDULE"}, as {"backoff": "exponential(100)"}')
+            _refuse(node, "policies is empty", 'write {"NAME": "SCHEDULE"}, as {"backoff": "exponential(100)"}')
         for name, (key, value) in zip(parts, node.members()):
             if not re.fullmatch("[A-Za-z0-9_-][A-Za-z0-9._-]{0,63}", name):
-                _refuse(key, "a name has 1 to 64 letters, digits, - _ and .", "its files are named for it")
+                _refuse(key, "a name has 1 to 64 letters, digits, - _ and .", "the names of its files begin with it")
             if value.kind != "text":
                 _refuse(value, f"the policy {name} must be the text of a schedule", 'as "exponential(100)"')
             try:
@@ -284,6 +285,6 @@ class _Reading:
 
 
 def in_text(node, cause):
-    """A cause in what a text says as one in the document."""
+    """A cause in the content of a text, with its place in the document."""
     at = node.place_in(cause.at)
     return cause._replace(at=at, size=node.place_in(cause.at + cause.size) - at)

@@ -1,4 +1,4 @@
-"""Why a schedule that is spelled right is refused: it is too big, a factor or a window is 0, or it has no kind."""
+"""Why a schedule without faults of spelling is rejected: it is too big, a factor or a window is 0, or it has no kind."""
 from typing import NamedTuple
 
 from zsched_tools.cause import Cause
@@ -23,7 +23,7 @@ class NoKind(Exception):
 
 
 def pieces(text):
-    """The pieces of a schedule that is spelled right, in their order."""
+    """The pieces of a schedule without faults of spelling, in their order."""
     tokens = TOKEN.finditer(text)
     waiting = next(tokens, None)
     while waiting:
@@ -54,7 +54,7 @@ def cause_of(text, fault):
 
 
 def _zero(text, word, place, what, help):
-    """The cause of a 0 in this place of a leaf's arguments, or None."""
+    """The cause if the argument at this place of a leaf is 0, else None."""
     for piece in pieces(text):
         if piece.word == word and len(piece.arguments) > place and piece.arguments[place][0] == "0":
             return Cause(piece.arguments[place].start(), 1, what, help)
@@ -62,8 +62,8 @@ def _zero(text, word, place, what, help):
 
 
 def _too_big(text):
-    """The cause at the first piece by which the schedule passes its limits, or None. The parts so far wait in a list,
-    as pairs of depth and weight; each open parenthesis is one level and one part more."""
+    """The cause at the first piece at which the schedule exceeds its limits, or None. The parts so far are in a list, as
+    pairs of depth and weight; each open parenthesis adds one level and one part."""
     parts, opened = [], 0
     for piece in pieces(text):
         if piece.word in OPERATORS:
@@ -89,7 +89,7 @@ def _too_big(text):
 
 
 def _no_kind(text):
-    """The cause at the first pick or function that doesn't fit, or None. The kinds of the parts so far wait in a
+    """The cause at the first pick or function that doesn't fit, or None. The kinds of the parts so far are in a
     list."""
     kinds, operators = [], []
     try:
@@ -109,7 +109,7 @@ def _no_kind(text):
 
 
 def _behind(piece, kind):
-    """The kind of what a method answers on a schedule of a kind; raises NoKind."""
+    """The kind of a schedule of a kind with a method; raises NoKind."""
     if piece.word == "collectAll":
         return ("list", kind)
     first = piece.arguments[0][0]
@@ -126,16 +126,16 @@ def _refuse(piece, what, help):
 
 
 def _mapped(piece, function, kind):
-    """The kind of a function's answer; raises NoKind."""
+    """The kind of a function's result; raises NoKind."""
     if function in ("_1", "_2"):
         if kind[0] != "pair":
-            _refuse(piece, f"{function} of {_shown(kind)}", "pairs come of && and || alone")
+            _refuse(piece, f"{function} of {_shown(kind)}", "only && and || make pairs")
         return kind[int(function[1])]
     if function == "size" and kind[0] != "list":
-        _refuse(piece, f"the size of {_shown(kind)}", "lists come of collectAll alone")
+        _refuse(piece, f"the size of {_shown(kind)}", "only collectAll makes lists")
     if function == "merge":
         if kind[0] != "sum":
-            _refuse(piece, f"merge of {_shown(kind)}", "merge stands behind an andThenEither")
+            _refuse(piece, f"merge of {_shown(kind)}", "merge follows an andThenEither")
         if kind[1] != kind[2]:
             _refuse(piece, f"merge of {_shown(kind[1])} with {_shown(kind[2])}",
                     "map both sides of the andThenEither to one kind first, as by .map(_1)")
@@ -146,15 +146,15 @@ def _mapped(piece, function, kind):
 
 
 def _test(piece, pick, kind):
-    """A number is tested; raises NoKind."""
+    """Raises NoKind unless the tested part is a number."""
     if not pick and kind != NUMBER:
         _refuse(piece, f"{_shown(kind)} is compared with a number",
                 _path(kind, _written(piece).replace("(", "({} ")))
     if pick == "size" and kind[0] != "list":
-        _refuse(piece, f"the size of {_shown(kind)}", "lists come of collectAll alone")
+        _refuse(piece, f"the size of {_shown(kind)}", "only collectAll makes lists")
     if pick in ("_1", "_2"):
         if kind[0] != "pair":
-            _refuse(piece, f"{pick} of {_shown(kind)}", "pairs come of && and || alone")
+            _refuse(piece, f"{pick} of {_shown(kind)}", "only && and || make pairs")
         part = kind[int(pick[1])]
         if part != NUMBER:
             _refuse(piece, f"{pick} is {_shown(part)}, and is compared with a number",

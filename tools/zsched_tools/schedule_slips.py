@@ -1,4 +1,4 @@
-"""What other tools write in place of a schedule: templates, cron lines, arguments with names, exponents."""
+"""What other tools write instead of a schedule: templates, cron lines, arguments with names, exponents."""
 import re
 import unicodedata
 from fractions import Fraction
@@ -17,7 +17,7 @@ _LONGEST = 60
 
 
 def slip(spot, expected):
-    """The Cause of a slip at a Spot, which expects something, or None."""
+    """The Cause of a slip at a Spot, or None. `expected` is what has to follow there."""
     for look in (_template, _cron, _exponent, _duration, _named, _third_number, _deep_pick, _limit_of_time, _odd_mark):
         found = look(spot, expected)
         if found:
@@ -26,12 +26,12 @@ def slip(spot, expected):
 
 
 def _template(spot, _):
-    """A template that nothing filled in."""
+    """A template that wasn't filled in."""
     found = _TEMPLATE.match(spot.rest)
     if not found:
         return None
     return spot.cause(found.end(), "this template isn't filled in",
-                      "write the value here: zsched reads the plan as it is, and fills in nothing")
+                      "write the value here: zsched reads the plan as it is, and fills in no templates")
 
 
 def _cron(spot, _):
@@ -42,7 +42,7 @@ def _cron(spot, _):
     minutes = re.fullmatch(r"\*/([0-9]{1,4}) \* \* \* \*", text)
     period = int(minutes[1]) * 60000 if minutes else _PERIODS.get(text)
     written = f"write fixed({period})" if period else "write fixed(N) for each N milliseconds"
-    return spot.cause(len(spot.rest.rstrip()), "this is a line of cron, and there is no calendar here",
+    return spot.cause(len(spot.rest.rstrip()), "this is a line of cron, but a schedule has no calendar",
                       f"{written}; docs/RECIPES.md has \"On the hour\"")
 
 
@@ -52,12 +52,12 @@ def _exponent(spot, _):
     if not found or not spot.last().isdigit():
         return None
     value = Fraction(spot.last()[:19] + found[1]) * 10**int(found[2])
-    help = f"write {value}" if value.denominator == 1 and value < 2**64 else "write the number in digits alone"
+    help = f"write {value}" if value.denominator == 1 and value < 2**64 else "write the number with only digits"
     return spot.cause(found.end(), "a number has no exponent", help)
 
 
 def _duration(spot, expected):
-    """A duration of ISO 8601 in a number's place."""
+    """A duration of ISO 8601 instead of a number."""
     found = _ISO.match(spot.rest)
     if expected != "number" or not found or len(found[0]) < 3:
         return None
@@ -72,7 +72,7 @@ def _named(spot, expected):
     what = "a number has no name"
     leaf, given = (spot.last(2), []) if spot.last() == "(" else (spot.last(4), [spot.last(2)])
     if leaf not in NUMBERED_LEAVES:
-        return spot.cause(found.end(), what, f"write {found[2]} alone")
+        return spot.cause(found.end(), what, f"write only {found[2]}")
     if given and found[1].lower() in _CAPS:
         written = f"({leaf}({given[0]}) || spaced({found[2]}))"
         return spot.cause(found.end(), what, f"a cap is another schedule: write {written}")
@@ -102,7 +102,7 @@ def _deep_pick(spot, _):
 
 
 def _limit_of_time(spot, _):
-    """`upTo` of ZIO, whose schedule and time are there."""
+    """`upTo` of ZIO, with its schedule and time."""
     found = re.match(r"upTo *\(([^()]*)\)", spot.rest)
     before = spot.text[:spot.at].rstrip(" .")
     if not found or spot.last() != "." or before.count("(") != before.count(")") or len(before) > _LONGEST:
@@ -112,11 +112,11 @@ def _limit_of_time(spot, _):
         time = re.sub(r"\D*([0-9]+).*", r"\1", in_milliseconds(time))
     if not time.isdigit():
         return None
-    return spot.cause(len("upTo"), "there is no upTo", f"write ({before} && elapsed.whileOutput(< {time})).map(_1)")
+    return spot.cause(len("upTo"), "a schedule has no upTo", f"write ({before} && elapsed.whileOutput(< {time})).map(_1)")
 
 
 def _odd_mark(spot, _):
-    """A mark that ends or begins something elsewhere."""
+    """A mark that other languages use, as a semicolon."""
     letter = spot.rest[0]
     plain = unicodedata.normalize("NFKC", letter)
     if letter == ";":

@@ -1,5 +1,5 @@
-"""Why no schedule is spelled at a place of a text, in words. The program tells the place; what may stand there follows
-from the tokens before it."""
+"""Why a text is not a schedule, in words. The program reports the place; the tokens before it determine what is expected
+there."""
 import re
 from typing import NamedTuple
 
@@ -17,7 +17,7 @@ _TESTS = {"comparison": "a comparison and a number, as < 5", "pick": "a comparis
 
 
 class Spot(NamedTuple):
-    """A place of a text at which no spelling goes on, with the tokens before it and the text from it on."""
+    """A place of a text at which no schedule continues, with the tokens before it and the text from it on."""
     text: str
     at: int
     before: list
@@ -28,11 +28,11 @@ class Spot(NamedTuple):
         return Cause(self.at, size, what, help)
 
     def last(self, back=1):
-        """The last token before, or one further back; empty where there is none."""
+        """The last token before, or one further back; empty if it is missing."""
         return self.before[-back][0] if len(self.before) >= back else ""
 
     def token(self):
-        """The token that stands here; empty where none does."""
+        """The token here; empty if the text has no token here."""
         found = TOKEN.match(self.rest)
         return found[0] if found else ""
 
@@ -51,7 +51,7 @@ def cause_of(text, fault):
 
 
 def _no_term(spot):
-    """The cause of a place at which no spelling goes on."""
+    """The cause of a place at which no schedule continues."""
     if not spot.rest:
         return _ended(spot)
     expected = expectation(spot.before)
@@ -60,7 +60,7 @@ def _no_term(spot):
 
 
 def expectation(before):
-    """What has to follow on these tokens: 'schedule', 'more' (after a whole one), 'method', 'open' or 'close' (of
+    """What must follow these tokens: 'schedule', 'more' (after a whole one), 'method', 'open' or 'close' (of
     parentheses), 'second' (a comma or the end of the arguments), or an argument: 'number', 'comparison', 'pick' (or a
     comparison), 'function'."""
     spot = Spot("", 0, before, "")
@@ -82,8 +82,8 @@ def expectation(before):
 
 
 def innermost(before):
-    """The innermost pair of parentheses that is still open, around whole schedules: its token and its operator, or None
-    for each that isn't there."""
+    """The innermost pair of parentheses that is still open, around whole schedules: its token and its operator, each None
+    if it is missing."""
     depth, operator = 0, None
     for token in reversed(before):
         depth += (token[0] == ")") - (token[0] == "(")
@@ -95,30 +95,30 @@ def innermost(before):
 
 
 def _open_count(spot):
-    """How many parentheses are open."""
+    """The number of open parentheses."""
     return spot.text.count("(", 0, spot.at) - spot.text.count(")", 0, spot.at)
 
 
 def _ended(spot):
-    """The text ends, and no schedule does."""
+    """The text ends within a schedule."""
     expected, count = expectation(spot.before), _open_count(spot)
     if not spot.before:
-        return spot.cause(0, "there is no schedule here", 'write one, as "recurs(3)"')
+        return spot.cause(0, "the schedule is empty", 'write one, as "recurs(3)"')
     opened, operator = innermost(spot.before)
     if expected == "more" and opened and not operator:
-        return spot.cause(0, "the schedule ends here, too soon",
-                          f"the ( at character {opened.start() + 1} has no operator: write (A && B), or leave it out")
+        return spot.cause(0, "the schedule ends too early",
+                          f"the ( at character {opened.start() + 1} has no operator: write (A && B), or remove it")
     if expected in ("close", "second") or expected == "more":
         many = ") is" if count == 1 else f"{count} ) are"
-        return spot.cause(0, "the schedule ends here, too soon", f"{many} missing")
+        return spot.cause(0, "the schedule ends too early", f"{many} missing")
     wanted = {"schedule": "a schedule is", "method": f"a method ({', '.join(METHODS)}) is", "open": "a ( is",
               "number": "a number is", "function": f"a function ({_FUNCTIONS}) is"}
     missing = wanted.get(expected, "a comparison and a number are")
-    return spot.cause(0, "the schedule ends here, too soon", f"{missing} missing")
+    return spot.cause(0, "the schedule ends too early", f"{missing} missing")
 
 
 def _after_number(spot):
-    """The cause of what stands right behind a number, as a unit or a point, else None."""
+    """The cause of a unit, a point or digits directly after a number, else None."""
     count = spot.last()
     if not count.isdigit():
         return None
@@ -130,7 +130,7 @@ def _after_number(spot):
         return _fraction(spot, count + fraction[0], fraction.end())
     digits = re.match(r"[_' ]?[0-9][0-9_']*", spot.rest)
     if digits:
-        return spot.cause(digits.end(), "a number is written in digits alone",
+        return spot.cause(digits.end(), "a number has only digits",
                           f"write {shown(re.sub('[^0-9]', '', count + digits[0]))}")
     return None
 
@@ -141,28 +141,28 @@ def _fraction(spot, number, size):
     if unit and unit[1].lower() in UNITS:
         return spot.cause(size + unit.end(), "a number has no point and no unit", in_milliseconds(number + unit[1]))
     if spot.last(2) == "," and spot.last(4) == "(":
-        return spot.cause(size, "a factor is a whole number", "write 2, or take linear or fibonacci, which grow slower")
+        return spot.cause(size, "a factor is a whole number", "write 2, or use linear or fibonacci, which grow slower")
     if number.endswith((".0", ".00")):
         return spot.cause(size, "a number has no point", f"write {shown(number.split('.')[0])}")
     return spot.cause(size, "a number has no point", "times are whole milliseconds: write 1500 for 1.5 seconds")
 
 
 def _in_scala(spot, expected):
-    """The cause of an argument in Scala's words, as _ < 5 or x => x + 1, else None."""
+    """The cause of an argument in Scala's syntax, as _ < 5 or x => x + 1, else None."""
     if expected not in ("comparison", "pick", "function"):
         return None
     part = re.match(r"(?:\w+ *=> *)?\w+\._([12])", spot.rest)
     if part:
-        return spot.cause(part.end(), "a function or test has no argument of its own", f"write _{part[1]} alone")
+        return spot.cause(part.end(), "a function or test has no named argument", f"write only _{part[1]}")
     found = re.match(r"\w+ *=> *(?:\w+ *)?|_ *(?![0-9])", spot.rest)
     if not found:
         return None
-    help = "write + 1, * 2 or as 0 alone" if expected == "function" else "write the comparison alone, as < 5"
-    return spot.cause(found.end(), "a function or test has no argument of its own", help)
+    help = "write only + 1, * 2 or as 0" if expected == "function" else "write only the comparison, as < 5"
+    return spot.cause(found.end(), "a function or test has no named argument", help)
 
 
 def _foreign(spot):
-    """The cause of a symbol or a name that no schedule has, else None."""
+    """The cause of a symbol or a name that isn't one of schedules, else None."""
     rest, token = spot.rest, spot.token()
     doubled = spot.last() + rest[0]
     if spot.last() in COMPARISONS and doubled in SYMBOLS:
@@ -177,20 +177,20 @@ def _foreign(spot):
 
 
 def _odd_letter(spot):
-    """The cause of a letter that no token begins with, else None."""
+    """The cause of a letter that can't begin a token, else None."""
     letter = spot.rest[0]
     if spot.token() or letter.isdigit() and letter.isascii():
         return None
     if letter in _NO_SPACE or letter.isspace():
         what = _NO_SPACE.get(letter, f"the character U+{ord(letter):04X}")
-        return spot.cause(1, f"{what} stands between the tokens", "write spaces alone")
+        return spot.cause(1, f"{what} between the tokens", "write only spaces")
     if letter == "-":
-        help = "there are no negative numbers, and map has + N and * N alone"
-        return spot.cause(1, "there is no minus", help)
+        help = "there are no negative numbers, and map has only + N and * N"
+        return spot.cause(1, "a schedule has no minus", help)
     if letter in "\"'`“”":
         return spot.cause(1, "a schedule has no quotes", "write numbers and words as they are")
     if letter in "/%":
-        return spot.cause(1, f"there is no {letter}", "map has + N and * N alone")
+        return spot.cause(1, f"there is no {letter}", "map has only + N and * N")
     if letter in "[{":
         return spot.cause(1, f"a schedule has no {letter}", "write ( )")
     if letter == "_":
@@ -199,36 +199,36 @@ def _odd_letter(spot):
 
 
 def _misspelled(spot, words):
-    """The cause of a word that no schedule has, else None."""
+    """The cause of a word that isn't one of schedules, else None."""
     word = spot.token()
     if not word.isalpha() or word in _WORDS:
         return None
     meant = near(word, words) or near(word, _WORDS)
     return spot.cause(len(word), f"there is no {shown(word)}",
-                      f"did you mean {meant}?" if meant else f"{', '.join(words[:-1])} or {words[-1]} may stand here")
+                      f"did you mean {meant}?" if meant else f"{', '.join(words[:-1])} or {words[-1]} is expected")
 
 
 def _no_schedule(spot):
-    """Something else stands where a schedule has to begin."""
+    """A schedule is expected, but something else is here."""
     token = spot.token()
     if token in METHODS:
         return spot.cause(len(token), f"{token} follows a schedule", f"write S.{token}..")
     if spot.rest[0].isdigit():
         number = re.match(r"[0-9]+", spot.rest)[0]
-        return spot.cause(len(number), "a number alone is no schedule", f"write recurs({number}) or spaced({number})")
+        return spot.cause(len(number), "a number is not a schedule", f"write recurs({number}) or spaced({number})")
     if token == ")" and spot.last() == "(":
-        return spot.cause(1, "there is no schedule in these parentheses", "write (A && B)")
+        return spot.cause(1, "these parentheses contain no schedule", "write (A && B)")
     if token:
         return _misspelled(spot, LEAVES) or spot.cause(len(token), f"a schedule is missing before this {token}")
     return spot.cause(1, "no schedule begins like this")
 
 
 def _no_more(spot):
-    """Something else than a method, an operator or a closing parenthesis stands behind a schedule."""
+    """A schedule is followed by something other than a method, an operator or a closing parenthesis."""
     token, last = spot.token(), spot.last()
     opened, operator = innermost(spot.before)
     if token == "(" and last in BARE_LEAVES + ["collectAll"]:
-        return spot.cause(1, f"{last} takes nothing in parentheses", f"write {last} alone")
+        return spot.cause(1, f"{last} has no parentheses", f"write only {last}")
     if token in OPERATORS:
         return _second_operator(spot, token, opened, operator)
     if token == ")":
@@ -241,53 +241,53 @@ def _no_more(spot):
     if token == ",":
         return spot.cause(1, "a comma joins no schedules", "write (A && B), (A || B) or (A andThenEither B)")
     if token in COMPARISONS:
-        return spot.cause(len(token), "a comparison stands in a method", f"write .whileOutput({token} 5)")
+        return spot.cause(len(token), "a comparison belongs in a method", f"write .whileOutput({token} 5)")
     if token in ("+", "*"):
-        return spot.cause(1, "a function stands in map", f"write .map({token} 2)")
+        return spot.cause(1, "a function belongs in map", f"write .map({token} 2)")
     return _misspelled(spot, OPERATORS) or spot.cause(max(1, len(token)), "the schedule has ended, and more follows")
 
 
 def _second_operator(spot, token, opened, operator):
-    """An operator stands outside of parentheses, or beside another one."""
+    """An operator is outside of parentheses, or next to another one."""
     if not opened and _open_count(spot) <= 0:
         text = spot.text.strip()
         alone = sum(spot.text.count(operator) for operator in OPERATORS) == 1
         if text.endswith(")") and text.count(")") > text.count("("):
-            return spot.cause(len(token), f"this {token} stands in no parentheses", "a ( is missing at the beginning")
+            return spot.cause(len(token), f"this {token} is outside of parentheses", "a ( is missing at the beginning")
         whole = f"{text} B" if text.endswith(token) else text
         help = f"write ({whole})" if alone and len(text) < 60 else "write ((A && B) && C), with ( ) for each operator"
-        return spot.cause(len(token), f"this {token} stands in no parentheses", help)
+        return spot.cause(len(token), f"this {token} is outside of parentheses", help)
     left = spot.text[opened.start():spot.at].strip() if opened else ""
     help = f"write ({left}) {token} ..)" if 0 < len(left) < 60 else "write ((A && B) && C)"
-    return spot.cause(len(token), f"a second operator, behind {operator}, in one pair of parentheses", help)
+    return spot.cause(len(token), f"a second operator, after {operator}, in one pair of parentheses", help)
 
 
 def _needless_close(spot, opened):
     """A parenthesis closes nothing, or a pair of them has no operator."""
     if not opened:
-        return spot.cause(1, "this ) closes nothing", "take it out")
+        return spot.cause(1, "this ) closes nothing", "remove it")
     inside = spot.text[opened.start() + 1:spot.at].strip()
-    help = f"write {inside}" if len(inside) < 60 else "leave them out"
-    return spot.cause(1, "parentheses stand around an operator alone, and these have none", help)
+    help = f"write {inside}" if len(inside) < 60 else "remove them"
+    return spot.cause(1, "these parentheses have no operator, and only an operator has parentheses", help)
 
 
 def _no_method(spot):
     """No method follows a point."""
     token = spot.token()
     if token == "forever":
-        return spot.cause(len(token), "forever is no method",
-                          "write (S && forever).resetWhen(_2 = K).map(_1) where S goes on K times")
+        return spot.cause(len(token), "forever is not a method",
+                          "write (S && forever).resetWhen(_2 = K).map(_1), if S continues K times")
     if token in LEAVES:
         leaf = token if token in BARE_LEAVES else f"{token}(N)"
-        return spot.cause(len(token), f"{token} is no method", f"write (S && {leaf}) or (S || {leaf})")
+        return spot.cause(len(token), f"{token} is not a method", f"write (S && {leaf}) or (S || {leaf})")
     if token in OPERATORS:
-        return spot.cause(len(token), f"{token} is no method", f"write (A {token} B)")
-    return _misspelled(spot, METHODS) or spot.cause(max(1, len(token)), "a method is missing behind the point",
+        return spot.cause(len(token), f"{token} is not a method", f"write (A {token} B)")
+    return _misspelled(spot, METHODS) or spot.cause(max(1, len(token)), "a method is missing after the point",
                                                     f"{', '.join(METHODS)} are the methods")
 
 
 def _no_open(spot):
-    """No parenthesis follows on a word that needs one."""
+    """No parenthesis follows a word that needs one."""
     word = spot.last()
     examples = {"map": "map(+ 1)", "exponential": "exponential(100)"}
     example = examples.get(word, f"{word}(< 5)" if word in METHODS else f"{word}(3)")
@@ -295,34 +295,34 @@ def _no_open(spot):
 
 
 def _no_number(spot):
-    """No number stands where one has to."""
+    """A number is expected, but it is missing."""
     token = spot.token()
     zeros = re.match(r"0[0-9]+", spot.rest)
     if zeros:
-        return spot.cause(zeros.end(), "a number may not begin with 0", f"write {shown(zeros[0].lstrip('0') or '0')}")
+        return spot.cause(zeros.end(), "a number can't begin with 0", f"write {shown(zeros[0].lstrip('0') or '0')}")
     if token == ")":
         word = spot.last(2) if spot.last(2) in NUMBERED_LEAVES else ""
         help = f"write {word}(3)" if word else "write a whole number"
         return spot.cause(1, "a number is missing before this )", help)
-    return spot.cause(max(1, len(token)), "a number is missing here", "write a whole number, in digits alone")
+    return spot.cause(max(1, len(token)), "a number is missing here", "write a whole number, with only digits")
 
 
 def _no_test(spot, expected):
-    """No comparison stands where one has to."""
+    """A comparison is expected, but it is missing."""
     token = spot.token()
     if token.isdigit():
         return spot.cause(len(token), "a comparison is missing before this number", f"write = {token}, < {token} ..")
     if expected == "comparison" and token in ("_1", "_2", "size") and spot.last() == "(":
-        return spot.cause(len(token), "the input is a number, and has no parts", "write the comparison alone, as < 5")
+        return spot.cause(len(token), "the input is a number without parts", "write only the comparison, as < 5")
     help = f"the comparisons are {', '.join(COMPARISONS)}"
     return spot.cause(max(1, len(token)), f"{_TESTS[expected]}, is missing here", help)
 
 
 def _no_function(spot):
-    """No function stands where one has to."""
+    """A function is expected, but it is missing."""
     token = spot.token()
     if token.isdigit():
-        return spot.cause(len(token), "a number alone is no function", f"write as {token}, + {token} or * {token}")
+        return spot.cause(len(token), "a number is not a function", f"write as {token}, + {token} or * {token}")
     other = spot.cause(max(1, len(token)), "map takes a function", f"write {_FUNCTIONS}")
     return _misspelled(spot, ["size", "merge"]) or other
 
@@ -348,7 +348,7 @@ def _no_close(spot):
         groups = re.match(r"(?:,[0-9]{3})+(?![0-9])", spot.rest)
         written = shown(spot.last() + groups[0].replace(",", "")) if groups else ")"
         return spot.cause(1, f"{word} takes one number",
-                          f"write {written}: exponential alone takes a second one, its factor")
+                          f"write {written}: only exponential takes a second one, its factor")
     return spot.cause(max(1, len(token)), "a ) is missing here", "write )")
 
 

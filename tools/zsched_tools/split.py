@@ -1,8 +1,8 @@
 """Cuts a plan by its jobs into plans of at most n jobs, in order, with a manifest of them.
 
-The document around the jobs, and each job, stand in a part as they were written. The parts are made in a folder of
-another name, which gets its own when the whole plan is known to be good. Besides the document around the jobs, few jobs
-are in memory at a time."""
+A part has the document around the jobs, and its jobs, as they were written. The parts are made in a folder with another
+name, which is renamed after the whole plan was checked. In memory are only the document around the jobs and a few
+jobs."""
 import hashlib
 import os
 import pathlib
@@ -20,7 +20,7 @@ PIECE = 2**16
 
 
 class Sums:
-    """What a manifest says of a part, as far as it was written."""
+    """The entry of a manifest for a part, as far as the part was written."""
 
     def __init__(self):
         self.length = self.jobs = 0
@@ -44,14 +44,14 @@ class Parts:
     def begin(self, before):
         """Begins the next part."""
         if len(self.sums) == MOST_PARTS:
-            raise Refused(f"the plan has more than {MOST_PARTS} parts: take a greater N")
+            raise Refused(f"the plan has more than {MOST_PARTS} parts: use a greater N")
         self.end()
         self.sums.append(Sums())
         self.file = open(self._path(len(self.sums)), "wb")
         self.texts.append(before)
 
     def add(self, before, texts, names):
-        """Some jobs more, in the last part and in new ones."""
+        """Adds some jobs to the last part and to new ones."""
         while texts:
             room = self.most - self.jobs % self.most
             if room == self.most:
@@ -68,14 +68,14 @@ class Parts:
             texts, names = texts[room:], names[room:]
 
     def _write(self):
-        """Writes the jobs that wait for it."""
+        """Writes the waiting jobs."""
         sums, data = self.sums[-1], "".join(self.texts).encode("latin-1")
         self.file.write(data)
         sums.length += len(data)
         sums.jobs += len(self.names)
         sums.plan.update(data)
         self.known.add_each(self.names)
-        # A name may have letters that a plan's reader rejects later; it has to come through.
+        # A name may have letters that a plan's reader rejects later; here they must not fail.
         sums.names.update("".join(f"{name}\n" for name in self.names).encode("utf-8", "surrogatepass"))
         if self.progress is not None:
             self.progress.add(len(self.names))
@@ -89,19 +89,19 @@ class Parts:
             self.file = None
 
     def drop(self):
-        """Closes the last part's file without what waits."""
+        """Closes the last part's file, and drops the waiting jobs."""
         if self.file is not None:
             self.file.close()
             self.file = None
 
     def close(self, after):
-        """Writes what is after the jobs to each part, and the manifest."""
+        """Writes the text after the jobs to each part, and writes the manifest."""
         self.end()
         text, entries = after.encode("latin-1"), []
         for number, sums in enumerate(self.sums, 1):
             if sums.length + len(text) > LONGEST_PLAN:
                 raise Refused(f"part {number} has {sums.length + len(text)} bytes, and a plan has at most {LONGEST_PLAN}: "
-                              "take a smaller N")
+                              "use a smaller N")
             with open(self._path(number), "ab") as file:
                 file.write(text)
             sums.plan.update(text)
@@ -131,20 +131,20 @@ def _write_parts(path, form, parts):
     repeated = first_repeat(repeats, _named(path, form)) if repeats else None
     if repeated is not None:
         name, first, second = repeated
-        raise Refused(f"line {second}: the name {name} stands in the job on line {first} too")
+        raise Refused(f"line {second}: the job on line {first} has the name {name} too")
 
 
 def write_parts(path, is_lines, most, folder, progress=None):
-    """Makes a folder with the parts of a plan, and answers how many parts and jobs there are. Where the plan is
-    refused, no folder is made."""
+    """Makes a folder with the parts of a plan, and returns the number of parts and jobs. If the plan is rejected,
+    no folder is made."""
     folder = pathlib.Path(folder)
     if folder.exists() and (not folder.is_dir() or any(folder.iterdir())):
-        raise Refused(f"{folder}: is there, and isn't an empty folder")
+        raise Refused(f"{folder}: exists, and isn't an empty folder")
     if not os.path.isfile(path) and os.path.exists(path):
-        raise Refused(f"{path}: is no regular file, and a plan may be read twice")
+        raise Refused(f"{path}: is not a regular file, and a plan may be read twice")
     making = folder.with_name(folder.name + ".partial")
     if making.exists():
-        raise Refused(f"{making}: is there; another split makes it, or one was broken off: then remove it")
+        raise Refused(f"{making}: exists: another split writes it, or an interrupted one left it (then remove it)")
     making.mkdir()
     parts = Parts(making, most, progress)
     try:

@@ -1,4 +1,4 @@
-"""How a tool starts and ends: the Python that it needs, its exit status, and a reader of its output that goes away.
+"""How a tool starts and ends: the Python that it needs, its exit status, and a reader of its output that closes it.
 
 A Python older than the tools need must be able to read this file."""
 import contextlib
@@ -11,7 +11,7 @@ LEAST = (3, 11)
 
 
 def old_python(tool, version=None):
-    """The line that says that this Python is too old for the tools, or None."""
+    """The message if this Python is too old for the tools, else None."""
     version = version or sys.version_info
     if tuple(version[:2]) >= LEAST:
         return None
@@ -27,7 +27,7 @@ def require_python(tool):
 
 
 def parsed(parser, words=None):
-    """What a parser makes of the command line. Help and version are written as in `run`, and end the process."""
+    """The parsed command line. Help and version are written as in `run`, and end the process."""
     shown = io.StringIO()
     try:
         with contextlib.redirect_stdout(shown):
@@ -40,7 +40,7 @@ def parsed(parser, words=None):
 
 def run(tool, work):
     """Does a command's work and returns its exit status: that of the work (None is 0), or that of `command.run` if the
-    work raises. If the reader of standard output goes away, the process ends as `yes` does, by SIGPIPE."""
+    work raises. If the reader of standard output closes it, the process ends by SIGPIPE, as `yes` does."""
     from zsched_tools import command
     status = []
 
@@ -54,7 +54,7 @@ def run(tool, work):
 
 
 def end_by_pipe():
-    """Ends this process by SIGPIPE, without a word."""
+    """Ends this process by SIGPIPE, without a message."""
     sys.stderr.flush()
     os.dup2(os.open(os.devnull, os.O_WRONLY), sys.stdout.fileno())
     signal.signal(signal.SIGPIPE, signal.SIG_DFL)

@@ -18,12 +18,12 @@ from zsched_tools.trying import MOST_AFTER, plan_of, tried_in
 
 TOOL = "zsched-try"
 EXCEEDED = 1
-# With this status the program says that it is out of memory, or of threads.
+# The program's status if it is out of memory or of threads.
 NO_MEMORY = 4
 LAST_MOMENT = 999_999_999_999_999
 DESCRIPTION = """Runs policies from the command line, all on the same attempts, and prints a line for each: how it ends,
-after how many attempts and when, and how long it waits. Below it, if zsched-bounds is there, a line says what the policy
-does for every input and every duration of attempts, until it gives up. That is proved.
+after how many attempts and when, and how long it waits. If zsched-bounds is there, a second line says what the policy
+does for every input and every duration of attempts, until it gives up. That line is proved.
 
   $ zsched-try '(exponential(100) && recurs(5))'
   failed 503 after 6 attempts, 3.34 s (waited 3.1 s, longest wait 1.6 s)
@@ -33,19 +33,19 @@ does for every input and every duration of attempts, until it gives up. That is 
   zsched-try "$POLICY" --max-wait 30s --max-total 2min
   zsched-try "$POLICY" --require-most 10 --require-total 30s
 
-Each attempt ends as --fails says. With --after N only the first N do, and the others end as --then says. A duration
-is a number of milliseconds, or has a unit: 40, 40ms, 1.5s, 2min, 1h30m, 1d. docs/RECIPES.md has policies for many
-tasks."""
+Each attempt ends as --fails says. With --after N this holds only for the first N, and the others end as --then says. A
+duration is a number of milliseconds, or has a unit: 40, 40ms, 1.5s, 2min, 1h30m, 1d. docs/RECIPES.md has policies for
+many tasks."""
 EPILOG = """A policy that is unfinished at --until has neither an end nor a last attempt, so it exceeds every --max-total
-and --max-attempts. Its waits count up to there. --max-.. are limits of this run, --require-.. of every run.
+and --max-attempts. Its waits count up to --until. --max-.. are limits of this run, --require-.. of every run.
 
-Exit status: 0; 1 if a policy exceeds a bound, or if a required one isn't proved (it is named on standard error); 2 if a
-policy or a word is wrong, with a caret below its place, or if --require-.. finds no zsched-bounds; 3 if a program or
-writing fails."""
+Exit status: 0; 1 if a policy exceeds a bound, or if a required bound isn't proved (standard error names it); 2 if a
+policy or an argument is wrong, with a caret below its place, or if --require-.. is given without zsched-bounds; 3 if a
+program or writing fails."""
 
 
 def _time(least):
-    """A reader of durations of at least so many milliseconds."""
+    """A parser of durations of at least `least` milliseconds."""
     def read(word):
         try:
             found = milliseconds(word)
@@ -76,7 +76,7 @@ def _count(most):
 
 
 def _entries(given):
-    """The entries of the script that all policies get."""
+    """The entries of the script of all policies."""
     usual = (40, "err", 503) if given.mode == "retry" else (40, "ok", 200)
     first = given.fails or usual
     if given.after is None:
@@ -115,7 +115,7 @@ def _not_proved(given, bounds):
 
 
 def _bounds(given):
-    """What the policies do for every input, or nothing of each if the program for it isn't there and isn't required."""
+    """The bounds of the policies for every input; None for each if zsched-bounds isn't found and isn't required."""
     try:
         path = program.find_bounds(given.bounds)
     except program.NoProgram as missing:
@@ -124,12 +124,12 @@ def _bounds(given):
         return bounding.run(path, given.policies)
     if [given.require_most, given.require_wait, given.require_total] != [None] * 3:
         raise Refused("--require-most, --require-wait and --require-total need zsched-bounds, which is neither built nor "
-                      "installed; --bounds PATH or ZSCHED_BOUNDS names it")
+                      "installed; set --bounds PATH or ZSCHED_BOUNDS")
     return [None] * len(given.policies)
 
 
 def _wrong(given, line):
-    """Shows the fault of a policy, of which the program wrote this line; returns the status."""
+    """Shows the fault of a policy in this line of the program; returns the status."""
     place = re.fullmatch(r"zsched: job (\d+): schedule: (.+)", line)
     if place is None:
         raise Refused(line.removeprefix("zsched: "))
@@ -137,8 +137,8 @@ def _wrong(given, line):
     text = given.policies[number]
     cause = schedule_text.cause_of(text, fault) or schedule_rules.cause_of(text, fault)
     cause = cause or Cause(0, len(text), f"the fault is in this schedule: {fault}")
-    where = f"policy {number + 1}, " if len(given.policies) > 1 else ""
-    place = f"{TOOL}: {where}byte {len(text[:cause.at].encode())}"
+    policy_text = f"policy {number + 1}, " if len(given.policies) > 1 else ""
+    place = f"{TOOL}: {policy_text}byte {len(text[:cause.at].encode())}"
     for shown in place_lines(place, text, cause, Paint(given.color, sys.stderr)):
         print(shown, file=sys.stderr)
     return REFUSED
@@ -166,12 +166,12 @@ def _print_all(given, report, all_bounds):
 
 
 def work(given):
-    """Does what the words ask for; returns the exit status."""
+    """Runs the command with its arguments; returns the exit status."""
     for number, policy in enumerate(given.policies, 1):
         try:
             policy.encode()
         except UnicodeEncodeError:
-            raise Refused(f"policy {number} is no UTF-8") from None
+            raise Refused(f"policy {number} is not UTF-8") from None
     plan = plan_of(given.policies, given.mode, given.until, _entries(given))
     if given.plan:
         print(plan, end="")
@@ -190,7 +190,7 @@ def work(given):
 
 
 def arguments():
-    """The words of the command line."""
+    """The parser of the command line."""
     form = argparse.RawDescriptionHelpFormatter
     parser = argparse.ArgumentParser(prog=TOOL, description=DESCRIPTION, epilog=EPILOG, formatter_class=form)
     parser.add_argument("policies", metavar="POLICY", nargs="+", help="a schedule")
@@ -198,7 +198,7 @@ def arguments():
                         help="runs again after each error (retry, the default) or after each success (repeat)")
     parser.add_argument("--fails", type=_entry, metavar="ATTEMPT",
                         help="each attempt: '40 err 503', under repeat '40 ok 200'")
-    parser.add_argument("--after", type=_count(MOST_AFTER), metavar="N", help="only the first N attempts end so")
+    parser.add_argument("--after", type=_count(MOST_AFTER), metavar="N", help="how many attempts end as --fails says")
     parser.add_argument("--then", type=_entry, metavar="ATTEMPT", help="each attempt after these: '35 ok 200'")
     parser.add_argument("--until", type=_time(0), default=_time(0)("1d"), metavar="TIME", help="the horizon: 1d")
     parser.add_argument("--max-total", type=_time(0), metavar="TIME", help="the latest end")
@@ -210,7 +210,7 @@ def arguments():
     printed = parser.add_mutually_exclusive_group()
     printed.add_argument("--plan", action="store_true", help="print the plan, and run nothing")
     printed.add_argument("--svg", action="store_true", help="print the picture")
-    parser.add_argument("--title", default="", help="words above the picture")
+    parser.add_argument("--title", default="", help="the text above the picture")
     parser.add_argument("--zsched", metavar="PATH", help="the program (ZSCHED, the built or the installed one)")
     parser.add_argument("--bounds", metavar="PATH", help="zsched-bounds (ZSCHED_BOUNDS, the built or installed one)")
     add_color(parser)

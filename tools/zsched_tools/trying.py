@@ -1,4 +1,4 @@
-"""Policies from the command line as one plan, and what its report says of each in one line."""
+"""Policies from the command line as one plan, and the result of each in one line."""
 import json
 import re
 from dataclasses import dataclass
@@ -35,8 +35,8 @@ def plan_of(policies, mode, horizon, entries):
 
 @dataclass
 class Tried:
-    """What a report says of a policy: its ending with the result, its end, its attempts, and its waits in all and the
-    longest. What goes on at the horizon counts up to it."""
+    """The result of a policy in a report: its ending with the value, its end, its attempts, the sum of its waits and the
+    longest. An attempt or a wait that continues at the horizon counts up to it."""
     how: str
     result: str
     at: int
@@ -45,14 +45,14 @@ class Tried:
     longest: int
 
     def line(self):
-        """All of it in one line."""
+        """The result in one line."""
         ending = f"{self.how} {self.result}".strip()
         return (f"{ending} after {plural(self.attempts, 'attempt')}, {duration(self.at)} "
                 f"(waited {duration(self.waited)}, longest wait {duration(self.longest)})")
 
 
 def tried_in(report):
-    """What a report's bytes say of each job."""
+    """The result of each job in a report's bytes."""
     for block in report.split(b"\njob "):
         end = _END.search(block, block.rfind(b"\nend "))
         how, result, at = end[1].decode(), (end[2] or b"").decode(), int(end[3])

@@ -12,7 +12,7 @@ _A = {"object": "an object", "list": "a list", "text": "a text", "number": "a nu
 _OWNERS = [("the plan", DOCUMENT_KEYS), ("a job", JOB_KEYS), ("an entry of a script", ENTRY_KEYS)]
 _SAMPLES = {"horizon": "60000", "jobs": "[ .. ]", "name": '"poll-queue"', "mode": '"retry"', "schedule": '"recurs(3)"',
             "script": '[{"ms": 5, "ok": 1}]', "ms": "5"}
-# Keys that others use for what these say.
+# Keys of other tools with the meaning of these.
 _ALIASES = {
     "horizon": ["until", "end", "limit", "duration", "timeout", "length", "time"],
     "ticks": ["moments", "times", "clock"],
@@ -31,17 +31,17 @@ _ALIASES = {
 
 
 def over(node, what, help=""):
-    """A cause that lies over a whole value."""
+    """A cause whose place is a whole value."""
     return Cause(node.at, node.end - node.at if node.kind not in ("object", "list") else 1, what, help)
 
 
 def not_of_kind(node, kind, what, help=""):
-    """The cause where a value isn't of its kind, else None."""
-    return None if node.kind == kind else over(node, f"{what} is {_A[node.kind]}, and has to be {_A[kind]}", help)
+    """The cause if a value isn't of the kind, else None."""
+    return None if node.kind == kind else over(node, f"{what} is {_A[node.kind]}, but must be {_A[kind]}", help)
 
 
 def meant_for(key, known):
-    """The key of these that was meant by another one, perhaps."""
+    """The known key that another key may mean, or None."""
     if len(key) > 40:
         return None
     plain = key.lower()
@@ -52,13 +52,13 @@ def meant_for(key, known):
 
 
 def missing(node, key, where, known):
-    """The cause where an object lacks a key."""
+    """The cause if an object lacks a key."""
     absent = Cause(node.at, 1, f'{where} has no "{key}"', f'write "{key}": {_SAMPLES[key]}')
     return misnamed(node, key, where, known) or absent
 
 
 def misnamed(node, key, where, known):
-    """The cause at another key that was meant for this one, which the object lacks; None where none is there."""
+    """The cause at a key of the object that may mean this missing key, or None."""
     for name, _ in node.members():
         said = name.string()
         if said not in known and meant_for(said, [key]):
@@ -67,7 +67,7 @@ def misnamed(node, key, where, known):
 
 
 def unknown_key(node, where, known):
-    """The cause of the first key of an object that isn't one of these, or None."""
+    """The cause of the first unknown key of an object, or None."""
     for name, _ in node.members():
         said = name.string()
         if said not in known:
@@ -79,7 +79,7 @@ def _key_help(said, where, known):
     """What was meant by an unknown key."""
     for owner, keys in _OWNERS:
         if said in keys:
-            return f'"{said}" stands in {owner}'
+            return f'"{said}" is a key of {owner}'
     meant = meant_for(said, known)
     if meant:
         return f'did you mean "{meant}"?'
@@ -87,11 +87,11 @@ def _key_help(said, where, known):
         return "a schedule counts: recurs(N), joined by && to the one that waits"
     if said.startswith(("//", "#", "_", "$")) or said.lower() in ("comment", "description", "note"):
         return "leave it out: a plan has no comments"
-    return f"{where} takes {listed(known)}; leave this one out"
+    return f"{where} takes {listed(known)}; remove this one"
 
 
 def not_whole(node, key):
-    """The cause where the value of a key is no whole number, else None."""
+    """The cause if the value of a key isn't a whole number, else None."""
     if node.whole() is not None:
         return None
     subject = "this tick" if key == "ticks" else f'"{key}"'
@@ -109,7 +109,7 @@ def _whole_help(node, key):
             return in_milliseconds(said).replace(":", ", without quotes:", 1)
         if re.fullmatch(r"0|[1-9][0-9]{0,18}", said.strip()):
             return f"write {said.strip()}, without quotes"
-        return "write a whole number" + (", as 1: a code stands for a cause" if key in ("ok", "err") else "")
+        return "write a whole number" + (", as 1: a code represents a cause" if key in ("ok", "err") else "")
     if node.kind == "null":
         return "write a whole number" + ("" if key in ("horizon", "ticks", "ms") else ", or leave the key out")
     if node.kind in ("true", "false"):
@@ -125,16 +125,16 @@ def _number_help(source, key):
         return f"the greatest number is {MAX_WHOLE}"
     value = Fraction(source) if re.fullmatch(r"[0-9]{1,20}(\.[0-9]{1,20})?([eE][+-]?[0-9]{1,2})?", source) else None
     if value is None:
-        return "write digits alone, without point and exponent"
+        return "write only digits, without point and exponent"
     if value.denominator == 1 and value <= MAX_WHOLE:
-        return f"write {value}: digits alone, without point and exponent"
+        return f"write {value}: only digits, without point and exponent"
     if key in TIMES and (value * 1000).denominator == 1 and value < 10**12:
         return f"times are whole milliseconds: write {value * 1000} if these are seconds"
-    return "write digits alone, without point and exponent"
+    return "write only digits, without point and exponent"
 
 
 def out_of_range(node, key, least, most, help=""):
-    """The cause where a whole number isn't within its range, else None."""
+    """The cause if a whole number is out of its range, else None."""
     if least <= node.whole() <= most:
         return None
     return over(node, f'"{key}" is {node.whole()}, and may be {least} to {most}', help)

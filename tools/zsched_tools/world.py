@@ -1,8 +1,8 @@
-"""How a service answers each client, by the moment at which an attempt begins.
+"""The outcome of each client's attempts, by the moment at which an attempt begins.
 
-`Walk` takes the attempts of all clients in the order of their moments and says how each ends. It steps no schedule:
-when a client's attempts begin was found by the program, in a run in which the client is never served. Of such a run all
-attempts up to the first one that is served are those of the true run, since they depend on earlier attempts alone."""
+`Walk` processes the attempts of all clients in the order of their moments and computes how each ends. It steps no
+schedule: the program computed when a client's attempts begin, in a run in which the client is never served. All attempts
+of such a run up to the first one that is served are those of the true run, since they depend only on earlier attempts."""
 import heapq
 from array import array
 from dataclasses import dataclass
@@ -10,18 +10,18 @@ from typing import NamedTuple
 
 from zsched_tools.scenario import FULL, LAST_MOMENT, UP, Window
 
-# An attempt's kind is the state in which it found the service. DENIED is added to that of an attempt after which the
-# budget let no retry through.
+# An attempt's kind is the state of the service when it begins. DENIED is added to the kind of an attempt after which the
+# budget rejects the retry.
 DENIED = 8
 UNDENIED = bytes(kind & ~DENIED for kind in range(256))
-# How the run of a client ends: its schedule is done, it goes on after the horizon, or it was looked at no further.
+# How the run of a client ends: its schedule is done, it continues after the horizon, or the run was cut.
 DONE, GOES_ON, CUT = range(3)
 
 
 @dataclass(slots=True)
 class Run:
-    """What the program found of a client that is never served: when its attempts begin, the kinds of failure with which
-    they were run, and how the run ends."""
+    """The program's run of a client that is never served: when its attempts begin, the kinds of failure with which they
+    were run, and how the run ends."""
     begins: array
     kinds: bytes
     tail: int
@@ -49,7 +49,7 @@ class Service:
         self.second, self.served = None, 0
 
     def kind(self, moment):
-        """In which state an attempt that begins now finds the service."""
+        """The state of the service for an attempt that begins now."""
         while moment >= self.windows[self.next].end:
             self.next += 1
         window = self.windows[self.next]
@@ -72,14 +72,14 @@ class Bucket:
         self.tokens = budget.tokens
 
     def succeeded(self, is_first):
-        """A client was served. A retry that is served gives back what it took under AWS's rules."""
+        """A client was served. Under AWS's rules a retry that is served returns its tokens."""
         budget = self.budget
         given = budget.retry if budget.like == "aws" and not is_first else budget.ok
         self.tokens = min(budget.tokens, self.tokens + given)
 
     def lets_retry(self, is_wanted):
-        """An attempt failed. Whether it may be tried again: gRPC takes a token for each failure and wants more than
-        half of them left, AWS takes the price of a retry that is wanted."""
+        """An attempt failed. Returns whether a retry is allowed. gRPC takes a token for each failure, and then allows a
+        retry if more than half of the tokens remain. AWS takes the price of a wanted retry."""
         budget = self.budget
         if budget.like == "grpc":
             self.tokens = max(0, self.tokens - budget.retry)
@@ -97,8 +97,9 @@ def _first_alike(outcomes):
 
 
 class Walk:
-    """All attempts of all clients, in the order of their moments. At one moment ends come before begins, and clients by
-    their number. `found` has the kinds of each client's attempts, `endings` its ending (None if its run ends first)."""
+    """All attempts of all clients, in the order of their moments. At one moment ends are before begins, and clients
+    are in the order of their numbers. `found` has the kinds of each client's attempts, `endings` its ending (None if its
+    run ends first)."""
 
     def __init__(self, scenario, runs):
         self.scenario, self.runs = scenario, runs
@@ -160,8 +161,8 @@ class Walk:
         self.endings[client] = Ending(how, value, at, len(self.found[client]))
 
     def is_settled(self, client):
-        """Whether the client's run was the true one up to its end: each attempt before that failed as it was run. What
-        comes after an attempt doesn't count if it is served, or still runs at the horizon."""
+        """Whether the client's run was the true one up to its end: each attempt before that failed as it was run. If the last
+        attempt is served, or still runs at the horizon, its kind doesn't matter."""
         ending, kinds, run = self.endings[client], self.found[client], self.runs[client]
         if ending is None:
             return False
@@ -170,7 +171,7 @@ class Walk:
         return kinds[:count].translate(self.outcomes) == run.kinds[:count].translate(self.outcomes)
 
     def _is_running(self, client):
-        """Whether the client's last attempt goes on at the horizon."""
+        """Whether the client's last attempt still runs at the horizon."""
         kinds, begins = self.found[client], self.runs[client].begins
         if not kinds:
             return False

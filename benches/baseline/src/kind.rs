@@ -1,4 +1,4 @@
-//! Kinds of outputs: whether each test and function of a schedule fits what it is given.
+//! Kinds of outputs: whether each test and function of a schedule fits its input.
 
 use crate::schedule::{Function, Operator, Pick, Schedule};
 

@@ -15,14 +15,14 @@ pub enum LeafState {
     Elapsed { first: Option<u64> },
 }
 
-/// How many steps there were before, which are then one more.
+/// The number of steps before; each step adds one.
 fn count(steps: &mut u64) -> u64 {
     let before = *steps;
     *steps = before.saturating_add(1);
     before
 }
 
-/// A growing delay is the output too.
+/// A growing delay is also the output.
 fn after(now: u64, delay: u64) -> (u64, Option<u64>) {
     (delay, Some(now.saturating_add(delay)))
 }
@@ -43,7 +43,7 @@ impl LeafState {
         }
     }
 
-    /// Begins anew. What the first step sets stays as it is.
+    /// Resets the state. What the first step sets is unchanged.
     pub fn clear(&mut self) {
         match self {
             LeafState::Forever { steps } | LeafState::Recurs { steps, .. } => *steps = 0,
@@ -57,7 +57,7 @@ impl LeafState {
         }
     }
 
-    /// The number answered, and the moment at which the leaf goes on unless it is done.
+    /// The number returned, and the moment at which the leaf continues unless it is done.
     pub fn step(&mut self, now: u64, input: u64) -> (u64, Option<u64>) {
         match self {
             LeafState::Forever { steps } => (count(steps), Some(now)),

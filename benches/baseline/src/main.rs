@@ -1,7 +1,7 @@
 //! The behaviour of `zsched` in plain Rust: reads a plan on standard input and writes its report.
 //!
-//! It keeps what `zsched` keeps, a record of each attempt with its output, and writes the report when all is run. Its
-//! faults are told as texts, since nobody but a reader sees them. Want of memory isn't told: it aborts.
+//! It stores what `zsched` stores, a record of each attempt with its output, and writes the report at the end of the
+//! run. It returns faults as texts, since no caller inspects them. If it runs out of memory, it aborts.
 
 mod kind;
 mod leaf;
@@ -22,7 +22,7 @@ fn refuse(text: &str, status: u8) -> ExitCode {
     status.into()
 }
 
-/// Writes all bytes, or answers how many went out.
+/// Writes all bytes, or returns the number of bytes written.
 fn write(bytes: &[u8]) -> Result<(), usize> {
     let mut output = std::io::stdout().lock();
     let mut sent = 0;

@@ -13,7 +13,7 @@ pub enum Output {
     Items(Arc<Vec<Output>>),
 }
 
-const FITS: &str = "a schedule without a kind is refused";
+const FITS: &str = "a schedule without a kind is rejected";
 
 impl Output {
     fn number(&self) -> u64 {

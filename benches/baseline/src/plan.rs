@@ -196,7 +196,7 @@ fn read_job(value: Value, names: &mut HashSet<String>) -> Result<Job, String> {
     Ok(Job { name, mode, schedule, start, script })
 }
 
-/// The plan that these bytes are, or the text of its fault.
+/// The plan of these bytes, or the text of its fault.
 pub fn read(bytes: &[u8]) -> Result<Plan, String> {
     if bytes.len() > LONGEST {
         return Err(format!("plan is longer than {LONGEST} bytes"));

@@ -7,7 +7,7 @@ use crate::tokens::{Stuck, Tokens};
 const DEEPEST: u32 = 64;
 const HEAVIEST: u32 = 1000;
 
-/// What was read of a schedule: the schedule with its depth and weight, or nothing where it is too big.
+/// A part that was read: the schedule with its depth and weight, or nothing if it is too big.
 struct Part(Option<(Schedule, u32, u32)>);
 
 impl Part {
@@ -15,7 +15,7 @@ impl Part {
         Part((depth <= DEEPEST && weight <= HEAVIEST).then_some((schedule, depth, weight)))
     }
 
-    /// One node over this part, which counts so many times.
+    /// One node over this part, whose weight counts `times` times.
     fn over(self, times: u32, make: impl FnOnce(Box<Schedule>) -> Schedule) -> Part {
         match self.0 {
             Some((part, depth, weight)) => Part::new(make(Box::new(part)), depth + 1, 1 + times * weight),
@@ -40,7 +40,7 @@ struct Reader<'t> {
 }
 
 impl Reader<'_> {
-    /// Reads the word here, where it is one of these.
+    /// Reads the word here, if it is one of these.
     fn word<T: Copy>(&mut self, words: &[(&[u8], T)]) -> Result<T, Stuck> {
         let token = self.tokens.token;
         let Some((_, meaning)) = words.iter().find(|(word, _)| *word == token) else { return self.tokens.stuck() };
@@ -133,7 +133,7 @@ impl Reader<'_> {
         Ok(function)
     }
 
-    /// What stands after a dot.
+    /// What follows a dot.
     fn tail(&mut self, part: Part) -> Result<Part, Stuck> {
         let word = self.tokens.token;
         match word {
@@ -165,7 +165,7 @@ impl Reader<'_> {
         })
     }
 
-    /// The whole text. Each open parenthesis has an entry, which holds its left part and operator once they are read.
+    /// The whole text. Each open parenthesis has an entry, which stores its left part and operator after they are read.
     fn schedule(&mut self) -> Result<Part, Stuck> {
         let mut open: Vec<Option<Box<(Part, Operator)>>> = vec![];
         loop {
@@ -201,7 +201,7 @@ impl Reader<'_> {
     }
 }
 
-/// The schedule that a text spells, or the text of its fault.
+/// The schedule of a text, or the text of its fault.
 pub fn read(text: &str) -> Result<Schedule, String> {
     let no_term = |place: Stuck| format!("no term at byte {}", place.0);
     let tokens = Tokens::new(text).map_err(no_term)?;

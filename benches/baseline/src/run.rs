@@ -1,4 +1,4 @@
-//! Rounds: all tasks that are due at one tick are polled, by several workers in batches, and then the clock goes on.
+//! Rounds: all tasks that are due at one tick are polled, by several workers in batches, and then the clock advances.
 
 use crate::plan::{Clock, Plan};
 use crate::task::{put_word_and_number, Task};
@@ -6,10 +6,10 @@ use std::collections::BTreeMap;
 use std::sync::atomic::{AtomicU64, Ordering};
 use std::sync::Mutex;
 
-/// A task that goes from list to list by one word.
+/// A task that moves between lists by one word.
 type Boxed = Box<Task>;
 
-/// The tasks that wait, by the tick at which they are due, and those that wait no more.
+/// The tasks that wait, by the tick at which they are due, and those that no longer wait.
 struct Timers {
     clock: Clock,
     waiting: BTreeMap<u64, Vec<Boxed>>,
@@ -39,7 +39,7 @@ impl Workers {
         self.polls.fetch_add(batch.len() as u64, Ordering::Relaxed);
     }
 
-    /// Polls the tasks at a tick. The caller is one of the workers, and the only one where one is enough.
+    /// Polls the tasks at a tick. The caller is one of the workers, and the only one if one is enough.
     fn round(&self, tasks: &mut [Boxed], now: u64) {
         let batches = tasks.len().div_ceil(self.grain);
         let workers = self.most.min(batches);

@@ -5,7 +5,7 @@ use crate::output::Output;
 use crate::schedule::{Function, Operator, Pick, Schedule, Test};
 use std::sync::Arc;
 
-/// An output, and the moment at which the schedule goes on unless it is done.
+/// An output, and the moment at which the schedule continues unless it is done.
 pub type Answer = (Output, Option<u64>);
 
 pub enum State {
@@ -18,8 +18,8 @@ pub enum State {
     },
     WhileInput(Box<State>, Test),
     WhileOutput(Box<State>, Pick, Test),
-    /// The output of a step joins the list at the next one, when the list that was answered before is mostly gone, and
-    /// this one can grow in place.
+    /// The next step appends the output of a step to the list. By then the list that was returned before is mostly
+    /// dropped, and this one can grow in place.
     CollectAll {
         part: Box<State>,
         items: Arc<Vec<Output>>,
@@ -50,7 +50,7 @@ impl State {
         }
     }
 
-    /// Begins anew.
+    /// Resets the state.
     fn clear(&mut self) {
         match self {
             State::Leaf(leaf) => leaf.clear(),

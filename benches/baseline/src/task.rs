@@ -9,7 +9,7 @@ struct Running {
     entry: Entry,
 }
 
-/// An attempt that has ended, with the answer of the schedule where it was asked.
+/// An attempt that has ended, with the output and decision of the schedule if it was stepped.
 struct Record {
     begun: u64,
     ended: u64,
@@ -87,7 +87,7 @@ impl Task {
         }
     }
 
-    /// The lines of the job, as it stands at the horizon.
+    /// The lines of the job, in its state at the horizon.
     pub fn put(&self, text: &mut Vec<u8>, horizon: u64) {
         put_word(text, "job ");
         put_word(text, &self.name);

@@ -1,17 +1,17 @@
 //! The tokens of a schedule's text. A token is the slice of its bytes; the end of the text is the empty slice.
 
-/// A place of the text at which no spelling goes on.
+/// A place of the text at which no schedule continues.
 pub struct Stuck(pub usize);
 
 pub struct Tokens<'t> {
     text: &'t [u8],
     at: usize,
     pub token: &'t [u8],
-    /// Where the first number begins that is past all numbers.
+    /// The start of the first number that is too large.
     pub first_large: Option<usize>,
 }
 
-/// The length of the token at the front of these bytes, or None where none stands.
+/// The length of the token at the start of these bytes, or None if there is no token.
 fn length_of_token(rest: &[u8]) -> Option<usize> {
     let run = |fits: fn(&u8) -> bool| rest.iter().take_while(|byte| fits(byte)).count();
     match rest {
@@ -32,7 +32,7 @@ impl<'t> Tokens<'t> {
         Ok(tokens)
     }
 
-    /// Goes to the next token.
+    /// Advances to the next token.
     pub fn advance(&mut self) -> Result<(), Stuck> {
         self.at += self.token.len();
         while self.text.get(self.at) == Some(&b' ') {
@@ -48,7 +48,7 @@ impl<'t> Tokens<'t> {
         Err(Stuck(self.at))
     }
 
-    /// Reads this token, where it stands here.
+    /// Reads this token, if it is here.
     pub fn accept(&mut self, token: &[u8]) -> Result<bool, Stuck> {
         if self.token != token {
             return Ok(false);
