@@ -17,7 +17,7 @@ use zs_term::Out;
 // The records that a full list gets room for next, at least.
 const LEAST_ROOM: usize = 4;
 
-// The bytes of lines and the moments that the first attempt of a log of lines makes room for.
+// The bytes of lines and the moments that the first line of a log makes room for.
 const FIRST_LINES: usize = 512;
 
 const FIRST_MOMENTS: usize = 16;
@@ -106,6 +106,19 @@ fn take_end(ended: &mut Option<Ended>, spare: &mut Out)
     *ended = None;
 }
 
+// Makes room for the first lines and moments, if no attempt is a line. A task that makes one attempt
+// needs none.
+fn make_first_room(lines: &mut String, moments: &mut Vec<u64>, count: u64) -> Result<(), AllocError>
+    ensures lines { string_bytes lines.new ≡ string_bytes lines.old }
+    ensures moments { moments.new.items ≡ moments.old.items }
+{
+    if count == 0 {
+        lines.reserve_exact(FIRST_LINES)?;
+        moments.reserve_exact(FIRST_MOMENTS)?;
+    }
+    Ok(())
+}
+
 // Adds an attempt to the lines and to the moments. If that fails, both are unchanged.
 fn tell(
     lines: &mut String,
@@ -133,20 +146,6 @@ fn tell(
 }
 
 impl Told {
-    // The first attempt begins.
-    fn begin_first(&mut self, begun: u64) -> Result<(), AllocError>
-        ensures ok { OnOk result (self.new.last ≡ Some (record { begun = begun; ended = None })) }
-        ensures err { OnErr result (self.new.last ≡ self.old.last) }
-        ensures lines { string_bytes self.new.lines ≡ string_bytes self.old.lines }
-        ensures moments { self.new.moments.items ≡ self.old.moments.items }
-        ensures count { self.new.count ≡ self.old.count }
-    {
-        self.lines.reserve_exact(FIRST_LINES)?;
-        self.moments.reserve_exact(FIRST_MOMENTS)?;
-        self.last = Some(Attempted { begun, ended: None });
-        Ok(())
-    }
-
     // Another attempt begins. The caller gets the output of the one before it.
     fn begin(&mut self, begun: u64, spare: &mut Out) -> Result<(), AllocError>
         requires few { self.old.count + 1 < 2 ^ 64 }
@@ -158,15 +157,16 @@ impl Told {
         ensures last { OnErr result (self.new.last ≡ self.old.last) }
     {
         match &mut self.last {
-            None => self.begin_first(begun),
+            None => self.last = Some(Attempted { begun, ended: None }),
             Some(last) => {
+                make_first_room(&mut self.lines, &mut self.moments, self.count)?;
                 tell(&mut self.lines, &mut self.moments, self.count + 1, last)?;
                 take_end(&mut last.ended, spare);
                 last.begun = begun;
                 self.count += 1;
-                Ok(())
             }
         }
+        Ok(())
     }
 }
 

@@ -36,6 +36,7 @@ use Rattle.zs_term.proofs.term.Term.TheLaws.TheKnot as term_knot
 use Rattle.zs_term.proofs.kind.Kind.TheLaws.TheKnot as kind_knot
 use Rattle.zs_term.proofs.outputs.Out.TheLaws.TheKnot as out_knot
 use Rattle.zs_step.proofs.leaf_state.LeafState.TheSendSync as leaf_state
+use Rattle.zs_step.proofs.leaf_state.FixedState.TheSendSync as fixed_state
 use Rattle.zs_step.proofs.state.State.TheLaws.TheKnot as state_knot
 use Rattle.zs_term.specs.contracts.term.Term as term
 use Rattle.zs_term.specs.contracts.kind.Kind as kind
@@ -97,7 +98,7 @@ collected_send : IsSend collected.the_row
 collected_send = declared_send collected.the_type (outs_send, (option.the_send out.the_row out_send, tt))
 
 pub state_send : IsSend state.the_row
-state_send = as_row_send state.the_field (state_knot.send-State leaf_state.the_field_send Box-send (search (rules, sendable)) (search (rules, sendable)) (search (rules, sendable)) (Box-send collected.the_row collected_send) (search (rules, sendable)))
+state_send = as_row_send state.the_field (state_knot.send-State leaf_state.the_field_send fixed_state.the_field_send Box-send (search (rules, sendable)) (search (rules, sendable)) (search (rules, sendable)) (Box-send collected.the_row collected_send) (search (rules, sendable)))
 
 checked_fields : IsSend term.the_row → IsSend kind.the_row → IsSend checked_inside.the_row
 checked_fields t k = declared_send checked_inside.the_type (t, (k, tt))

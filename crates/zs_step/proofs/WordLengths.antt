@@ -1,5 +1,5 @@
 -- The number of words of a schedule's state is the same after any steps.
-use Rattle.std.proofs.Common.{◌≡◌, ℕ, suc, ◌+◌, Option, Some, None, List, [], ◌++◌, length, refl, ap, arith}
+use Rattle.std.proofs.Common.{◌≡◌, ℕ, suc, Option, Some, None, List, [], ◌++◌, length, refl, ap, arith}
 use Rattle.std.proofs.lemmas.List.{length-append}
 use Rattle.zs_term.specs.Schedule.{Schedule, leaf, two, over, plain, counted, exponential, both, either, and_then, while_input, while_output, collect_all, mapped, reset_when}
 use Rattle.zs_term.specs.declared.forms.Plain.TheVariants.{Forever, Identity, Elapsed}

@@ -1,11 +1,11 @@
 -- Which histories a state represents: its next step returns what `answer_of` returns on the longer
 -- history. `step_node` preserves this relation.
 use Rattle.std.specs.Prelude.{◌≡◌, ℕ, ◌≤◌, Bool, true, false, Option, Some, None, [], ◌∷◌}
-use Rattle.zs_term.specs.Schedule.{Schedule, weight, leaf, two, over, both, either, and_then, while_input, while_output, collect_all, mapped, reset_when}
+use Rattle.zs_term.specs.Schedule.{Schedule, weight, leaf, fixed, two, over, both, either, and_then, while_input, while_output, collect_all, mapped, reset_when}
 use Rattle.zs_step.specs.declared.state.State.{State}
-use Rattle.zs_step.specs.declared.state.State.TheVariants.{Leaf, Both', Either', AndThen', WhileInput', WhileOutput', CollectAll', Map', ResetWhen'}
+use Rattle.zs_step.specs.declared.state.State.TheVariants.{Leaf, Fixed, Both', Either', AndThen', WhileInput', WhileOutput', CollectAll', Map', ResetWhen'}
 use Rattle.zs_step.specs.History.{History}
-use Rattle.zs_step.specs.LeafState.{state_leaf, LeafRepresents}
+use Rattle.zs_step.specs.LeafState.{state_leaf, LeafRepresents, FixedRepresents}
 use Rattle.zs_step.specs.Collected.{collected_outputs}
 use Rattle.zs_step.specs.Answer.{Answer, answer_of, from_done, collected, since_reset}
 use Rattle.zs_step.specs.Visits.{visits}
@@ -13,6 +13,7 @@ use Rattle.zs_step.specs.Visits.{visits}
 -- the schedule of a state
 abbrev pub state_schedule : State → Schedule
 state_schedule (Leaf l) = leaf (state_leaf l)
+state_schedule (Fixed f) = leaf (fixed f.period)
 state_schedule (Both' p a q b) = two both (state_schedule a) (state_schedule b)
 state_schedule (Either' p a q b) = two either (state_schedule a) (state_schedule b)
 state_schedule (AndThen' done p a q b) = two and_then (state_schedule a) (state_schedule b)
@@ -33,6 +34,7 @@ SequelRepresents true None first second = ⊥
 -- a state represents a history
 abbrev pub Represents : State → History → Type 0
 Represents (Leaf l) h = LeafRepresents l h
+Represents (Fixed f) h = FixedRepresents f h
 Represents (Both' p a q b) h = Represents a h × Represents b h
 Represents (Either' p a q b) h = Represents a h × Represents b h
 Represents (AndThen' done p a q b) h =

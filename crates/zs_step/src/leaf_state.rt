@@ -3,17 +3,15 @@
 ghost use Rattle.std.specs.Prelude.{◌≡◌, ℕ, ◌+◌, List, ◌∷◌, ◌++◌, [], length, nat_eq, if◌then◌else◌, true, OnOk};
 ghost use Rattle.zs_term.specs.Saturating.{saturated};
 ghost use Rattle.zs_term.specs.Output.{number};
-ghost use Rattle.zs_term.specs.Schedule.{schedule_of, leaf};
-ghost use Rattle.zs_step.specs.Memory.{is_leaf};
+ghost use Rattle.zs_term.specs.Schedule.{fixed};
 ghost use Rattle.zs_step.specs.History.{History};
 ghost use Rattle.zs_step.specs.Answer.{answer, leaf_answer};
-ghost use Rattle.zs_step.specs.LeafState.{state_leaf, StandsForSteps, LeafRepresents};
+ghost use Rattle.zs_step.specs.LeafState.{state_leaf, StandsForSteps, LeafRepresents, FixedRepresents};
 ghost use Rattle.zs_step.specs.Words.{leaf_words};
 
 use crate::decision::Decision;
 use crate::leaves::{run_after, window_end};
 use std::alloc::AllocError;
-use zs_term::Term;
 
 // The number of steps so far, and the moment of the first one, or 0.
 #[derive(Drop)]
@@ -45,14 +43,13 @@ impl Past {
     }
 }
 
-// A leaf's parameters, and what its next step needs to know of the steps so far.
+// The parameters of a leaf, and what its next step needs to know of the steps so far. `fixed` has
+// another type, since it needs a number more, which each node would take.
 #[derive(Drop)]
 pub(crate) enum LeafState {
     Forever { steps: u64 },
     Recurs { limit: u64, steps: u64 },
     Spaced { delay: u64, steps: u64 },
-    // `run` is the next run.
-    Fixed { period: u64, past: Past, run: u64 },
     // `wait` is the delay of the next step.
     Exponential { base: u64, factor: u64, wait: u64 },
     // `last` is the delay of the last step, and `next` that of the next one.
@@ -81,15 +78,6 @@ impl LeafState {
                 (before, Decision::Next(now).only_if(before < *limit))
             }
             LeafState::Spaced { delay, steps } => (count(steps), Decision::after(now, *delay)),
-            LeafState::Fixed { period, past, run } => {
-                let before = past.count(now);
-                if before == 0 {
-                    *run = now.saturating_add(*period);
-                } else {
-                    *run = run_after(*period, past.first, *run, now);
-                }
-                (before, Decision::Next(*run))
-            }
             LeafState::Exponential { factor, wait, .. } => {
                 let delay = *wait;
                 *wait = delay.saturating_mul(*factor);
@@ -128,10 +116,6 @@ impl LeafState {
             LeafState::Forever { steps } => *steps = 0,
             LeafState::Recurs { steps, .. } => *steps = 0,
             LeafState::Spaced { steps, .. } => *steps = 0,
-            LeafState::Fixed { past, run, .. } => {
-                *past = Past::none();
-                *run = 0;
-            }
             LeafState::Exponential { base, wait, .. } => *wait = *base,
             LeafState::Fibonacci { one, last, next } => {
                 *last = 0;
@@ -153,49 +137,6 @@ fn count(steps: &mut u64) -> u64
     let before = *steps;
     *steps = before.saturating_add(1);
     before
-}
-
-// Returns the state of a term without parts before its first step.
-pub(crate) fn leaf_of(term: &Term) -> LeafState
-    requires leaf { is_leaf (schedule_of term.now) ≡ true }
-    ensures made_of { leaf (state_leaf result) ≡ schedule_of term.now }
-    ensures represents { LeafRepresents result [] }
-{
-    let past = Past::none();
-    match term {
-        Term::Forever => LeafState::Forever { steps: 0 },
-        Term::Recurs(k) => LeafState::Recurs {
-            limit: *k,
-            steps: 0,
-        },
-        Term::Spaced(delay) => LeafState::Spaced {
-            delay: *delay,
-            steps: 0,
-        },
-        Term::Fixed(period) => LeafState::Fixed {
-            period: *period,
-            past,
-            run: 0,
-        },
-        Term::Exponential(base, factor) => LeafState::Exponential {
-            base: *base,
-            factor: *factor,
-            wait: *base,
-        },
-        Term::Fibonacci(one) => LeafState::Fibonacci {
-            one: *one,
-            last: 0,
-            next: *one,
-        },
-        Term::Identity => LeafState::Identity,
-        Term::Elapsed => LeafState::Elapsed { past },
-        Term::Linear(n) => LeafState::Linear { unit: *n, last: 0 },
-        Term::Windowed(period) => LeafState::Windowed {
-            period: *period,
-            past,
-        },
-        _ => unreachable!(),
-    }
 }
 
 // Reads the first word, or 0 if there is none, and returns the words after it.
@@ -235,10 +176,6 @@ pub(crate) fn load_leaf<'a>(leaf: &mut LeafState, words: &'a [u64]) -> &'a [u64]
         LeafState::Forever { steps } => take(steps, words),
         LeafState::Recurs { steps, .. } => take(steps, words),
         LeafState::Spaced { steps, .. } => take(steps, words),
-        LeafState::Fixed { past, run, .. } => {
-            let rest = take_past(past, words);
-            take(run, rest)
-        }
         LeafState::Exponential { wait, .. } => take(wait, words),
         LeafState::Fibonacci { last, next, .. } => {
             let rest = take(last, words);
@@ -264,14 +201,83 @@ pub(crate) fn save_leaf(leaf: &LeafState, words: &mut Vec<u64>) -> Result<(), Al
         LeafState::Forever { steps } => Ok(words.push(*steps)?),
         LeafState::Recurs { steps, .. } => Ok(words.push(*steps)?),
         LeafState::Spaced { steps, .. } => Ok(words.push(*steps)?),
-        LeafState::Fixed { past, run, .. } => {
-            words.extend_from_slice(&[past.steps, past.first, *run])
-        }
         LeafState::Exponential { wait, .. } => Ok(words.push(*wait)?),
         LeafState::Fibonacci { last, next, .. } => words.extend_from_slice(&[*last, *next]),
         LeafState::Identity => Ok(()),
         LeafState::Elapsed { past } => words.extend_from_slice(&[past.steps, past.first]),
         LeafState::Linear { last, .. } => Ok(words.push(*last)?),
         LeafState::Windowed { past, .. } => words.extend_from_slice(&[past.steps, past.first]),
+    }
+}
+
+// The period of `fixed`, its steps so far and its next run.
+#[derive(Drop)]
+pub(crate) struct FixedState {
+    period: u64,
+    past: Past,
+    run: u64,
+}
+
+impl FixedState {
+    // Starts without a step.
+    pub(crate) fn new(period: u64) -> FixedState
+        ensures period { result.period ≡ period }
+        ensures represents { FixedRepresents result [] }
+    {
+        FixedState {
+            period,
+            past: Past::none(),
+            run: 0,
+        }
+    }
+
+    // Takes one more step: returns its output and its decision.
+    pub(crate) fn step(&mut self, now: u64) -> (u64, Decision)
+        ensures same { self.new.period ≡ self.old.period }
+        ensures answered { (h : History) (input : ℕ) → FixedRepresents self.old h
+            → answer (number result.0) result.1
+            ≡ leaf_answer (fixed self.old.period) ((now, input) ∷ h) }
+        ensures stands { (h : History) (input : ℕ) → FixedRepresents self.old h
+            → FixedRepresents self.new ((now, input) ∷ h) }
+    {
+        let before = self.past.count(now);
+        if before == 0 {
+            self.run = now.saturating_add(self.period);
+        } else {
+            self.run = run_after(self.period, self.past.first, self.run, now);
+        }
+        (before, Decision::Next(self.run))
+    }
+
+    // Resets the state, so that it represents the empty history.
+    pub(crate) fn clear(&mut self)
+        ensures same { self.new.period ≡ self.old.period }
+        ensures represents { FixedRepresents self.new [] }
+    {
+        self.past = Past::none();
+        self.run = 0;
+    }
+
+    // Reads the state from words, and returns the words after it.
+    pub(crate) fn load<'a>(&mut self, words: &'a [u64]) -> &'a [u64]
+        ensures same { self.new.period ≡ self.old.period }
+        ensures stands { (h : History) (rest : List ℕ)
+            → words.now ≡ leaf_words (fixed self.old.period) h ++ rest
+            → FixedRepresents self.new h × (result.now ≡ rest) }
+    {
+        let rest = take_past(&mut self.past, words);
+        take(&mut self.run, rest)
+    }
+
+    // Appends the words of the state.
+    pub(crate) fn save(&self, words: &mut Vec<u64>) -> Result<(), AllocError>
+        ensures ok { OnOk result
+            ((h : History) → FixedRepresents self.now h
+            → words.new.items ≡ words.old.items ++ leaf_words (fixed self.now.period) h) }
+        ensures len { OnOk result
+            (length words.new.items
+            ≡ length words.old.items + length (leaf_words (fixed self.now.period) [])) }
+    {
+        words.extend_from_slice(&[self.past.steps, self.past.first, self.run])
     }
 }

@@ -6,7 +6,7 @@ ghost use Rattle.zs_step.specs.Memory.{is_leaf};
 ghost use Rattle.zs_step.specs.State.{state_schedule, Represents};
 
 use crate::collected::Collected;
-use crate::leaf_state::{LeafState, leaf_of};
+use crate::leaf_state::{FixedState, LeafState, Past};
 use std::alloc::{AllocError, Global};
 use zs_term::{Func, Pick, Term, Test};
 
@@ -14,6 +14,7 @@ use zs_term::{Func, Pick, Term, Test};
 #[derive(Drop)]
 pub(crate) enum State {
     Leaf(LeafState),
+    Fixed(FixedState),
     Both {
         first: Box<State>,
         second: Box<State>,
@@ -52,6 +53,46 @@ pub(crate) enum State {
         pick: Pick,
         test: Test,
     },
+}
+
+// Returns the state of a term without parts before its first step.
+fn leaf_of(term: &Term) -> State
+    requires leaf { is_leaf (schedule_of term.now) ≡ true }
+    ensures made_of { state_schedule result ≡ schedule_of term.now }
+    ensures represents { Represents result [] }
+{
+    let past = Past::none();
+    let leaf = match term {
+        Term::Fixed(period) => return State::Fixed(FixedState::new(*period)),
+        Term::Forever => LeafState::Forever { steps: 0 },
+        Term::Recurs(k) => LeafState::Recurs {
+            limit: *k,
+            steps: 0,
+        },
+        Term::Spaced(delay) => LeafState::Spaced {
+            delay: *delay,
+            steps: 0,
+        },
+        Term::Exponential(base, factor) => LeafState::Exponential {
+            base: *base,
+            factor: *factor,
+            wait: *base,
+        },
+        Term::Fibonacci(one) => LeafState::Fibonacci {
+            one: *one,
+            last: 0,
+            next: *one,
+        },
+        Term::Identity => LeafState::Identity,
+        Term::Elapsed => LeafState::Elapsed { past },
+        Term::Linear(n) => LeafState::Linear { unit: *n, last: 0 },
+        Term::Windowed(period) => LeafState::Windowed {
+            period: *period,
+            past,
+        },
+        _ => unreachable!(),
+    };
+    State::Leaf(leaf)
 }
 
 // Returns the state of a term before its first step.
@@ -100,7 +141,7 @@ pub(crate) fn state_of(alloc: Global, term: &Term) -> Result<State, AllocError>
             pick: *pick,
             test: *test,
         }),
-        _ => Ok(State::Leaf(leaf_of(term))),
+        _ => Ok(leaf_of(term)),
     }
 }
 
@@ -120,6 +161,7 @@ pub(crate) fn clear(state: &mut State, alloc: Global)
 {
     match state {
         State::Leaf(leaf) => leaf.clear(),
+        State::Fixed(fixed) => fixed.clear(),
         State::Both { first, second } => {
             clear(first, alloc);
             clear(second, alloc);
@@ -160,6 +202,7 @@ fn form(state: &State) -> u64 {
         State::CollectAll { .. } => 6,
         State::Map { .. } => 7,
         State::ResetWhen { .. } => 8,
+        State::Fixed(_) => 9,
     }
 }
 
@@ -167,7 +210,7 @@ fn form(state: &State) -> u64 {
 // has no meaning.
 pub(crate) fn touch_parts(state: &State) -> u64 {
     match state {
-        State::Leaf(_) => 0,
+        State::Leaf(_) | State::Fixed(_) => 0,
         State::Both { first, second }
         | State::Either { first, second }
         | State::AndThen { first, second, .. } => form(first) ^ form(second),

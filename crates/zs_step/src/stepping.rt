@@ -11,10 +11,10 @@ ghost use Rattle.zs_step.specs.LeafState.{state_leaf};
 ghost use Rattle.zs_step.specs.Memory.{is_bare};
 ghost use Rattle.zs_step.specs.State.{state_schedule, StepsTo};
 ghost use Rattle.zs_step.specs.Turn.{decided, Answers, Decides, CountsOn};
-ghost use Rattle.zs_step.specs.declared.state.State.TheVariants.{Leaf, Both', Either', AndThen', WhileInput', WhileOutput', CollectAll', Map', ResetWhen'};
+ghost use Rattle.zs_step.specs.declared.state.State.TheVariants.{Leaf, Fixed, Both', Either', AndThen', WhileInput', WhileOutput', CollectAll', Map', ResetWhen'};
 
 use crate::collected::Collected;
-use crate::leaf_state::LeafState;
+use crate::leaf_state::{FixedState, LeafState};
 use crate::state::{State, clear};
 use crate::stepped::Stepped;
 use crate::turn::Turn;
@@ -66,6 +66,7 @@ fn step_into(state: &mut State, step: &Step, visits: &mut u64, out: &mut Out) ->
     *visits += 1;
     match state {
         State::Leaf(leaf) => step_leaf(leaf, step, out),
+        State::Fixed(fixed) => step_fixed(fixed, step, out),
         State::Both { first, second } => step_both(first, second, step, visits, out),
         State::Either { first, second } => step_either(first, second, step, visits, out),
         State::AndThen {
@@ -125,6 +126,21 @@ fn step_leaf(leaf: &mut LeafState, step: &Step, out: &mut Out) -> Turn
     ensures succeeds { IsSome (decided result) }
 {
     let (n, decision) = leaf.step(step.moment, step.input);
+    out.put_number(n);
+    Turn::of(decision)
+}
+
+// Steps `fixed`.
+fn step_fixed(fixed: &mut FixedState, step: &Step, out: &mut Out) -> Turn
+    ensures answers { IfSome (decided result) (λ d.
+        Answers (Fixed fixed.old) step.now.moment step.now.input (answer (output_of out.new) d)) }
+    ensures counts { (n : _)
+        → IfSome (decided result) (λ d.
+        CountsOn (Fixed fixed.old) (Fixed fixed.new) step.now.moment step.now.input n n) }
+    ensures same { fixed.new.period ≡ fixed.old.period }
+    ensures succeeds { IsSome (decided result) }
+{
+    let (n, decision) = fixed.step(step.moment);
     out.put_number(n);
     Turn::of(decision)
 }
@@ -382,6 +398,7 @@ fn step_first(part: &mut State, step: &Step, visits: &mut u64, out: &mut Out) ->
     match part {
         State::Both { first, second } => first_of_both(first, second, step, visits, out),
         State::Leaf(_)
+        | State::Fixed(_)
         | State::Either { .. }
         | State::AndThen { .. }
         | State::WhileInput { .. }
@@ -482,6 +499,7 @@ fn step_unread(state: &mut State, step: &Step, visits: &mut u64) -> Turn
         State::WhileInput { part, test } => unread_while_input(part, *test, step, visits),
         State::Map { part, func } => unread_map(part, *func, step, visits),
         State::Leaf(_)
+        | State::Fixed(_)
         | State::AndThen { .. }
         | State::WhileOutput { .. }
         | State::CollectAll { .. }

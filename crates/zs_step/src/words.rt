@@ -111,6 +111,7 @@ fn load<'a>(state: &mut State, words: &'a [u64]) -> &'a [u64]
 {
     match state {
         State::Leaf(leaf) => load_leaf(leaf, words),
+        State::Fixed(fixed) => fixed.load(words),
         State::Both { first, second } => {
             let rest = load(first, words);
             load(second, rest)
@@ -163,6 +164,7 @@ fn save(alloc: Global, state: &mut State, words: &mut Vec<u64>) -> Result<(), Al
 {
     match state {
         State::Leaf(leaf) => save_leaf(leaf, words),
+        State::Fixed(fixed) => fixed.save(words),
         State::Both { first, second } => {
             save(alloc, first, words)?;
             save(alloc, second, words)

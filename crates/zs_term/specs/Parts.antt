@@ -12,7 +12,7 @@ use Rattle.zs_term.specs.declared.forms.Subject.{Subject}
 use Rattle.zs_term.specs.declared.forms.Subject.TheVariants.{Input, Picked}
 use Rattle.zs_term.specs.declared.forms.Scale.{Scale}
 use Rattle.zs_term.specs.declared.part.Part.{Part}
-use Rattle.zs_term.specs.declared.parser.Frames.{Frames}
+use Rattle.zs_term.specs.declared.parser.Parser.{Parser}
 use Rattle.zs_term.specs.declared.parser.Joined.{Joined}
 use Rattle.zs_term.specs.declared.parser.Mode.{Mode as ModeKept}
 use Rattle.zs_term.specs.declared.parser.Mode.TheVariants.{Start, Opening, Counting, ExpOpening, ExpCounting, Based, Factored, Closing, After, Dotted, Method, Picking, Testing, Comparing, Mapping, Scaling}
@@ -99,8 +99,8 @@ joined_onto fs [] = fs
 joined_onto fs (k ∷ ks) = joined_onto (right k.form (kept_of k.left) ∷ bare_onto k.before fs) ks
 
 -- all open forms, as the code stores them
-abbrev pub stack_of : Frames → List (Frame Kept)
-stack_of frames = bare_onto frames.bare (joined_onto [] frames.joined.items)
+abbrev pub stack_of : Parser → List (Frame Kept)
+stack_of parser = bare_onto parser.bare (joined_onto [] parser.joined.items)
 
 -- the mode, as the code stores it
 abbrev pub mode_of : ModeKept → Mode Kept (Option ℕ)

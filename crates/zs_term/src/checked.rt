@@ -11,7 +11,7 @@ ghost use Rattle.zs_term.specs.Shape.{steps_to_give_up};
 use crate::fault::TermFault;
 use crate::inference::kind_of;
 use crate::kind::Kind;
-use crate::limits::{has_factors, has_windows, is_within_limits, weight_within};
+use crate::limits::{has_factors_and_windows, is_within_limits, weight_within};
 use crate::term::Term;
 use std::alloc::Global;
 use std::marker::Model;
@@ -127,14 +127,15 @@ fn kind_in(alloc: Global, term: &Term) -> Result<Kind, TermFault>
         ↔ has_factors (schedule_of term.now) ≡ false }
     ensures memory { result ≡ Err TermFault.Memory → takes_memory (schedule_of term.now) ≡ true }
 {
-    if !has_factors(term) {
+    let (factors, windows) = has_factors_and_windows(term);
+    if !factors {
         return Err(TermFault::BadFactor);
     }
     match kind_of(alloc, term) {
         Err(_) => Err(TermFault::Memory),
         Ok(None) => Err(TermFault::NoKind),
         Ok(Some(kind)) => {
-            if has_windows(term) {
+            if windows {
                 Ok(kind)
             } else {
                 Err(TermFault::BadWindow)

@@ -55,26 +55,22 @@ fn room_left(term: &Term, levels: u64, nodes: u64) -> Option<u64>
     }
 }
 
-// Whether every factor is at least 1.
-pub(crate) fn has_factors(term: &Term) -> bool
-    ensures value { result ≡ has_factors (schedule_of term.now) }
+// Whether every factor, and whether every window, is at least 1.
+pub(crate) fn has_factors_and_windows(term: &Term) -> (bool, bool)
+    ensures factors { result.0 ≡ has_factors (schedule_of term.now) }
+    ensures windows { result.1 ≡ has_windows (schedule_of term.now) }
 {
     match term.shape() {
-        Shape::Exponential(_, factor) => factor >= 1,
-        Shape::Plain(_) | Shape::Counted(_, _) => true,
-        Shape::Joined(_, a, b) => has_factors(a) && has_factors(b),
-        Shape::Tested(s, _, _) | Shape::Collected(s) | Shape::Mapped(s, _) => has_factors(s),
-    }
-}
-
-// Whether every window is at least 1.
-pub(crate) fn has_windows(term: &Term) -> bool
-    ensures value { result ≡ has_windows (schedule_of term.now) }
-{
-    match term.shape() {
-        Shape::Counted(Counted::Windowed, window) => window >= 1,
-        Shape::Plain(_) | Shape::Counted(_, _) | Shape::Exponential(_, _) => true,
-        Shape::Joined(_, a, b) => has_windows(a) && has_windows(b),
-        Shape::Tested(s, _, _) | Shape::Collected(s) | Shape::Mapped(s, _) => has_windows(s),
+        Shape::Exponential(_, factor) => (factor >= 1, true),
+        Shape::Counted(Counted::Windowed, window) => (true, window >= 1),
+        Shape::Plain(_) | Shape::Counted(_, _) => (true, true),
+        Shape::Joined(_, a, b) => {
+            let (factors, windows) = has_factors_and_windows(a);
+            let (more_factors, more_windows) = has_factors_and_windows(b);
+            (factors && more_factors, windows && more_windows)
+        }
+        Shape::Tested(s, _, _) | Shape::Collected(s) | Shape::Mapped(s, _) => {
+            has_factors_and_windows(s)
+        }
     }
 }

@@ -1,18 +1,25 @@
 //! The parser: what has been read of a text, and which token may come next.
 
-ghost use Rattle.std.specs.Prelude.{◌≡◌, ◌∷◌, option_map, IfOk, OnOk};
-ghost use Rattle.zs_term.specs.Machine.{argument, begin_leaf, open_mark, close_mark, base_mark, dot_mark, pick_mark, test_mark, map_mark, inner_mark, join_mark, step_mark, step_number, at, left};
-ghost use Rattle.zs_term.specs.Parts.{kept_of, mode_of, stack_of, keep};
+ghost use Rattle.std.specs.Prelude.{◌≡◌, ◌≢◌, Some, [], ◌∷◌, option_map, IfOk, OnOk, MatchOption};
+ghost use Rattle.zs_term.specs.Token.{Token};
+ghost use Rattle.zs_term.specs.Scan.{IsLexeme};
+ghost use Rattle.zs_term.specs.Machine.{argument, begin_leaf, open_mark, close_mark, base_mark, dot_mark, pick_mark, test_mark, map_mark, inner_mark, join_mark, step_mark, step_number, step, at, left, after};
+ghost use Rattle.zs_term.specs.Parts.{Kept, kept_of, mode_of, stack_of, keep};
 
 use crate::forms::{Action, Counted, Infix, Method, Scale, Subject};
 use crate::part::Part;
 use crate::term::{Cmp, Func, Pick};
-use crate::token::Mark;
+use crate::token::{Lexeme, Mark};
 use std::alloc::{AllocError, Global};
 
-/// The open infix forms. A `(` takes no memory until its operator is read.
+/// A parser: whether it builds terms, and the open infix forms. A `(` takes no memory until its
+/// operator is read.
 #[derive(Drop)]
-pub struct Frames {
+pub struct Parser {
+    /// Where it allocates.
+    pub alloc: Global,
+    /// Whether it builds terms.
+    pub build: bool,
     /// The number of innermost `(` without an operator.
     pub bare: u64,
     /// The forms outside of these whose operator was read, the innermost last.
@@ -67,61 +74,6 @@ pub enum Mode {
     Scaling(Part, Scale),
 }
 
-// The first token of a term, if it isn't `(`.
-fn begin_leaf(alloc: Global, build: bool, mark: Mark) -> Result<Option<Mode>, AllocError>
-    ensures value { IfOk result (λ next. option_map mode_of next ≡ begin_leaf (keep build) mark) }
-{
-    match mark {
-        Mark::PlainWord(form) => {
-            let part = Part::plain(alloc, build, form)?;
-            Ok(Some(Mode::After(part)))
-        }
-        Mark::CountedWord(form) => Ok(Some(Mode::Opening(form))),
-        Mark::ExponentialWord => Ok(Some(Mode::ExpOpening)),
-        _ => Ok(None),
-    }
-}
-
-// The token after `exponential(N`.
-fn behind_base(
-    alloc: Global,
-    build: bool,
-    base: Option<u64>,
-    mark: Mark,
-) -> Result<Option<Mode>, AllocError>
-    ensures value { IfOk result (λ next.
-        option_map mode_of next ≡ base_mark (keep build) base mark) }
-{
-    match mark {
-        Mark::Close => {
-            let part = Part::growing(alloc, build, base, Some(2))?;
-            Ok(Some(Mode::After(part)))
-        }
-        Mark::Comma => Ok(Some(Mode::Factored(base))),
-        _ => Ok(None),
-    }
-}
-
-// The token after `S.`.
-fn behind_dot(
-    alloc: Global,
-    build: bool,
-    part: Part,
-    mark: Mark,
-) -> Result<Option<Mode>, AllocError>
-    ensures value { IfOk result (λ next.
-        option_map mode_of next ≡ dot_mark (keep build) (kept_of part) mark) }
-{
-    match mark {
-        Mark::CollectAllWord => {
-            let whole = Part::collect(alloc, part)?;
-            Ok(Some(Mode::After(whole)))
-        }
-        Mark::MethodWord(method) => Ok(Some(Mode::Method(method, part))),
-        _ => Ok(None),
-    }
-}
-
 // The mode after `S.word(`.
 fn argument_of(method: Method, part: Part) -> Mode
     ensures value { mode_of result ≡ argument method (kept_of part) }
@@ -159,30 +111,6 @@ fn compare(part: Part, subject: Subject, mark: Mark) -> Option<Mode>
     }
 }
 
-// A function without a number, or the word of one with a number.
-fn func_or_scale(
-    alloc: Global,
-    build: bool,
-    part: Part,
-    mark: Mark,
-) -> Result<Option<Mode>, AllocError>
-    ensures value { IfOk result (λ next.
-        option_map mode_of next ≡ map_mark (keep build) (kept_of part) mark) }
-{
-    match mark {
-        Mark::PieceWord(piece) => {
-            let whole = Part::apply(alloc, part, piece.func())?;
-            Ok(Some(Mode::Closing(whole)))
-        }
-        Mark::MergeWord => {
-            let whole = Part::apply(alloc, part, Func::Merge)?;
-            Ok(Some(Mode::Closing(whole)))
-        }
-        Mark::ScaleWord(scale) => Ok(Some(Mode::Scaling(part, scale))),
-        _ => Ok(None),
-    }
-}
-
 // Whether this is `(`, which leads to a mode.
 fn on_open(next: Mode, mark: Mark) -> Option<Mode>
     ensures value { option_map mode_of result ≡ open_mark (mode_of next) mark }
@@ -203,152 +131,243 @@ fn on_close(next: Mode, mark: Mark) -> Option<Mode>
     }
 }
 
-// Counts one more `(`. The counter can't overflow, since no text is that long.
-#[tactic(auto, using(crate::proofs::Stacks::bare_more))]
-fn open(frames: &mut Frames) -> Result<(), AllocError>
-    ensures value { OnOk result (stack_of frames.new ≡ left ∷ stack_of frames.old) }
-{
-    frames.bare = frames.bare.checked_add(1).ok_or(AllocError)?;
-    Ok(())
-}
-
-// The token after a whole term, if it isn't a dot.
-#[tactic(auto, using(crate::proofs::Stacks::joined_push, crate::proofs::Stacks::bare_first, crate::proofs::Stacks::bare_none))]
-fn join_behind(
-    alloc: Global,
-    build: bool,
-    frames: &mut Frames,
-    part: Part,
-    mark: Mark,
-) -> Result<Option<Mode>, AllocError>
-    ensures value { IfOk result (λ next.
-        option_map (λ m. at (stack_of frames.new) (mode_of m)) next
-        ≡ join_mark (keep build) (stack_of frames.old) (kept_of part) mark) }
-{
-    if 0 < frames.bare {
-        return match mark {
-            Mark::Operator(form) => {
-                let before = frames.bare - 1;
-                let left = part;
-                frames.joined.push(Joined { before, form, left })?;
-                frames.bare = 0;
-                Ok(Some(Mode::Start))
+impl Parser {
+    // The first token of a term, if it isn't `(`.
+    fn begin_leaf(&self, mark: Mark) -> Result<Option<Mode>, AllocError>
+        ensures value { IfOk result (λ next.
+            option_map mode_of next ≡ begin_leaf (keep self.now.build) mark) }
+    {
+        match mark {
+            Mark::PlainWord(form) => {
+                let part = Part::plain(self.alloc, self.build, form)?;
+                Ok(Some(Mode::After(part)))
             }
+            Mark::CountedWord(form) => Ok(Some(Mode::Opening(form))),
+            Mark::ExponentialWord => Ok(Some(Mode::ExpOpening)),
             _ => Ok(None),
-        };
+        }
     }
-    match frames.joined.pop() {
-        None => Ok(None),
-        Some(Joined { before, form, left }) => match mark {
+
+    // The token after `exponential(N`.
+    fn behind_base(&self, base: Option<u64>, mark: Mark) -> Result<Option<Mode>, AllocError>
+        ensures value { IfOk result (λ next.
+            option_map mode_of next ≡ base_mark (keep self.now.build) base mark) }
+    {
+        match mark {
             Mark::Close => {
-                frames.bare = before;
-                let whole = Part::join(alloc, form, left, part)?;
+                let part = Part::growing(self.alloc, self.build, base, Some(2))?;
+                Ok(Some(Mode::After(part)))
+            }
+            Mark::Comma => Ok(Some(Mode::Factored(base))),
+            _ => Ok(None),
+        }
+    }
+
+    // The token after `S.`.
+    fn behind_dot(&self, part: Part, mark: Mark) -> Result<Option<Mode>, AllocError>
+        ensures value { IfOk result (λ next.
+            option_map mode_of next ≡ dot_mark (keep self.now.build) (kept_of part) mark) }
+    {
+        match mark {
+            Mark::CollectAllWord => {
+                let whole = Part::collect(self.alloc, part)?;
                 Ok(Some(Mode::After(whole)))
             }
+            Mark::MethodWord(method) => Ok(Some(Mode::Method(method, part))),
             _ => Ok(None),
-        },
+        }
     }
-}
 
-// A word or symbol within a form.
-fn within_form(
-    alloc: Global,
-    build: bool,
-    mode: Mode,
-    mark: Mark,
-) -> Result<Option<Mode>, AllocError>
-    ensures value { IfOk result (λ next.
-        option_map mode_of next ≡ inner_mark (keep build) (mode_of mode) mark) }
-{
-    match mode {
-        Mode::Opening(form) => Ok(on_open(Mode::Counting(form), mark)),
-        Mode::ExpOpening => Ok(on_open(Mode::ExpCounting, mark)),
-        Mode::Based(base) => behind_base(alloc, build, base, mark),
-        Mode::Closing(part) => Ok(on_close(Mode::After(part), mark)),
-        Mode::Dotted(part) => behind_dot(alloc, build, part, mark),
-        Mode::Method(method, part) => Ok(on_open(argument_of(method, part), mark)),
-        Mode::Picking(action, part) => Ok(pick_or_compare(action, part, mark)),
-        Mode::Testing(part, subject) => Ok(compare(part, subject, mark)),
-        Mode::Mapping(part) => func_or_scale(alloc, build, part, mark),
-        Mode::Start
-        | Mode::After(_)
-        | Mode::Counting(_)
-        | Mode::ExpCounting
-        | Mode::Factored(_)
-        | Mode::Comparing(_, _, _)
-        | Mode::Scaling(_, _) => Ok(None),
-    }
-}
-
-/// Returns the mode after a word or symbol, or nothing if it may not come.
-#[tactic(auto, using(crate::proofs::Stacks::map_map))]
-pub fn after_mark(
-    alloc: Global,
-    build: bool,
-    frames: &mut Frames,
-    mode: Mode,
-    mark: Mark,
-) -> Result<Option<Mode>, AllocError>
-    ensures value { IfOk result (λ next.
-        option_map (λ m. at (stack_of frames.new) (mode_of m)) next
-        ≡ step_mark (keep build) (stack_of frames.old) (mode_of mode) mark) }
-{
-    match mode {
-        Mode::Start => match mark {
-            Mark::Open => {
-                open(frames)?;
-                Ok(Some(Mode::Start))
+    // A function without a number, or the word of one with a number.
+    fn func_or_scale(&self, part: Part, mark: Mark) -> Result<Option<Mode>, AllocError>
+        ensures value { IfOk result (λ next.
+            option_map mode_of next ≡ map_mark (keep self.now.build) (kept_of part) mark) }
+    {
+        match mark {
+            Mark::PieceWord(piece) => {
+                let whole = Part::apply(self.alloc, part, piece.func())?;
+                Ok(Some(Mode::Closing(whole)))
             }
-            _ => begin_leaf(alloc, build, mark),
-        },
-        Mode::After(part) => match mark {
-            Mark::Dot => Ok(Some(Mode::Dotted(part))),
-            _ => join_behind(alloc, build, frames, part, mark),
-        },
-        mode => within_form(alloc, build, mode, mark),
+            Mark::MergeWord => {
+                let whole = Part::apply(self.alloc, part, Func::Merge)?;
+                Ok(Some(Mode::Closing(whole)))
+            }
+            Mark::ScaleWord(scale) => Ok(Some(Mode::Scaling(part, scale))),
+            _ => Ok(None),
+        }
     }
-}
 
-/// Returns the mode after a number, or nothing if it may not come.
-pub fn after_number(
-    alloc: Global,
-    build: bool,
-    mode: Mode,
-    value: Option<u64>,
-) -> Result<Option<Mode>, AllocError>
-    ensures value { (fs : _)
-        → IfOk result (λ next.
-        option_map (λ m. at fs (mode_of m)) next
-        ≡ step_number (keep build) fs (mode_of mode) value) }
-{
-    match mode {
-        Mode::Counting(form) => {
-            let part = Part::counted(alloc, build, form, value)?;
-            Ok(Some(Mode::Closing(part)))
+    // Counts one more `(`. The counter can't overflow, since no text is that long.
+    #[tactic(auto, using(crate::proofs::Stacks::bare_more))]
+    fn open(&mut self) -> Result<(), AllocError>
+        ensures value { OnOk result (stack_of self.new ≡ left ∷ stack_of self.old) }
+        ensures build { self.new.build ≡ self.old.build }
+    {
+        self.bare = self.bare.checked_add(1).ok_or(AllocError)?;
+        Ok(())
+    }
+
+    // The token after a whole term, if it isn't a dot.
+    #[tactic(auto, using(crate::proofs::Stacks::joined_push, crate::proofs::Stacks::bare_first, crate::proofs::Stacks::bare_none))]
+    fn join_behind(&mut self, part: Part, mark: Mark) -> Result<Option<Mode>, AllocError>
+        ensures value { IfOk result (λ next.
+            option_map (λ m. at (stack_of self.new) (mode_of m)) next
+            ≡ join_mark (keep self.old.build) (stack_of self.old) (kept_of part) mark) }
+        ensures build { self.new.build ≡ self.old.build }
+    {
+        if 0 < self.bare {
+            return match mark {
+                Mark::Operator(form) => {
+                    let before = self.bare - 1;
+                    let left = part;
+                    self.joined.push(Joined { before, form, left })?;
+                    self.bare = 0;
+                    Ok(Some(Mode::Start))
+                }
+                _ => Ok(None),
+            };
         }
-        Mode::ExpCounting => Ok(Some(Mode::Based(value))),
-        Mode::Factored(base) => {
-            let part = Part::growing(alloc, build, base, value)?;
-            Ok(Some(Mode::Closing(part)))
+        match self.joined.pop() {
+            None => Ok(None),
+            Some(Joined { before, form, left }) => match mark {
+                Mark::Close => {
+                    self.bare = before;
+                    let whole = Part::join(self.alloc, form, left, part)?;
+                    Ok(Some(Mode::After(whole)))
+                }
+                _ => Ok(None),
+            },
         }
-        Mode::Comparing(part, subject, cmp) => {
-            let whole = Part::test(alloc, part, subject, cmp, value)?;
-            Ok(Some(Mode::Closing(whole)))
+    }
+
+    // A word or symbol within a form.
+    fn within_form(&self, mode: Mode, mark: Mark) -> Result<Option<Mode>, AllocError>
+        ensures value { IfOk result (λ next.
+            option_map mode_of next ≡ inner_mark (keep self.now.build) (mode_of mode) mark) }
+    {
+        match mode {
+            Mode::Opening(form) => Ok(on_open(Mode::Counting(form), mark)),
+            Mode::ExpOpening => Ok(on_open(Mode::ExpCounting, mark)),
+            Mode::Based(base) => self.behind_base(base, mark),
+            Mode::Closing(part) => Ok(on_close(Mode::After(part), mark)),
+            Mode::Dotted(part) => self.behind_dot(part, mark),
+            Mode::Method(method, part) => Ok(on_open(argument_of(method, part), mark)),
+            Mode::Picking(action, part) => Ok(pick_or_compare(action, part, mark)),
+            Mode::Testing(part, subject) => Ok(compare(part, subject, mark)),
+            Mode::Mapping(part) => self.func_or_scale(part, mark),
+            Mode::Start
+            | Mode::After(_)
+            | Mode::Counting(_)
+            | Mode::ExpCounting
+            | Mode::Factored(_)
+            | Mode::Comparing(_, _, _)
+            | Mode::Scaling(_, _) => Ok(None),
         }
-        Mode::Scaling(part, scale) => {
-            let whole = Part::scale(alloc, part, scale, value)?;
-            Ok(Some(Mode::Closing(whole)))
+    }
+
+    // Returns the mode after a word or symbol, or nothing if it may not come.
+    #[tactic(auto, using(crate::proofs::Stacks::map_map))]
+    fn after_mark(&mut self, mode: Mode, mark: Mark) -> Result<Option<Mode>, AllocError>
+        ensures value { IfOk result (λ next.
+            option_map (λ m. at (stack_of self.new) (mode_of m)) next
+            ≡ step_mark (keep self.old.build) (stack_of self.old) (mode_of mode) mark) }
+        ensures build { self.new.build ≡ self.old.build }
+    {
+        match mode {
+            Mode::Start => match mark {
+                Mark::Open => {
+                    self.open()?;
+                    Ok(Some(Mode::Start))
+                }
+                _ => self.begin_leaf(mark),
+            },
+            Mode::After(part) => match mark {
+                Mark::Dot => Ok(Some(Mode::Dotted(part))),
+                _ => self.join_behind(part, mark),
+            },
+            mode => self.within_form(mode, mark),
         }
-        Mode::Start
-        | Mode::After(_)
-        | Mode::Opening(_)
-        | Mode::ExpOpening
-        | Mode::Based(_)
-        | Mode::Closing(_)
-        | Mode::Dotted(_)
-        | Mode::Method(_, _)
-        | Mode::Picking(_, _)
-        | Mode::Testing(_, _)
-        | Mode::Mapping(_) => Ok(None),
+    }
+
+    // Returns the mode after a number, or nothing if it may not come.
+    fn after_number(&self, mode: Mode, value: Option<u64>) -> Result<Option<Mode>, AllocError>
+        ensures value { IfOk result (λ next.
+            option_map (λ m. at (stack_of self.now) (mode_of m)) next
+            ≡ step_number (keep self.now.build) (stack_of self.now) (mode_of mode) value) }
+    {
+        match mode {
+            Mode::Counting(form) => {
+                let part = Part::counted(self.alloc, self.build, form, value)?;
+                Ok(Some(Mode::Closing(part)))
+            }
+            Mode::ExpCounting => Ok(Some(Mode::Based(value))),
+            Mode::Factored(base) => {
+                let part = Part::growing(self.alloc, self.build, base, value)?;
+                Ok(Some(Mode::Closing(part)))
+            }
+            Mode::Comparing(part, subject, cmp) => {
+                let whole = Part::test(self.alloc, part, subject, cmp, value)?;
+                Ok(Some(Mode::Closing(whole)))
+            }
+            Mode::Scaling(part, scale) => {
+                let whole = Part::scale(self.alloc, part, scale, value)?;
+                Ok(Some(Mode::Closing(whole)))
+            }
+            Mode::Start
+            | Mode::After(_)
+            | Mode::Opening(_)
+            | Mode::ExpOpening
+            | Mode::Based(_)
+            | Mode::Closing(_)
+            | Mode::Dotted(_)
+            | Mode::Method(_, _)
+            | Mode::Picking(_, _)
+            | Mode::Testing(_, _)
+            | Mode::Mapping(_) => Ok(None),
+        }
+    }
+
+    /// Returns the mode after a token, or nothing if the token may not come.
+    pub fn after_lexeme(&mut self, mode: Mode, lexeme: Lexeme) -> Result<Option<Mode>, AllocError>
+        ensures value { (t : Token) → IsLexeme lexeme t
+            → IfOk result (λ next.
+            option_map (λ m. at (stack_of self.new) (mode_of m)) next
+            ≡ step (keep self.old.build) (Some (at (stack_of self.old) (mode_of mode))) t) }
+        ensures build { self.new.build ≡ self.old.build }
+    {
+        match lexeme {
+            Lexeme::Mark(mark) => self.after_mark(mode, mark),
+            Lexeme::Number(value) => self.after_number(mode, value),
+        }
+    }
+
+    /// Returns the whole term that was read, if no form is open.
+    #[tactic(auto, using(crate::proofs::Stacks::stack_empty))]
+    pub fn finish(&self, mode: Mode) -> Option<Part>
+        ensures value { MatchOption result
+            ((a : Kept) → at (stack_of self.now) (mode_of mode) ≢ at [] (after a)) (λ part.
+            at (stack_of self.now) (mode_of mode) ≡ at [] (after (kept_of part))) }
+    {
+        if 0 < self.bare || !self.joined.is_empty() {
+            return None;
+        }
+        match mode {
+            Mode::After(part) => Some(part),
+            Mode::Start
+            | Mode::Opening(_)
+            | Mode::Counting(_)
+            | Mode::ExpOpening
+            | Mode::ExpCounting
+            | Mode::Based(_)
+            | Mode::Factored(_)
+            | Mode::Closing(_)
+            | Mode::Dotted(_)
+            | Mode::Method(_, _)
+            | Mode::Picking(_, _)
+            | Mode::Testing(_, _)
+            | Mode::Comparing(_, _, _)
+            | Mode::Mapping(_)
+            | Mode::Scaling(_, _) => None,
+        }
     }
 }

@@ -1,13 +1,12 @@
 //! Reads schedules from their text.
 
-ghost use Rattle.std.specs.Prelude.{◌≡◌, ℕ, Option, Some, None, option_map, IfOk, IfErr, [], ◌≢◌, MatchOption, MatchResult, true};
+ghost use Rattle.std.specs.Prelude.{◌≡◌, IfOk, IfErr, MatchResult};
 ghost use Rattle.zs_term.specs.Schedule.{Schedule, schedule_of};
-ghost use Rattle.zs_term.specs.Token.{Token, lexed};
-ghost use Rattle.zs_term.specs.Machine.{step, at, after};
-ghost use Rattle.zs_term.specs.Parts.{Kept, kept_of, mode_of, stack_of, keep};
+ghost use Rattle.zs_term.specs.Token.{Token};
+ghost use Rattle.zs_term.specs.Parts.{kept_of};
 ghost use Rattle.zs_term.specs.Scan.{IsLexeme};
 ghost use Rattle.zs_term.specs.Causes.{IsCause, IsRead, SpellsSchedule};
-ghost use Rattle.zs_term.specs.Reading.{SoFar, IsWhole, huge_with};
+ghost use Rattle.zs_term.specs.Reading.{IsWhole, huge_with};
 ghost use Rattle.zs_term.specs.Verdict.{verdict_of};
 ghost use Rattle.zs_term.specs.declared.fault.TermFault.TheVariants.{Memory};
 
@@ -15,30 +14,11 @@ use crate::checked::{Checked, check_small};
 use crate::fault::TermFault;
 use crate::lexer::{Scan, scan_at};
 use crate::limits::{MAX_DEPTH, MAX_WEIGHT};
-use crate::parser::{Frames, Mode, after_mark, after_number};
+use crate::parser::{Mode, Parser};
 use crate::part::Part;
 use crate::term::Term;
 use crate::token::Lexeme;
-use std::alloc::{AllocError, Global};
-
-// Returns the mode after a token, or nothing if the token may not come.
-fn after_lexeme(
-    alloc: Global,
-    build: bool,
-    frames: &mut Frames,
-    mode: Mode,
-    lexeme: Lexeme,
-) -> Result<Option<Mode>, AllocError>
-    ensures value { (t : Token) → IsLexeme lexeme t
-        → IfOk result (λ next.
-        option_map (λ m. at (stack_of frames.new) (mode_of m)) next
-        ≡ step (keep build) (Some (at (stack_of frames.old) (mode_of mode))) t) }
-{
-    match lexeme {
-        Lexeme::Mark(mark) => after_mark(alloc, build, frames, mode, mark),
-        Lexeme::Number(value) => after_number(alloc, build, mode, value),
-    }
-}
+use std::alloc::Global;
 
 // Returns the place of the first number that doesn't fit, after one more token.
 fn huge_behind(huge: Option<u64>, place: usize, lexeme: Lexeme) -> Option<u64>
@@ -53,42 +33,14 @@ fn huge_behind(huge: Option<u64>, place: usize, lexeme: Lexeme) -> Option<u64>
     }
 }
 
-// Returns the whole term that was read, if no form is open.
-#[tactic(auto, using(crate::proofs::Stacks::stack_empty))]
-fn finish(frames: &Frames, mode: Mode) -> Option<Part>
-    ensures value { MatchOption result
-        ((a : Kept) → at (stack_of frames.now) (mode_of mode) ≢ at [] (after a)) (λ part.
-        at (stack_of frames.now) (mode_of mode) ≡ at [] (after (kept_of part))) }
-{
-    if 0 < frames.bare || !frames.joined.is_empty() {
-        return None;
-    }
-    match mode {
-        Mode::After(part) => Some(part),
-        Mode::Start
-        | Mode::Opening(_)
-        | Mode::Counting(_)
-        | Mode::ExpOpening
-        | Mode::ExpCounting
-        | Mode::Based(_)
-        | Mode::Factored(_)
-        | Mode::Closing(_)
-        | Mode::Dotted(_)
-        | Mode::Method(_, _)
-        | Mode::Picking(_, _)
-        | Mode::Testing(_, _)
-        | Mode::Comparing(_, _, _)
-        | Mode::Mapping(_)
-        | Mode::Scaling(_, _) => None,
-    }
-}
-
 // Parses the whole text: returns the part, and the place of the first number that doesn't fit.
 fn whole(alloc: Global, build: bool, text: &[u8]) -> Result<(Part, Option<u64>), TermFault>
     ensures ok { IfOk result (λ found. IsWhole build text.now (kept_of found.0) found.1) }
     ensures err { IfErr result (IsCause text.now) }
 {
-    let mut frames = Frames {
+    let mut parser = Parser {
+        alloc,
+        build,
         bare: 0,
         joined: Vec::new(alloc),
     };
@@ -97,20 +49,14 @@ fn whole(alloc: Global, build: bool, text: &[u8]) -> Result<(Part, Option<u64>),
     let mut from: usize = 0;
     loop {
         match scan_at(text, from) {
-            Scan::End => match finish(&frames, mode) {
+            Scan::End => match parser.finish(mode) {
                 Some(part) => return Ok((part, huge)),
                 None => return Err(TermFault::NoTerm {
                     at: text.len() as u64,
                 }),
             },
             Scan::Stuck(place) => return Err(TermFault::NoTerm { at: place as u64 }),
-            Scan::Next(place, lexeme, end) => match after_lexeme(
-                alloc,
-                build,
-                &mut frames,
-                mode,
-                lexeme,
-            ) {
+            Scan::Next(place, lexeme, end) => match parser.after_lexeme(mode, lexeme) {
                 Err(_) => return Err(TermFault::Memory),
                 Ok(None) => return Err(TermFault::NoTerm { at: place as u64 }),
                 Ok(Some(next)) => {
