@@ -106,8 +106,8 @@ fn take_end(ended: &mut Option<Ended>, spare: &mut Out)
     *ended = None;
 }
 
-// Makes room for the first lines and moments, if no attempt is a line. A task that makes one attempt
-// needs none.
+// Makes room for the first lines and moments, if no attempt is a line. A task of one attempt needs
+// none.
 fn make_first_room(lines: &mut String, moments: &mut Vec<u64>, count: u64) -> Result<(), AllocError>
     ensures lines { string_bytes lines.new ≡ string_bytes lines.old }
     ensures moments { moments.new.items ≡ moments.old.items }
