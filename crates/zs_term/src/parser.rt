@@ -16,7 +16,7 @@ use std::alloc::{AllocError, Global};
 /// operator is read.
 #[derive(Drop)]
 pub struct Parser {
-    /// Where it allocates.
+    /// The allocator.
     pub alloc: Global,
     /// Whether it builds terms.
     pub build: bool,
