@@ -229,6 +229,7 @@ SCHEDULES = [
     _no_term("jittered of ZIO", "exponential(100).»jittered", "left out"),
     _no_term("resetAfter of ZIO", "exponential(100).»resetAfter(60000)", "resetWhen"),
     _no_term("once of ZIO", "»once", "recurs(1)"),
+    _no_term("a count with a point", "recurs(1».5)", "retries"),
     _no_term("a calendar", "»dayOfWeek(1)", "calendar"),
     _no_term("an effect of ZIO", "forever.»whileInputZIO(f)", "effects"),
     _no_term("++ of ZIO", "(recurs(3) »++ spaced(10))", "merge"),

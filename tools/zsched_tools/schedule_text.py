@@ -144,6 +144,8 @@ def _fraction(spot, number, size):
         return spot.cause(size, "a factor is a whole number", "write 2, or use linear or fibonacci, which grow slower")
     if number.endswith((".0", ".00")):
         return spot.cause(size, "a number has no point", f"write {shown(number.split('.')[0])}")
+    if spot.last(3) == "recurs":
+        return spot.cause(size, "a number has no point", "write a whole number of retries")
     return spot.cause(size, "a number has no point", "times are whole milliseconds: write 1500 for 1.5 seconds")
 
 
