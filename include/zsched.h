@@ -38,10 +38,10 @@ extern "C" {
 
 /* What a call returns. `at` is zs_reply.at, or the value at the pointer `at`; it is 0 if no meaning is given here. */
 enum zs_number {
-    ZS_NEXT = 0,        /* zs_answer, zs_step: the schedule continues at zs_reply.next. Other calls: success */
-    ZS_DONE = 1,        /* zs_answer, zs_step: the schedule is done */
+    ZS_NEXT = 0,        /* calls with a zs_reply: the schedule continues at zs_reply.next. Other calls: success */
+    ZS_DONE = 1,        /* calls with a zs_reply: the schedule is done */
     ZS_NO_PAIR = 2,     /* zs_answer: the list of pairs is empty, and the text is a schedule */
-    ZS_FALLS = 3,       /* zs_answer: the moment of the pair `at`, from 0, is below the one before it; zs_step: the moment
+    ZS_FALLS = 3,       /* zs_answer: the moment of the pair `at`, from 0, is below the one before it; other calls: the moment
                          * is below that of the last step */
     ZS_NOT_UTF8 = 4,    /* the text isn't UTF-8 from the byte `at` on */
     ZS_NO_MEMORY = 5,   /* an allocation failed; nothing is leaked, and the call may be repeated */
@@ -64,7 +64,8 @@ typedef struct zs_seen {
     uint64_t input;  /* any number */
 } zs_seen;
 
-/* What zs_answer and zs_step return beside their number. Each call writes all four; a field without a meaning is 0. */
+/* What zs_answer, zs_step and zs_program_step return beside their number. Each call writes all four; a field without a meaning
+ * is 0. */
 typedef struct zs_reply {
     uint64_t next;   /* ZS_NEXT: the moment at which the next attempt may begin, not below that of the last pair */
     uint64_t size;   /* ZS_NEXT, ZS_DONE: the bytes of the text of the step's output, whether or not they fit */
@@ -75,7 +76,7 @@ typedef struct zs_reply {
 /* What zs_bounds returns. A field without a meaning is 0. */
 struct zs_bounds {
     uint64_t seen;      /* the number of steps that were looked at */
-    uint64_t least;     /* no attempt before this one is the last, 1 or more */
+    uint64_t least;     /* the schedule isn't done before this attempt, 1 or more */
     uint64_t has_most;  /* 1 if `most` is a bound, else 0: there may be any number of attempts */
     uint64_t most;      /* no attempt after this one is made; it is `seen` */
     uint64_t longest;   /* the longest wait after the first `seen` attempts, in milliseconds */
@@ -110,8 +111,8 @@ uint32_t zs_bounds(const uint8_t *text, size_t text_len, uint64_t steps, struct 
  *
  * A state is an array of words whose number depends only on the schedule: at most 3 for each of its nodes, and one more. A
  * step takes no longer after many steps than after one. The words may be copied, and stored as bytes for machines of the same
- * byte order. After a restart they still serve, if moments go on. A schedule with collectAll has no such state, since its
- * list grows.
+ * byte order. After a restart they still serve, if later moments aren't smaller. A schedule with collectAll has no such state,
+ * since its list grows.
  *
  * The number of words of the state of a text's schedule, 1 or more: ZS_NEXT (0). Otherwise ZS_KEEPS_LIST, or what zs_check
  * returns for the text, with its place; *size is then 0. */
