@@ -350,7 +350,7 @@ def tightness(seeds):
         met[1] += (b["attempts"]["most"] or steps + 1) == most
         met[2] += b["longest_wait"] == longest
         met[3] += b["total_wait"] is None or b["total_wait"] == total
-    print(f"{runs} policies, {min(depths)} to {max(depths)} steps; met exactly: the least number of attempts by {met[0]}, the most "
+    print(f"{runs} policies, {min(depths)} to {max(depths)} steps; exact: the least number of attempts by {met[0]}, the most "
           f"by {met[1]}, the longest wait by {met[2]}, all waits by {met[3]}")
 
 

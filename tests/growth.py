@@ -278,7 +278,7 @@ class Meter:
                 raise ValueError(f"status {ended.returncode}: {said[-300:]}")
             # The library's result for a request of tests/library.c begins with 0 or 1.
             if runs.startswith("library") and ended.stdout.split(b" ")[0] not in [b"", b"0", b"1"]:
-                raise ValueError(f"the library answered {ended.stdout[:40]}")
+                raise ValueError(f"the library returned {ended.stdout[:40]}")
             found = [TOTAL.search(said), MOST_AT_ONCE.search(said)]
             requests, held = (int(it[1].replace(",", "")) for it in found)
             return Cost(int(INSTRUCTIONS.search(counted.read_text())[1]), held, requests)
