@@ -102,7 +102,7 @@ class Refuser:
             check=True)
 
     def run(self, binary, text, **refusal):
-        """Runs a program with the failures of `refusal`. Returns how it ended, and the number of allocations (0 if it was killed)."""
+        """Runs a program with failures. Returns how it ended, and the number of allocations (0 if it was killed)."""
         self.count.write_text("0")
         environment = dict(os.environ, LD_PRELOAD=str(self.library), REFUSE_COUNT=str(self.count))
         environment.update({name.upper(): str(value) for name, value in refusal.items()})
