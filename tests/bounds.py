@@ -34,7 +34,7 @@ LONG = 1000
 HISTORIES, HISTORY_STEPS = 3, 40
 # How many seeds a process takes at a time.
 CHUNK = 100
-# How deep histories of small policies go at most, and how many there are.
+# The most steps of histories of small policies, and the most histories.
 DEEP, MOST_HISTORIES = 7, 20000
 INPUTS = [0, 1, 2, 3, 4, 5, 7, 404, 503, MOST]
 ANY = ("num", 0, MOST)
@@ -186,7 +186,7 @@ def step(s, state, d):
 
 
 def step_in_turn(a, b, state, d):
-    """The same of `andThenEither`: a state is those of both parts, None for one that can't be on."""
+    """The same for `andThenEither`: a state has the states of both parts, and None for a part that can't be active."""
     answer, first, second = None, None, None
     if state is None or state[0]:
         (x, w, stops), after = step(a, state and state[0], d)
@@ -308,8 +308,8 @@ def compare(given, program):
 # ---- how tight bounds are
 
 def driven_steps(text):
-    """The inputs and durations that make a difference to a policy, and to how many steps up to DEEP all histories over them
-    are at most MOST_HISTORIES."""
+    """The inputs and durations that make a difference to a policy, and the number of steps, at most DEEP, for which there are
+    at most MOST_HISTORIES histories over them."""
     inputs = range(4) if "nput" in text or "identity" in text else [0]
     durations = [1, 2, 3] if any(word in text for word in ("fixed", "windowed", "elapsed")) else [1]
     fits = [n for n in range(1, DEEP + 1) if len(inputs) * (len(inputs) * len(durations)) ** (n - 1) <= MOST_HISTORIES]

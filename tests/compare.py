@@ -163,7 +163,7 @@ def main():
     arguments.add_argument("--seeds", type=seeds_from, default=range(2000), metavar="A..B",
                            help="the seeds from A on, without B (0..2000)")
     arguments.add_argument("--processes", type=int, choices=range(1, 65), default=1, metavar="N",
-                           help="how many processes compare, 1 to 64 (1)")
+                           help="the number of processes, 1 to 64 (1)")
     given, zsched = arguments.parse_args(), found_zsched()
     begun = time.monotonic()
     seeds = given.seeds

@@ -239,7 +239,7 @@ def crates_of(given):
 
 
 def options():
-    """The options that the words give."""
+    """The options of the command line."""
     parser = parser_of(__doc__, epilog=EPILOG)
     parser.add_argument("--crate", action="append", metavar="NAME", help="only this crate's edits (repeatable)")
     parser.add_argument("--edit", action="append", metavar="BELIEF", help="only this edit (repeatable)")

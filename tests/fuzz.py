@@ -41,7 +41,7 @@ def next_text(chance, seeds):
 
 
 def may_take_long(text):
-    """Whether a plan may lawfully take long, or as much memory as there is: a far horizon, or lists of lists."""
+    """Whether a plan is allowed to take long, or all memory: a far horizon, or lists of lists."""
     return re.search(rb"\d{5}|[eE]\d", text) is not None or text.count(b"collectAll") >= 2
 
 
@@ -101,7 +101,7 @@ def fuzz(count, seconds, seed):
 def main():
     """The command line."""
     arguments = parser_of(__doc__)
-    arguments.add_argument("--seconds", type=float, default=600, help="how long to go on (600)")
+    arguments.add_argument("--seconds", type=float, default=600, help="seconds to run (600)")
     arguments.add_argument("--seed", type=int, default=1, help="which plans to make (1)")
     given = arguments.parse_args()
     count = Count()

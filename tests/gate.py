@@ -67,7 +67,7 @@ PARTS = {
 
 
 class Running:
-    """A part that runs. Its output goes to a log, and on to standard output if it is in front."""
+    """A part that runs. Its output goes to a log, and also to standard output if it doesn't run in the background."""
 
     def __init__(self, name, part, log, words=(), **more):
         self.name, self.part, self.log = name, part, log
@@ -254,9 +254,9 @@ def lacking():
 
 
 def options_of(words):
-    """The options that the words give."""
+    """The options of the command line."""
     parser = parser_of(__doc__, prog="check", usage="./check [--anew] [quick | NAME ..]")
-    parser.add_argument("--anew", action="store_true", help="nothing that an earlier run passed is taken over")
+    parser.add_argument("--anew", action="store_true", help="repeat what an earlier run passed")
     parser.add_argument("names", nargs="*", metavar="NAME", help=f"quick, or some of: {', '.join(PARTS)}")
     options = parser.parse_args(words)
     unknown = [name for name in options.names if name not in PARTS and name != "quick"]
@@ -266,7 +266,7 @@ def options_of(words):
 
 
 def run(gate, names):
-    """Runs the whole gate, or the named parts over the program that was built last: whether all could be run."""
+    """Runs the whole gate, or the named parts over the program that was built last; returns whether all could be run."""
     if not names:
         gate.whole()
         return True

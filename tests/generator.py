@@ -47,7 +47,7 @@ def tested(chance, form, *pick):
 
 
 def fitting_tails(chance, kind):
-    """What may follow a schedule of this kind at a point, with the kind that comes of it."""
+    """What may follow a schedule of this kind at a point, with the resulting kind."""
     tails = [(["collectAll"], ("items", kind)), (["map", "(", "as", str(whole(chance)), ")"], "num"),
              (tested(chance, "whileInput"), kind)]
     tests = []

@@ -1,6 +1,6 @@
 #!/usr/bin/env python3
-"""Counts what runs cost and how that grows: instructions, requests for memory, and the most bytes
-held at once.
+"""Measures what runs cost and how that grows: instructions, allocations, and the peak memory in
+bytes.
 
     python3 tests/growth.py               all rows
     python3 tests/growth.py --show        the same, and what each row costs
@@ -51,7 +51,7 @@ WRAPPED = ["-Wl,--wrap=malloc,--wrap=realloc,--wrap=free", "-lpthread"]
 
 @dataclasses.dataclass
 class Cost:
-    """What a run costs: instructions, the most bytes held at once, and requests for memory."""
+    """What a run costs: instructions, the peak memory in bytes, and allocations."""
     instructions: float
     held: float
     requests: float
@@ -222,7 +222,7 @@ ROWS = [
     Row("attempts in records", records(attempts_of("forever")), 2500, Cost(4800, 250, 0.01),
         runs="zs_refusals"),
     Row("jobs due together", jobs_of("recurs(5)"), 1000, Cost(76_000, 2220, 20.5)),
-    # Most of what these cost is the reading of their schedules.
+    # Most of their cost is the parsing of their schedules.
     Row("jobs of 100 nodes", jobs_of(f"(recurs(0) && {tree(50)})"), 100,
         Cost(290_000, 17_300, 422)),
     Row("jobs of 100 attempts", jobs_of("recurs(99)"), 100, Cost(420_000, 11_500, 28.8)),

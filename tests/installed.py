@@ -209,7 +209,7 @@ def maven(room):
         raise Missing(f"Maven's plugins {', '.join(lacking)} aren't in {MAVEN}")
     library, source, repository = room.install("libzsched0"), room.place / "source", room.place / "repository"
     shutil.copytree(BINDINGS / "java", source, ignore=UNWANTED)
-    # Links to what isn't installed lead nowhere, and aren't needed.
+    # Links to packages that aren't installed have no target, and aren't needed.
     with contextlib.suppress(shutil.Error):
         shutil.copytree(MAVEN, repository)
     room.run("mvn", "--offline", "--quiet", f"-Dmaven.repo.local={repository}", "-Dmaven.test.skip=true", "package", where=source)

@@ -71,7 +71,7 @@ def many_ticks():
 
 
 def many_polls(workers):
-    """A job of 12,000 attempts, with two jobs beside it."""
+    """A job of 12,000 attempts, and two other jobs."""
     pairs = ["forever && forever", "spaced(99) && spaced(99)", "spaced(1) && recurs(5000)"]
     jobs = [job(number, f"({pair}).map(_1)") for number, pair in enumerate(pairs)]
     return plan(jobs, horizon=12000, workers=workers)

@@ -5,7 +5,7 @@
 
 Each tenth of the steps is measured. Time is flat if the fastest of the last five tenths takes at most 1.5 times as long as
 the fastest of the first five, in one of three runs, since other programs make it slower. Memory is flat if it grows by less
-than 4 bytes a step after the first half; a list of the steps grows by 16. Under valgrind, where it is installed, the
+than 4 bytes a step after the first half; a list of the steps grows by 16. Under valgrind, if it is installed, the
 instructions of a step are counted in C and Rust. It takes the library of ZSCHED_LIBRARY_DIR, or that of tools/make-library.
 It isn't part of ./check. The last line is 'N passed, M failed'; a language whose compiler isn't on this machine is named as
 left out."""

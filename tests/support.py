@@ -135,7 +135,7 @@ def write_digest(report):
 
 
 class Count:
-    """How many tests passed and failed. A failure is printed at once."""
+    """How many tests passed and failed. A failure is printed immediately."""
 
     def __init__(self):
         self.passed = 0

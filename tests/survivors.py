@@ -5,7 +5,7 @@
     python3 tests/survivors.py --some 5           five of them, others on another day: the date chooses
     python3 tests/survivors.py --check            only whether each still applies, and what it names is there
 
-Whether all still apply is looked at first, also with --some, and whether the tests and plans that wrong bodies name are there.
+It first checks, also with --some, whether all still apply, and whether the tests and plans that wrong bodies name are there.
 
 A survivor is a file crates/NAME/survivors/BELIEF.edit with the lines of a wrong body (tests/wrong_edits.py), and a line
 `caught-by:` in place of the function: CRATE::TEST for a test of a crate, hostile::FUNCTION for a function of
@@ -133,7 +133,7 @@ class Failures(support.Count):
 
 @functools.cache
 def cases_of(part):
-    """Plans of a part of the gate: a name, a plan and its report each, from the file beside it or from the reference. Those
+    """Plans of a part of the gate: a name, a plan and its report each, from the file next to it or from the reference. Those
     of tests/plans/ are there in other batches too."""
     if part == "examples":
         paths = [path for path in support.plans_with_reports() if path.parent.name == "plans"]
@@ -341,7 +341,7 @@ def main():
     arguments.add_argument("--edit", action="append", metavar="BELIEF", help="only this one (repeatable)")
     arguments.add_argument("--some", type=int, metavar="N", help="this number of them, in turn by the day of the year")
     arguments.add_argument("--wrong-bodies", action="store_true", help="the wrong bodies that a plan or a test shows")
-    arguments.add_argument("--check", action="store_true", help="build nothing: look whether each applies")
+    arguments.add_argument("--check", action="store_true", help="build nothing: check whether each applies")
     given = arguments.parse_args()
     try:
         survivors, bodies = list(map(Survivor, sorted(TOP.glob("crates/*/survivors/*.edit")))), shown_wrong_bodies()

@@ -122,12 +122,12 @@ def value_of(node):
 
 
 class Json(unittest.TestCase):
-    """The two readers of JSON: one passes a lawful text by its brackets, the other one looks for a fault."""
+    """The two readers of JSON: one skips a valid text by its brackets, the other one finds a fault."""
 
     LETTERS = ["a", "é", "😀", '"', "\\", "[", "]", "{", "}", ",", ":", "\n", "/"]
 
     def made(self, chance, depth=0):
-        """A value with texts that are hard to pass."""
+        """A value with texts that are hard to skip."""
         form = chance.randrange(6 if depth < 5 else 4)
         if form < 2:
             return "".join(chance.choice(self.LETTERS) for _ in range(chance.randrange(6)))

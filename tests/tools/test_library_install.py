@@ -233,7 +233,7 @@ class Made(unittest.TestCase):
 
 
 class Installed(unittest.TestCase):
-    """tools/install-library, and programs that are built with what it puts."""
+    """tools/install-library, and programs that are built with what it installs."""
 
     @classmethod
     def setUpClass(cls):

@@ -192,7 +192,7 @@ class OneByOne(unittest.TestCase):
     """The search finds what is found by deciding one event after another, each with a run of the reference."""
 
     def next_begin(self, given, client, schedule, kinds):
-        """When the attempt after these begins, by the reference alone; None if none does."""
+        """The moment at which the attempt after these begins, by the reference alone; None if no attempt does."""
         cut = [*(given.outcomes[kind].entry() for kind in kinds), '{"ms":1,"ok":0}']
         job = (f'{{"name":"c","mode":"retry","schedule":{json.dumps(schedule)},"start":{given.starts[client]},'
                f'"script":[{",".join(cut)}]}}')

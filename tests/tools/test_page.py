@@ -1,4 +1,4 @@
-"""docs/play.html: its evaluator beside tests/reference.py and what it makes of the fields, by node; and the page in a
+"""docs/play.html: its evaluator compared with tests/reference.py and what it makes of the fields, by node; and the page in a
 real browser, chromium. What isn't installed is skipped."""
 import collections
 import functools

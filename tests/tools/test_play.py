@@ -304,7 +304,7 @@ class CommandLine(unittest.TestCase):
     """The words of the command line."""
 
     def ended(self, *words, **environment):
-        """A run that ends at once: its status, output and errors."""
+        """A run that ends immediately: its status, output and errors."""
         return run([str(TOOL), *words], b"", {**os.environ, **environment}, seconds=20)
 
     def test_help_names_what_it_takes_and_its_statuses(self):

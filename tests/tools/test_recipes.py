@@ -27,7 +27,7 @@ def part(schedule, text):
 
 
 def parts_of(row, letters):
-    """The schedules s, a and b of a row. Some rows speak of a schedule that ends, or of one that goes on at once."""
+    """The schedules s, a and b of a row. Some rows need one that ends, or one that continues immediately."""
     k = letters.k
     seen = zio.both(zio.linear(3), zio.identity())
     s = part(seen.map(lambda out: 2 * out[1]), "(linear(3) && identity).map(_2).map(* 2)")

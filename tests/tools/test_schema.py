@@ -45,7 +45,7 @@ def scheduled(text):
     return plan([job(schedule=text)])
 
 
-# Faulty plans that an editor marks, beside those of faults.py: each by its name.
+# Faulty plans that an editor marks, in addition to those of faults.py: each by its name.
 FAULTY = [
     ("a list as the document", b"[]"),
     ("no jobs", b'{"horizon":1000}'),

@@ -62,7 +62,7 @@ exponential(100)  succeeded 200 after 4 attempts, 855 ms (waited 700 ms, longest
                          (0, "failed 4 after 2 attempts, 55 ms (waited 10 ms, longest wait 10 ms)\n", ""))
 
     def test_what_goes_on_at_the_horizon_counts_up_to_it(self):
-        # An attempt ends at 40 ms, and the wait goes on until 1 s.
+        # An attempt ends at 40 ms, and the wait lasts until 1 s.
         self.assertEqual(tool("spaced(5000)", "--until", "1s"),
                          (0, "unfinished after 1 attempt, 1 s (waited 960 ms, longest wait 960 ms)\n", ""))
         self.assertEqual(tool("spaced(5000)", "--until", "1s", "--fails", "2s err 1"),

@@ -203,7 +203,7 @@ def fibonacci(delay):
 
 
 def windowed(window):
-    """The end of the window that has begun."""
+    """The end of the current window."""
     def step(now, given, state):
         begun = now if state is None else state
         return begun, now, now + window - (now - begun) % window
