@@ -1,5 +1,5 @@
 #!/usr/bin/env python3
-"""Feeds the built program with plans that were changed at random, and looks at how it ends.
+"""Runs the built program on plans that were changed at random, and checks how it ends.
 
     python3 tests/fuzz.py --seconds 600 --seed 1
 

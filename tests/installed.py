@@ -99,7 +99,7 @@ class Room:
 
 
 def compiled(room, compiler, library):
-    """A program in C or C++, by what pkg-config says of the root."""
+    """A program in C or C++, with the flags that pkg-config prints for the root."""
     need("pkg-config", "pkg-config")
     pkg = {"PKG_CONFIG_LIBDIR": library / "pkgconfig", "PKG_CONFIG_SYSROOT_DIR": room.root}
     flags = room.run("pkg-config", "--cflags", "--libs", "zsched", **pkg).split()

@@ -290,7 +290,7 @@ class Installed(unittest.TestCase):
 
 @unittest.skipIf(DEBIAN, f"not installed: {', '.join(DEBIAN)} (Debian: dpkg, binutils)")
 class Packages(unittest.TestCase):
-    """The Debian packages: made twice, looked at by lintian, unpacked in an empty folder, and used there."""
+    """The Debian packages: made twice, checked by lintian, unpacked in an empty folder, and used there."""
 
     @classmethod
     def setUpClass(cls):

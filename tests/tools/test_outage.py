@@ -1,4 +1,4 @@
-"""zsched-outage: a scenario worked out by hand, others by deciding one attempt after another, budgets, draws, the
+"""zsched-outage: a scenario computed by hand, others by deciding one attempt after another, budgets, draws, the
 certificate, wrong scenarios, and the files."""
 import io
 import json

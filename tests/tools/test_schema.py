@@ -161,7 +161,7 @@ class Validated(unittest.TestCase):
         taken = []
         for file in PLANS:
             tree = json.loads(file.read_bytes())
-            # Jobs are looked at apart from the rest, and some plans of many jobs have the same ones.
+            # Jobs are validated apart from the rest, and some plans of many jobs have the same ones.
             tree["jobs"], jobs = [] if tree["jobs"] in taken else tree["jobs"], tree["jobs"]
             with self.subTest(file.name):
                 self.assertTrue(self.validator.is_valid(tree))
