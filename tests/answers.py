@@ -1,6 +1,6 @@
 """The programs bindings/*/answers.*, one for each language, which step schedules by list, by state and by program, and how
-each is built over a built library. bindings/c/answers.c says what they take and print. A server that
-programs retry is here too."""
+each is built over a built library. bindings/c/answers.c documents what they read and print. This file also has a server
+that programs retry."""
 import http.server
 import os
 import pathlib
@@ -19,11 +19,11 @@ JNA = pathlib.Path("/usr/share/java/jna.jar")
 
 
 class Missing(Exception):
-    """What a language needs isn't on this machine. The text says what."""
+    """This machine lacks something that a language needs. The text says what."""
 
 
 class Flaky:
-    """A server on this machine that answers with these codes, and then with the last of them again."""
+    """A server on this machine that responds with these codes in turn and then repeats the last one."""
 
     def __init__(self, codes):
         self.moments = moments = []
@@ -54,14 +54,14 @@ class Flaky:
 
 
 class Program(typing.NamedTuple):
-    """The words of a built program, its environment, and whether it takes texts that aren't UTF-8."""
+    """The command of a built program, its environment, and whether it accepts texts that aren't UTF-8."""
     words: list
     environment: dict
     takes_bytes: bool = True
 
 
 def ran(words, where, text=None, **more):
-    """What a program prints that has to succeed."""
+    """The output of a program that has to succeed."""
     ended = subprocess.run([str(it) for it in words], cwd=where, input=text, capture_output=True, text=True, check=False,
                            env={**os.environ, **more})
     if ended.returncode:
@@ -102,7 +102,7 @@ def python(_, library):
 
 
 def go_environment(library):
-    """What Go needs to find the library, and to ask no network."""
+    """The environment in which Go finds the library and uses no network."""
     return {"CGO_CFLAGS": f"-I{TOP / 'include'}", "CGO_LDFLAGS": f"-L{library}", "LD_LIBRARY_PATH": str(library),
             "GOPROXY": "off", "GOFLAGS": "-mod=readonly"}
 

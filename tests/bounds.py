@@ -3,13 +3,13 @@
 
     python3 tests/bounds.py --seeds 0..2000                        what the gate runs
     python3 tests/bounds.py --seeds 0..100000 --long 1 --processes 3   by hand: the interval run of every policy
-    python3 tests/bounds.py --tight 0..500                         small policies: the share of bounds that are met exactly
+    python3 tests/bounds.py --tight 0..500                         small policies: the share of bounds reached exactly
     python3 tests/bounds.py --policy 'POLICY' ..                   the bounds of each policy, by this file alone
 
 A driven history is one that a driver can make: moments up to LAST, an attempt takes at least 1 ms and begins no earlier than
-the schedule said; tests/reference.py evaluates it. No history may leave its bounds. The interval run is written from
-docs/SEMANTICS.md: each number of a schedule's state is an interval. It takes long for policies that go on for 1,000 steps, so
-only some of these are run. The program is the one that the gate built, or that ZSCHED_BOUNDS names. The last line is
+the schedule's next moment; tests/reference.py evaluates it. No history may exceed its bounds. The interval run is written from
+docs/SEMANTICS.md: each number of a schedule's state is an interval. It takes long for policies that continue for 1,000 steps,
+so only some of these are run. The program is the one that the gate built, or that ZSCHED_BOUNDS names. The last line is
 'N passed, M failed', of policies."""
 import functools
 import json
@@ -28,13 +28,13 @@ from support import TOP, parser_of
 BUILT = TOP / "crates" / "zsched_bounds" / "out" / "zsched_bounds"
 MOST, LAST = 2 ** 64 - 1, 999999999999999
 STEPS = 20000
-# The interval run of a policy that goes on for as many steps takes long.
+# The interval run takes long for a policy that continues for at least this number of steps.
 LONG = 1000
 # How many driven histories a policy has, and the steps of each.
 HISTORIES, HISTORY_STEPS = 3, 40
 # How many seeds a process takes at a time.
 CHUNK = 100
-# How deep histories of small policies go at most, and how many there are.
+# The most steps of histories of small policies, and the most histories.
 DEEP, MOST_HISTORIES = 7, 20000
 INPUTS = [0, 1, 2, 3, 4, 5, 7, 404, 503, MOST]
 ANY = ("num", 0, MOST)
@@ -82,7 +82,7 @@ def mapped(function, k, out):
     return ("num", sat(out[1] + k), sat(out[2] + k)) if function == "+" else ("num", sat(out[1] * k), sat(out[2] * k))
 
 
-# An answer: a range of outputs, the interval of waits if it may go on or None, and whether it may stop.
+# A result: a range of outputs, the interval of waits if it may continue or None, and whether it may stop.
 
 def either(a, b):
     return (join(a[0], b[0]), hull(a[1], b[1]), a[2] or b[2]) if a and b else a or b
@@ -97,7 +97,7 @@ def fibonacci(n):
 
 
 def leaf(s, steps, time):
-    """The answer of a leaf by the intervals of its number of steps, with this one, and of the time since the first one."""
+    """The result of a leaf by the intervals of its number of steps, with this one, and of the time since the first one."""
     (low, high), first = steps, steps[1] == 1
     number = "num", low - 1, high - 1
     match s:
@@ -125,7 +125,7 @@ def leaf(s, steps, time):
 
 
 def side(name, a):
-    """An answer of one of two schedules in turn."""
+    """A result of the left or the right one of two schedules that run in turn."""
     return None if a is None else (("sum", a[0], None) if name == "Left" else ("sum", None, a[0]), a[1], a[2])
 
 
@@ -146,7 +146,7 @@ def merge(s, a, b):
 
 
 def step(s, state, d):
-    """The answer of one more step, at least d after the one before, and the states after it; None is before the first step."""
+    """The result of one more step, at least d after the one before, and the states after it; None is before the first step."""
     match s:
         case ("&&" | "||") as operator, a, b:
             (x, wa, pa), sa = step(a, state and state[0], d)
@@ -186,7 +186,7 @@ def step(s, state, d):
 
 
 def step_in_turn(a, b, state, d):
-    """The same of `andThenEither`: a state is those of both parts, None for one that can't be on."""
+    """The same for `andThenEither`: a state has the states of both parts, and None for a part that can't be active."""
     answer, first, second = None, None, None
     if state is None or state[0]:
         (x, w, stops), after = step(a, state and state[0], d)
@@ -224,7 +224,7 @@ def told(least, most, longest, total, seen):
 # ---- driven histories
 
 def history_outside(chance, s, b, steps):
-    """What a random driven history of so many steps at most says against bounds, or None, and how many steps went on."""
+    """The violation of bounds by a random driven history of at most `steps` steps, or None; and how many steps continued."""
     moment = chance.choice([0, 1, 5, 1000, LAST // 2])
     pairs, memo, total = [], {}, 0
     for n in range(1, min(steps, b["steps_seen"]) + 1):
@@ -246,7 +246,7 @@ def history_outside(chance, s, b, steps):
 
 
 def random_policy(seed):
-    """A text and its schedule, or None where the text is none."""
+    """A text and its schedule, or None if the text isn't a schedule."""
     chance = random.Random(seed)
     tokens, _ = generator.made_term(chance, chance.choice([1, 2, 3, 4, 5, 7, 10, 14]))
     text = generator.spelled(chance, tokens).strip()
@@ -266,7 +266,7 @@ def program_lines(program, texts):
 
 
 def differences(text, s, printed, is_long):
-    """What is wrong with a line of the program, and how many steps of its driven histories went on."""
+    """What is wrong with a line of the program, and how many steps of its driven histories continued."""
     line = {key: value for key, value in printed.items() if key != "policy"}
     found, gone = [], 0
     if reference.read_schedule(printed["policy"].encode()) != s:
@@ -282,7 +282,7 @@ def differences(text, s, printed, is_long):
 
 
 def compare_some(given, program, seeds):
-    """The numbers of policies, of those with no difference, of interval runs, and of steps that went on."""
+    """The numbers of policies, of those with no difference, of interval runs, and of steps that continued."""
     some = [(seed, *policy) for seed in seeds if (policy := random_policy(seed))]
     passed = runs = steps = 0
     for (seed, text, s), printed in zip(some, program_lines(program, [text for _, text, _ in some])):
@@ -308,8 +308,8 @@ def compare(given, program):
 # ---- how tight bounds are
 
 def driven_steps(text):
-    """The inputs and durations that make a difference to a policy, and to how many steps up to DEEP all histories over them
-    are at most MOST_HISTORIES."""
+    """The inputs and durations that make a difference to a policy, and the number of steps, at most DEEP, for which there are
+    at most MOST_HISTORIES histories over them."""
     inputs = range(4) if "nput" in text or "identity" in text else [0]
     durations = [1, 2, 3] if any(word in text for word in ("fixed", "windowed", "elapsed")) else [1]
     fits = [n for n in range(1, DEEP + 1) if len(inputs) * (len(inputs) * len(durations)) ** (n - 1) <= MOST_HISTORIES]
@@ -337,7 +337,7 @@ def reached(s, inputs, durations, steps):
 
 
 def tightness(seeds):
-    """Prints how many bounds of small policies without `resetWhen` are met exactly by a history, in as many steps."""
+    """Prints how many bounds of small policies without `resetWhen` some history reaches exactly, within the same steps."""
     met, runs, depths = [0, 0, 0, 0], 0, []
     for seed in seeds:
         policy = random_policy(seed)
@@ -350,12 +350,12 @@ def tightness(seeds):
         met[1] += (b["attempts"]["most"] or steps + 1) == most
         met[2] += b["longest_wait"] == longest
         met[3] += b["total_wait"] is None or b["total_wait"] == total
-    print(f"{runs} policies, {min(depths)} to {max(depths)} steps; met exactly: the least number of attempts by {met[0]}, the most "
+    print(f"{runs} policies, {min(depths)} to {max(depths)} steps; exact: the least number of attempts by {met[0]}, the most "
           f"by {met[1]}, the longest wait by {met[2]}, all waits by {met[3]}")
 
 
 def main():
-    """Does what the words ask for; returns the exit status."""
+    """Runs what the options select; returns the exit status."""
     words = parser_of(__doc__)
     words.add_argument("--seeds", help="A..B")
     words.add_argument("--long", type=int, default=100, metavar="N",

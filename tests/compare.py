@@ -4,10 +4,10 @@
     python3 tests/compare.py --seeds 0..2000
     nice -n 15 python3 tests/compare.py --seeds 0..1000000 --processes 3
 
-Output, standard error and exit status have to be equal, byte for byte. The reference has no memory or threads to run
-out of, so a status 4 fails as well as a signal does. A plan with a difference is made small before it is told, and is
-kept in a file whose name is printed. The last line is 'N passed, M failed'; the exit status is 0 where M is 0, 1 where
-it isn't, and 2 where the arguments are wrong or there is no program."""
+Output, standard error and exit status have to be equal, byte for byte. The reference can't run out of memory or
+threads, so a status 4 fails as well as a signal does. A plan with a difference is made small before it is reported,
+and is stored in a file whose name is printed. The last line is 'N passed, M failed'; the exit status is 0 if M is 0,
+1 if it isn't, and 2 if the arguments are wrong or there is no program."""
 import functools
 import json
 import multiprocessing
@@ -29,14 +29,14 @@ CHUNK = 100
 
 
 def difference(zsched, plan):
-    """What the program and the reference answer where that isn't the same, else None."""
+    """The results of the program and of the reference if they differ, else None."""
     wanted = reference.answer(plan, MOST_ATTEMPTS)
     found = run(zsched, plan, seconds=PATIENCE)
     return None if found == wanted else (found, wanted)
 
 
 def differs(zsched, plan):
-    """Whether the answers differ on a plan that was made smaller. One that runs for long is none."""
+    """Whether the results differ on a plan that was made smaller. A plan that runs for long counts as equal."""
     try:
         return difference(zsched, plan) is not None
     except reference.TooManyAttempts:
@@ -106,7 +106,7 @@ def as_bytes(tree):
 
 
 def small(is_wanted, plan, most_tries=MOST_TRIES):
-    """A plan that is wanted still, as small as it gets in so many tries."""
+    """A plan that still satisfies the condition, as small as it gets in `most_tries` tries."""
     tries = 0
     try:
         tree = json.loads(plan)
@@ -163,7 +163,7 @@ def main():
     arguments.add_argument("--seeds", type=seeds_from, default=range(2000), metavar="A..B",
                            help="the seeds from A on, without B (0..2000)")
     arguments.add_argument("--processes", type=int, choices=range(1, 65), default=1, metavar="N",
-                           help="how many processes compare, 1 to 64 (1)")
+                           help="the number of processes, 1 to 64 (1)")
     given, zsched = arguments.parse_args(), found_zsched()
     begun = time.monotonic()
     seeds = given.seeds

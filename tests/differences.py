@@ -1,11 +1,11 @@
 #!/usr/bin/env python3
-"""Runs wrong bodies beside the right ones, without any proof, and compares what they return. By hand before a release.
+"""Runs wrong bodies and the right ones, without any proof, and compares what they return. By hand before a release.
 
-An edit counts as refused if the prover doesn't get through. That can happen to a right body, too. So each edit has an
+An edit counts as rejected if the prover doesn't get through. That can happen to a right body, too. So each edit has an
 example that shows its body wrong: `differs: CALL -> RIGHT | WRONG`, or `differs: none: REASON` if no example can.
 CALL calls a function of tests/differences/CRATE.calls, without its first argument, the runtime; its other arguments
 may use `alloc`. RIGHT is the text that it returns without the edit, WRONG the text with the edit; `nothing` is an empty
-text, and `stops` says that the call doesn't return.
+text, and `stops` means that the call doesn't return.
 
 All edits of a crate are tried in one build. In a copy of the crate each function that edits change gets a body for
 each of them, and a number picks one at run time. `rt try --test` builds the copy and runs a test for each edit. The
@@ -69,7 +69,7 @@ class Unusable(Exception):
 
 
 class Example:
-    """What an edit's line `differs:` says: a call and its results. The call is empty if the line says why there is none."""
+    """An edit's line `differs:`: a call and its results. The call is empty if the line says why no example is possible."""
 
     def __init__(self, edit):
         if not edit.differs:
@@ -239,7 +239,7 @@ def crates_of(given):
 
 
 def options():
-    """The options that the words give."""
+    """The options of the command line."""
     parser = parser_of(__doc__, epilog=EPILOG)
     parser.add_argument("--crate", action="append", metavar="NAME", help="only this crate's edits (repeatable)")
     parser.add_argument("--edit", action="append", metavar="BELIEF", help="only this edit (repeatable)")
@@ -248,7 +248,7 @@ def options():
 
 
 def main():
-    """Tries what the words ask for, and returns the exit status."""
+    """Tries what the options select, and returns the exit status."""
     given = options()
     crates = crates_of(given)
     passed = failed = unusable = 0

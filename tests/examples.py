@@ -1,9 +1,9 @@
 #!/usr/bin/env python3
-"""Runs the program on each plan of examples/ and tests/plans/, and compares its report with the one
-beside it.
+"""Runs the program on each plan of examples/ and tests/plans/, and compares its report with the
+file next to the plan.
 
 Each plan runs as it is, and then under twelve cuts: 1, 2, 7 and 64 workers, each with a grain of 1,
-3 and 10000. The report has to be the same. The reports were worked out by hand or by another
+3 and 10000. The report has to be the same. The reports were computed by hand or by another
 program, never written by zsched.
 
     python3 tests/examples.py [PLAN.json ..]      these plans alone

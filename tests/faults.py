@@ -1,7 +1,7 @@
 """The faults of plans: one table in the order of docs/FORMATS.md, and plans that have each of them.
 
-tests/hostile_plans.py runs the program on these plans and tests/tools/test_reference.py the reference, which also looks
-there whether tests/generator.py makes each fault. tests/fuzz.py takes from the table which lines a program may write."""
+tests/hostile_plans.py runs the program on these plans, and tests/tools/test_reference.py the reference; it also tests
+whether tests/generator.py makes each fault. tests/fuzz.py reads from the table which lines a program may write."""
 import functools
 import re
 from typing import NamedTuple
@@ -11,7 +11,7 @@ from support import ONE_JOB, job, plan
 
 LONGEST = 16777216
 DEEP = 100000
-# What the program writes where it isn't the plan's fault, by exit status.
+# What the program writes if the plan has no fault but the run fails, by exit status.
 OTHERS = {3: ["read failed", "write failed after N bytes"], 4: ["out of memory", "no thread"]}
 
 
@@ -56,14 +56,14 @@ def script(entries):
 
 
 def balanced(leaves):
-    """The text of a balanced tree of this many leaves."""
+    """The text of a balanced tree of `leaves` leaves."""
     if leaves == 1:
         return "forever"
     return f"({balanced(leaves // 2)} && {balanced(leaves - leaves // 2)})"
 
 
 def faults_of_documents():
-    """The faults for the document's own sake."""
+    """The faults of the document itself."""
     return [
         of_plan(f"plan is longer than {LONGEST} bytes",
                 ("16,777,217 spaces", b" " * (LONGEST + 1)),
@@ -108,7 +108,7 @@ def faults_of_documents():
 
 
 def faults_of_jobs():
-    """The faults for a job's sake, but for its schedule and script."""
+    """The faults of a job, except for those of its schedule and script."""
     return [
         of_job("wrong shape",
                ("a job that is null", ["null"]),
@@ -166,12 +166,12 @@ def faults_of_scripts():
 
 @functools.cache
 def table():
-    """All faults of a plan, in the order in which they are looked for."""
+    """All faults of a plan, in the order in which they are checked."""
     return faults_of_documents() + faults_of_jobs() + faults_of_schedules() + faults_of_scripts()
 
 
 def refused():
-    """All plans that are refused, those of mistakes.py too: a name, the bytes, and the text of the fault."""
+    """All rejected plans, including those of mistakes.py: a name, the bytes, and the text of the fault."""
     cases = [(name, data, fault.told(numbers)) for fault in table() for name, data, numbers in fault.plans]
     return cases + [(name, text.replace("»", "", 1).encode(errors="surrogateescape"), fault)
                     for name, text, fault, _ in MISTAKES]

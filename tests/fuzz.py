@@ -1,12 +1,12 @@
 #!/usr/bin/env python3
-"""Feeds the built program with plans that were changed at random, and looks at how it ends.
+"""Runs the built program on plans that were changed at random, and checks how it ends.
 
     python3 tests/fuzz.py --seconds 600 --seed 1
 
-Each run has to end in time, by no signal, with status 0, 2 or 3, or with 4 where the plan may take long; a report has
-the form of a report, and a fault has its text on standard error and nothing on standard output. Now and then a plan is
-run on another number of workers too, and has to give the same report. The same seed gives the same plans in the same
-order. A plan that ends otherwise is kept as a file beside the program's output, and its name is printed."""
+Each run has to end in time, by no signal, with status 0, 2 or 3, or with 4 if the plan may take long; a report has the
+form of a report, and a fault has its text on standard error and nothing on standard output. Now and then a plan is run
+on another number of workers too, and has to give the same report. The same seed gives the same plans in the same order.
+A plan that ends otherwise is stored in a file; the file's name and how the run ended are printed."""
 import random
 import re
 import resource
@@ -22,7 +22,7 @@ from support import ONE_JOB, ZSCHED, Count, equal_jobs, parser_of, plans_with_re
 MEMORY = 2 << 30
 PATIENCE = 10
 FEWEST = 100
-# So many bytes are too many to be changed.
+# A plan of more bytes than this isn't changed.
 LARGE = 200000
 
 # The line of a fault, by status.
@@ -41,7 +41,7 @@ def next_text(chance, seeds):
 
 
 def may_take_long(text):
-    """Whether a plan may lawfully take long, or as much memory as there is: a far horizon, or lists of lists."""
+    """Whether a plan is allowed to take long, or all memory: a far horizon, or lists of lists."""
     return re.search(rb"\d{5}|[eE]\d", text) is not None or text.count(b"collectAll") >= 2
 
 
@@ -60,7 +60,7 @@ def is_well_ended(ended):
 
 
 def cut_otherwise(chance, text):
-    """The same plan for another number of workers and another grain, or None where it doesn't read back."""
+    """The same plan for another number of workers and another grain, or None if it can't be parsed."""
     try:
         return recut(text, chance.randrange(1, 65), chance.choice([1, 2, 3, 10000]))
     except (ValueError, TypeError, RecursionError):
@@ -68,7 +68,7 @@ def cut_otherwise(chance, text):
 
 
 def seeds_of_the_repository():
-    """The plans that lie in the repository, and some that the other tests make."""
+    """The plans of the repository, and some that the other tests make."""
     seeds = [file.read_bytes() for file in plans_with_reports() if file.stat().st_size < 20000]
     return seeds + [ONE_JOB, equal_jobs("abcdefg", 2, 3)[0]]
 
@@ -101,7 +101,7 @@ def fuzz(count, seconds, seed):
 def main():
     """The command line."""
     arguments = parser_of(__doc__)
-    arguments.add_argument("--seconds", type=float, default=600, help="how long to go on (600)")
+    arguments.add_argument("--seconds", type=float, default=600, help="seconds to run (600)")
     arguments.add_argument("--seed", type=int, default=1, help="which plans to make (1)")
     given = arguments.parse_args()
     count = Count()

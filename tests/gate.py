@@ -1,9 +1,9 @@
 #!/usr/bin/env python3
-"""The gate: each proof, the wrong bodies that the prover must reject, all tests, the program on its examples, beside a
+"""The gate: each proof, the wrong bodies that the prover must reject, all tests, the program on its examples, against a
 reference and under hostile use, and the tools.
 
     ./check                 all parts: nothing is merged that doesn't pass them
-    ./check --anew          the same, and what earlier runs on this machine passed over the same files is done again
+    ./check --anew          the same, and repeats what earlier runs on this machine passed over the same files
     ./check NAME ..         these parts alone, over the program that was built last
     ./check quick           for the minutes between edits: proves what changed, and runs the plans unproved
 
@@ -30,9 +30,9 @@ from support import STAMP, TOP, ZSCHED, is_built, parser_of, sources_sum
 
 LAST = re.compile(r"(\d+) passed, (\d+) failed")
 PROVED = re.compile(r"rt: (\w+) (?:proved|is kept: .*)\n?")
-# A row of a part's own: a crate, what was done to it, its processor seconds and its seconds.
+# A row that a part adds: a crate, what was done to it, its processor seconds and its seconds.
 ROW = re.compile(r"(\w+): (?:.*, )?([\d.]+) processor seconds in ([\d.]+) s\n?")
-# What would have a part test another program, or fewer cases.
+# Variables under which a part would test another program, or fewer cases.
 REDIRECTS = ["ZSCHED", "ZSCHED_POPULATION", "ZSCHED_BOUNDS", "ZSCHED_LIBRARY", "ZSCHED_LIBRARY_DIR", "ZSCHED_CHANGES"]
 
 
@@ -49,7 +49,7 @@ def python(name, *words):
     return [sys.executable, str(TOP / "tests" / name), *words]
 
 
-# In the order in which they are run. Those beside go on in the background.
+# In the order in which they are run. Parts with `beside` run in the background.
 PARTS = {
     "proofs": Part(python("proofs.py"), 150),
     "wrong-bodies": Part(python("wrong_bodies.py"), 160, beside=True),
@@ -67,7 +67,7 @@ PARTS = {
 
 
 class Running:
-    """A part that runs. Its output goes to a log, and on to standard output if it is in front."""
+    """A part that runs. Its output goes to a log, and also to standard output if it doesn't run in the background."""
 
     def __init__(self, name, part, log, words=(), **more):
         self.name, self.part, self.log = name, part, log
@@ -87,7 +87,7 @@ class Running:
         self.kill()
 
     def kill(self):
-        """Ends the part and all that it started."""
+        """Ends the part and every process that it started."""
         with contextlib.suppress(ProcessLookupError):
             os.killpg(self.process.pid, signal.SIGKILL)
 
@@ -118,7 +118,7 @@ class Running:
 
 @dataclasses.dataclass
 class Ended:
-    """What a part came to: its passed and failed tests, why it failed beside them, and its rows of the table."""
+    """The result of a part: its passed and failed tests, other reasons why it failed, and its rows of the table."""
     name: str
     passed: int
     failed: int
@@ -127,8 +127,8 @@ class Ended:
 
 
 def judged(name, text, status, floor, late_after=None):
-    """What the log and the status of a part come to. A part without its last line has failed, and so has one that passed
-    fewer tests than its floor, or whose status is another than its line says."""
+    """The result of a part by its log and its status. A part without its last line has failed. So has one that passed
+    fewer tests than its floor, or whose status differs from the one that its last line implies."""
     lines = text.rstrip("\n").split("\n")
     last = LAST.fullmatch(lines[-1])
     passed, failed = (int(last[1]), int(last[2])) if last else (0, 0)
@@ -179,14 +179,14 @@ class Gate:
         return run
 
     def front(self, name, on_line=lambda line: None):
-        """Runs a part, and shows what it says."""
+        """Runs a part, and shows its output."""
         print(f"check: {name}", flush=True)
         run = self.start(name)
         run.follow(True, on_line)
         self.close(run)
 
     def beside(self, name, *words):
-        """Runs a part in the background; what it says is shown at the end."""
+        """Runs a part in the background; its output is shown at the end."""
         run = self.start(name, *words)
         reader = threading.Thread(target=run.follow, args=(False,), daemon=True)
         reader.start()
@@ -203,7 +203,7 @@ class Gate:
             print(f"check: {run.name} has failed: {why}", flush=True)
 
     def whole(self):
-        """Runs all parts: the wrong bodies of a crate beside the proofs of those above it."""
+        """Runs all parts: the wrong bodies of a crate in parallel to the proofs of the crates above it."""
         for old in [ZSCHED, STAMP]:
             old.unlink(missing_ok=True)
         bodies = self.beside("wrong-bodies", "--follow")
@@ -246,7 +246,7 @@ def table(ended, yard, seconds, processor):
 
 
 def lacking():
-    """What the gate needs and this machine doesn't have, or None."""
+    """What the gate needs and this machine lacks, or None."""
     for command, what in [("rt", "the Rattle toolchain"), ("cc", "a C compiler")]:
         if shutil.which(command) is None:
             return f"{what} (the command '{command}') isn't on this machine"
@@ -254,9 +254,9 @@ def lacking():
 
 
 def options_of(words):
-    """The options that the words give."""
+    """The options of the command line."""
     parser = parser_of(__doc__, prog="check", usage="./check [--anew] [quick | NAME ..]")
-    parser.add_argument("--anew", action="store_true", help="nothing that an earlier run passed is taken over")
+    parser.add_argument("--anew", action="store_true", help="repeat what an earlier run passed")
     parser.add_argument("names", nargs="*", metavar="NAME", help=f"quick, or some of: {', '.join(PARTS)}")
     options = parser.parse_args(words)
     unknown = [name for name in options.names if name not in PARTS and name != "quick"]
@@ -266,7 +266,7 @@ def options_of(words):
 
 
 def run(gate, names):
-    """Runs the whole gate, or the named parts over the program that was built last: whether all could be run."""
+    """Runs the whole gate, or the named parts over the program that was built last; returns whether all could be run."""
     if not names:
         gate.whole()
         return True
@@ -299,7 +299,7 @@ def end(gate, whole, before, yard, begun):
 
 
 def main(words):
-    """Runs what the words ask for, and returns the exit status."""
+    """Runs what the options select, and returns the exit status."""
     options = options_of(words)
     why = lacking()
     if why:

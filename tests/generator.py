@@ -1,8 +1,8 @@
 """Plans made at random for compare.py. The seed alone fixes the plan.
 
-Two plans of three are lawful; the others have a fault, two faults that are neighbours in the order of
-docs/FORMATS.md, or bytes that are odd JSON or none. A plan is bounded as it is made: no job of it has more attempts
-than some 2,000."""
+Two plans of three are valid; the others have a fault, two faults that are neighbours in the order of
+docs/FORMATS.md, or bytes that are odd JSON or no JSON. A plan is bounded as it is made: each of its jobs has at most
+some 2,000 attempts."""
 import json
 import random
 import re
@@ -17,11 +17,11 @@ COMPARISONS = ["<", "<=", "=", "!=", ">", ">="]
 
 
 class Raw(str):
-    """JSON text that is written as it stands."""
+    """JSON text that is written unchanged."""
 
 
 def whole(chance, least=0):
-    """A whole number: mostly a small one, now and then one at an edge."""
+    """A whole number: mostly a small one, now and then one at a limit."""
     form = chance.random()
     number = chance.choice(SMALL) if form < 0.75 else chance.randrange(1000) if form < 0.87 else chance.choice(EDGES)
     return max(least, number)
@@ -47,7 +47,7 @@ def tested(chance, form, *pick):
 
 
 def fitting_tails(chance, kind):
-    """What may follow a schedule of this kind at a point, with the kind that comes of it."""
+    """What may follow a schedule of this kind at a point, with the resulting kind."""
     tails = [(["collectAll"], ("items", kind)), (["map", "(", "as", str(whole(chance)), ")"], "num"),
              (tested(chance, "whileInput"), kind)]
     tests = []
@@ -67,7 +67,7 @@ def fitting_tails(chance, kind):
 
 
 def made_term(chance, nodes):
-    """The tokens of a term of about so many nodes, and its kind."""
+    """The tokens of a term of about `nodes` nodes, and its kind."""
     if nodes <= 1:
         return leaf(chance), "num"
     if nodes >= 3 and chance.random() < 0.5:
@@ -103,7 +103,7 @@ def depth_of(tokens):
 
 
 def balanced(chance, leaves):
-    """The tokens of a balanced tree of so many leaves: its weight is twice their number less one."""
+    """The tokens of a balanced tree of `leaves` leaves: its weight is twice their number less one."""
     if leaves == 1:
         return leaf(chance)
     left = balanced(chance, leaves // 2)
@@ -135,7 +135,7 @@ def most_attempts(tokens, is_long):
     return [60, 30, 15][lists] if lists < 3 else 8
 
 
-# ---- Lawful plans
+# ---- Valid plans
 
 def made_clock(chance, is_long):
     """A clock, as the key and the value of a document, and how many attempts it has room for."""
@@ -162,7 +162,7 @@ def made_entry(chance, how):
 
 
 def made_job(chance, number, room, is_long):
-    """A job that keeps within its bound on attempts, for a clock that has room for so many."""
+    """A job within its bound on attempts, for a clock that has room for at most `room` attempts."""
     mode = chance.choice(["retry", "repeat"])
     goes_on, ends = ("err", "ok") if mode == "retry" else ("ok", "err")
     form = chance.random()
@@ -190,7 +190,7 @@ def made_job(chance, number, room, is_long):
 
 
 def made_plan(chance):
-    """The tree of a lawful plan, but for schedules at a limit, which a bound may carry past it."""
+    """The tree of a valid plan, except that a bound may lift schedules at a limit past it."""
     is_long = chance.random() < 0.1
     key, value, room = made_clock(chance, is_long)
     count = chance.choice([1, 2, 2, 2, 3, 3, 4, 5, 6]) if chance.random() < 0.93 else chance.choice([0, chance.randrange(6, 50)])
@@ -217,7 +217,7 @@ def start_together(chance, jobs):
 
 # ---- Faults, in the order of docs/FORMATS.md
 #
-# Each takes the chance, a plan's tree and the number of one of its jobs, and answers the tree with the fault in it.
+# Each takes the random generator, a plan's tree and the number of one of its jobs, and returns the tree with the fault.
 
 NO_WHOLE = [Raw(text) for text in ("null", "true", '"1"', "[]", "{}", "1.0", "1e3", "1E2", "-0", "-1", "0.0", "-0.0",
                                    "1e-400", "18446744073709551616", "20000000000000000000", "1" * 30)]
@@ -334,7 +334,7 @@ def reworded(change):
 
 
 def no_term(chance, text):
-    """No spelling of a term."""
+    """The text isn't a term."""
     at = chance.randrange(len(text) + 1)
     signs = ["(", ")", ",", ".", "&&", "&", "|", "<", "=", "!", "+", "*", "_1", "_3", "_", "01", "00", "7", " ", "\t",
              "\n", "\0", "x", "as", "forever", "recurs(", "\u00e9", "\u2028", "\U0001f600", ".map", ".collectAll.", "$",
@@ -407,7 +407,7 @@ FAULTS = [wrong_document_shape, unknown_document_key, document_out_of_range, wro
           wrong_mode, wrong_name, same_name, reworded(no_term), reworded(too_big), reworded(big_number),
           reworded(zero_factor), reworded(no_kind), reworded(zero_window), empty_script, long_script, zero_ms]
 
-DOCUMENT_FAULTS = 3     # so many of them stand first
+DOCUMENT_FAULTS = 3     # the first of them are faults of the document
 
 # The faults with many causes are made more often.
 WEIGHTS = {wrong_document_shape: 4, document_out_of_range: 4, wrong_job_shape: 4, wrong_name: 2}
@@ -437,7 +437,7 @@ def faulty_plan(chance):
 # ---- JSON
 
 def json_text(chance, value, is_odd=False):
-    """A value as JSON. Where it is odd, keys may stand twice, and letters may be escapes."""
+    """A value as JSON. If it is odd, keys may occur twice, and letters may be escapes."""
     space = chance.choice(["", "", " ", "\n  ", "\t\r\n "]) if is_odd else ""
     if isinstance(value, Raw):
         return str(value)
@@ -460,7 +460,7 @@ def json_text(chance, value, is_odd=False):
 
 
 def text_as_json(chance, text, is_odd):
-    """A text as JSON. Where it is odd, some letters are escapes."""
+    """A text as JSON. If it is odd, some letters are escapes."""
     if not is_odd or chance.random() < 0.7:
         return json.dumps(text, ensure_ascii=chance.random() < 0.5)
     return '"' + "".join(json.dumps(sign)[1:-1] if chance.random() < 0.7 or ord(sign) > 0xffff else

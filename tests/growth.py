@@ -1,6 +1,6 @@
 #!/usr/bin/env python3
-"""Counts what runs cost and how that grows: instructions, requests for memory, and the most bytes
-held at once.
+"""Measures what runs cost and how that grows: instructions, allocations, and the peak memory in
+bytes.
 
     python3 tests/growth.py               all rows
     python3 tests/growth.py --show        the same, and what each row costs
@@ -8,10 +8,10 @@ held at once.
 
 A row is a plan, or another input, of n and of 4n things: attempts, jobs, ticks, parentheses and so
 on. What the program costs on no things is subtracted from both. The larger run may take at most 4.4
-times the instructions and bytes of the smaller. What each further thing costs may not exceed the
-row's limits: so a cost that grows in proportion, but is needless, shows too. Bytes and requests are
-exact, and their limits some twentieths above what they are. Instructions depend on the compiler;
-their limits have more room.
+times the instructions and bytes of the smaller. Each further thing may cost at most the row's
+limits: so a cost that grows in proportion, but is needless, is found too. Bytes and requests are
+exact, and their limits some twentieths above the measured figures. Instructions depend on the
+compiler; their limits have more room.
 
 valgrind's dhat counts, so nothing depends on the machine's load. Without valgrind, or without the
 library that services call, the rows that need it are left out by name. The last line is
@@ -39,7 +39,7 @@ PATIENCE = 240
 # How many rows are run at once.
 LANES = 2
 FAR = 10 ** 9
-# Below these a cost is taken for none, and its growth is not looked at.
+# Below these a cost counts as zero, and its growth is not tested.
 FEW_INSTRUCTIONS = 50_000
 FEW_BYTES = 10_000
 TOTAL = re.compile(r"Total: +[\d,]+ bytes in ([\d,]+) blocks")
@@ -51,7 +51,7 @@ WRAPPED = ["-Wl,--wrap=malloc,--wrap=realloc,--wrap=free", "-lpthread"]
 
 @dataclasses.dataclass
 class Cost:
-    """What a run costs: instructions, the most bytes held at once, and requests for memory."""
+    """What a run costs: instructions, the peak memory in bytes, and allocations."""
     instructions: float
     held: float
     requests: float
@@ -74,9 +74,9 @@ class Cost:
 
 @dataclasses.dataclass
 class Row:
-    """What grows: its name, a function that makes the input of a number of things, the smaller
-    number, and what each further thing may cost. If the number is 0 nothing grows, and the run may
-    cost so much. The program is zsched, or the one that `runs` names, and has this status."""
+    """What grows: its name, a function that makes the input of n things, the smaller n, and the
+    limit for each further thing. If n is 0 nothing grows, and the limit is for the whole run. The
+    program is zsched, or the one that `runs` names, and has this status."""
     name: str
     make: Callable
     size: int
@@ -114,7 +114,7 @@ def jobs_of(schedule):
 
 
 def jobs_one_after_the_other(count):
-    """Jobs that begin at moments of their own, the last one first."""
+    """Jobs that begin at different moments, the last one first."""
     return plan([job(number, "recurs(0)", start=2 * (count - number)) for number in range(count)])
 
 
@@ -133,32 +133,32 @@ def ticks(count):
 
 
 def leaves(count):
-    """A job of 100 attempts whose schedule has so many leaves."""
+    """A job of 100 attempts whose schedule has `count` leaves."""
     return plan([job(0, f"({tree(count)} && recurs(99)).map(_2)")])
 
 
 def batches(count):
-    """Rounds of so many batches on two threads."""
+    """Rounds of `count` batches on two threads."""
     return plan([job(number, "recurs(1)") for number in range(count)], workers=2, grain=1)
 
 
 def parentheses(count):
-    """A schedule of so many open parentheses: no schedule."""
+    """A schedule of `count` open parentheses, which is invalid."""
     return plan([job(0, "(" * count + "forever")])
 
 
 def spaces(count):
-    """A schedule of so many bytes."""
+    """A schedule of about `count` bytes."""
     return plan([job(0, "recurs(" + " " * count + "0)")])
 
 
 def keys(count):
-    """A document of so many unknown keys."""
+    """A document of `count` unknown keys."""
     return plan([], **{f"key{number}": number for number in range(count)})
 
 
 def entries_of_a_script(count):
-    """A job whose script has so many entries, with an attempt for each of the first ten."""
+    """A job whose script has `count` entries, with an attempt for each of the first ten."""
     return plan([job(0, "recurs(9)", [(1, number) for number in range(count)])])
 
 
@@ -169,48 +169,48 @@ def request(text, pairs, room=4096):
 
 
 def pairs_of_a_history(count):
-    """A history of so many pairs."""
+    """A history of `count` pairs."""
     return request("(exponential(10) && recurs(3))", [(moment, moment) for moment in range(count)])
 
 
 def steps_of_a_policy(count):
-    """The policy of docs/LIBRARY.md, stepped as often."""
+    """The policy of docs/LIBRARY.md, stepped `count` times."""
     policy = "((exponential(100) || spaced(5000)) && recurs(8)).whileInput(>= 500)"
     return request(policy, [(moment, 503) for moment in range(count)])
 
 
 def long_text(count):
-    """A schedule of so many bytes, at one pair."""
+    """A schedule of about `count` bytes, at one pair."""
     return request("recurs(" + " " * count + "0)", [(0, 0)])
 
 
 def states(count):
-    """So many leaves, stepped over the words of their state."""
+    """`count` leaves, stepped over the words of their state."""
     return request(tree(count), [(moment, moment) for moment in range(20)], 100_000)
 
 
 def bounds_request(text, steps):
-    """A line of tests/library.c for the bounds of a schedule, of so many steps at most."""
+    """A line of tests/library.c for the bounds of a schedule, of at most `steps` steps."""
     return f".{text.encode().hex()} b {steps}\n".encode()
 
 
 def steps_of_bounds(count):
-    """So many steps of a schedule that goes on."""
+    """`count` steps of a schedule that continues."""
     return bounds_request("((exponential(100) || spaced(5000)) && recurs(1000000))", count)
 
 
 def leaves_of_bounds(count):
-    """So many leaves, of which ten steps are looked at."""
+    """`count` leaves, of which ten steps are evaluated."""
     return bounds_request(tree(count), 10)
 
 
 def records(make):
-    """The same plan for zs_refusals, whose tasks keep all their records."""
+    """The same plan for zs_refusals, whose tasks store all their records."""
     return lambda count: b"jobs\n" + make(count)
 
 
 NO_LIMIT = Cost(math.inf, math.inf, math.inf)
-# What each program is given for no things.
+# The input of each program with no things.
 NOTHING = {"zsched": plan([]), "zs_refusals": b"jobs\n" + plan([])}
 ROWS = [
     Row("no job", lambda _: plan([]), 0, Cost(250_000, 1000, 17)),
@@ -222,7 +222,7 @@ ROWS = [
     Row("attempts in records", records(attempts_of("forever")), 2500, Cost(4800, 250, 0.01),
         runs="zs_refusals"),
     Row("jobs due together", jobs_of("recurs(5)"), 1000, Cost(76_000, 2220, 20.5)),
-    # Most of what these cost is the reading of their schedules.
+    # Most of their cost is the parsing of their schedules.
     Row("jobs of 100 nodes", jobs_of(f"(recurs(0) && {tree(50)})"), 100,
         Cost(290_000, 17_300, 422)),
     Row("jobs of 100 attempts", jobs_of("recurs(99)"), 100, Cost(420_000, 11_500, 28.8)),
@@ -238,7 +238,7 @@ ROWS = [
     Row("batches", batches, 500, Cost(64_000, 2230, 23.6)),
     Row("open parentheses", parentheses, 100_000, Cost(150, 3.5, 0.01), status=2),
     Row("bytes of a schedule", spaces, 500_000, Cost(45, 3.2, 0.01)),
-    # The keys of an object are kept in order, which costs a logarithm more.
+    # The keys of an object are stored in order, which costs a logarithm more.
     Row("keys", keys, 2000, Cost(15_800, 171, 1.2), status=2, times=5.6),
     Row("entries of a script", entries_of_a_script, 250, Cost(7000, 975, 3.2)),
     Row("pairs of an answer", pairs_of_a_history, 2500, Cost(4000, 31, 2.1),
@@ -276,16 +276,16 @@ class Meter:
             said = ended.stderr.decode(errors="replace")
             if ended.returncode != status:
                 raise ValueError(f"status {ended.returncode}: {said[-300:]}")
-            # The library's answer to a request of tests/library.c begins with 0 or 1.
+            # The library's result for a request of tests/library.c begins with 0 or 1.
             if runs.startswith("library") and ended.stdout.split(b" ")[0] not in [b"", b"0", b"1"]:
-                raise ValueError(f"the library answered {ended.stdout[:40]}")
+                raise ValueError(f"the library returned {ended.stdout[:40]}")
             found = [TOTAL.search(said), MOST_AT_ONCE.search(said)]
             requests, held = (int(it[1].replace(",", "")) for it in found)
             return Cost(int(INSTRUCTIONS.search(counted.read_text())[1]), held, requests)
 
 
 def grows_too_much(small, large, times):
-    """What grows by more than it may."""
+    """What grows by more than its limit."""
     found = []
     if large.instructions > times * max(small.instructions, FEW_INSTRUCTIONS):
         found.append("instructions")
@@ -321,7 +321,7 @@ def judge(count, meter, row, is_shown):
 
 
 def build_library(folder):
-    """Builds the program that calls the library: its path, or None if the library can't be had."""
+    """Builds the program that calls the library: its path, or None without the library."""
     named = os.environ.get("ZSCHED_LIBRARY_DIR")
     made = pathlib.Path(named) if named else TOP / "crates" / "zs_c" / "out"
     if not named:
@@ -335,7 +335,7 @@ def build_library(folder):
 
 
 def programs_of(folder, zsched, rows):
-    """The words of each program that the rows run, those that are there."""
+    """The command of each program that the rows run, if the program exists."""
     programs = {"zsched": [zsched]}
     wanted = {row.runs for row in rows}
     if "zs_refusals" in wanted and REFUSALS.exists():

@@ -1,7 +1,7 @@
 #!/usr/bin/env python3
-"""Hostile use of the built programs: requests for memory that are refused, in a call alone and in whole runs, plans and
-streams that no honest user gives, and plans that were changed at random. It ends by itself, in a few minutes. The last
-line is 'N passed, M failed'."""
+"""Hostile use of the built programs: failing allocations, in a single call and in whole runs; plans and streams that no
+honest user gives; and plans that were changed at random. It ends by itself, in a few minutes. The last line is
+'N passed, M failed'."""
 import shutil
 import sys
 import tempfile

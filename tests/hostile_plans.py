@@ -36,7 +36,7 @@ def many_jobs(workers, grain):
 def test(count):
     """All tests of this file."""
     cases = refused()
-    assert len(cases) > FEWEST, f"only {len(cases)} plans are refused"
+    assert len(cases) > FEWEST, f"only {len(cases)} plans are rejected"
     for name, text, fault in cases:
         count.test(name, run(ZSCHED, text, seconds=20), (2, b"", f"zsched: {fault}\n".encode()))
     for name, text, report in accepted_plans():

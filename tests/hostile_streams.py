@@ -20,7 +20,7 @@ def begun(*words, **more):
 
 
 def ending(started, seconds=PATIENCE):
-    """How a started program ended: its status (None where it hangs), its output where it is a pipe, and its errors."""
+    """How a started program ended: its status (None if it hangs), its output if that is a pipe, and its errors."""
     try:
         output, errors = started.communicate(timeout=seconds)
     except subprocess.TimeoutExpired:
@@ -31,7 +31,7 @@ def ending(started, seconds=PATIENCE):
 
 
 def output_is_full(count):
-    """A device that is full: nothing went out, or only what the fault says."""
+    """A device that is full: nothing was written, or only what the fault reports."""
     with open("/dev/full", "wb") as full:
         started = begun(stdout=full)
         started.stdin.write(ONE_JOB)
@@ -40,7 +40,7 @@ def output_is_full(count):
 
 
 def errors_are_full(count):
-    """Standard error that takes nothing: the status still tells the fault."""
+    """Standard error that accepts nothing: the status still shows the fault."""
     with open("/dev/full", "wb") as full:
         started = begun(stdin=subprocess.DEVNULL, stderr=full)
         status, output, _ = ending(started)
@@ -48,7 +48,7 @@ def errors_are_full(count):
 
 
 def pipe_is_closed(count):
-    """A reader of the report that goes away before it was written."""
+    """A reader of the report that closes the pipe before the report was written."""
     receiving, sending = os.pipe()
     os.close(receiving)
     started = begun(stdout=sending)
@@ -76,7 +76,7 @@ def reader_takes_ten_bytes(count):
 
 
 def limited_file(limit):
-    """What a program does to itself before it begins, so that its files may grow to so many bytes only."""
+    """A function that a process runs before its program, so that its files may grow to `limit` bytes only."""
     def limit_files():
         signal.signal(signal.SIGXFSZ, signal.SIG_IGN)
         resource.setrlimit(resource.RLIMIT_FSIZE, (limit, limit))
@@ -84,7 +84,7 @@ def limited_file(limit):
 
 
 def file_is_limited(count, folder):
-    """A file that may grow to so many bytes only: just the bytes that the fault tells went out."""
+    """A file that may grow to a number of bytes only: exactly the bytes that the fault reports were written."""
     for limit in [1, 20, 111]:
         with open(os.path.join(folder, f"limited-{limit}"), "wb+") as output:
             started = begun(stdout=output, preexec_fn=limited_file(limit))
@@ -143,7 +143,7 @@ def output_is_read_slowly(count):
 
 
 def arguments_are_ignored(count):
-    """Arguments of any kind, one that is no text among them."""
+    """Arguments of any kind, including one that isn't text."""
     for argument in ["--help", "-", "", b"\xff"]:
         started = begun(argument)
         started.stdin.write(ONE_JOB)

@@ -3,14 +3,14 @@
 
     python3 tests/installed.py [LANGUAGE ..]
 
-The Debian packages are installed by dpkg in a folder with a package database of its own, and ldconfig runs there. The files
-of tools/install-library, the wheel, the jar, the crate, the Go module and the Node folder are put in empty folders too. A
-program of tests/clients/ is built with what was installed and with nothing of this tree. It asks a server of this script on
-this machine, which fails the first times. The number of requests and the time between them have to be the policy's; a
-server that never answers is given up after the retries of the policy, and an answer that the policy excludes at once.
+dpkg installs the Debian packages in a folder with a separate package database, and ldconfig runs there. The files of
+tools/install-library, the wheel, the jar, the crate, the Go module and the Node folder are put in empty folders too. A
+program of tests/clients/ is built with what was installed and with nothing of this tree. It sends requests to a server of
+this script, which fails the first times. The number of requests and the time between them have to be the policy's. If the
+server never succeeds the client gives up after the retries of the policy; if the policy excludes the response, at once.
 
-It needs no network. It takes the library of ZSCHED_LIBRARY_DIR, or that of tools/make-library. It isn't part of ./check. The
-last line is 'N passed, M failed'; a language that lacks a tool is named as left out."""
+It needs no network. It uses the library of ZSCHED_LIBRARY_DIR, or that of tools/make-library. It isn't part of ./check. The
+last line is 'N passed, M failed'; a language that lacks a tool is listed as left out."""
 import contextlib
 import os
 import pathlib
@@ -31,7 +31,7 @@ PYTHON = "/usr/bin/python3"
 MAVEN = pathlib.Path("/usr/share/maven-repo")
 PLUGINS = ["compiler", "jar", "resources", "surefire"]
 UNWANTED = shutil.ignore_patterns("__pycache__", "target", "Cargo.lock", "*.node")
-# A policy, the codes of the server's answers, the milliseconds between requests at least, what is printed and the status.
+# A policy, the codes of the server's responses, the least milliseconds between requests, what is printed and the status.
 CASES = {
     "answers after three failures": ("((exponential(40) || spaced(100)) && recurs(5)).whileInput(>= 500)",
                                      [503, 503, 503, 200], [40, 80, 100], "ready", 0),
@@ -43,7 +43,7 @@ EARLY, LATE = 2, 3000
 
 
 class Failed(Exception):
-    """A command failed. The text says which, and what it said."""
+    """A command failed. The text says which, and has its output."""
 
 
 class Room:
@@ -56,7 +56,7 @@ class Room:
         self.root.mkdir(parents=True)
 
     def run(self, *words, where=None, **more):
-        """What a command prints that has to succeed."""
+        """The output of a command that has to succeed."""
         ended = subprocess.run([str(it) for it in words], cwd=where or self.place, capture_output=True, text=True, check=False,
                                env={**self.environment, **{name: str(value) for name, value in more.items()}})
         if ended.returncode:
@@ -99,7 +99,7 @@ class Room:
 
 
 def compiled(room, compiler, library):
-    """A program in C or C++, by what pkg-config says of the root."""
+    """A program in C or C++, with the flags that pkg-config prints for the root."""
     need("pkg-config", "pkg-config")
     pkg = {"PKG_CONFIG_LIBDIR": library / "pkgconfig", "PKG_CONFIG_SYSROOT_DIR": room.root}
     flags = room.run("pkg-config", "--cflags", "--libs", "zsched", **pkg).split()
@@ -209,7 +209,7 @@ def maven(room):
         raise Missing(f"Maven's plugins {', '.join(lacking)} aren't in {MAVEN}")
     library, source, repository = room.install("libzsched0"), room.place / "source", room.place / "repository"
     shutil.copytree(BINDINGS / "java", source, ignore=UNWANTED)
-    # Links to what isn't installed lead nowhere, and aren't needed.
+    # Links to packages that aren't installed have no target, and aren't needed.
     with contextlib.suppress(shutil.Error):
         shutil.copytree(MAVEN, repository)
     room.run("mvn", "--offline", "--quiet", f"-Dmaven.repo.local={repository}", "-Dmaven.test.skip=true", "package", where=source)

@@ -1,11 +1,11 @@
 #!/usr/bin/env python3
-"""Runs zsched on large plans, and compares what it answers with tests/reference.py: status, output and standard error.
+"""Runs zsched on large plans, and compares its results with tests/reference.py: status, output and standard error.
 
     python3 tests/large_plans.py
 
 The plans have many attempts, items, ticks, rounds, jobs or bytes. The reports of the largest are made by a loop here, and
 not by the reference. A machine that runs this has the memory and the threads for them, so a status 4 fails. The last line
-is 'N passed, M failed'; the exit status is 0 where M is 0, 1 where it isn't, and 2 where there is no program."""
+is 'N passed, M failed'; the exit status is 0 if M is 0, 1 if it isn't, and 2 if there is no program."""
 import json
 import socket
 import subprocess
@@ -22,7 +22,7 @@ PATIENCE = 120
 LONGEST_PIECE = 1 << 20
 ONE_WRITE = "a report of 100,000 bytes goes out in one write"
 
-# A leaf of each form that goes on for long, and some that grow.
+# A leaf of each form that continues for long, and some that grow.
 LEAVES = ["forever", "recurs(600)", "spaced(3)", "fixed(7)", "windowed(7)", "exponential(1, 1)", "exponential(1)",
           "exponential(3, 4294967296)", "fibonacci(0)", "fibonacci(1)", "identity", "elapsed", "linear(0)", "linear(1)"]
 
@@ -40,7 +40,7 @@ def plan(jobs, **more):
 
 
 def attempts_over_each_leaf(mode):
-    """Jobs of 500 attempts, a leaf each, on a clock that ends by itself only where delays grow."""
+    """Jobs of 500 attempts, a leaf each, on a clock that ends by itself only if delays grow."""
     jobs = [job(number, f"({leaf} && recurs(499))", range(1000), 2, mode) for number, leaf in enumerate(LEAVES)]
     return plan(jobs, horizon=LAST_TICK, workers=4, grain=3)
 
@@ -58,7 +58,7 @@ def attempts_over_each_operator():
 
 
 def collected(length, value):
-    """A job that collects so many items of one value, and a short one behind it."""
+    """A job that collects `length` items of one value, and a short one after it."""
     return plan([job(0, f"(identity && recurs({length})).map(_1).collectAll", [value]), job(1, "recurs(1)")], horizon=LAST_TICK)
 
 
@@ -71,14 +71,14 @@ def many_ticks():
 
 
 def many_polls(workers):
-    """A job of 12,000 attempts, with two jobs beside it."""
+    """A job of 12,000 attempts, and two other jobs."""
     pairs = ["forever && forever", "spaced(99) && spaced(99)", "spaced(1) && recurs(5000)"]
     jobs = [job(number, f"({pair}).map(_1)") for number, pair in enumerate(pairs)]
     return plan(jobs, horizon=12000, workers=workers)
 
 
 def many_jobs(count, workers, grain):
-    """So many jobs, which begin and end apart."""
+    """`count` jobs, which begin and end apart."""
     jobs = [{**job(number, "(spaced(2) && recurs(1))", [number], 1 + number % 3), "start": number % 5}
             for number in range(count)]
     return plan(jobs, horizon=20, workers=workers, grain=grain)
@@ -91,7 +91,7 @@ def ended(attempts, ending, polls):
 
 
 def many_attempts(count):
-    """A job of so many attempts."""
+    """A job of `count` attempts."""
     lines = ["job j0 repeat"]
     for n in range(count):
         decision = "done" if n == count - 1 else f"next {n + 1}"
@@ -100,7 +100,7 @@ def many_attempts(count):
 
 
 def long_report(items):
-    """A list of so many greatest numbers, of which each step tells those before it."""
+    """A list of `items` greatest numbers; each step outputs those before it."""
     lines, out = ["job j0 repeat"], ""
     for n in range(items + 1):
         out = "[" + ",".join([str(M)] * n) + "]"
@@ -111,19 +111,19 @@ def long_report(items):
 
 
 def long_schedule(spaces):
-    """A schedule of so many bytes and some."""
+    """A schedule of a little over `spaces` bytes."""
     lines = ["job j0 repeat", "attempt 1 0..1 ok 0", "step 1 out 0 done"]
     return plan([job(0, "recurs(" + " " * spaces + "0)")], horizon=9), ended(lines, "finished 0 at 1", 2)
 
 
 def deep_schedule(levels):
-    """A schedule of so many levels: too big."""
+    """A schedule of `levels` levels: too big."""
     text = plan([job(0, "(" * levels + "forever" + "&&forever)" * levels)], horizon=9)
     return text, (2, b"", b"zsched: job 0: schedule: too big\n")
 
 
 def many_moments(count):
-    """So many jobs that begin one after the other: the first half from its last job to its first, the others in order."""
+    """`count` jobs that begin one after the other: the first half from its last job to its first, the others in order."""
     starts = [*range(count, 0, -2), *range(count + 2, 2 * count + 1, 2)]
     lines = []
     for number, start in enumerate(starts):
@@ -149,7 +149,7 @@ def late_moments(names):
     return plan(jobs, horizon=LAST_TICK, workers=2), (0, report.encode(), b"")
 
 
-# What makes a plan and how its run ends, each past a size at which a body could give up.
+# A function that makes a plan, and how its run ends. Each is past a size at which a wrong body could stop working.
 SIZES = {
     "70,000 attempts": (many_attempts, 70000),
     "a report of 45 million bytes": (long_report, 2100),
@@ -161,7 +161,7 @@ SIZES = {
 
 
 def writes_of(zsched, text):
-    """The lengths of the pieces in which the program writes to a socket that keeps them apart."""
+    """The lengths of the pieces in which the program writes to a socket that separates them."""
     ours, theirs = socket.socketpair(socket.AF_UNIX, socket.SOCK_SEQPACKET)
     with ours, theirs, subprocess.Popen([zsched], stdin=subprocess.PIPE, stdout=theirs, stderr=subprocess.DEVNULL) as running:
         theirs.close()

@@ -10,12 +10,12 @@ NOTED = TOP / "crates" / CRATE / "out" / "libraries"
 
 
 def sources_sum():
-    """The checksum of all that the library for C is proved and built from."""
+    """The checksum of everything that the library for C is proved and built from."""
     return support.sources_sum(CRATE)
 
 
 def left(total):
-    """A checksum of the sources' checksum and of the libraries, or None if one of them isn't there, or has the stamp that
+    """A checksum of the sources' checksum and of the libraries, or None if one of them is missing, or has the stamp that
     each command but `rt ci` leaves. A library's file `format` has the checksum of its other files."""
     formats = [it.rlib / "format" for it in crates_of(TOP)[CRATE].below]
     if not all(it.exists() and not (it.parents[1] / "stamp").exists() for it in formats):

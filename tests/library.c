@@ -1,20 +1,20 @@
 /* Calls libzsched as a service would, for tests/tools/test_library.py.
  *
- * library answer   does each request of standard input, and prints what came of it
- * library refuse   does each with its 1st, 2nd, .. request for memory refused, until none is: a refused call has to answer
- *                  ZS_NO_MEMORY, write nothing to the room and give back all that it took
- * library threads  does them all on four threads at once, some times over: each has to print what one thread prints
+ * library answer   runs each request of standard input, and prints the result
+ * library refuse   runs each request once with its 1st allocation failing, once with its 2nd, .. until none fails: a call
+ *                  whose allocation failed has to return ZS_NO_MEMORY, write nothing to the room and free every block
+ * library threads  runs all requests on four threads at once, several times: each has to print what one thread prints
  *
- * A second word 'state' has each zs_answer done by zs_state_size, zs_begin and a zs_step for each pair, and prints the same;
- * 'program' has it done by zs_program_size, zs_compile, zs_program_begin and a zs_program_step for each pair.
+ * A second word 'state' replaces each zs_answer by zs_state_size, zs_begin and a zs_step for each pair, with the same output;
+ * 'program' replaces it by zs_program_size, zs_compile, zs_program_begin and a zs_program_step for each pair.
  *
- * A request is a line of words: the text in hexadecimal digits behind a '.', the room in bytes, and the moment and the input
- * of each pair in turn. A room of '-' asks for zs_check, and one of 'b' for zs_bounds, with the steps behind it. A line of an
- * answer has the number, next, size, visits, at and the room in hexadecimal digits behind a '.'; for zs_check it has the number
- * and at, for zs_bounds the number, all seven of struct zs_bounds and at. Each block that a call is given is as long as is said
- * to the call, and its own, so that a tool that watches memory sees each step beside it.
+ * A request is a line of words: the text in hexadecimal digits after a '.', the room in bytes, and the moment and the input
+ * of each pair in turn. A room of '-' selects zs_check, and one of 'b' zs_bounds, followed by the steps. A line of output
+ * has the number, next, size, visits, at and the room in hexadecimal digits after a '.'; for zs_check it has the number and
+ * at, for zs_bounds the number, all seven of struct zs_bounds and at. Each block that is passed to a call is separate and
+ * exactly as long as the call's arguments say, so that a memory checker finds each access outside of it.
  *
- * It is linked with --wrap=malloc, --wrap=realloc and --wrap=free, by which it counts and refuses requests. */
+ * It is linked with --wrap=malloc, --wrap=realloc and --wrap=free, by which it counts allocations and makes them fail. */
 #include "zsched.h"
 
 #include <pthread.h>
@@ -50,7 +50,7 @@ void __real_free(void *place);
 
 static atomic_long asked, held;
 static atomic_long refused_at = -1;
-/* Whether one thread alone calls. */
+/* Whether only one thread calls. */
 static int is_alone = 1;
 
 static int is_refused(void)
@@ -87,7 +87,7 @@ static void fail(const char *why, size_t number)
     exit(1);
 }
 
-/* A block of so many bytes of its own; NULL where that is none. */
+/* A separate block of `size` bytes; NULL if that is 0. */
 static void *block(size_t size)
 {
     void *found = size ? __real_malloc(size) : NULL;
@@ -103,7 +103,7 @@ static void print_bytes(char **end, const uint8_t *bytes, size_t len)
         *end += sprintf(*end, "%02x", bytes[i]);
 }
 
-/* Whether a state with one word too few is refused, and stays. A moment that falls goes before that. */
+/* Whether a state with one word too few is rejected and unchanged. A falling moment is reported before that. */
 static int is_too_small(const request *it, uint64_t *state, const uint64_t *before, size_t size)
 {
     zs_reply reply;
@@ -119,7 +119,7 @@ static int is_too_small(const request *it, uint64_t *state, const uint64_t *befo
     return is_refused && memcmp(state, before, size * sizeof *state) == 0;
 }
 
-/* Whether a step over words that stand for nothing is answered, and leaves those behind the state. */
+/* Whether a step over words that represent no state returns, and leaves the words after the state unchanged. */
 static int is_safe(const request *it, size_t size)
 {
     static const uint64_t kinds[] = {0, 1, 2, 1ull << 63, UINT64_MAX};
@@ -137,7 +137,7 @@ static int is_safe(const request *it, size_t size)
     return is_well;
 }
 
-/* What zs_answer answers, by a state that is begun and stepped. A refused step has to leave the state as it was. */
+/* The result of zs_answer, by a state that is begun and stepped. A failed step has to leave the state unchanged. */
 static uint32_t stepped(const request *it, zs_reply *reply, uint8_t *out)
 {
     uint64_t size;
@@ -149,15 +149,15 @@ static uint32_t stepped(const request *it, zs_reply *reply, uint8_t *out)
     number = zs_begin(it->text, it->text_len, state, size, &reply->at);
     memcpy(before, state, size * sizeof *state);
     if (atomic_load(&refused_at) < 0 && !is_too_small(it, state, before, size))
-        fail("a state with no room was not refused", (size_t)(it - requests));
+        fail("a state with no room was not rejected", (size_t)(it - requests));
     if (atomic_load(&refused_at) < 0 && !is_safe(it, size))
-        fail("words that stand for nothing were not answered", (size_t)(it - requests));
+        fail("a step over words that are no state failed, or wrote past them", (size_t)(it - requests));
     for (size_t i = 0; i < it->seen_len && number <= ZS_DONE; i++) {
         int is_last = i + 1 == it->seen_len;
         number = zs_step(it->text, it->text_len, state, size, it->seen[i].moment, it->seen[i].input, reply,
                          is_last ? out : NULL, is_last ? it->room : 0);
         if (number > ZS_DONE && memcmp(state, before, size * sizeof *state))
-            fail("a refused step changed the state", (size_t)(it - requests));
+            fail("a failed step changed the state", (size_t)(it - requests));
         if (number == ZS_FALLS)
             reply->at = i;
         memcpy(before, state, size * sizeof *state);
@@ -167,13 +167,13 @@ static uint32_t stepped(const request *it, zs_reply *reply, uint8_t *out)
     return number;
 }
 
-/* A program and a state of it, each in a block of its own, and copies of both. */
+/* A program and a state of it, each in a separate block, and copies of both. */
 typedef struct compiled {
     uint64_t size, state_size;
     uint64_t *program, *state, *before;
 } compiled;
 
-/* Whether fewer words than a program or its state has are refused, and stay. */
+/* Whether fewer words than a program or its state has are rejected and unchanged. */
 static int is_cramped(const request *it, const compiled *made)
 {
     uint64_t at, *words = block(made->size * sizeof *words);
@@ -189,8 +189,8 @@ static int is_cramped(const request *it, const compiled *made)
     return is_well && memcmp(made->state, made->before, made->state_size * sizeof *made->state) == 0;
 }
 
-/* Whether a program that was changed in one word, one that is cut, and another program's state are refused, and the state
- * stays. */
+/* Whether a program with one changed word, a shortened one, and another program's state are rejected, and the state is
+ * unchanged. */
 static int is_guarded(const compiled *made)
 {
     zs_reply reply;
@@ -213,7 +213,7 @@ static int is_guarded(const compiled *made)
     return is_well && memcmp(made->state, made->before, made->state_size * sizeof *made->state) == 0;
 }
 
-/* Whether a step over words that are no state of the program, behind its check word, is answered, and leaves those behind. */
+/* Whether a step over words that, after the check word, represent no state of the program returns, and changes none after. */
 static int is_kept(const compiled *made)
 {
     static const uint64_t kinds[] = {0, 1, 2, 1ull << 63, UINT64_MAX};
@@ -233,7 +233,7 @@ static int is_kept(const compiled *made)
     return is_well;
 }
 
-/* Writes the program of a request's text, and its state before any step; the number that the calls answered. */
+/* Writes the program of a request's text, and its state before any step; returns the number that the calls returned. */
 static uint32_t compile(const request *it, compiled *made, zs_reply *reply)
 {
     uint32_t number = zs_program_size(it->text, it->text_len, &made->size, &made->state_size, &reply->at);
@@ -250,34 +250,34 @@ static uint32_t compile(const request *it, compiled *made, zs_reply *reply)
     return number;
 }
 
-/* What zs_answer answers, by a program that is stepped. Its steps ask for no memory. */
+/* The result of zs_answer, by a program that is stepped. Its steps allocate no memory. */
 static uint32_t run(const request *it, zs_reply *reply, uint8_t *out)
 {
     compiled made = {0};
     memset(reply, 0, sizeof *reply);
     uint32_t number = compile(it, &made, reply);
     if (number == ZS_NEXT && atomic_load(&refused_at) < 0 && !(is_cramped(it, &made) && is_guarded(&made) && is_kept(&made)))
-        fail("a program or a state that is none was answered", (size_t)(it - requests));
+        fail("an invalid program or state was handled wrongly", (size_t)(it - requests));
     long before = atomic_load(&asked);
     for (size_t i = 0; i < it->seen_len && number <= ZS_DONE; i++) {
         int is_last = i + 1 == it->seen_len;
         number = zs_program_step(made.program, made.size, made.state, made.state_size, it->seen[i].moment, it->seen[i].input,
                                  reply, is_last ? out : NULL, is_last ? it->room : 0);
         if (number > ZS_DONE && memcmp(made.state, made.before, made.state_size * sizeof *made.state))
-            fail("a refused step changed the state", (size_t)(it - requests));
+            fail("a failed step changed the state", (size_t)(it - requests));
         if (number == ZS_FALLS)
             reply->at = i;
         memcpy(made.before, made.state, made.state_size * sizeof *made.state);
     }
     if (is_alone && atomic_load(&asked) != before)
-        fail("a step of a program asked for memory", (size_t)(it - requests));
+        fail("a step of a program allocated memory", (size_t)(it - requests));
     __real_free(made.program);
     __real_free(made.state);
     __real_free(made.before);
     return number;
 }
 
-/* Whether the text of a number and a place is there, and is cut where its room ends. */
+/* Whether a number and a place have a text, which is cut at the end of its room. */
 static int is_told(uint32_t number, uint64_t at)
 {
     if (atomic_load(&refused_at) >= 0)
@@ -293,7 +293,7 @@ static int is_told(uint32_t number, uint64_t at)
     return is_well;
 }
 
-/* The line of what zs_bounds answers, and the number. */
+/* The line for the result of zs_bounds, and the number. */
 static char *bounded(const request *it, uint32_t *number)
 {
     struct zs_bounds *told = block(sizeof *told);
@@ -313,7 +313,7 @@ static char *bounded(const request *it, uint32_t *number)
     return line;
 }
 
-/* Does a request: the line that tells of it, and the number that the call answered. */
+/* Runs a request: its line of output, and the number that the call returned. */
 static char *done(const request *it, uint32_t *number)
 {
     if (it->is_bounds)
@@ -349,7 +349,7 @@ static char *done(const request *it, uint32_t *number)
     return line;
 }
 
-/* Whether a line is what a call prints that was refused memory. */
+/* Whether a line is the output of a call that ran out of memory. */
 static int tells_no_memory(const request *it, const char *line)
 {
     if (it->is_check)
@@ -364,7 +364,7 @@ static int tells_no_memory(const request *it, const char *line)
     return 1;
 }
 
-/* Refuses each request for memory of a call in turn, and tells how many the call can make. */
+/* Makes each allocation of a call fail in turn, and returns how many allocations the call can make. */
 static long refuse(size_t number)
 {
     const request *it = &requests[number];
@@ -377,7 +377,7 @@ static long refuse(size_t number)
         char *line = done(it, &told);
         atomic_store(&refused_at, -1);
         if (atomic_load(&held) != before)
-            fail("a block was not given back", number);
+            fail("a block was not freed", number);
         int was_refused = atomic_load(&asked) >= at;
         if (was_refused ? !tells_no_memory(it, line) && strcmp(line, wanted) : strcmp(line, wanted))
             fail(line, number);
@@ -402,7 +402,7 @@ static void *thread(void *ignored)
     return ignored;
 }
 
-/* Does all requests on four threads with small stacks, which are those of zs_bounds if the first asks for it. */
+/* Runs all requests on four threads with small stacks; they have the size for zs_bounds if the first request is for it. */
 static void do_at_once(void)
 {
     pthread_t threads[THREADS];
@@ -418,7 +418,7 @@ static void do_at_once(void)
     pthread_attr_destroy(&attributes);
 }
 
-/* Reads a text that is given by its digits. */
+/* Parses a text from its digits. */
 static void read_text(request *it, const char *digits)
 {
     it->text_len = strlen(digits) / 2;
@@ -429,7 +429,7 @@ static void read_text(request *it, const char *digits)
     }
 }
 
-/* Reads a request from its line. */
+/* Parses a request from its line. */
 static void read_request(request *it, char *line)
 {
     size_t words = 0, i = 0;

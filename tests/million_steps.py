@@ -1,11 +1,11 @@
 #!/usr/bin/env python3
-"""Steps a program a million times in each language, and prints how long a step takes and how much memory the process has.
+"""Steps a program a million times in each language, and prints the time of a step and the memory of the process.
 
     python3 tests/million_steps.py [--steps N] [LANGUAGE ..]
 
 Each tenth of the steps is measured. Time is flat if the fastest of the last five tenths takes at most 1.5 times as long as
 the fastest of the first five, in one of three runs, since other programs make it slower. Memory is flat if it grows by less
-than 4 bytes a step after the first half; a list of the steps grows by 16. Under valgrind, where it is installed, the
+than 4 bytes a step after the first half; a list of the steps grows by 16. Under valgrind, if it is installed, the
 instructions of a step are counted in C and Rust. It takes the library of ZSCHED_LIBRARY_DIR, or that of tools/make-library.
 It isn't part of ./check. The last line is 'N passed, M failed'; a language whose compiler isn't on this machine is named as
 left out."""
@@ -25,7 +25,7 @@ LIBRARY = pathlib.Path(os.environ.get("ZSCHED_LIBRARY_DIR", TOP / "crates" / "zs
 # That of docs/LIBRARY.md, but for the number of retries.
 POLICY = "((exponential(100) || spaced(5000)) && recurs({steps})).whileInput(>= 500)"
 TIMES, BYTES, RUNS = 1.5, 4, 3
-# Of so many steps and twice as many the instructions are counted.
+# The instructions are counted for this number of steps and for twice the number.
 COUNTED = 2000
 
 
@@ -70,7 +70,7 @@ def judge(count, name, room, steps):
 
 
 def main():
-    """Reads the words, and returns the exit status."""
+    """Reads the options, and returns the exit status."""
     words = parser_of(__doc__)
     words.add_argument("--steps", type=int, default=1_000_000, metavar="N", help="how many steps, a multiple of 10 (1000000)")
     words.add_argument("languages", nargs="*", metavar="LANGUAGE", help=", ".join(answers.LANGUAGES))

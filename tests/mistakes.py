@@ -1,4 +1,4 @@
-"""Plans with one mistake each. The sign » stands where the mistake is to be shown, and isn't part of the plan."""
+"""Plans with one mistake each. The sign » marks the place of the mistake, and isn't part of the plan."""
 
 PLAN = """{{
   "horizon": 1000,
@@ -50,7 +50,7 @@ def in_document(members):
 NOT_JSON = "plan is not JSON"
 _DOUBLED = "recurs(1)" + ".resetWhen(= 0)" * 8 + "».resetWhen(= 0)"
 
-# What the mistake is, the plan, the program's line, and a word of the help.
+# The name of the mistake, the plan, the program's line, and a word of the help.
 DOCUMENTS = [
     ("no text at all", "»", NOT_JSON, "begins as"),
     ("white space alone", "»\n \n", NOT_JSON, "begins as"),
@@ -176,7 +176,7 @@ JOBS = [
 
 
 def _no_term(name, text, help):
-    """A mistake of spelling in a schedule. The place that the program tells is that of the sign."""
+    """A mistake of spelling in a schedule. The place that the program reports is that of the sign."""
     escaped = text.encode().find("»".encode())
     return name, with_schedule(text), f"job 0: schedule: no term at byte {escaped}", help
 

@@ -1,6 +1,6 @@
-"""Changes plans at random: as a slip of the hand does, and as a hostile user does. The same seed gives the same plans.
+"""Changes plans at random: by slips of the hand, and as a hostile user does. The same seed gives the same plans.
 
-tests/fuzz.py feeds the program with such plans, and tests/tools/test_explain.py the tool that explains faults."""
+tests/fuzz.py runs the program on such plans, and tests/tools/test_explain.py the tool that explains faults."""
 import json
 import random
 import re
@@ -110,7 +110,7 @@ def places_of(value):
 
 
 def regrown(chance, text):
-    """A value of the document dropped, many times, or in the place of another."""
+    """A value of the document dropped, repeated, or in the place of another."""
     try:
         tree = json.loads(text)
         places = list(places_of(tree)) if isinstance(tree, (dict, list)) else []
@@ -146,7 +146,7 @@ def changed_once(chance, text):
 
 
 def changed(chance, plan, times):
-    """The bytes of a plan after so many changes."""
+    """The bytes of a plan after `times` changes."""
     text = plan.decode(errors="surrogateescape")
     for _ in range(times):
         text = changed_once(chance, text)
@@ -154,6 +154,6 @@ def changed(chance, plan, times):
 
 
 def changed_plans(plans, count, seed):
-    """So many plans, each changed one to three times."""
+    """`count` plans, each changed one to three times."""
     chance = random.Random(seed)
     return (changed(chance, chance.choice(plans), chance.choice([1, 1, 1, 2, 3])) for _ in range(count))

@@ -1,8 +1,8 @@
 #!/usr/bin/env python3
-"""Runs `rt ci`: each proof, each test of the crates, and each program as two compilers build it. If the toolchain stores what
-passed on this machine, by the checksums of all that it read, it takes that over; --anew proves all. After its output come
-the seconds and the processor seconds of each crate's proofs, by a look at the processes each second. It notes the libraries
-that were built, for tools/make-library. The last line is 'N passed, M failed'."""
+"""Runs `rt ci`: each proof, each test of the crates, and each program as two compilers build it. The toolchain may store what
+passed on this machine, by the checksums of everything that it read, and then skips it; --anew proves everything. After its
+output come the seconds and the processor seconds of each crate's proofs, sampled once a second. It notes the libraries that
+were built, for tools/make-library. The last line is 'N passed, M failed'."""
 import collections
 import os
 import pathlib
@@ -20,12 +20,12 @@ from support import TOP, parser_of
 
 LAST = re.compile(r"(\d+) passed, (\d+) failed")
 TICK = os.sysconf("SC_CLK_TCK")
-# How often the processes are looked at.
+# How often the processes are sampled.
 SECONDS = 1
 
 
 class Usage(threading.Thread):
-    """The time of each crate's proofs. What a process takes after the last look at it is not counted."""
+    """The time of each crate's proofs. The time of a process after its last sample isn't counted."""
 
     def __init__(self, group):
         super().__init__(daemon=True)
@@ -33,7 +33,7 @@ class Usage(threading.Thread):
         self.used, self.first, self.last = {}, {}, collections.defaultdict(float)
 
     def run(self):
-        """Looks at the processes until the end."""
+        """Samples the processes until the end."""
         while not self.is_done.wait(SECONDS):
             for process in pathlib.Path("/proc").glob("[0-9]*"):
                 try:
@@ -66,8 +66,8 @@ class Usage(threading.Thread):
 
 
 def environment():
-    """The variables for `rt ci`. It holds proofs back for more memory than they take, so it gets the number that may go at
-    once, if there are four gigabytes for each."""
+    """The variables for `rt ci`. It delays proofs until more memory is free than they take, so it gets the number that
+    may run at once, if there are four gigabytes for each."""
     memory = os.sysconf("SC_PAGE_SIZE") * os.sysconf("SC_PHYS_PAGES")
     processors = len(os.sched_getaffinity(0))
     jobs = {"RT_JOBS": str(processors)} if memory >= 4_000_000_000 * processors else {}
@@ -81,7 +81,7 @@ def knows_anew():
 
 
 def main():
-    """Runs `rt ci`, and passes on what it says."""
+    """Runs `rt ci`, and prints its output."""
     words = parser_of(__doc__)
     words.add_argument("--anew", action="store_true", help="prove all")
     is_anew = words.parse_args().anew

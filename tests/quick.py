@@ -2,15 +2,15 @@
 """The quick gate: proves what changed over stored proofs, and runs plans on the unproved program.
 
 A crate whose files changed since it was last seen proved here is checked again. If more than bodies
-of functions changed (a definition, a contract, a type), so are the crates above it. Beside that the
+of functions changed (a definition, a contract, a type), so are the crates above it. Meanwhile the
 program is built without proofs, with checks, and runs the plans of examples/ and tests/plans/ and
-the hostile plans. If it was built from the same sources before, that one runs. ./check tries what
+the hostile plans. If it was built from the same sources before, that one runs. ./check tests what
 this doesn't: proofs from nothing, wrong bodies and tests of the crates. The last line is
 'N passed, M failed'.
 
     python3 tests/quick.py             what ./check quick runs
-    python3 tests/quick.py --proved    takes the crates of the program as they are for proved:
-                                       ./run --proved says so"""
+    python3 tests/quick.py --proved    counts the crates of the program as proved, without a check:
+                                       ./run --proved calls it so"""
 import concurrent.futures
 import hashlib
 import os
@@ -30,9 +30,9 @@ CRATES = TOP / "crates"
 BUILT = CRATES / "zsched" / "out"
 # Crates that only tests use. `rt ci` proves them.
 OF_TESTS = ["zs_low_tests", "zs_gates", "zs_engine_tests", "zs_tests", "zs_refusals"]
-# A plan of more bytes is left to the built program: with checks it takes seconds.
+# Only the built program runs a plan of more bytes than this: with checks it takes seconds.
 LARGE = 10000
-# The seconds that a run of the unproved program may take.
+# The seconds after which a run of the unproved program fails.
 PATIENCE = 60
 # The first line of what callers may use: an import, an item's head, a clause or an attribute.
 HEAD = re.compile(r"^\s*(pub\b|fn\b|requires\b|ensures\b|struct\b|enum\b|impl\b|trait\b|ghost\b|type\b|use\b|mod\b|const\b|#)")
@@ -85,7 +85,7 @@ def sums(name):
 
 
 def kept(name):
-    """The sums of a crate at its last check here that passed, where there was one."""
+    """The sums of a crate at its last check here that passed, if there was one."""
     try:
         return (CRATES / name / "out" / "quick").read_text().split()
     except FileNotFoundError:
@@ -105,13 +105,13 @@ def changed(listed):
 
 
 def keep(name, now):
-    """Takes a crate with these sums for proved."""
+    """Notes a crate with these sums as proved."""
     (CRATES / name / "out").mkdir(exist_ok=True)
     (CRATES / name / "out" / "quick").write_text(" ".join(now))
 
 
 def prove(count, listed):
-    """Checks the crates that changed, over what earlier checks kept."""
+    """Checks the crates that changed, over the proofs that earlier checks stored."""
     for name in changed(listed):
         now = sums(name)
         ended = subprocess.run(["rt", "check"], cwd=CRATES / name, capture_output=True, text=True, errors="replace")
@@ -123,7 +123,7 @@ def prove(count, listed):
 
 
 def take_as_proved(names):
-    """Takes these crates as they are for proved."""
+    """Notes these crates as proved, without a check."""
     for name in names:
         keep(name, sums(name))
 
@@ -147,7 +147,7 @@ def built_program():
 
 
 def cases():
-    """Plans, each with a name, and with the status, the report and the errors of its run."""
+    """Plans to run: each with a name, its bytes, and the expected status, report and errors."""
     for path in plans_with_reports():
         yield path.name, path.read_bytes(), (0, report_beside(path), b"")
     for name, text, fault in hostile_plans.refused():
@@ -156,7 +156,7 @@ def cases():
 
 
 def run_plans(count):
-    """Builds the program, and runs the plans on it side by side."""
+    """Builds the program, and runs the plans on it in parallel."""
     try:
         program = built_program()
     except unproved.NotBuilt as fault:
@@ -170,7 +170,7 @@ def run_plans(count):
 
 
 def main(words):
-    """Both halves side by side."""
+    """Both halves in parallel."""
     if words == ["--proved"]:
         take_as_proved(crates_of_the_program())
         return 0

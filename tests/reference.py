@@ -1,12 +1,12 @@
 #!/usr/bin/env python3
-"""What zsched answers to a plan, worked out a second time from docs/SEMANTICS.md and docs/FORMATS.md alone.
+"""The result of zsched for a plan, computed a second time from docs/SEMANTICS.md and docs/FORMATS.md alone.
 
     python3 tests/reference.py < plan.json
 
 It prints the report, or the line of the fault on standard error, and ends with zsched's status: 0, or 2 for a fault
 of the plan. It never runs out of memory or threads, so it has no status 3 or 4. It is as naive as the documents: an
-answer is read off the whole history, one job is worked out after another, and there is no state, timer or thread.
-Answers are kept, but only so that none is worked out twice. What has one letter in the documents has it here."""
+output is evaluated from the whole history, one job is evaluated after another, and there is no state, timer or thread.
+Results are cached, but only so that none is computed twice. What has one letter in the documents has it here."""
 import argparse
 import bisect
 import re
@@ -23,7 +23,7 @@ class Fault(Exception):
 
 
 def sat(x):
-    """x, or M where x is larger."""
+    """x, or M if x is larger."""
     return min(x, M)
 
 
@@ -51,19 +51,19 @@ class Tokens:
 
     def __init__(self, text):
         self.text = text
-        self.first_large = None     # where the first number above M begins
+        self.first_large = None     # the place of the first number above M
         self.end = 0                # the end of the token before
         self.advance()
 
     def advance(self):
-        """Goes to the next token, which is "" at the end of the text and None where no token stands."""
+        """Reads the next token, which is "" at the end of the text and None if there is no token at this place."""
         self.at = SPACES.match(self.text, self.end).end()
         found = TOKEN.match(self.text, self.at)
         self.token = found[0].decode() if found else None if self.at < len(self.text) else ""
         self.end = found.end() if found else self.at
 
     def take(self, *wanted):
-        """Reads one of these tokens. Another one is the first with which no spelling goes on."""
+        """Reads one of these tokens. Any other token is a fault, since no term continues with it."""
         if self.token is None or self.token not in wanted:
             raise Fault(f"no term at byte {self.at}")
         token = self.token
@@ -107,7 +107,7 @@ def read_leaf(tokens):
 
 
 def read_test(tokens, picks):
-    """Reads a pick, where one of these stands, a comparison and a number."""
+    """Reads a pick, if there is one here, a comparison and a number."""
     pick = tokens.take(*picks) if tokens.token in picks else None
     return pick, tokens.take(*COMPARISONS), tokens.number()
 
@@ -132,7 +132,7 @@ def read_tail(tokens, part):
 
 
 def read_spelled(tokens):
-    """Reads a whole text as a term. A stack stands in place of a recursion, since parentheses may be many."""
+    """Reads a whole text as a term. A stack replaces the recursion, since parentheses may be many."""
     is_open = []        # a parenthesis that is open: None, or its first part and its operator
     while True:
         while tokens.token == "(":
@@ -206,7 +206,7 @@ def every_part(s):
 
 
 def read_schedule(text):
-    """The schedule that a text spells. Of the faults the first of the table is answered."""
+    """The schedule that a text spells. If there are several faults the first of the table is raised."""
     tokens = Tokens(text)
     s, depth, weight = read_spelled(tokens)
     if depth > 64 or weight > 1000:
@@ -221,14 +221,14 @@ def read_schedule(text):
     return s
 
 
-# ---- Answers
+# ---- Outputs and decisions
 #
 # An output is a whole number, ("Pair", a, b), ("Left", a), ("Right", b), or a list. A decision is the moment at which
-# the schedule goes on, or None for done.
+# the schedule continues, or None for done.
 
 class History:
     """The steps of a job from one to another, oldest first: a piece of the job's one list of pairs (moment, input). The
-    pieces of a list keep what was answered on each of them."""
+    pieces of a list cache the results on each of them."""
 
     __slots__ = "pairs", "kept", "begin", "end"
 
@@ -251,7 +251,7 @@ class History:
 
 
 def kept(rule):
-    """The same function of a schedule and a history, which isn't worked out twice on one history."""
+    """The same function of a schedule and a history, which is evaluated only once on one history."""
     def looked_up(s, h):
         key = rule, id(s), h.begin, h.end
         if key not in h.kept:
@@ -295,7 +295,7 @@ def step(s, h):
 
 
 def step_of_outputs(s, h):
-    """The answer of the schedules that look at the outputs or decisions of their parts."""
+    """The result of the schedules that depend on the outputs or decisions of their parts."""
     match s:
         case "&&", a, b:
             (left, x), (right, y) = step(a, h), step(b, h)
@@ -345,7 +345,7 @@ def first_done(a, h):
 
 
 def collected(part, before):
-    """The outputs of a schedule at those steps of a history at which it went on."""
+    """The outputs of a schedule at those steps of a history at which it continued."""
     return collected_outputs(part, before) if before else []
 
 
@@ -408,7 +408,7 @@ def out_text(out):
 # ---- Timelines
 
 class Clock(NamedTuple):
-    """A clock. Where no ticks are listed, it ticks at each millisecond from 0 to the horizon."""
+    """A clock. If no ticks are listed, it ticks at each millisecond from 0 to the horizon."""
     ticks: list
     horizon: int
 
@@ -430,7 +430,7 @@ class Job(NamedTuple):
 
 
 class TooManyAttempts(Exception):
-    """A job has more attempts than the caller wants to see."""
+    """A job has more attempts than the caller allows."""
 
 
 def job_lines(job, clock, most):
@@ -487,20 +487,20 @@ NO_JSON = "plan is not JSON"
 
 
 class Json:
-    """A reader of one JSON document. `at` is how far it has come."""
+    """A reader of one JSON document. `at` is the position of the next character."""
 
     def __init__(self, text):
         self.text = text
         self.at = 0
 
     def sign(self):
-        """The sign that comes next after white space, or "" at the end. It isn't taken."""
+        """The sign that comes next after white space, or "" at the end. It isn't consumed."""
         if self.text[self.at:self.at + 1] in JSON_SPACES:
             self.at = JSON_SPACE.match(self.text, self.at).end()
         return self.text[self.at:self.at + 1]
 
     def take(self, *signs):
-        """Takes one of these signs after white space."""
+        """Consumes one of these signs after white space."""
         sign = self.sign()
         if sign not in signs:
             raise Fault(NO_JSON)
@@ -508,7 +508,7 @@ class Json:
         return sign
 
     def match(self, pattern):
-        """Takes what fits a pattern."""
+        """Consumes what matches a pattern."""
         found = pattern.match(self.text, self.at)
         if not found:
             raise Fault(NO_JSON)
@@ -516,13 +516,13 @@ class Json:
         return found
 
     def document(self):
-        """The value that the whole text is."""
+        """The value of the whole text."""
         value = self.value(0)
         self.take("")
         return value
 
     def value(self, depth):
-        """Reads a value that stands in so many lists and objects."""
+        """Reads a value at a depth of `depth` lists and objects."""
         sign = self.sign()
         if depth == 127 and sign in ("[", "{"):
             raise Fault(NO_JSON)
@@ -560,7 +560,7 @@ class Json:
 
 
 def unescaped(found):
-    """The character that an escape stands for. A half of a pair of surrogates that stands alone is none."""
+    """The character that an escape represents. An unpaired half of a pair of surrogates is invalid."""
     high, low, unit, sign = found.groups()
     if sign:
         return ESCAPED[sign]
@@ -582,7 +582,7 @@ def json_number(text):
 
 
 def read_json(plan):
-    """The document that bytes hold."""
+    """The document of these bytes."""
     try:
         return Json(plan.decode("utf-8")).document()
     except UnicodeDecodeError:
@@ -603,7 +603,7 @@ def is_whole(value):
 
 
 def check(where, is_so, text):
-    """Raises a fault where something isn't so."""
+    """Raises a fault if `is_so` is false."""
     if not is_so:
         raise Fault(f"{where}: {text}")
 
@@ -673,8 +673,8 @@ def read_plan(plan):
 
 
 def answer(plan, most=None):
-    """The status, standard output and standard error that zsched gives to a plan. Where a job has more attempts than
-    `most`, TooManyAttempts is raised."""
+    """The status, standard output and standard error of zsched for a plan. Raises TooManyAttempts if a job has more
+    attempts than `most`."""
     try:
         jobs, clock = read_plan(plan)
     except Fault as fault:

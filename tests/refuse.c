@@ -1,10 +1,10 @@
-/* A library that is loaded before a program and refuses some of what the program asks the system for. It prints nothing.
+/* A library that is loaded before a program and makes some of its allocations and thread starts fail. It prints nothing.
  *
- * REFUSE_AT=N        the N-th request for memory is answered with none; all threads count together
- * REFUSE_FROM=N      the N-th request and all later ones
+ * REFUSE_AT=N        the N-th allocation fails; all threads count together
+ * REFUSE_FROM=N      the N-th allocation and all later ones fail
  * REFUSE_THREADS=N   the N-th start of a thread fails, and so do all later ones
- * REFUSE_WITHIN=N    each request for memory that the N-th started thread makes is answered with none
- * REFUSE_COUNT=FILE  the number of requests is written to FILE when the program ends
+ * REFUSE_WITHIN=N    each allocation in the N-th started thread fails
+ * REFUSE_COUNT=FILE  the number of allocations is written to FILE when the program ends
  * COUNT_THREADS=FILE the number of threads that were started is written to FILE when the program ends
  *
  * It uses the names by which the GNU C library passes its own allocator on.
@@ -92,7 +92,7 @@ void _exit(int status)
         syscall(SYS_exit_group, status);
 }
 
-/* Counts one request, and tells whether it is refused. */
+/* Counts one allocation, and returns whether it has to fail. */
 static int is_refused(void)
 {
     unsigned long number = atomic_fetch_add(&requests, 1) + 1;

@@ -1,7 +1,7 @@
-"""Each request for memory refused in turn, in a call alone and in whole runs, and a machine on which no thread can be started.
+"""Each allocation fails in turn, in a single call and in whole runs; and a machine on which no thread can be started.
 
-A library loaded before the program (refuse.c) refuses the N-th request, for N = 1, 2, .. until a whole run makes fewer
-requests than N. It doesn't stop at the first N that succeeds, since the library can do without some requests."""
+A library loaded before the program (refuse.c) makes the N-th allocation fail, for N = 1, 2, .. until a whole run makes
+fewer than N allocations. It doesn't stop at the first N that succeeds: the library can do without some allocations."""
 import dataclasses
 import functools
 import os
@@ -17,9 +17,9 @@ MOST_REQUESTS = 5000
 
 @dataclasses.dataclass
 class Case:
-    """Calls of zs_refusals: the name of the case, what they are given, and what they make. Of each call that asks for
-    memory the line that it prints where a request of its own was refused, in the order in which the calls come; a
-    call that starts threads may print another one, where the start of a thread was what found no memory."""
+    """Calls of zs_refusals: the name of the case, their input, and their result. For each call that allocates memory
+    the line that it prints if one of its allocations failed, in the order of the calls. A call that starts threads may
+    print another line, if the start of a thread was what ran out of memory."""
     name: str
     given: str
     made: str
@@ -27,12 +27,12 @@ class Case:
     may: str = ""
 
     def order(self, line):
-        """The place of a line: a later one is found by a greater N, but how many requests threads make varies."""
+        """The place of a line. A greater N gives a later line, but the number of allocations in threads varies."""
         threads = self.lines.index(self.may.replace("NoThread", "Memory")) if self.may else len(self.lines)
         return min(self.lines.index(line), threads) if line in self.lines else threads
 
     def is_known(self, line):
-        """Whether the case may end so. A refusal in what a call needs, which is made before it, is one in its set-up."""
+        """Whether the case may end so. A failure in the values that a call needs counts as one in its set-up."""
         is_set_up = line.startswith("set-up: ") and "wrong" not in line
         return is_set_up or line in [f"ok\n{self.made}", *self.lines] or line == self.may != ""
 
@@ -51,7 +51,7 @@ JOBS = ["read_plan: Memory", "run_jobs: Memory", "report: AllocError"]
 
 
 def runs():
-    """The cases of whole plans, each alone on one worker and then shared out between two."""
+    """The cases of whole plans, each once on one worker and then shared between two."""
     seven, many = "abcdefg", [f"j{number}" for number in range(52)]
     for name, lines, names, grain in [("jobs", JOBS, seven, 1), ("run", RUN, seven, 3), ("run", RUN, many, 3)]:
         for workers in [1, 2]:
@@ -68,7 +68,7 @@ CASES = [
     Case("steps", GROWING, THIRD, ["Compiled::new: Memory", "step: Memory"]),
     Case("task", REPEATED, "", ["Task::new: Memory", "poll: Memory"]),
     Case("lines", REPEATED, "", ["Task::keeping: Memory", "poll: Memory"]),
-    # `Agenda::new`, `take` and `split` make no request.
+    # `Agenda::new`, `take` and `split` allocate nothing.
     Case("agenda", "", "", ["set: Memory"]),
     Case("board", "", "", ["Board::new: Memory", "close of a board: Memory"]),
     Case("shelf", "", "", ["Shelf::new: Memory", "close of a shelf: Memory"]),
@@ -80,7 +80,7 @@ CASES = [
 
 MANY_PLACES = 40
 
-# How the program ends where memory or a thread is missing: with nothing written.
+# How the program ends if memory or a thread is missing: with nothing written.
 NO_MEMORY = (4, b"", b"zsched: out of memory\n")
 NO_THREAD = (4, b"", b"zsched: no thread\n")
 
@@ -102,7 +102,7 @@ class Refuser:
             check=True)
 
     def run(self, binary, text, **refusal):
-        """Runs a program under a refusal. Answers how it ended, and the number of requests (0 where it was killed)."""
+        """Runs a program with failures. Returns how it ended, and the number of allocations (0 if it was killed)."""
         self.count.write_text("0")
         environment = dict(os.environ, LD_PRELOAD=str(self.library), REFUSE_COUNT=str(self.count))
         environment.update({name.upper(): str(value) for name, value in refusal.items()})
@@ -110,7 +110,7 @@ class Refuser:
         return ended, int(self.count.read_text())
 
     def each(self, binary, text, refusal="refuse_at"):
-        """How a run ends for each N, in order, with N, until N is past the number of requests."""
+        """How a run ends for each N, in order, with N, until N is past the number of allocations."""
         for number in range(1, MOST_REQUESTS):
             ended, requests = self.run(binary, text, **{refusal: number})
             yield number, ended
@@ -120,7 +120,7 @@ class Refuser:
 
 
 def calls_are_refused_well(count, refuser):
-    """The calls of each case, with each request refused: the call says so and leaves what it has to, or it did without."""
+    """The calls of each case, with each allocation failing: the call reports it and leaves what it has to, or succeeded."""
     for case in CASES:
         found, reached, last = set(), 0, None
         for number, ended in refuser.each(program.REFUSALS, f"{case.name}\n{case.given}".encode()):
@@ -149,7 +149,7 @@ def program_is_refused_well(count, refuser):
 
 
 def many_jobs_are_refused_well(count, refuser):
-    """The program on 10,000 jobs, and on jobs whose rounds start threads, with a request refused at places all over the run."""
+    """The program on 10,000 jobs, and on jobs whose rounds start threads; allocations fail at places all over the run."""
     names = [f"j{number}" for number in range(10000)]
     cases = [(f"10,000 jobs, {w} workers", program.equal_jobs(names, w, g)) for w, g in [(1, 1), (2, 3)]]
     cases += [(f"heavy jobs, {w} workers", program.heavy_jobs(w, g)) for w, g in [(1, 1), (4, 3)]]
@@ -192,7 +192,7 @@ def program_with_few_threads(count, refuser):
 
 
 def two_causes_are_told_apart(count, refuser):
-    """A round in which one worker finds no memory, or can't be started, or both: of two causes the first worker's is told."""
+    """A round in which one worker runs out of memory, or can't be started, or both: the first worker's cause is reported."""
     text, _ = program.heavy_jobs(3, 1)
     for case, refusal, wanted in [
             ("the second worker finds no memory", {"refuse_within": 1}, NO_MEMORY),
@@ -246,8 +246,8 @@ class Population:
 
 
 def populations_are_refused_well(count, refuser):
-    """zsched-population on seven jobs, with each request refused: it says the line, or that a block found no memory. A
-    later request is refused at no earlier place, and each line is such a place."""
+    """zsched-population on seven jobs, with each allocation failing: it reports the line, or that a block ran out of
+    memory. A later allocation fails at no earlier place, and each line is such a place."""
     for workers, grain in [(1, 1), (2, 3)]:
         population = Population(7, workers, grain)
         case, places = f"a population on {workers} workers", []
@@ -262,7 +262,7 @@ def populations_are_refused_well(count, refuser):
 
 
 def many_blocks_are_refused_well(count, refuser):
-    """zsched-population on more than two blocks, with a request refused at places all over the run."""
+    """zsched-population on more than two blocks; allocations fail at places all over the run."""
     for workers, grain in [(1, 1), (2, 5000)]:
         population = Population(2 * BLOCK_OF_JOBS + 3, workers, grain)
         case, found = f"three blocks on {workers} workers", set()
@@ -280,7 +280,7 @@ def many_blocks_are_refused_well(count, refuser):
 
 
 def populations_with_little_memory(count):
-    """zsched-population on more than two blocks, with so many million bytes for all of its memory."""
+    """zsched-population on more than two blocks, with a limit of some million bytes on all of its memory."""
     population = Population(2 * BLOCK_OF_JOBS + 3, 1, 1)
     for millions in [4, 8, 16, 24, 32, 40, 48, 256]:
         limit = (millions * 1_000_000, millions * 1_000_000)
@@ -292,7 +292,7 @@ def populations_with_little_memory(count):
 
 
 def many_jobs_with_little_memory(count):
-    """The program on 10,000 jobs, with so many million bytes for all of its memory: from too few to enough."""
+    """The program on 10,000 jobs, with limits of some million bytes on all of its memory: from too few to enough."""
     text, report = program.equal_jobs([f"j{number}" for number in range(10000)], 2, 3)
     ends = {4: [NO_MEMORY], 256: [(0, report, b"")]}
     for millions in [4, 8, 16, 24, 32, 40, 48, 64, 256]:

@@ -40,12 +40,12 @@ def plan(jobs=None, horizon='"horizon":1000', more=""):
 
 
 def plans_with_reports():
-    """The plans of the repository with a report beside them, in the order of their names."""
+    """The plans of the repository that have a report next to them, in the order of their names."""
     return sorted([*TOP.glob("examples/*.json"), *TOP.glob("tests/plans/*.json")])
 
 
 def report_beside(path):
-    """The report beside a plan."""
+    """The report next to a plan."""
     return path.with_name(path.name + ".stdout").read_bytes()
 
 
@@ -68,13 +68,13 @@ def population(names, workers, grain):
 
 
 def tree(leaves):
-    """The intersection of so many leaves that go on at once: twice as many nodes, less one, in the least depth."""
+    """The intersection of `leaves` leaves that continue immediately: 2 * leaves - 1 nodes, in the least depth."""
     if leaves == 1:
         return "forever"
     return f"({tree(leaves // 2)} && {tree(leaves - leaves // 2)})"
 
 
-# A schedule of 998 nodes that answers as recurs(3) does.
+# A schedule of 998 nodes with the outputs and decisions of recurs(3).
 HEAVY = f"(recurs(3) && {tree(498)}).map(_1)"
 
 
@@ -97,7 +97,7 @@ def run(program, text, environment=None, seconds=60, **more):
 
 
 def sources_sum(crate="zsched"):
-    """The checksum of all that a crate's program or library is proved and built from."""
+    """The checksum of everything that a crate's program or library is proved and built from."""
     words = [TOP / "tools" / "sources-sum", crate]
     return subprocess.run(words, capture_output=True, text=True, check=True).stdout.strip()
 
@@ -118,31 +118,31 @@ def found_zsched():
 
 
 def parser_of(text, **more):
-    """A parser of a script's words, with the script's text as help."""
+    """A parser of a script's options, with the script's text as help."""
     return argparse.ArgumentParser(
         description=text, formatter_class=argparse.RawDescriptionHelpFormatter, **more)
 
 
 def take_no_words(text):
-    """Reads the words of a script that takes none but --help."""
+    """Reads the options of a script that has none but --help."""
     parser_of(text).parse_args()
 
 
 def write_digest(report):
-    """Puts beside a part's report what `sha256sum` prints of its plan and its report."""
+    """Writes next to a part's report what `sha256sum` prints of its plan and its report."""
     sums = [(hashlib.sha256(path.read_bytes()).hexdigest(), path) for path in [report.with_suffix(".json"), report]]
     report.with_suffix(".sha256").write_text("".join(f"{found}  {path}\n" for found, path in sums))
 
 
 class Count:
-    """How many tests passed and failed. A failure is printed at once."""
+    """How many tests passed and failed. A failure is printed immediately."""
 
     def __init__(self):
         self.passed = 0
         self.failed = 0
 
     def test(self, name, found, wanted):
-        """One test, which passes where both values are equal."""
+        """One test, which passes if both values are equal."""
         if found == wanted:
             self.passed += 1
             return
@@ -150,12 +150,12 @@ class Count:
         print(f"{name}: wanted {shown(wanted)}, found {shown(found)}")
 
     def close(self):
-        """Prints the last line, and answers the exit status."""
+        """Prints the last line, and returns the exit status."""
         print(f"{self.passed} passed, {self.failed} failed")
         return 1 if self.failed or not self.passed else 0
 
 
 def shown(value):
-    """A value's text, cut where it is long."""
+    """A value's text, cut if it is long."""
     text = repr(value)
     return text if len(text) <= 300 else f"{text[:300]} .. ({len(text)} characters)"

@@ -1,11 +1,11 @@
 #!/usr/bin/env python3
-"""Plants the wrong bodies that every contract lets through, and says which tests catch each.
+"""Plants the wrong bodies that every contract accepts, and reports which tests catch each.
 
     python3 tests/survivors.py                    all of them, in half an hour
     python3 tests/survivors.py --some 5           five of them, others on another day: the date chooses
     python3 tests/survivors.py --check            only whether each still applies, and what it names is there
 
-Whether all still apply is looked at first, also with --some, and whether the tests and plans that wrong bodies name are there.
+It first checks, also with --some, whether all still apply, and whether the tests and plans that wrong bodies name are there.
 
 A survivor is a file crates/NAME/survivors/BELIEF.edit with the lines of a wrong body (tests/wrong_edits.py), and a line
 `caught-by:` in place of the function: CRATE::TEST for a test of a crate, hostile::FUNCTION for a function of
@@ -18,8 +18,8 @@ body for each of them, and a number picks one at run time. Of that copy the prog
 are built once, without proofs and without the checks of `rt try` (tests/unproved.py). What catches a survivor has to
 pass in them while no number is picked. An edit that changes more than bodies of functions has a copy for itself. So has
 each one for library: the library is proved and built, over the libraries that ./check built. The last line is
-'N passed, M failed', where a survivor passes that is caught; the exit status is 0 where M is 0, 1 where it isn't, and 2
-where one no longer applies, what should catch it fails without it, or `rt` isn't there.
+'N passed, M failed'; a survivor passes if it is caught. The exit status is 0 if M is 0, 1 if it isn't, and 2 if one no
+longer applies, if what should catch it fails without it, or if `rt` isn't there.
 
 With --wrong-bodies the edits are those of crates/NAME/wrong-bodies with a line `caught-by:`: the prover rejects these too,
 and a plan or a test shows them all the same."""
@@ -50,7 +50,7 @@ from wrong_edits import BadEdit, Edit, edited, texts_of
 SEEDS = range(30)
 # How long a plan or a test may take, in seconds.
 PATIENCE = 60
-# How many times the instructions a row of growth.py may take while each changed function looks which body is picked.
+# How many times the instructions a row of growth.py may take while each changed function tests which body is picked.
 CHOOSING = 1.1
 PARTS = ["examples", "reference", "large_plans"]
 LIBRARY_TESTS = TOP / "tests" / "tools" / "test_library.py"
@@ -73,7 +73,7 @@ def code_of(crate):
 
 
 class Survivor(Edit):
-    """A wrong body that no contract refuses, and what catches it."""
+    """A wrong body that no contract rejects, and what catches it."""
 
     def __init__(self, path):
         super().__init__(path)
@@ -107,7 +107,7 @@ class Survivor(Edit):
             (folder / "crates" / self.crate / file).write_text(text)
 
     def check(self):
-        """It has to apply, and what catches it has to be there."""
+        """Checks that it applies, and that what catches it is there."""
         self.place_in(TOP)
         place, name = self.where()
         there = {"examples": lambda: name in ["", *(path.stem for path in TOP.glob("tests/plans/*.json"))],
@@ -126,14 +126,14 @@ class Failures(support.Count):
         self.names = []
 
     def test(self, name, found, wanted):
-        """One test, which passes where both values are equal."""
+        """One test, which passes if both values are equal."""
         if found != wanted:
             self.names.append(name)
 
 
 @functools.cache
 def cases_of(part):
-    """Plans of a part of the gate: a name, a plan and its report each, from the file beside it or from the reference. Those
+    """Plans of a part of the gate: a name, a plan and its report each, from the file next to it or from the reference. Those
     of tests/plans/ are there in other batches too."""
     if part == "examples":
         paths = [path for path in support.plans_with_reports() if path.parent.name == "plans"]
@@ -212,7 +212,7 @@ def failed_growth(planted, name):
 
 
 def failed_size(planted, name):
-    """The plan of large_plans.py, if the program of a copy answers it otherwise."""
+    """The plan of large_plans.py, if the program of a copy returns another result for it."""
     failures = Failures()
     large_plans.test_sizes(failures, planted.program("zsched"), name)
     return failures.names
@@ -276,7 +276,7 @@ def is_only_bodies(survivor):
 
 
 class Judge:
-    """Plants survivors in a folder, and says what catches each."""
+    """Plants survivors in a folder, and reports what catches each."""
 
     def __init__(self, folder, survivors):
         self.folder = pathlib.Path(folder)
@@ -339,9 +339,9 @@ def main():
     arguments = support.parser_of(__doc__)
     arguments.add_argument("--crate", action="append", metavar="NAME", help="only this crate's (repeatable)")
     arguments.add_argument("--edit", action="append", metavar="BELIEF", help="only this one (repeatable)")
-    arguments.add_argument("--some", type=int, metavar="N", help="so many of them, in turn by the day of the year")
+    arguments.add_argument("--some", type=int, metavar="N", help="this number of them, in turn by the day of the year")
     arguments.add_argument("--wrong-bodies", action="store_true", help="the wrong bodies that a plan or a test shows")
-    arguments.add_argument("--check", action="store_true", help="build nothing: look whether each applies")
+    arguments.add_argument("--check", action="store_true", help="build nothing: check whether each applies")
     given = arguments.parse_args()
     try:
         survivors, bodies = list(map(Survivor, sorted(TOP.glob("crates/*/survivors/*.edit")))), shown_wrong_bodies()

@@ -18,7 +18,7 @@ import quick
 import test_wrong_bodies
 from support import TOP, Count
 
-# Two versions of a source, and whether the crates above may be concerned.
+# Two versions of a source, and whether the change may affect the crates above.
 CHANGES = [
     ("a clause on the next line", "pub fn f(a: u64) -> u64\n    ensures value {\n        result ≡ a\n    }\n{\n    a\n}\n",
      "result ≡ a", "result ≡ result", True),
@@ -51,14 +51,14 @@ def copy_to(top):
 
 
 def check(top, name, environment=None):
-    """What the gate of a copy says of one part, and its status."""
+    """The output of the gate of a copy for one part, and its status."""
     ended = subprocess.run([top / "check", name], stdin=subprocess.DEVNULL, stdout=subprocess.PIPE, stderr=subprocess.STDOUT,
                            text=True, errors="replace", timeout=300, env={**os.environ, **(environment or {})})
     return ended.stdout, ended.returncode
 
 
 def write(path, old, new):
-    """Changes a text of a file, which has to be there."""
+    """Replaces a text of a file, which has to contain it."""
     text = path.read_text(encoding="utf-8")
     if old not in text:
         raise ValueError(f"{path} has no {old!r}")
@@ -66,18 +66,18 @@ def write(path, old, new):
 
 
 def drop_crate(top):
-    """Takes the last crate but one out of crates.txt."""
+    """Removes the last crate but one from crates.txt."""
     lines = (top / "crates.txt").read_text(encoding="utf-8").splitlines(keepends=True)
     (top / "crates.txt").write_text("".join(it for it in lines if not it.startswith("zs_refusals")), encoding="utf-8")
 
 
 def empty_plans(top):
-    """Takes all plans away."""
+    """Removes all plans."""
     for path in (top / "examples").iterdir():
         path.unlink()
 
 
-# Each sabotage: its name, what it does to a copy, the part that must find it, and a text that the gate then says. An edit
+# Each sabotage: its name, what it does to a copy, the part that must find it, and a text that the gate then prints. An edit
 # that doesn't apply is among those of test_wrong_bodies.py.
 SABOTAGES = [
     ("a folder of plans is emptied", empty_plans, "examples", "0 passed"),
@@ -100,7 +100,7 @@ SABOTAGES = [
 
 
 def test_sabotages(count):
-    """Each sabotage is found by the part that must find it; with none the part passes, whatever the environment names."""
+    """The part that must find a sabotage finds it; without one the part passes, whatever the environment names."""
     with tempfile.TemporaryDirectory() as folder:
         whole = pathlib.Path(folder) / "whole"
         whole.mkdir()
@@ -118,7 +118,7 @@ def test_sabotages(count):
 
 
 def test_judged(count):
-    """What a part comes to by its log, its status and its floor."""
+    """The result of a part by its log, its status and its floor."""
     for name, text, status, floor, late, wanted in [
         ("all pass", "a\n5 passed, 0 failed\n", 0, 5, None, (5, 0)),
         ("one fails", "4 passed, 1 failed\n", 1, 5, None, (4, 1)),
@@ -135,7 +135,7 @@ def test_judged(count):
 
 
 def test_limit(count):
-    """A part that takes too long is ended, with all that it started."""
+    """A part that takes too long is ended, with every process that it started."""
     with tempfile.TemporaryDirectory() as folder:
         words = ["sh", "-c", "sleep 60 & echo begun; wait"]
         run = gate.Running("slow", gate.Part(words, 0.02), pathlib.Path(folder) / "log")
@@ -144,12 +144,12 @@ def test_limit(count):
 
 
 def test_floors(count):
-    """Each part has a floor, and no floor is of no part."""
+    """Each part has a floor, and each floor has a part."""
     count.test("floors", sorted(gate.floors()), sorted(gate.PARTS))
 
 
 def test_heads(count):
-    """What the quick gate takes for a change that concerns the crates above."""
+    """What counts for the quick gate as a change that affects the crates above."""
     for name, text, old, new, is_head in CHANGES:
         count.test(f"{name} is changed", quick.heads_of(text) != quick.heads_of(text.replace(old, new)), is_head)
 

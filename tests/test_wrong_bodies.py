@@ -71,7 +71,7 @@ pub fn two() -> u64
 }
 """
 
-# What a check says of a function with a goal of its own, of some that only wait, of a closure, and of a cycle of calls.
+# The output of a check for a function with an open goal, for some that only wait, for a closure, and for a cycle of calls.
 SAID = """./proofs/m/+both/Answers.antt:4:5: error: `one-returns`: the two types differ
 note: src/lib.rt:9:1: it is not proved that what the function ensures holds when it returns (`returns-in-Ok`)
 fn a::f: no proof: expected answers in ./proofs/f/Answers.antt; `search` did not prove `returns-in-Ok`, `returns`
@@ -118,7 +118,7 @@ EDITS = [
 ]
 
 
-# A toolchain that proves nothing: `greater` and `up_to_ten` are open if they are asked for, and no other function.
+# A toolchain that proves nothing: `greater` and `up_to_ten` are open if the call names them, and no other function.
 TOOL = """#!/bin/sh
 [ "$1" = version ] && echo none
 [ "$2" = --crate-name ] && [ -n "$SLOW" ] && exec sleep 60
@@ -176,7 +176,7 @@ def without_proofs():
 
 
 def test_kept(count):
-    """An edit that passed isn't tried again, but with --anew; a change of the crate has all tried."""
+    """An edit that passed is tried again only with --anew; after a change of the crate all are tried."""
     with without_proofs() as (folder, tools):
         words = [sys.executable, RUNNER, "--top", folder, "--edit", "the_lesser", "--edit", "no_limit"]
         source = pathlib.Path(folder) / "crates" / "two_numbers" / "src" / "lib.rt"
@@ -192,7 +192,7 @@ def test_kept(count):
 
 
 def test_code(count):
-    """What a trial reads of a text: all but lines that hold only a comment."""
+    """What a trial reads of a text: every line except those that hold only a comment."""
     for name, path, text, wanted in [
         ("a comment", "src/a.rt", "//! A.\n\nfn f() {\n    // B\n    1 // C\n}\n", "fn f() {\n    1 // C\n}"),
         ("a comment of a definition", "specs/A.antt", "-- a\nf : T\nf = 1\n", "f : T\nf = 1"),
@@ -215,7 +215,7 @@ def test_followed(count):
 
 
 def test_turns(count):
-    """A crate over whose files all edits were rejected before is left out on all days but one of five, and no other."""
+    """A crate over whose files all edits were rejected before is skipped on all days but one of five, and no other crate."""
     trials = [Trial(Crate(pathlib.Path(), name, []), [], None) for name in ["a", "b", "c", "d"]]
     # The checksum of a crate as it is is its name.
     passed = types.SimpleNamespace(listed=lambda: {"a": "a", "b": "b", "c": "older"}, sum_of_all=lambda crate, _: crate.name)
@@ -270,7 +270,7 @@ def test_places(count):
 
 
 def test_said(count):
-    """What is a goal of a function's own, and what only waits."""
+    """Which goals belong to a function itself, and which only wait."""
     said = Said(SAID, "a", {"src/m.rt": CYCLES})
     goals = lambda name: list(dict.fromkeys(it.goal for it in said.own_goals(name)))
     count.test("goals of f", goals("f"), ["returns-in-Ok", "returns"])
@@ -300,7 +300,7 @@ def working_in(folder):
 
 
 def test_end(count):
-    """A runner that is ended leaves no process and no folder behind; one that is killed no process."""
+    """A runner that is ended leaves no process and no folder; one that is killed leaves no process."""
     for number, status, left in [(signal.SIGTERM, 128 + signal.SIGTERM, 0), (signal.SIGKILL, -signal.SIGKILL, 1)]:
         with without_proofs() as (folder, tools), tempfile.TemporaryDirectory() as rooms:
             quiet = {"stdout": subprocess.DEVNULL, "stderr": subprocess.DEVNULL}
@@ -314,7 +314,7 @@ def test_end(count):
 
 
 def waited_for(holds):
-    """Whether something holds within five minutes."""
+    """Whether a condition becomes true within five minutes."""
     until = time.monotonic() + 300
     while not holds() and time.monotonic() < until:
         time.sleep(0.1)

@@ -1,9 +1,9 @@
 #!/usr/bin/env python3
 """Counts the threads that the built program starts, on plans and cuts of which the number follows from the report.
 
-In a round, the polls that are due at one moment, min(workers, batches) workers take the batches, and the calling thread
-is one of them. So a run starts as many threads as all rounds have workers beside the calling one. The due polls of a
-moment are counted in the report of tests/reference.py: a job is polled once at each moment at which an attempt of it
+In a round, the polls that are due at one moment, min(workers, batches) workers process the batches, and the calling thread
+is one of them. So a run starts, for each round, a thread for each worker except the calling one. The due polls of a
+moment are counted in the report of tests/reference.py: a job is polled once at each moment at which one of its attempts
 begins or ends. The program runs under a library that counts what it starts, tests/refuse.c.
 
     python3 tests/threads.py
@@ -29,7 +29,7 @@ POLLS = re.compile(r"end .* polls (\d+)")
 # The plans of tests/plans/ that are run under each cut.
 PLANS = ["seven_jobs", "seven_jobs_on_listed_ticks", "thirteen_jobs", "more_workers_than_jobs"]
 MANY_CUTS = [(64, 1), (4, 100), (3, 7), (64, 10000), (1, 1)]
-# The seeds from 0 on that ask for more than one worker are run, up to this number of them.
+# At most this number of seeds is run: those from 0 on whose plan has more than one worker.
 SEEDS = 500
 # The greatest number of attempts of a job of a seed's plan.
 MOST_ATTEMPTS = 2100
@@ -94,7 +94,7 @@ def test_many_jobs(count, counter):
 
 
 def test_seeds(count, counter):
-    """Plans of seeds that ask for more than one worker. Of all accepted plans half or more start threads."""
+    """Plans of seeds with more than one worker. Of all accepted plans half or more start threads."""
     plans = accepted = started = 0
     seed = -1
     while plans < SEEDS and seed < 10 * SEEDS:

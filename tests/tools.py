@@ -1,8 +1,8 @@
 #!/usr/bin/env python3
 """The tests of the commands in tools/, of the documents' plans and of the package: each file tests/tools/test_*.py, by
-unittest, as many files, or classes of long files, side by side as there are processors. `tests/tools.py NAME ..` runs the
-named files alone (test_explain, or explain). The library is built once, beside the other files, and then those that call it
-run. A test that needs a program that isn't on this machine is skipped, by name. The last line is 'N passed, M failed'."""
+unittest. Files, and the classes of long files, run in parallel, one for each processor. `tests/tools.py NAME ..` runs only
+the named files (test_explain, or explain). The library is built once, in parallel to the other files; then those run that
+call it. A test that needs a missing program is skipped, by name. The last line is 'N passed, M failed'."""
 import compileall
 import concurrent.futures
 import os
@@ -21,10 +21,10 @@ sys.dont_write_bytecode = True
 sys.path[:0] = [str(HERE), str(HERE / "tools"), str(HERE.parent / "tools")]
 # Files that call the library.
 OVER_LIBRARY = ["test_library", "test_library_steps", "test_library_install"]
-# Those that take longest begin first.
+# Those that take longest start first.
 LONGEST = ["test_explain.Large", "test_page.Evaluator", "test_page.Browser", "test_benches", "test_tools", "test_report",
            "test_population", "test_package", "test_plan", "test_reference"]
-# Files whose classes run side by side.
+# Files whose classes run in parallel.
 PARTED = ["test_explain", "test_page"]
 LAST = re.compile(r"(\d+) passed, (\d+) failed")
 IMPORTED = re.compile(r"^(?:import|from) ([\w.]+)", re.M)
@@ -48,7 +48,7 @@ class Counted(unittest.TextTestResult):
 
 
 def run(name):
-    """Runs a file in this process, says what was skipped and how long it took, and returns how many passed and failed."""
+    """Runs a file in this process, prints what was skipped and the time, and returns how many passed and failed."""
     begun = time.monotonic()
     suite = unittest.defaultTestLoader.loadTestsFromName(name)
     result = unittest.TextTestRunner(stream=sys.stdout, resultclass=Counted, verbosity=0).run(suite)
@@ -62,7 +62,7 @@ def run(name):
 
 
 def run_apart(name, **more):
-    """Runs a file in a process of its own, under more variables, shows what it prints, and returns how many tests passed
+    """Runs a file in a separate process, with more variables, prints its output, and returns how many tests passed
     and failed."""
     ended = subprocess.run([sys.executable, __file__, name], stdin=subprocess.DEVNULL, stdout=subprocess.PIPE,
                            stderr=subprocess.STDOUT, text=True, errors="replace", check=False, env={**os.environ, **more})
@@ -84,7 +84,7 @@ def built_library(folder):
 
 
 def run_over_library(names, folder):
-    """Builds the library and then runs the files that call it side by side; returns their counts."""
+    """Builds the library and then runs the files that call it in parallel; returns their counts."""
     try:
         variables = built_library(folder)
     except subprocess.CalledProcessError as failed:
@@ -108,8 +108,8 @@ def classes_of(name):
 
 def compile_sources(folder):
     """Compiles into a folder what the tests and the commands import, which each process would else compile when it starts.
-    A Python that looks there doesn't look for its own library's compiled files, so these go there too: a start of
-    zsched-report takes 0.13 s of processor time in place of 0.5."""
+    A Python that looks there doesn't look for the compiled files of its standard library, so these go there too: a start
+    of zsched-report takes 0.13 s of processor time in place of 0.5."""
     os.environ["PYTHONPYCACHEPREFIX"] = sys.pycache_prefix = folder
     sources = [HERE, HERE.parent / "tools"]
     for place in sources:
@@ -121,7 +121,7 @@ def compile_sources(folder):
 
 
 def run_all(files, room):
-    """Runs files side by side, those over the library once it is built; returns the counts."""
+    """Runs files in parallel, those over the library once it is built; returns the counts."""
     compile_sources(f"{room}/compiled")
     order = {name: place for place, name in enumerate(LONGEST)}
     parted = [it for name in files if name not in OVER_LIBRARY for it in (classes_of(name) if name in PARTED else [name])]
@@ -135,7 +135,7 @@ def run_all(files, room):
 
 def main(names):
     """Runs the files, and returns the exit status."""
-    # A shell that runs this in the background has Ctrl-C ignored, here and in all that is started from here.
+    # A shell that runs this in the background has Ctrl-C ignored, here and in every process that is started from here.
     signal.signal(signal.SIGINT, signal.default_int_handler)
     files = [f"test_{name.removeprefix('test_')}" for name in names] or sorted(it.stem for it in HERE.glob("tools/test_*.py"))
     if len(files) == 1:

@@ -1,8 +1,8 @@
 """Builds the program of a folder of crates without any proof, with the checks that `rt try` adds or
 without them.
 
-`rt try` stores no program, and checks names beside its build. So it is called in a copy of the kit:
-a folder of links, in which the linker stores the program and nothing is checked beside it. valgrind
+`rt try` stores no program, and checks names during its build. So it is called in a copy of the kit:
+a folder of links, in which the linker stores the program and no names are checked. valgrind
 can't run a program with the address sanitizer: without checks the compiler leaves the sanitizer
 out, and the sanitizer's library is empty."""
 import os
@@ -70,7 +70,7 @@ def copy_kit(kit, target, program, level):
     tools.unlink()
     link_all(kit / "toolchain" / "bin", tools)
     replace(tools / "ld.lld", LINKER.format(kit=kit, program=program))
-    # `rt try` has it look for what a check would refuse.
+    # `rt try` has it look for what a check would reject.
     replace(target / "bin" / "rattle", "#!/bin/sh\n")
     if level is None:
         return
@@ -81,8 +81,8 @@ def copy_kit(kit, target, program, level):
 
 def build(crate, program, *words, level="-O2", **more):
     """Builds the program of a crate's folder into a file, or with the word --test that of its
-    tests, under more variables: by a level of optimizing, or with checks if it is None. What
-    `rt try` does after that isn't waited for."""
+    tests, with more variables: by a level of optimizing, or with checks if it is None. It doesn't
+    wait for what `rt try` does after that."""
     found = shutil.which("rt")
     if found is None:
         raise NotBuilt("the command 'rt' isn't on this machine")

@@ -1,6 +1,6 @@
 #!/usr/bin/env python3
 """Runs the built program on a dozen plans and on many jobs under valgrind, each cut in several ways: by memcheck, and
-where there are several workers by helgrind and drd. The rounds of the heavy jobs start threads.
+if there are several workers by helgrind and drd. The rounds of the jobs with 998 nodes start threads.
 
     python3 tests/valgrind.py
 
@@ -31,7 +31,7 @@ MANY = 250
 # The cuts of jobs with schedules of 998 nodes.
 HEAVY_CUTS = [(2, 1), (4, 3), (4, 20), (64, 10)]
 
-# The checkers with their words, and the cuts that tell them something: without a second worker no thread is started.
+# The checkers with their words, and the cuts that can show errors: without a second worker no thread is started.
 TOOLS = {
     "memcheck": (["--leak-check=full", "--show-leak-kinds=all"], CUTS),
     "helgrind": ([], CUTS[1:]),
@@ -43,7 +43,7 @@ QUEUE = "crossbeam_queue::"
 
 
 def path_of(name):
-    """Where a plan lies."""
+    """The path of a plan."""
     return TOP / "tests" / "plans" / f"{name}.json"
 
 
@@ -63,7 +63,7 @@ def cases(cuts):
 
 
 def is_of_a_queue(error):
-    """Whether an error is an access to a queue's places, made by the queue. The first stack tells where it was made."""
+    """Whether an error is an access to a queue's places, made by the queue. The first stack shows where it was made."""
     if error.findtext("kind") not in ["Race", "ConflictingAccess"]:
         return False
     place = error.find("stack/frame/fn")

@@ -5,9 +5,9 @@ import java.net.http.HttpRequest;
 import java.net.http.HttpResponse;
 import zsched.Schedule;
 
-/** Fetch PORT POLICY: asks the server on this machine until it answers or the policy is done. */
+/** Fetch PORT POLICY: requests a page of a local server until it succeeds or the policy is done. */
 public final class Fetch {
-    /** An answer with another code than 200. */
+    /** A response with another code than 200. */
     private static final class Status extends IOException {
         private static final long serialVersionUID = 1;
 

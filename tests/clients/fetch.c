@@ -1,4 +1,4 @@
-/* fetch PORT POLICY: asks the server on this machine until it answers or the policy is done. It is C and C++. */
+/* fetch PORT POLICY: requests a page of a local server until it succeeds or the policy is done. C and C++. */
 #ifndef _GNU_SOURCE
 #define _GNU_SOURCE
 #endif
@@ -13,7 +13,7 @@
 
 #define WORDS 128
 
-/* The code of the server's answer, and its text; 0 if there is no server. */
+/* The code of the server's response, and its text; 0 if there is no server. */
 static int fetch(int port, char *text, size_t size)
 {
     static const char request[] = "GET / HTTP/1.0\r\n\r\n";

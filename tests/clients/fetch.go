@@ -1,4 +1,4 @@
-// Command fetch PORT POLICY asks the server on this machine until it answers or the policy is done.
+// Command fetch PORT POLICY requests a local page until it succeeds or the policy is done.
 package main
 
 import (

@@ -1,5 +1,5 @@
 'use strict';
-// fetch PORT POLICY: asks the server on this machine until it answers or the policy is done.
+// fetch PORT POLICY: requests a page of a local server until it succeeds or the policy is done.
 const { retry } = require('zsched');
 
 const [port, policy] = process.argv.slice(2);

@@ -1,4 +1,4 @@
-"""fetch PORT POLICY: asks the server on this machine until it answers or the policy is done."""
+"""fetch PORT POLICY: requests a page of a local server until it succeeds or the policy is done."""
 import sys
 import urllib.error
 import urllib.request
@@ -8,7 +8,7 @@ import zsched
 
 @zsched.retrying(sys.argv[2], on=urllib.error.HTTPError, input_of=lambda error: error.code)
 def fetch(url):
-    """The text of the answer."""
+    """The text of the response."""
     with urllib.request.urlopen(url) as answer:
         return answer.read().decode()
 

@@ -1,9 +1,9 @@
-//! fetch PORT POLICY: asks the server on this machine until it answers or the policy is done.
+//! fetch PORT POLICY: requests a page of a local server until it succeeds or the policy is done.
 use std::io::{Read, Write};
 use std::net::TcpStream;
 use std::process::ExitCode;
 
-/// The text of the answer, or its code; 0 if there is no server.
+/// The text of the response, or its code; 0 if there is no server.
 fn fetch(port: u16) -> Result<String, u64> {
     let mut text = String::new();
     let mut server = TcpStream::connect(("127.0.0.1", port)).map_err(|_| 0_u64)?;

@@ -21,6 +21,6 @@ def opened(address, width=1280, words=()):
 
 
 def inside(document, name):
-    """What is inside of the element with an id, up to the end of its kind that comes first."""
+    """The content of the element with an id, up to the first end tag of its kind."""
     found = re.search(rf'<(\w+) [^>]*\bid="{name}"[^>]*>(.*?)</\1>', document, re.S)
     return found[2] if found else ""

@@ -35,7 +35,7 @@ def run_here(main, *words, given=b""):
 
 
 def judge_colours(test, words, stream, folder=None, **variables):
-    """What a command writes on a terminal has colours, unless the terminal has none or they are unwanted."""
+    """A command's output on a terminal has colours, unless the terminal has none or the user disables them."""
     for environment, is_painted in [({"TERM": "xterm"}, True), ({"TERM": "xterm", "NO_COLOR": "1"}, False),
                                     ({"TERM": "dumb"}, False)]:
         with test.subTest(environment):

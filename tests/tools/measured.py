@@ -1,9 +1,9 @@
-"""How much memory and processor time a command of tools/ takes."""
+"""The memory and processor time of a command of tools/."""
 import subprocess
 import sys
 
-# The command runs inside of this program, which then tells the most memory that its own process held. (What the parent
-# of a process is told counts the parent's own memory too, from before the process began its program.)
+# The command runs inside of this program, which then prints the peak memory of its process. (The figure that the
+# parent of a process gets includes the parent's own memory, from before the process started its program.)
 _INSIDE = """import resource, runpy, sys
 sys.argv = sys.argv[1:]
 try:
@@ -17,7 +17,7 @@ finally:
 
 
 def measured(tool, *words, out):
-    """Runs a command with its standard output to a file: its status, the most kilobytes that it held, and its seconds
+    """Runs a command with its standard output to a file: its status, its peak memory in kilobytes, and its seconds
     of processor time."""
     with open(out, "wb") as file:
         ended = subprocess.run([sys.executable, "-c", _INSIDE, str(tool), *map(str, words)], stdout=file,

@@ -1,9 +1,9 @@
 // Runs the scripts of docs/play.html that need no browser: `node page_scripts.js play.html answers|calls|words`.
 //
-// With `answers` each plan on standard input is the number of its bytes, in decimal, a newline and the bytes; its answer
+// With `answers` each plan on standard input is the number of its bytes, in decimal, a newline and the bytes; its result
 // is a JSON line: the status, the report and the fault's line. With `calls` each line is a list in JSON, a function's
-// name and its arguments; the answer is what it returns, with whole numbers as texts, or {"fault": ..} for what it throws.
-// With `words` each line is a schedule; the answer is what the page says of it for every input.
+// name and its arguments; the result is what it returns, with whole numbers as texts, or {"fault": ..} for what it throws.
+// With `words` each line is a schedule; the result is what the page says of it for every input.
 "use strict";
 const fs = require("fs");
 const vm = require("vm");
@@ -13,7 +13,7 @@ const page = fs.readFileSync(process.argv[2], "utf8");
 for (const name of ["evaluator", "drawing", "bounding", "asking"])
   vm.runInThisContext(new RegExp(`<script id="${name}">\n(.*?)</script>`, "s").exec(page)[1], { filename: name });
 
-// The next so many bytes of standard input, or null at its end.
+// The next `size` bytes of standard input, or null at its end.
 function taken(size) {
   const bytes = Buffer.alloc(size);
   for (let at = 0; at < size;) {

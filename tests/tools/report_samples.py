@@ -1,4 +1,4 @@
-"""Reports for the tests of zsched-report, and their lines of the summary, which were worked out by hand from the
+"""Reports for the tests of zsched-report, and their lines of the summary, which were computed by hand from the
 reports' texts: busy is the sum of all ends less begins, waited that of all begins less the ends before them, both up
 to the horizon. A job's time to its end is that end less the begin of its first attempt; of n jobs in the order of their
 times, the unfinished ones last, p95 is that of job number 0.95 n, rounded up."""
@@ -106,7 +106,7 @@ SUMMARIES = {
                  "time to the end: p50 unfinished, p95 unfinished, p99 unfinished"),
 }
 
-# What is no report, and the beginning of what is said of it.
+# Texts that aren't reports, and the beginning of the error.
 NO_REPORTS = [
     ("", "is empty"),
     ("\n", "line 1 isn't a line"),
@@ -160,7 +160,7 @@ NO_REPORTS = [
 
 def random_report(rng, jobs):
     """Jobs of each kind: those that succeed, fail, finish, run or wait at the horizon, or never begin; with waits of any
-    length, none too, and attempts that begin later than their schedule goes on."""
+    length, also 0, and attempts that begin later than the schedule's next moment."""
     horizon, lines, total = 10_000, [], 0
     for job in range(jobs):
         mode, kind = rng.choice([("retry", "ok"), ("retry", "err"), ("repeat", "ok"), ("repeat", "err"),
@@ -192,7 +192,7 @@ def random_report(rng, jobs):
 
 
 def long_report(attempts):
-    """A retry of so many attempts, one each ten milliseconds, all of which fail."""
+    """A retry of `attempts` attempts, one each ten milliseconds, all of which fail."""
     lines = ["job hammer retry"]
     for number in range(1, attempts + 1):
         begin = 10 * (number - 1)
@@ -204,7 +204,7 @@ def long_report(attempts):
 
 
 def wide_report(jobs, attempts):
-    """Retries that start apart, each with so many attempts and growing waits."""
+    """Retries that start apart, each with `attempts` attempts and growing waits."""
     lines, polls = [], 0
     for job in range(jobs):
         lines.append(f"job service-{job:03} retry")

@@ -1,4 +1,4 @@
-"""benches/: the plans are answered by zsched and by the baseline as the reference says, and the commands run."""
+"""benches/: the results of zsched and of the baseline for the plans are those of the reference, and the commands run."""
 import contextlib
 import io
 import json
@@ -24,7 +24,7 @@ import population
 import reference
 from zsched_tools import program
 
-# Heavy plans have one job: the reference takes a minute for twenty, since it goes over the whole history at each step.
+# Plans of large schedules have one job: the reference takes a minute for twenty, since each step evaluates the whole history.
 SMALL = {name: plans.plans(2000 if name.startswith("heavy_") else 100)[name]() for name in plans.plans()}
 NO_SOURCE = r"failed to (get|download|query)|no matching package|[Cc]ould not resolve|offline"
 
@@ -45,7 +45,7 @@ def script(folder, name, text):
 
 
 class Benches(unittest.TestCase):
-    """The commands, with other programs in the place of zsched and the baseline where nothing is to be measured."""
+    """The commands, with other programs in the place of zsched and the baseline if nothing is to be measured."""
 
     def setUp(self):
         self.folder = self.enterContext(tempfile.TemporaryDirectory())
@@ -121,7 +121,7 @@ class Benches(unittest.TestCase):
 
 @unittest.skipIf(shutil.which("cargo") is None, "cargo isn't installed")
 class Baseline(unittest.TestCase):
-    """benches/baseline: it builds, and answers as zsched and the reference do."""
+    """benches/baseline: it builds, and returns what zsched and the reference return."""
 
     def test_it_answers_as_zsched_and_the_reference(self):
         built = subprocess.run([BENCHES / "baseline" / "build", "--quiet"], env={**os.environ, "CARGO_NET_RETRY": "0"},

@@ -1,4 +1,4 @@
-"""The examples by which wrong bodies differ: that each can be read, and how bodies are put beside each other. No build:
+"""The examples by which wrong bodies differ: that each can be parsed, and how bodies are combined. No build:
 `python3 tests/differences.py` tries the examples."""
 import pathlib
 import re
@@ -41,7 +41,7 @@ def edit_of(lines):
 
 
 def example_of(text):
-    """What a line `differs:` with this text says."""
+    """The parsed line `differs:` with this text."""
     return Example(edit_of(f"{LINES}differs: {text}\n"))
 
 
@@ -89,7 +89,7 @@ class Differences(unittest.TestCase):
                         self.see(Edit(path), texts, calls)
 
     def see(self, edit, texts, calls):
-        """An edit's line can be read, its call is one of the crate's, and its bodies can be put beside others."""
+        """An edit's line can be parsed, its call is one of the crate's, and its bodies can be combined with others."""
         edit.read()
         example = Example(edit) if edit.differs else None
         if example and example.call:

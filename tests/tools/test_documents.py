@@ -1,4 +1,4 @@
-"""The documents: their links lead somewhere, what they name is there, and the plans shown have the reports shown."""
+"""The documents: their links have targets, what they name exists, and the plans shown have the reports shown."""
 import io
 import json
 import re

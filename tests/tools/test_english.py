@@ -1,5 +1,5 @@
-"""The documents are in plain technical English, and so are the comments of the crates. Words that mean another
-thing here than elsewhere, or nothing, are counted, and long lines. Samples, and names in backquotes, are left out."""
+"""The documents are in plain technical English, and so are the comments of the crates. Words that have another
+meaning here than elsewhere, or no meaning, are counted, and long lines; not samples, nor names in backquotes."""
 import re
 import unittest
 
@@ -27,7 +27,7 @@ WORDS = [
 
 
 def prose(files):
-    """The lines of pages and the comments of code, without samples: the place, the line, and what it says."""
+    """The lines of pages and the comments of code, without samples: the place, the line, and its text."""
     for file in files:
         is_sample, form = False, re.compile(r"(.*)" if file.suffix == ".md" else r"\s*(?://[/!]?|--) ?(.*)")
         for number, line in enumerate(map(form.fullmatch, file.read_text().splitlines()), 1):

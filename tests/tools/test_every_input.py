@@ -1,5 +1,5 @@
-"""What the tables of RECIPES and POLICIES say of schedules for every input: it is what zsched-bounds prints, and some of it was
-worked out by hand."""
+"""The bounds in the tables of RECIPES and POLICIES are for every input: they are what zsched-bounds prints, and some were
+computed by hand."""
 import json
 import re
 import unittest
@@ -11,7 +11,7 @@ HEAD, *SECTIONS = (TOP / "docs" / "RECIPES.md").read_text().split("\n### ")
 POLICIES = (TOP / "docs" / "POLICIES.md").read_text()
 JOBS = json.loads((TOP / "examples" / "policies.json").read_text())["jobs"]
 BOUNDS = program.find_bounds()
-# Worked out by hand: the least and most attempts, the longest wait and all waits.
+# Computed by hand: the least and most attempts, the longest wait and all waits.
 BY_HAND = {
     "recurs(3)": (4, 4, 0, 0),
     # 100, 200, 400, 800, 1600
@@ -32,7 +32,7 @@ BY_HAND = {
 
 
 def cells(bounds):
-    """What a table says of bounds: attempts, the longest wait and all waits. A dash is a number without a proved limit."""
+    """The bounds of a table's cell: attempts, the longest wait and all waits. A dash is a number without a proved limit."""
     attempts = f"{bounds.least} or more" if bounds.most is None else f"{bounds.least} to {bounds.most}"
     attempts = attempts if bounds.most != bounds.least else str(bounds.most)
     is_beginning = bounds.most is None and bounds.seen == bounding.MOST_STEPS
@@ -42,7 +42,7 @@ def cells(bounds):
 
 
 def shown_in(section):
-    """The schedules of a recipe that its plan runs, and what the table says of each."""
+    """The schedules of a recipe that its plan runs, and the table's bounds of each."""
     schedules = re.search(r"^- Schedules? \(.*?(?=^- Plan:)", section, re.M | re.S)[0]
     plan = re.search(r"^- Plan:\s+\[\w+\]\(\.\./(.*?)\)", section, re.M)[1]
     run = {job["schedule"] for job in json.loads((TOP / plan).read_text())["jobs"]}
@@ -53,7 +53,7 @@ def shown_in(section):
 
 
 def shown():
-    """Each schedule of both pages, and what is said of it for every input."""
+    """Each schedule of both pages, and its bounds for every input."""
     for section in SECTIONS:
         if re.search("^- Schedules? ", section, re.M):
             yield from zip(*shown_in(section))

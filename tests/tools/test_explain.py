@@ -29,7 +29,7 @@ PLACE = re.compile(r"^ *--> plan\.json:(\d+):(\d+)$", re.M)
 
 
 def split(marked):
-    """A plan without its sign, and the line and the column at which the sign stood."""
+    """A plan without its sign, and the line and the column of the sign."""
     before, behind = marked.split("»")
     return before + behind, before.count("\n") + 1, len(before) - (before.rfind("\n") + 1) + 1
 
@@ -42,7 +42,7 @@ def told(data, status, line):
 
 
 def told_of(look, status, line):
-    """The same, where a look through the plan has begun."""
+    """The same, after a look through the plan has begun."""
     output, errors = io.StringIO(), io.StringIO()
     with contextlib.redirect_stdout(output), contextlib.redirect_stderr(errors):
         ended = explain.tell("plan.json", look, status, line)
@@ -113,7 +113,7 @@ class Mistakes(unittest.TestCase):
 
 
 def value_of(node):
-    """What a value of a document says."""
+    """The Python value of a node of a document."""
     if node.kind == "object":
         return {key.string(): value_of(value) for key, value in node.members()}
     if node.kind == "list":
@@ -122,12 +122,12 @@ def value_of(node):
 
 
 class Json(unittest.TestCase):
-    """The two readers of JSON: one passes a lawful text by its brackets, the other one looks for a fault."""
+    """The two readers of JSON: one skips a valid text by its brackets, the other one finds a fault."""
 
     LETTERS = ["a", "é", "😀", '"', "\\", "[", "]", "{", "}", ",", ":", "\n", "/"]
 
     def made(self, chance, depth=0):
-        """A value with texts that are hard to pass."""
+        """A value with texts that are hard to skip."""
         form = chance.randrange(6 if depth < 5 else 4)
         if form < 2:
             return "".join(chance.choice(self.LETTERS) for _ in range(chance.randrange(6)))
@@ -154,7 +154,7 @@ class Json(unittest.TestCase):
 
 
 class Hints(unittest.TestCase):
-    """What the command tells to write for names of ZIO."""
+    """What the command recommends for names of ZIO."""
 
     def test_the_program_takes_what_is_to_be_written(self):
         texts = []
@@ -175,7 +175,7 @@ class Hints(unittest.TestCase):
 
 
 class Changes(unittest.TestCase):
-    """Plans that are changed at random: CHANGED_PLANS of them, 2,000 where that variable isn't set."""
+    """Plans that are changed at random: CHANGED_PLANS of them, 2,000 if that variable isn't set."""
 
     def setUp(self):
         self.limits = resource.getrlimit(resource.RLIMIT_AS)
@@ -225,13 +225,13 @@ class Large(unittest.TestCase):
         self.zsched = program.find()
 
     def jobs(self, entries, entry):
-        """The front of a plan: jobs of so many entries, and their number."""
+        """The front of a plan: jobs of `entries` entries, and the number of jobs."""
         script = f'"script":[{",".join([entry] * entries)}]'
         number = self.SIZE // len(job(script=script)) + 1
         return '{"horizon":1000,"jobs":[' + "".join(job(f"j{at}", script=script) + "," for at in range(number)), number
 
     def told_of(self, marked):
-        """What the command writes of a plan, whose sign may stand at the place that is told."""
+        """The command's output for a plan, whose sign, if it has one, is at the reported place."""
         text, _, column = split(marked) if "»" in marked else (marked, 0, 0)
         self.assertTrue(self.SIZE <= len(text) <= program.MAX_BYTES, len(text))
         look = explain.Look(text.encode())
@@ -400,10 +400,10 @@ class Use(InFolder):
 
 
 class Alike(unittest.TestCase):
-    """A plan of which one of all jobs that are alike is run: it has the fault of the whole plan."""
+    """Of a plan's jobs that are alike only one is run: it has the fault of the whole plan."""
 
     def jobs(self, count, schedule="(exponential({}) && recurs(3))"):
-        """Jobs that differ in their names and their numbers alone."""
+        """Jobs that differ only in their names and their numbers."""
         return [job(f"j{at}", schedule.format(at + 1), script=f'"script":[{{"ms":{at + 5},"err":503}}]',
                     more=f',"start":{at + 1}') for at in range(count)]
 
@@ -466,7 +466,7 @@ class All(unittest.TestCase):
     """All faults of a plan in one run."""
 
     def places(self, marked, most=100):
-        """Holds the faults of a plan to its signs, one for each, and answers the program's lines."""
+        """Compares the faults of a plan with its signs, one for each, and returns the program's lines."""
         parts = marked.split("»")
         data, here, wanted = "".join(parts).encode(), 0, set()
         for part in parts[:-1]:
@@ -536,7 +536,7 @@ class Sizes(unittest.TestCase):
     """How many attempts a plan may have."""
 
     def warned(self, schedule, horizon=10**15 - 1, script='"script":[{"ms":1,"err":7}]', more=""):
-        """What is said of a plan of one retry."""
+        """What the command reports of a plan of one retry."""
         return plan_size.warning(plan([job("a", schedule, script=script)], f'"horizon":{horizon}{more}'))
 
     def test_schedules_that_go_on_for_long_are_told(self):

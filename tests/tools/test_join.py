@@ -1,6 +1,6 @@
 """zsched-report join with a manifest: whatever is changed, lost, doubled, swapped or foreign is found, by name.
 
-`ZSCHED_CHANGES=10000 tests/tools.py join` makes so many changes in place of 300."""
+`ZSCHED_CHANGES=10000 tests/tools.py join` makes this number of changes in place of 300."""
 import io
 import itertools
 import os
@@ -42,7 +42,7 @@ def make_population(folder, names=JOBS, more=""):
 
 
 class Known(InFolder):
-    """Parts that a manifest knows."""
+    """Parts that a manifest lists."""
 
     def setUp(self):
         super().setUp()
@@ -53,13 +53,13 @@ class Known(InFolder):
         return self.folder / f"part-{number:06}.{ending}"
 
     def joined(self):
-        """The status of the command, what it wrote, and what it said, without folders."""
+        """The command's status, output and errors, without folders."""
         ended = subprocess.run([sys.executable, TOOL, "join", self.folder / "manifest"], capture_output=True, text=True,
                                check=False)
         return ended.returncode, ended.stdout, ended.stderr.replace(f"{self.folder}/", "").removeprefix("zsched-report: ")
 
     def refused(self):
-        """What is said of parts that are refused, in this process; None if they are taken."""
+        """The error for rejected parts, in this process; None if they are accepted."""
         out = io.BytesIO()
         try:
             join.write_known(str(self.folder / "manifest"), out.write)
@@ -199,7 +199,7 @@ class Known(InFolder):
 
 
 class Places(unittest.TestCase):
-    """Heads of jobs are found wherever a piece ends."""
+    """Heads of jobs are found at any end of a piece."""
 
     def test_pieces_of_any_length(self):
         with tempfile.TemporaryDirectory() as name:

@@ -1,8 +1,8 @@
 """The library that services call: from C, also under tools that watch memory, and by the bindings for Python, Rust and Java.
 
 tools/make-library builds it first, in a folder of this test: other parts of the gate read the crates' folders at the same
-time. ZSCHED_LIBRARY_DIR names a folder with a built one in its place. What it has to answer comes from tests/reference.py and
-from the program's own step lines."""
+time. ZSCHED_LIBRARY_DIR names a folder with a built one in its place. The expected results are those of tests/reference.py
+and the program's step lines."""
 import asyncio
 import atexit
 import concurrent.futures
@@ -38,7 +38,7 @@ REFUSED_STEPS = 60
 UNDER_VALGRIND = 60
 UNTOUCHED = "aa"
 WRAPPED = ["-Wl,--wrap=malloc,--wrap=realloc,--wrap=free", "-lpthread"]
-# Where Debian's packages put the sources of crates.
+# The folders in which Debian's packages put the sources of crates.
 CRATES = pathlib.Path("/usr/share/cargo/registry")
 STRICT = ["-std=gnu11", "-Wall", "-Wextra", "-Werror", "-pedantic"]
 # A short program of Java isn't worth much compiling.
@@ -93,7 +93,7 @@ public final class Steps {
     }
 }
 '''
-# Retries of the binding for Node, and steps that are refused.
+# Retries of the binding for Node, and steps that fail.
 NODE_RETRIES = """
 const { Fault, Schedule, Stepper, check, retry } = require('./zsched.js');
 const failing = (times, text) => { let left = times; return () => { if (left-- > 0) throw new Error(text); return text; }; };
@@ -171,11 +171,11 @@ func TestSteps(t *testing.T) {
 	}
 }
 """
-# Schedules as deep as may be.
+# Schedules of the greatest depth.
 DEEPEST = ["(forever && " * 63 + "forever" + ")" * 63, "(" * 63 + "forever" + " || elapsed)" * 63,
            "(recurs(0) andThenEither " * 63 + "forever" + ")" * 63, "forever" + ".map(+ 1)" * 63, "forever" + ".collectAll" * 63,
            "identity" + ".whileOutput(>= 0)" * 63, "forever" + ".map(+ 1)" * 55 + ".resetWhen(> 1)" * 3]
-# Worked out by hand: the numbers of struct zs_bounds in turn, where 1000 steps are looked at, at most.
+# Computed by hand: the numbers of struct zs_bounds in turn, for at most 1000 steps.
 BOUNDS = {
     # 100, 200, 400, 800, 1600
     "(exponential(100) && recurs(5))": "6 6 1 6 1600 1 3100",
@@ -210,7 +210,7 @@ def built_library():
 
 
 def made_library():
-    """The folder of the library, which is built, and which the binding for Python takes from now on."""
+    """The folder of the library, which is built, and which the binding for Python uses from now on."""
     named = os.environ.get("ZSCHED_LIBRARY_DIR")
     made = pathlib.Path(named) if named else built_library()
     os.environ["ZSCHED_LIBRARY"] = str(made / "libzsched.so")
@@ -255,7 +255,7 @@ class Request:
         return " ".join([f".{self.text.hex()}", "-" if self.size is None else str(self.size), *numbers])
 
     def wanted(self):
-        """The line that is wanted of it by the reference, with a '*' for the visits, and the most visits."""
+        """The line that the reference expects for it, with a '*' for the visits, and the most visits."""
         number, following, at, output, weight = self.answer()
         if self.size is None:
             return f"{number} {at}", 0
@@ -278,7 +278,7 @@ class Request:
         return self.answer_of(schedule)
 
     def answer_of(self, schedule):
-        """The same, where the text is a schedule and is asked for an answer."""
+        """The same, if the text is a schedule and the request is for zs_answer."""
         moments = [moment for moment, _ in self.pairs]
         falls = [at for at in range(1, len(moments)) if moments[at] < moments[at - 1]]
         if falls:
@@ -291,7 +291,7 @@ class Request:
 
 
 def made_text(chance):
-    """A text: mostly a schedule, now and then one with a fault, or none at all."""
+    """A text: mostly a schedule, now and then one with a fault, or no text."""
     form = chance.random()
     tokens = generator.at_a_limit(chance) if form < 0.02 else generator.made_term(chance, 1 + int(chance.expovariate(0.2)))[0]
     text = generator.spelled(chance, tokens)
@@ -305,7 +305,7 @@ def made_text(chance):
 
 
 def made_pairs(chance, is_small):
-    """Pairs: mostly in order, now and then with a fall, or none."""
+    """Pairs: mostly in order, now and then with a fall, or no pairs."""
     count = chance.choice([0, 1, 1, 2, 3, 5, 8] if is_small else [1, 2, 5, 13, 40])
     moments = [generator.whole(chance) for _ in range(count)]
     if chance.random() < 0.9:
@@ -324,13 +324,13 @@ def made_request(seed):
 
 @functools.cache
 def requests():
-    """All requests, each with what is wanted of it."""
+    """All requests, each with its expected result."""
     made = [made_request(seed) for seed in range(REQUESTS)]
     return [(it, it.wanted()) for it in made]
 
 
 def compare(test, line, wanted, weight, request):
-    """Compares a line with what is wanted of a request."""
+    """Compares a line with the expected result of a request."""
     words, visits = line.split(), wanted.split()
     if "*" in visits:
         test.assertIn(int(words[3]), range(1, weight + 1), request)
@@ -346,13 +346,13 @@ class FromC(unittest.TestCase):
         cls.requests, cls.wanted = zip(*requests())
 
     def judge(self, lines, count=REQUESTS):
-        """Compares lines with what is wanted of the first requests."""
+        """Compares lines with the expected results of the first requests."""
         self.assertEqual(len(lines), count)
         for request, line, (wanted, weight) in zip(self.requests, lines, self.wanted):
             self.compare(line, wanted, weight, request)
 
     def compare(self, line, wanted, weight, request):
-        """Compares one line with what is wanted of a request."""
+        """Compares one line with the expected result of a request."""
         compare(self, line, wanted, weight, request)
 
     def test_two_thousand_requests_are_answered_as_the_reference_does(self):
@@ -367,7 +367,7 @@ class FromC(unittest.TestCase):
         self.judge_bounds([path("watched"), "answer"])
 
     def judge_steps(self, words):
-        """Compares what steps over a state and over a program answer with what is wanted of the list of pairs."""
+        """Compares the results of steps over a state and over a program with the expected result of the list of pairs."""
         chosen = [(request, wanted) for request, wanted in zip(self.requests, self.wanted)
                   if request.pairs and b"collectAll" not in request.text]
         self.assertGreater(len(chosen), REQUESTS // 3)
@@ -378,7 +378,7 @@ class FromC(unittest.TestCase):
                 self.compare(line, wanted, weight, request)
 
     def test_steps_over_a_state_answer_as_the_list_of_pairs_does(self):
-        # It prints what one thread answers, once four answered the same.
+        # It prints the results of one thread, once four threads returned the same.
         self.judge_steps([path("caller"), "threads"])
 
     def test_each_request_for_memory_of_a_step_may_be_refused(self):
@@ -394,7 +394,7 @@ class FromC(unittest.TestCase):
             self.assertEqual(called([path("caller"), "answer", way], requests), [f"6 0 0 0 0 .{UNTOUCHED * 5}"] * 2)
 
     def test_a_program_is_the_words_that_its_definition_says(self):
-        # crates/zs_c/specs/Program.antt and Code.antt, worked out by hand for the policy of LIBRARY.md.
+        # crates/zs_c/specs/Program.antt and Code.antt, computed by hand for the policy of LIBRARY.md.
         text = b"((exponential(100) || spaced(5000)) && recurs(8)).whileInput(>= 500)"
         code = [14, 5, 500, 11, 8, 4, 12, 3, 2, 10, 100, 2, 5, 5000, 4, 8]
         body, check = [len(code), 6, *code], 0
@@ -410,7 +410,7 @@ class FromC(unittest.TestCase):
         self.assertEqual(list(state), [check, 0, 100, 100, 0, 0, 0, 0, 7])
 
     def judge_bounds(self, words):
-        """Compares bounds with those that were worked out by hand."""
+        """Compares bounds with those that were computed by hand."""
         asked = [*(f".{text.encode().hex()} b 1000" for text in BOUNDS), f".{b'recurs(3)'.hex()} b 3", f".{b'forever'.hex()} b 0"]
         wanted = [*(f"0 {numbers} 0" for numbers in BOUNDS.values()), "0 3 4 0 0 0 0 0 0", "0 0 1 0 0 0 0 0 0"]
         self.assertEqual(called(words, asked), wanted)
@@ -557,7 +557,7 @@ class FromPython(unittest.TestCase):
         self.assertEqual([found.within(most, total) for most, total in [(6, 3100), (9, 5000), (5, 3100), (6, 3099), (0, 0)]],
                          [True, True, False, False, False])
         most = 2 ** 64
-        # It may end at any step; it goes on at the last step that was looked at; three waits of up to 2^64 - 1 have no sum.
+        # It may end at any step; it continues at the last evaluated step; three waits of up to 2^64 - 1 have no sum.
         for text, steps in [("forever.whileInput(= 1)", 1000), ("recurs(5)", 5), ("(fixed(18446744073709551615) && recurs(3))", 9)]:
             self.assertFalse(self.zsched.bounds(text, steps).within(most, most), text)
         self.assertTrue(self.zsched.bounds("recurs(5)", 6).within(6, 0))
@@ -570,7 +570,7 @@ class FromPython(unittest.TestCase):
         for error, steps in [(OverflowError, -1), (OverflowError, 2 ** 64), (TypeError, 9.0), (TypeError, None)]:
             with self.assertRaises(error):
                 self.zsched.bounds("recurs(1)", steps)
-        # So many steps are never made: the schedule is done at its second one.
+        # This number of steps is never made: the schedule is done at its second one.
         self.assertEqual(self.zsched.bounds("recurs(1)", 2 ** 64 - 1), (2, 2, 2, 0, 0))
 
     def test_a_step_that_is_refused_leaves_the_schedule(self):
@@ -687,7 +687,7 @@ class FromPython(unittest.TestCase):
 
 
 class Clock:
-    """A clock that only sleeps move on, and those who sleep by it."""
+    """A clock that only its sleeps advance, and the sleeps so far."""
 
     def __init__(self):
         self.seconds, self.slept = 100.0, []
@@ -765,7 +765,7 @@ class FromNode(unittest.TestCase):
 
 
 class Retries(unittest.TestCase):
-    """Retries in Python, by a clock that nobody waits for."""
+    """Retries in Python, by a clock that makes no caller wait."""
 
     def setUp(self):
         import zsched

@@ -22,7 +22,7 @@ ABI = (TOP / "include" / "zsched.abi").read_text()
 DEBIAN = [tool for tool in ["dpkg", "dpkg-deb", "objdump", "strip"] if shutil.which(tool) is None]
 MISSING = [tool for tool in ["cargo", "git"] if shutil.which(tool) is None]
 PYTHON = "/usr/bin/python3"
-# A service in C: it asks until there is an answer, by the state of a schedule, and prints the moments.
+# A service in C: it retries a call until it succeeds, by the state of a schedule, and prints the moments.
 SERVICE = r'''
 #include <stdio.h>
 #include <string.h>
@@ -64,7 +64,7 @@ int main(void) {{
 }}
 """
 
-# A toolchain that proves nothing: each call leaves a line in the file that RAN names, and an archive where one is wanted.
+# A toolchain that proves nothing: each call adds a line to the file that RAN names, and makes an archive if one is needed.
 TOOL = """#!/bin/sh
 echo "$(basename "$0") $1 $PWD $*" >> "$RAN"
 case "$1" in
@@ -84,7 +84,7 @@ def setUpModule():
 
 
 def output(words, **more):
-    """What a program that has to succeed prints."""
+    """The output of a program that has to succeed."""
     ended = subprocess.run([str(it) for it in words], capture_output=True, text=True, check=False, timeout=120, **more)
     if ended.returncode:
         raise AssertionError(f"{words}: status {ended.returncode}: {ended.stdout[-1000:]}{ended.stderr[-2000:]}")
@@ -97,7 +97,7 @@ def lines_of(word):
 
 
 class Abi(unittest.TestCase):
-    """What programs that are linked with the library rest on is what include/zsched.abi says."""
+    """What linked programs depend on is what include/zsched.abi lists."""
 
     def test_functions_and_soname_are_those_of_the_shared_library(self):
         told = output(["nm", "-D", "--defined-only", "--with-symbol-versions", folder / "libzsched.so"])
@@ -139,7 +139,7 @@ class Abi(unittest.TestCase):
 
 
 class Made(unittest.TestCase):
-    """When the library is made anew, and what is said where it isn't made."""
+    """When the library is made again, and the error if it isn't made."""
 
     def test_the_sum_goes_by_the_texts_and_not_by_their_dates(self):
         if not shutil.which("rt"):
@@ -176,7 +176,7 @@ class Made(unittest.TestCase):
                 "ARCHIVE": str(place / "archive.a"), "RAN": str(place / "ran")}
 
     def checkout(self):
-        """A checkout with the libraries below zs_c, and the files that stand for them."""
+        """A checkout with the libraries below zs_c, and the files that represent them."""
         tree, formats = path("checkout"), []
         tree.mkdir()
         for name in ["crates.txt", "HANDLES", "VERSION", "include", "tools", "tests"]:
@@ -233,7 +233,7 @@ class Made(unittest.TestCase):
 
 
 class Installed(unittest.TestCase):
-    """tools/install-library, and programs that are built with what it puts."""
+    """tools/install-library, and programs that are built with what it installs."""
 
     @classmethod
     def setUpClass(cls):
@@ -290,7 +290,7 @@ class Installed(unittest.TestCase):
 
 @unittest.skipIf(DEBIAN, f"not installed: {', '.join(DEBIAN)} (Debian: dpkg, binutils)")
 class Packages(unittest.TestCase):
-    """The Debian packages: made twice, looked at by lintian, unpacked in an empty folder, and used there."""
+    """The Debian packages: made twice, checked by lintian, unpacked in an empty folder, and used there."""
 
     @classmethod
     def setUpClass(cls):
@@ -301,7 +301,7 @@ class Packages(unittest.TestCase):
 
     @classmethod
     def made(cls, name):
-        """The packages, made in a folder of their own."""
+        """The packages, made in a separate folder."""
         path(name).mkdir()
         env = {**os.environ, "DEBEMAIL": "zsched@example.org"}
         told = output([TOP / "tools/make-library-debs", "--out", path(name), "--library", folder], env=env)

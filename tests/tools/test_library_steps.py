@@ -18,7 +18,7 @@ MOST_NODES = 60
 
 
 class History:
-    """A text and its steps, what is wanted of each step by the reference, and of the text: its fault, or its weight."""
+    """A text and its steps, the reference's result of each step, and of the text: its fault, or its weight."""
 
     def __init__(self, text, pairs):
         self.text, self.pairs, self.steps, self.weight = text, pairs, [], 0
@@ -55,7 +55,7 @@ class History:
         return [self.fault] if self.fault else [] if self.pairs else ["0,0"]
 
     def compare(self, test, line, way):
-        """Compares the line of a program with what is wanted."""
+        """Compares the line of a program with the expected result."""
         last = self.last_word(way)
         steps = [] if last == [KEEPS_LIST] else self.steps
         words = line.split()
@@ -100,7 +100,7 @@ class Languages(unittest.TestCase):
     """The programs bindings/*/answers.*."""
 
     def judge(self, language):
-        """Compares what the program of a language prints, in all three ways, with what the reference says."""
+        """Compares what the program of a language prints, in all three ways, with the reference."""
         try:
             made = answers.LANGUAGES[language](test_library.path(""), test_library.made_library())
         except answers.Missing as fault:

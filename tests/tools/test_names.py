@@ -1,5 +1,5 @@
-"""docs/GUARANTEES.md names what is there: each call with its clauses, each definition, test and file. What stands behind
-a row is printed by tools/guarantees, which reads the page for this test too."""
+"""docs/GUARANTEES.md names what exists: each call with its clauses, each definition, test and file. tools/guarantees prints
+the evidence for a row, and reads the page for this test too."""
 import importlib.machinery
 import importlib.util
 import re
@@ -20,8 +20,8 @@ NAMED = re.compile(r'^(?:fn |    (?:    )?\(?\s*")(\w+)', re.M)
 
 
 def told_definitions(crate, cell):
-    """The definitions that a cell tells: triples of a crate, a file and a word of that. A file alone has no word. A
-    word alone is one of the file before it; where there is none it is in the sources, as a type or a ghost member."""
+    """The definitions that a cell names: triples of a crate, a file and a word of that. A file alone has no word. A
+    word alone is one of the file before it; if no file is before it, it is in the sources, as a type or a ghost member."""
     for part in cell.split("; "):
         place = crate, None
         for other, piece in re.findall(r"(?:(zs_\w+) )?`([^`]+)`", part):
@@ -33,7 +33,7 @@ def told_definitions(crate, cell):
 
 
 def is_defined(word, text):
-    """Whether a text of definitions defines a word: by a line of its own, as a constructor or as a field."""
+    """Whether a text of definitions defines a word: on a separate line, as a constructor or as a field."""
     return re.search(rf"^ *(?:(?:pub|abbrev|unfoldable|record|data) )*{re.escape(word)}\b", text, re.M) is not None
 
 

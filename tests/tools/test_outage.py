@@ -1,4 +1,4 @@
-"""zsched-outage: a scenario worked out by hand, others by deciding one attempt after another, budgets, draws, the
+"""zsched-outage: a scenario computed by hand, others by deciding one attempt after another, budgets, draws, the
 certificate, wrong scenarios, and the files."""
 import io
 import json
@@ -32,9 +32,9 @@ SMALL = {"horizon": "5s", "clients": {"number": 3, "per_second": 2},
          "windows": [{"from": 0, "to": "1s", "is": "down"}, {"from": "1s", "capacity": 1}],
          "outcomes": {"up": {"ms": 200, "ok": 200}, "down": {"ms": 100, "err": 503}, "full": {"ms": 300, "err": 429}},
          "policies": {"steady": "spaced(400)"}}
-# c0 begins at 0, 500 and 1000, where it is the first of three and is served. c1 begins at 500, 1000, 1700 and 2400, c2
+# c0 begins at 0, 500 and 1000, the first of three there, and is served. c1 begins at 500, 1000, 1700 and 2400, c2
 # at 1000, 1700, 2400 and 3100: at 1000 and 1700 both find the service full, at 2400 c1 comes before c2. The first pass
-# takes all failures for those of a service that is down, the second one has them right, and the third is the
+# counts all failures as those of a service that is down, the second one has them right, and the third is the
 # certificate.
 EXAMPLE = TOP / "examples" / "three_clients_in_an_outage.json"
 SMALL_PLAN = EXAMPLE.read_text()
@@ -68,7 +68,7 @@ passes                        3
 
 
 def changed(**parts):
-    """The small scenario with other parts. None takes a part out."""
+    """The small scenario with other parts. None removes a part."""
     return {key: value for key, value in {**SMALL, **parts}.items() if value is not None}
 
 
@@ -78,7 +78,7 @@ def read(given):
 
 
 def simulated(given, name="steady", most_passes=50):
-    """What is found of a policy: jobs, plans, the most jobs of a plan, reports and figures."""
+    """The simulation's result for a policy: jobs, plans, the most jobs of a plan, reports and figures."""
     return outage_command.simulate(read(given), zsched.find(), name, most_passes, lambda words: None)
 
 
@@ -104,7 +104,7 @@ class WithFiles(InFolder):
 
 
 class ByHand(WithFiles):
-    """The small scenario, all of which was worked out by hand."""
+    """The small scenario, all of which was computed by hand."""
 
     def test_all_that_is_written(self):
         status, out, err = tool(SMALL, "-o", self.folder / "out")
@@ -158,7 +158,7 @@ class Budgets(unittest.TestCase):
         return changed(clients={"number": 3}, windows=[{"from": 0, "to": down, "is": "down"}], budget=budget)
 
     def test_grpc_wants_more_than_half(self):
-        # At 100 the three failures leave 3, 2 and 1 of 4 tokens, and 2 aren't more than half. At 600 none is left.
+        # At 100 the three failures leave 3, 2 and 1 of 4 tokens, and 2 aren't more than half. At 600 no token remains.
         found = endings(self.given({"like": "grpc", "tokens": 4, "ok": 0.5}, "2s"))
         self.assertEqual(found, [Ending("failed", 0, 600, 2), Ending("failed", 0, 100, 1), Ending("failed", 0, 100, 1)])
 
@@ -192,7 +192,7 @@ class OneByOne(unittest.TestCase):
     """The search finds what is found by deciding one event after another, each with a run of the reference."""
 
     def next_begin(self, given, client, schedule, kinds):
-        """When the attempt after these begins, by the reference alone; None if none does."""
+        """The moment at which the attempt after these begins, by the reference alone; None if no attempt does."""
         cut = [*(given.outcomes[kind].entry() for kind in kinds), '{"ms":1,"ok":0}']
         job = (f'{{"name":"c","mode":"retry","schedule":{json.dumps(schedule)},"start":{given.starts[client]},'
                f'"script":[{",".join(cut)}]}}')
@@ -268,7 +268,7 @@ class Certificates(WithFiles):
     WANTED = [Ending("succeeded", 200, 1200, 3), Ending("succeeded", 200, 2600, 4), Ending("succeeded", 200, 3300, 4)]
 
     def refused(self, report, wanted=None):
-        """What is said of a report."""
+        """The error for a report."""
         with self.assertRaises(certificate.Uncertified) as raised:
             certificate.certified(read(SMALL), wanted or self.WANTED, [report.encode()])
         return str(raised.exception)

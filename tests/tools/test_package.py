@@ -28,7 +28,7 @@ OUTAGE = (b'{"horizon":"9s","clients":{"number":3},"windows":[{"from":0,"to":"1s
 
 
 def output(words, **more):
-    """What a program that has to succeed prints."""
+    """The output of a program that has to succeed."""
     ended = subprocess.run(words, capture_output=True, check=False, timeout=60, **more)
     if ended.returncode:
         raise AssertionError(f"{words}: status {ended.returncode}: {ended.stderr.decode()}")
@@ -56,7 +56,7 @@ class Versions(unittest.TestCase):
 
 
 class Manual(unittest.TestCase):
-    """The manual page says what the documents say, and its example is a run of the program."""
+    """The manual page agrees with the documents, and its example is a run of the program."""
 
     @unittest.skipIf(shutil.which("mandoc") is None, "mandoc isn't installed (Debian: mandoc)")
     def test_mandoc_has_nothing_to_say(self):
@@ -112,7 +112,7 @@ class Package(unittest.TestCase):
 
     @classmethod
     def made(cls, folder, umask, **environment):
-        """The path of a package made in a folder of its own."""
+        """The path of a package made in a separate folder."""
         folder.mkdir()
         told = output([TOP / "tools" / "make-deb", "--out", folder, "--zsched", program.find()], umask=umask,
                       env={**os.environ, **environment})
@@ -231,7 +231,7 @@ class Package(unittest.TestCase):
                 self.assertRegex(ended.stdout.decode() + ended.stderr.decode(), wanted)
 
     def runs_of_tools(self):
-        """Runs of the tools that are there: the words, standard input, and what is told."""
+        """Runs of the tools that exist: the words, standard input, and a pattern of the output."""
         faulty = pathlib.Path(self.folder.name) / "faulty.json"
         faulty.write_bytes(ONE_JOB.replace(b"recurs", b"recur"))
         column = ONE_JOB.index(b"recurs") + 1

@@ -1,4 +1,4 @@
-"""docs/play.html: its evaluator beside tests/reference.py and what it makes of the fields, by node; and the page in a
+"""docs/play.html: its evaluator compared with tests/reference.py and what it makes of the fields, by node; and the page in a
 real browser, chromium. What isn't installed is skipped."""
 import collections
 import functools
@@ -38,7 +38,7 @@ FIELDS = {"a": "recurs(3)", "b": "", "mode": "retry", "world": "script", "script
 TIMES = [("40", 40), ("40ms", 40), (" 1.5s ", 1500), ("0.001 s", 1), ("2min", 120000), ("2m", 120000), ("1h", 3600000),
          ("1d", 86400000), ("0.5d", 43200000), ("0", 0), ("007", 7), ("18446744073709551615", 18446744073709551615)]
 
-# Fields that can't be read: the field, its text, and words of what is shown.
+# Fields that can't be parsed: the field, its text, and words of the message.
 UNREAD = [
     ("script", "", "is no attempt"),
     ("script", "40 error 503", "is no attempt"),
@@ -87,7 +87,7 @@ def started(kind):
 
 
 def page_answers(plans):
-    """What the page's evaluator gives for the bytes of plans: each with status, report and the fault's line."""
+    """The results of the page's evaluator for the bytes of plans: each with status, report and the fault's line."""
     waiting = collections.deque()
 
     def feed(file):
@@ -113,7 +113,7 @@ def calling():
 
 
 def called(*calls):
-    """What functions of the page give."""
+    """The results of functions of the page."""
     child, text = calling(), "".join(f"{json.dumps(call)}\n" for call in calls).encode()
 
     def feed():
@@ -143,7 +143,7 @@ class Evaluator(unittest.TestCase):
     """The evaluator gives what the reference gives: status, report and fault."""
 
     def hold(self, named, most=None):
-        """Holds the evaluator to the reference on plans, which are given with their names."""
+        """Compares the evaluator with the reference on plans, which are given with their names."""
         named = list(named)
         count = 0
         for (name, _), (text, answer) in zip(named, page_answers(text for _, text in named)):
@@ -191,7 +191,7 @@ class Evaluator(unittest.TestCase):
 
 @unittest.skipIf(NODE is None, NO_NODE)
 class EveryInput(unittest.TestCase):
-    """What the page says of a schedule for every input, beside tests/bounds.py, which is held to the program."""
+    """The page's bounds of a schedule for every input, compared with tests/bounds.py, which is tested against the program."""
 
     @staticmethod
     def wanted(schedule, steps):
@@ -202,7 +202,7 @@ class EveryInput(unittest.TestCase):
                 "seen": found["steps_seen"]}, has_end
 
     def hold(self, policies, steps):
-        """Holds the page to it on schedules, by so many steps."""
+        """Compares the page with it on schedules, by at most `steps` steps."""
         answers = called(*[["bounding.boundsOf", text, steps] for text, _ in policies])
         self.assertEqual(len(answers), len(policies))
         for (text, schedule), answer in zip(policies, answers):
@@ -222,7 +222,7 @@ class EveryInput(unittest.TestCase):
         self.hold([(text, reference.read_schedule(text.encode())) for text in short], 120)
 
     def test_many_steps(self):
-        # Each of the 20,000 steps is looked at, and of a schedule of 101 nodes only 1980.
+        # Each of the 20,000 steps is evaluated, and of a schedule of 101 nodes only 1980.
         many, wide = called(["bounding.boundsOf", "spaced(7)"],
                             ["bounding.boundsOf", "(" * 50 + "forever" + " && forever)" * 50])
         self.assertEqual([many["seen"], many["least"], many["isCut"]], [20000, 20001, True])
@@ -244,7 +244,7 @@ class EveryInput(unittest.TestCase):
 
 @unittest.skipIf(NODE is None, NO_NODE)
 class Fields(unittest.TestCase):
-    """What the fields of the page say, as a plan."""
+    """The plan that the fields of the page describe."""
 
     def test_durations(self):
         found = called(*[["asking.milliseconds", "until", text] for text, _ in TIMES])
@@ -352,7 +352,7 @@ class Fields(unittest.TestCase):
 
 @unittest.skipIf(NODE is None, NO_NODE)
 class Pictures(unittest.TestCase):
-    """What is drawn and said of a report."""
+    """The pictures and texts for a report."""
 
     def test_verdicts(self):
         rows = [("(exponential(100) && recurs(2))", "retry", "40 err 503",

@@ -1,4 +1,4 @@
-"""zsched-plan split: the texts of the parts, what is refused, and the report of the whole from those of its parts."""
+"""zsched-plan split: the texts of the parts, what is rejected, and the report of the whole from those of its parts."""
 import hashlib
 import io
 import json
@@ -54,7 +54,7 @@ class WithPlans(InFolder):
 
 
 class Parts(WithPlans):
-    """All is kept as it was written."""
+    """The parts have the plan's texts unchanged."""
 
     def test_a_part_has_its_jobs_and_the_document_as_they_were_written(self):
         for most in range(1, 7):
@@ -108,7 +108,7 @@ class Parts(WithPlans):
 
 
 class Blocks(WithPlans):
-    """JSON lines are looked at many at a time."""
+    """JSON lines are processed many at a time."""
 
     def test_blocks_of_any_length_are_read_the_same(self):
         plain = [f'{{"name":"p{number}","ms":{number}}}' for number in range(9)]
@@ -126,7 +126,7 @@ class Blocks(WithPlans):
 
 
 class Manifest(WithPlans):
-    """The manifest beside the parts."""
+    """The manifest next to the parts."""
 
     def test_it_has_each_part_with_its_jobs_and_sums(self):
         write_parts(self.plan(WHOLE), False, 2, self.folder / "p")
@@ -163,7 +163,7 @@ class Manifest(WithPlans):
         self.assertGreater(plain, 400)
 
 
-# What is no plan to be cut, and what is said of it.
+# Plans that can't be split, and the error for each.
 NO_PLANS = [
     ("", "line 1: the text ends, but { is expected"),
     ("\n\n[]", "line 3: { is expected, not '[]'"),
@@ -211,10 +211,10 @@ NO_LINES = [
 
 
 class Refusals(WithPlans):
-    """What is refused is told with file and line, and nothing is made."""
+    """The error for a rejected plan has file and line, and no file is written."""
 
     def fault(self, text, is_lines):
-        """What is said of a plan, without its name."""
+        """The error for a plan, without its name."""
         path = self.plan(text)
         with self.assertRaises(Refused) as caught:
             write_parts(path, is_lines, 2, self.folder / "parts")
@@ -312,7 +312,7 @@ class Whole(WithPlans):
             self.skipTest(str(missing))
 
     def reports(self, plans):
-        """Files with the reports of plans, beside them."""
+        """Files with the reports of plans, next to the plans."""
         paths = []
         for plan in plans:
             status, report, errors = zsched.run(self.program, plan.read_bytes(), 20)

@@ -75,13 +75,13 @@ class Imported(InFolder):
             return run_here(plan_command.main, "zsched-plan", "from", name, *words)
 
     def told(self, *words, **environment):
-        """Runs the command as a process of its own: status, standard output, standard error."""
+        """Runs the command as a separate process: status, standard output, standard error."""
         ended = subprocess.run([sys.executable, TOOL, "from", *words], cwd=self.folder, capture_output=True, check=False,
                                timeout=60, env={**os.environ, **environment})
         return ended.returncode, ended.stdout.decode(), ended.stderr.decode()
 
     def jobs(self, text, *words):
-        """The jobs of a log, without the keys that all of them have, and what is reported."""
+        """The jobs of a log, without the keys that all of them have, and what the command reports."""
         status, out, errors = self.made("log.csv", text, "--schedule", "recurs(3)", *words)
         self.assertEqual(status, 0, errors)
         jobs = [(job["name"], [tuple(entry.items()) for entry in job["script"]]) for job in json.loads(out)["jobs"]]
@@ -209,7 +209,7 @@ class Policies(Imported):
         self.assertNotIn("horizon", json.loads(self.made("p.toml", "ticks = [1, 2]\n" + text)[1]))
 
 
-# What is changed in YAML and in TOML, and where and what the fault is: line, column, words, caret's length.
+# A change in YAML and in TOML, and the place and the text of the fault: line, column, words, caret's length.
 FAULTS_OF_YAML = [
     ("recurs(2)", "recur(2)", 6, 28, "there is no recur", 5),
     ("recurs(5))", "recurs(5)", 5, 44, "the schedule ends too early", 1),
@@ -253,7 +253,7 @@ class Faults(Imported):
     """A fault is shown at its place in the file that was given."""
 
     def hold(self, name, text, table):
-        """Makes each change and looks at what is said."""
+        """Makes each change and compares the error."""
         for before, after, line, column, what, size in table:
             with self.subTest(name, after=after):
                 self.assertEqual(text.count(before), 1, before)

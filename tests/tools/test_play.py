@@ -1,6 +1,6 @@
-"""tools/zsched-play: what the server takes and rejects, what it answers, and its page in a real browser.
+"""tools/zsched-play: what the server accepts and rejects, its responses, and its page in a real browser.
 
-The browser is chromium, if it is installed. What the page does with what is typed is in test_page.py."""
+The browser is chromium, if it is installed. What the page does with typed text is in test_page.py."""
 import http.client
 import json
 import os
@@ -44,7 +44,7 @@ def question(schedule="recurs(3)", horizon="1000", script='[{"ms":1,"err":7}]'):
 
 
 class Words(unittest.TestCase):
-    """Durations in words, as other tools take them too."""
+    """Durations in words, as other tools accept them too."""
 
     def test_durations(self):
         for text, wanted in [*TIMES, ("1h30m", 5400000)]:
@@ -59,7 +59,7 @@ class Words(unittest.TestCase):
 
 
 class Served(unittest.TestCase):
-    """Tests that ask one server."""
+    """Tests that send requests to one server."""
 
     @classmethod
     def setUpClass(cls):
@@ -81,7 +81,7 @@ class Served(unittest.TestCase):
             cls.server.wait()
 
     def request(self, method, path="/", body=None, **headers):
-        """A response's status, headers and body. A header that is None is left out."""
+        """A response's status, headers and body. A header that is None isn't sent."""
         connection = http.client.HTTPConnection("127.0.0.1", self.port, timeout=30)
         connection.putrequest(method, path, skip_host=True, skip_accept_encoding=True)
         sent = {"Host": f"127.0.0.1:{self.port}", **({} if body is None else {"Content-Length": str(len(body))}),
@@ -96,14 +96,14 @@ class Served(unittest.TestCase):
         return found
 
     def asked(self, plan_bytes):
-        """The answer for a plan."""
+        """The response for a plan."""
         status, _, body = self.request("POST", "/report", plan_bytes)
         self.assertEqual(status, 200, body)
         return json.loads(body)
 
 
 class Answers(Served):
-    """What the server answers."""
+    """The server's responses."""
 
     def test_the_report_is_that_of_the_program(self):
         for file in sorted(TOP.glob("examples/*.json"))[:8]:
@@ -181,7 +181,7 @@ class Answers(Served):
 
 
 class Requests(Served):
-    """What the server serves, and what it refuses."""
+    """What the server serves, and what it rejects."""
 
     def test_the_page_loads_nothing_from_elsewhere(self):
         status, headers, body = self.request("GET", "/?schedule=forever")
@@ -256,7 +256,7 @@ class Requests(Served):
 
 
 class Stopped(unittest.TestCase):
-    """A run that takes too long or too much."""
+    """A run that takes too long or too much memory."""
 
     def fault(self, seconds):
         """The fault of a plan without end, from a server with this patience."""
@@ -304,7 +304,7 @@ class CommandLine(unittest.TestCase):
     """The words of the command line."""
 
     def ended(self, *words, **environment):
-        """A run that ends at once: its status, output and errors."""
+        """A run that ends immediately: its status, output and errors."""
         return run([str(TOOL), *words], b"", {**os.environ, **environment}, seconds=20)
 
     def test_help_names_what_it_takes_and_its_statuses(self):

@@ -30,7 +30,7 @@ def row_of(title, name):
 
 
 class Policies(unittest.TestCase):
-    """The page beside its plan and the plan's report."""
+    """The page compared with its plan and the plan's report."""
 
     def setUp(self):
         self.assertEqual(len(SECTIONS), len(JOBS))

@@ -1,5 +1,5 @@
-"""The program zsched_population: the report of a population is that of its jobs as one plan, a line that is refused is
-told by its number after all whole blocks before it, and broken streams end it as they end zsched."""
+"""The program zsched_population: the report of a population is that of its jobs as one plan; a rejected line is reported
+by its number, after all whole blocks before it; and broken streams end it as they end zsched."""
 import json
 import random
 import re
@@ -25,7 +25,7 @@ def job(name, **changes):
 
 
 def told(name):
-    """The lines of that job in a report, worked out by hand."""
+    """The lines of that job in a report, computed by hand."""
     return (f"job {name} retry\nattempt 1 0..1 err 1\nstep 1 out 0 next 1\nattempt 2 1..2 err 1\nstep 2 out 1 done\n"
             "end failed 1 at 2 polls 3\n")
 
@@ -36,7 +36,7 @@ def report(names, total=None):
 
 
 def names(count):
-    """As many names."""
+    """`count` names."""
     return [f"j{number}" for number in range(count)]
 
 

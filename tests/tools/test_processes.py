@@ -8,7 +8,7 @@ from zsched_tools.processes import in_order
 
 
 class Processes(unittest.TestCase):
-    """The answers of several processes, and how they end."""
+    """The results of several processes, and how they end."""
 
     def test_answers_come_in_order(self):
         for size in [0, 1, 2, 3, 100]:

@@ -20,7 +20,7 @@ def has_pandas():
 
 
 def missing_for(text):
-    """What a block needs that isn't on this machine, or None."""
+    """What a block needs and this machine lacks, or None."""
     if "zsched-try" in text and not (TOP / "tools" / "zsched-try").exists():
         return "tools/zsched-try"
     if "jq " in text and shutil.which("jq") is None:

@@ -1,5 +1,5 @@
 """docs/RECIPES.md: each recipe's schedule is one of its plan, the lines shown are lines of its report, the program
-prints that report, and what is written for ZIO's schedules answers as ZIO's definitions do."""
+prints that report, and the schedules for ZIO's return the outputs and decisions of ZIO's definitions."""
 import json
 import random
 import re
@@ -15,7 +15,7 @@ TASKS, TABLES = PAGE.split("\n## For those who come from ZIO\n")
 TASKS, _COMMANDS = TASKS.split("\n## Commands\n")
 HEAD, *SECTIONS = TASKS.split("\n### ")
 
-# What the letters of the tables stand for: d, e, k and N, several times.
+# What the letters of the tables represent: d, e, k and N, several times.
 LETTERS = [(25, 40, 3, 6), (6, 9, 1, 10), (4, 70, 5, 0)]
 JOBS = 6
 HORIZON = 1500
@@ -27,7 +27,7 @@ def part(schedule, text):
 
 
 def parts_of(row, letters):
-    """The schedules s, a and b of a row. Some rows speak of a schedule that ends, or of one that goes on at once."""
+    """The schedules s, a and b of a row. Some rows need one that ends, or one that continues immediately."""
     k = letters.k
     seen = zio.both(zio.linear(3), zio.identity())
     s = part(seen.map(lambda out: 2 * out[1]), "(linear(3) && identity).map(_2).map(* 2)")
@@ -107,7 +107,7 @@ def definitions(v):
 
 
 def rows_of_the_tables():
-    """The rows of the tables for ZIO's schedules: the name in ZIO, the text here, and what is said of it."""
+    """The rows of the tables for ZIO's schedules: the name in ZIO, the text here, and the remark."""
     for line in TABLES.split("### Effects")[0].splitlines():
         cells = [cell.strip().replace("\\|", "|") for cell in re.split(r"(?<!\\)\|", line)[1:-1]]
         if len(cells) == 3 and cells[0] not in ("ZIO 2", "---"):
@@ -142,7 +142,7 @@ def steps_of(report):
 
 
 def first_difference(schedule, steps):
-    """Where ZIO's schedule answers something else than the steps of a job, or None."""
+    """The first step at which ZIO's schedule differs from the steps of a job, or None."""
     state = schedule.initial
     for number, (now, given, out, after) in enumerate(steps, 1):
         state, wanted, later = schedule.step(now, given, state)
@@ -152,7 +152,7 @@ def first_difference(schedule, steps):
 
 
 def after_calm(schedule, calm):
-    """The schedule, which begins anew at a step that comes so long after the step before it."""
+    """The schedule, which starts again at a step that comes at least `calm` after the step before it."""
     def step(now, given, state):
         last, inner = state
         begins_anew = last is not None and now - last >= calm

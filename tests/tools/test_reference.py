@@ -1,4 +1,4 @@
-"""The reference against the reports that were worked out by hand and the faults that faults.py lists, and the
+"""The reference against the reports that were computed by hand and the faults that faults.py lists, and the
 comparer against a wrong program. No built program is needed: the reference takes its place."""
 import functools
 import json
@@ -19,7 +19,7 @@ REFERENCE = pathlib.Path(reference.__file__).resolve()
 
 
 class TheReference(unittest.TestCase):
-    """What reference.py answers."""
+    """The results of reference.py."""
 
     def test_it_gives_each_report_that_lies_beside_a_plan(self):
         self.assertTrue(plans_with_reports())
@@ -66,7 +66,7 @@ class TheGenerator(unittest.TestCase):
 
 
 class TheComparer(InFolder):
-    """What compare.py says of a wrong program."""
+    """The output of compare.py for a wrong program."""
 
     def setUp(self):
         super().setUp()

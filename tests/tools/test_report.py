@@ -67,7 +67,7 @@ def report_of(text):
 
 
 def fault_of(work, text):
-    """What is said of a text that is refused; None where it isn't."""
+    """The error for a rejected text; None for an accepted one."""
     try:
         work(text)
     except Refused as refused:
@@ -76,7 +76,7 @@ def fault_of(work, text):
 
 
 class JsonLines(unittest.TestCase):
-    """The JSON lines of a report hold all of it."""
+    """The JSON lines of a report hold all of its data."""
 
     def test_each_known_report_is_made_again_byte_for_byte(self):
         known = known_reports()
@@ -149,7 +149,7 @@ class JsonLines(unittest.TestCase):
 
 
 class Refusals(unittest.TestCase):
-    """What is no whole report is refused, with the line's number."""
+    """A text that isn't a whole report is rejected, with the line's number."""
 
     def test_a_report_cut_after_each_line(self):
         for name, text in REPORTS.items():
@@ -243,7 +243,7 @@ class Refusals(unittest.TestCase):
 
 
 class Terminal(unittest.TestCase):
-    """What is shown on a terminal meanwhile."""
+    """The progress on a terminal."""
 
     def test_a_long_command_says_how_far_it_is(self):
         shown = io.StringIO()
@@ -325,9 +325,9 @@ class Summary(unittest.TestCase):
 
 
 class Load(unittest.TestCase):
-    """What begins and ends in each step of time."""
+    """The begins and ends in each step of time."""
 
-    # Worked out by hand from the reports' texts: first moment of the step, begun, ok, err, running, waiting.
+    # Computed by hand from the reports' texts: first moment of the step, begun, ok, err, running, waiting.
     LOADS = {
         "running": [[0, 1, 0, 1, 0, 1], [1000, 1, 0, 0, 1, 0], [2000, 0, 0, 1, 0, 1], [3000, 1, 0, 0, 1, 0],
                     [4000, 0, 0, 1, 0, 1], [5000, 0, 0, 0, 0, 1], [6000, 1, 0, 1, 0, 1], [7000, 0, 0, 0, 0, 1],
@@ -384,7 +384,7 @@ class Fast(unittest.TestCase):
     """Pieces of a report, read by columns, are what a Reader makes of its lines."""
 
     def lines_of_reader(self, text):
-        """The JSON lines of a report, record by record, and what is said of it."""
+        """The JSON lines of a report, record by record, and the error."""
         out = []
         try:
             for job, record in records(io.StringIO(text)):
@@ -403,7 +403,7 @@ class Fast(unittest.TestCase):
         return "".join(out), None
 
     def texts(self):
-        """Reports and what is none."""
+        """Reports, and texts that aren't reports."""
         yield from REPORTS.values()
         yield from (text for text, _ in NO_REPORTS)
         yield wide_report(8, 4)
@@ -490,7 +490,7 @@ class Fast(unittest.TestCase):
         return jobs, rows
 
     def repeated(self, rng, text, jobs):
-        """A report of so many jobs, each with the lines of one of a report's."""
+        """A report of `jobs` jobs, each with the lines of one of a report's."""
         bodies = [part.partition(" ")[2] for part in ("\n" + text[:text.rindex("polls ", 0, -1)]).split("\njob ")[1:]]
         bodies = [body.rstrip("\n") + "\n" for body in bodies]
         made = [f"job r{number} {rng.choice(bodies)}" for number in range(jobs)]
@@ -506,7 +506,7 @@ class Fast(unittest.TestCase):
                 for _ in columns.shown(io.BytesIO(equal.encode()), lambda block: found.append(len(block.texts.modes))):
                     pass
             slow.assert_not_called()
-            # The last one has the total behind it.
+            # The last block also has the total.
             self.assertLessEqual(sum(found), text.count("job ") + 1)
             self.assertEqual(self.lines_of_pieces(equal), self.lines_of_reader(equal))
 
@@ -518,7 +518,7 @@ class Fast(unittest.TestCase):
                 line = rng.choice([*text, "polls 3\n", "job x retry\n"])
                 what = rng.randrange(4)
                 if what < 3:
-                    # A line is left out, said once more somewhere, or both after one job of each kind.
+                    # A line is removed, repeated somewhere, or both after one job of each kind.
                     places = [place for place, it in enumerate(text) if it == line] or [rng.randrange(len(text))]
                     for place in reversed(places[:rng.choice([1, 9])]):
                         text[place:place + 1] = [[], [line, line], [text[place], "polls 3\n"]][what]
@@ -577,9 +577,9 @@ SVG = "{http://www.w3.org/2000/svg}"
 
 
 def corners(element, size):
-    """The places that an element reaches, by its numbers alone. A text is taken as 0.55 of its size a letter."""
+    """The places that an element covers, by its numbers alone. A text counts as 0.55 of its size a letter."""
     def number(name):
-        """A number of the element; 0 where it has none."""
+        """A number of the element; 0 if it has none."""
         return float(element.get(name, "0"))
     kind = element.tag.removeprefix(SVG)
     if kind == "rect":
@@ -626,7 +626,7 @@ def picture_of(text, chosen=(), title="", view=View()):
 
 
 def titles(root):
-    """What the attempts of a picture say."""
+    """The texts of the attempts of a picture."""
     return [element.text for element in root.iter(f"{SVG}title") if element.text.startswith("attempt")]
 
 
@@ -645,7 +645,7 @@ def pictures():
 
 
 def nothing_outside(test, root):
-    """No element reaches out of a picture."""
+    """No element extends beyond a picture."""
     _, _, width, height = map(float, root.get("viewBox").split())
     size_of = sizes(root)
     drawn_in_patterns = list(root.iterfind(f"{SVG}defs//*"))
@@ -874,7 +874,7 @@ class Join(unittest.TestCase):
         return str(path)
 
     def refused(self, *parts):
-        """What is said of parts that are refused, without the folder's name; nothing is written."""
+        """The error for rejected parts, without the folder's name; no byte is written."""
         status, out, errors = tool("join", *parts)
         self.assertEqual((status, out), (2, ""))
         return errors.replace(f"{self.folder.name}/", "").removeprefix("zsched-report: ").removesuffix("\n")
@@ -939,7 +939,7 @@ class Join(unittest.TestCase):
         written = []
 
         def write(piece):
-            """Keeps a piece, and cuts the other part."""
+            """Stores a piece, and truncates the other part."""
             written.append(piece)
             os.truncate(other, 0)
         other = self.part("b", WAITING)

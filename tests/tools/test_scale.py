@@ -27,7 +27,7 @@ if [ "$(cat at)" = "$call half" ]; then {program} "$@" > half; head -c $(($(wc -
 {program} "$@"
 [ "$(cat at)" != "$call after" ] || kill -9 0
 """
-# Stands in for Slurm's: it runs an array's tasks on this machine, but for the one that the file `cancelled` names, and
+# In place of Slurm's: it runs an array's tasks on this machine, except the one that the file `cancelled` names, and
 # ends with 0 as Slurm's does when a task is cancelled before it begins.
 SBATCH = """#!/bin/bash
 case "$*" in "--wait --array="*" part.sbatch") ;; *) echo "sbatch: $*" >&2; exit 2 ;; esac
@@ -61,7 +61,7 @@ def recipe(title, language="sh"):
 
 
 class Recipes(InFolder):
-    """Each recipe, where its engine is installed."""
+    """Each recipe, if its engine is installed."""
 
     def setUp(self):
         try:
@@ -72,7 +72,7 @@ class Recipes(InFolder):
         (self.folder / "bin").mkdir()
         self.zsched = found
         self.program("zsched", f"#!/bin/sh\n[ ! -e {self.folder}/slow ] || sleep 0.2\nexec {found}\n")
-        # A join that has written a piece of its report and goes on no more.
+        # A join that has written a piece of its report and doesn't continue.
         slow_join = f"head -c 100 parts/part-000001.report; touch {self.folder}/joining; sleep 60"
         self.program("zsched-report", f"#!/bin/sh\n[ ! -e {self.folder}/slow-join ] || {{ {slow_join}; }}\n"
                                       f'exec {support.TOP}/tools/zsched-report "$@"\n')
@@ -92,7 +92,7 @@ class Recipes(InFolder):
         path.chmod(0o755)
 
     def needs(self, *words):
-        """Skips the test where a command isn't on this machine or doesn't work."""
+        """Skips the test if a command isn't on this machine or doesn't work."""
         try:
             ended = subprocess.run(words, env=self.environment, capture_output=True, text=True, check=False)
         except FileNotFoundError:
@@ -108,7 +108,7 @@ class Recipes(InFolder):
         return ended.returncode, ended.stderr.decode()
 
     def cut(self, most):
-        """Cuts the plan into parts of so many jobs."""
+        """Cuts the plan into parts of at most `most` jobs."""
         shutil.rmtree(self.folder / "parts", ignore_errors=True)
         commands = recipe("Split")[0].replace("10000", str(most))
         self.assertEqual(self.run_in_folder(commands), (0, ""))
@@ -126,7 +126,7 @@ class Recipes(InFolder):
                     yield int(place.name)
 
     def kill_all(self):
-        """Kills all that the recipes started. All are stopped before, so that none sees another's end."""
+        """Kills every process that the recipes started. All are stopped before, so that none sees another's end."""
         stopped = set()
         while found := set(self.started()) - stopped:
             for process in found:

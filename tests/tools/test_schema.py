@@ -1,4 +1,4 @@
-"""docs/plan.schema.json: what it takes, what it refuses, and that the program refuses whatever it refuses.
+"""docs/plan.schema.json: what it accepts, what it rejects, and that the program rejects whatever it rejects.
 
 It needs a validator, the Python package jsonschema (Debian: python3-jsonschema). The gate tries 1,000 random changes of
 the examples; ZSCHED_CHANGES=10000 in the environment tries more."""
@@ -45,7 +45,7 @@ def scheduled(text):
     return plan([job(schedule=text)])
 
 
-# Faulty plans that an editor marks, beside those of faults.py: each by its name.
+# Faulty plans that an editor marks, in addition to those of faults.py: each by its name.
 FAULTY = [
     ("a list as the document", b"[]"),
     ("no jobs", b'{"horizon":1000}'),
@@ -79,7 +79,7 @@ FAULTY = [
     ("a tab in a schedule", scheduled("(recurs(3)\t&& forever)")),
 ]
 
-# What the schema can't tell, as docs/FORMATS.md says: faults, and plans, some of them by their names in faults.py.
+# What the schema can't express, as docs/FORMATS.md says: faults, and plans, some of them by their names in faults.py.
 UNTOLD = re.compile(r"name used before|too big|number too large|no kind")
 MISSED_NAMES = [
     "a byte order mark", "horizon 1e3", "a horizon with an exponent", "schedule (recurs(1) && recurs(2)",
@@ -142,7 +142,7 @@ class Written(unittest.TestCase):
 
 @unittest.skipIf(jsonschema is None, "the Python package jsonschema isn't installed (Debian: python3-jsonschema)")
 class Validated(unittest.TestCase):
-    """What a validator says, and what the program says."""
+    """The results of a validator, compared with the program's."""
 
     @classmethod
     def setUpClass(cls):
@@ -161,7 +161,7 @@ class Validated(unittest.TestCase):
         taken = []
         for file in PLANS:
             tree = json.loads(file.read_bytes())
-            # Jobs are looked at apart from the rest, and some plans of many jobs have the same ones.
+            # Jobs are validated apart from the rest, and some plans of many jobs have the same ones.
             tree["jobs"], jobs = [] if tree["jobs"] in taken else tree["jobs"], tree["jobs"]
             with self.subTest(file.name):
                 self.assertTrue(self.validator.is_valid(tree))

@@ -1,4 +1,4 @@
-"""What all commands of tools/ have in common: --version, --color, and what a Python that is too old is told."""
+"""What all commands of tools/ have in common: --version, --color, and the error for a Python that is too old."""
 import ast
 import os
 import pathlib
@@ -82,7 +82,7 @@ class Tools(unittest.TestCase):
         with tempfile.TemporaryDirectory() as folder:
             for name, line in self.lines_written(folder):
                 with self.subTest(line):
-                    # The reader is gone before anything is written.
+                    # The reader is gone before any output is written.
                     reader, writer = os.pipe()
                     os.close(reader)
                     with os.fdopen(writer, "wb", 0) as output:

@@ -1,4 +1,4 @@
-"""zsched-try: a line a policy, worked out by hand; bounds, also those of every input; the plan and the picture; faults with their caret."""
+"""zsched-try: a line a policy, computed by hand; bounds, also those of every input; the plan and the picture; faults with their caret."""
 import io
 import json
 import pathlib
@@ -28,13 +28,13 @@ EVERY = re.compile(r"^ *for every input: .*\n", re.M)
 
 
 def tool(*words, program=None, bounds=None):
-    """Runs the command, in this process, with this zsched-bounds or with none: status, standard output, standard error."""
+    """Runs the command, in this process, with this zsched-bounds or without one: status, standard output, standard error."""
     with mock.patch.object(zsched, "find_bounds", lambda named: named or bounds):
         return run_here(try_command.main, "zsched-try", *words, "--zsched", program or zsched.find())
 
 
 class Lines(unittest.TestCase):
-    """What is said of policies. Each figure was worked out by hand."""
+    """The command's lines for policies. Each figure was computed by hand."""
 
     def test_one_policy(self):
         # Six attempts of 40 ms, and waits of 100, 200, 400, 800 and 1600 ms.
@@ -62,7 +62,7 @@ exponential(100)  succeeded 200 after 4 attempts, 855 ms (waited 700 ms, longest
                          (0, "failed 4 after 2 attempts, 55 ms (waited 10 ms, longest wait 10 ms)\n", ""))
 
     def test_what_goes_on_at_the_horizon_counts_up_to_it(self):
-        # An attempt ends at 40 ms, and the wait goes on until 1 s.
+        # An attempt ends at 40 ms, and the wait lasts until 1 s.
         self.assertEqual(tool("spaced(5000)", "--until", "1s"),
                          (0, "unfinished after 1 attempt, 1 s (waited 960 ms, longest wait 960 ms)\n", ""))
         self.assertEqual(tool("spaced(5000)", "--until", "1s", "--fails", "2s err 1"),
@@ -93,7 +93,7 @@ exponential(100)  succeeded 200 after 4 attempts, 855 ms (waited 700 ms, longest
 
     @staticmethod
     def read(attempts, ending):
-        """What has to be said of a job, by the reader of reports."""
+        """The expected line for a job, by the reader of reports."""
         waits = [attempt.waited or 0 for attempt in attempts]
         if ending.how == "unfinished" and attempts and attempts[-1].end is not None:
             waits.append(ending.at - attempts[-1].end)
@@ -344,7 +344,7 @@ zsched-try: byte 10: this && is outside of parentheses
 
 
 class Command(unittest.TestCase):
-    """How the command begins and ends."""
+    """How the command starts and ends."""
 
     def test_help_shows_a_run_as_it_is(self):
         status, out, _ = tool("--help")

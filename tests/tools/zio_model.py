@@ -1,9 +1,9 @@
 """Schedules of ZIO 2 by the definitions of its sources, as far as the tables in docs/RECIPES.md speak of them.
 
-The tests hold these tables against it. Nothing here knows how zsched answers, but for the text of outputs.
+The tests compare these tables with it. Nothing here depends on zsched's results, except for the text of outputs.
 
 A schedule is a first state and a step: from a moment, an input and a state to a state, an output and the moment of the
-next run, or None where it is done. Intervals are open to the right, so a moment stands for one. Moments are in
+next run, or None if it is done. Intervals are open to the right, so a moment represents one. Moments are in
 milliseconds. A pair is a tuple of two, Left and Right are lists of a word and an output, and the unit is 0."""
 
 
@@ -15,7 +15,7 @@ class Schedule:
         self.step = step
 
     def decide(self, change):
-        """The schedule whose answers (input, output, moment, next) are changed to (output, next)."""
+        """The schedule whose results (input, output, moment, next) are changed to (output, next)."""
         def step(now, given, state):
             state, out, after = self.step(now, given, state)
             return (state, *change(given, out, now, after))
@@ -34,23 +34,23 @@ class Schedule:
         return self.decide(lambda given, out, now, after: (given, after))
 
     def check(self, test):
-        """Done where the test of the input and the output is false."""
+        """Done if the test of the input and the output is false."""
         return self.decide(lambda given, out, now, after: (out, after if test(given, out) else None))
 
     def while_input(self, test):
-        """Done where the test of the input is false."""
+        """Done if the test of the input is false."""
         return self.check(lambda given, out: test(given))
 
     def while_output(self, test):
-        """Done where the test of the output is false."""
+        """Done if the test of the output is false."""
         return self.check(lambda given, out: test(out))
 
     def until_input(self, test):
-        """Done where the test of the input is true."""
+        """Done if the test of the input is true."""
         return self.check(lambda given, out: not test(given))
 
     def until_output(self, test):
-        """Done where the test of the output is true."""
+        """Done if the test of the output is true."""
         return self.check(lambda given, out: not test(out))
 
     def modify_delay(self, change):
@@ -60,11 +60,11 @@ class Schedule:
         return self.decide(lambda given, out, now, after: (out, later(out, now, after)))
 
     def add_delay(self, more):
-        """A longer delay, by what the output says."""
+        """A delay longer by what `more` returns for the output."""
         return self.modify_delay(lambda out, delay: delay + more(out))
 
     def fold(self, first, change):
-        """Answers what was folded before this step."""
+        """Outputs what was folded before this step."""
         def step(now, given, state):
             inner, folded = state
             inner, out, after = self.step(now, given, inner)
@@ -72,26 +72,26 @@ class Schedule:
         return Schedule((self.initial, first), step)
 
     def repetitions(self):
-        """The number of steps that went on."""
+        """The number of steps that continued."""
         return self.fold(0, lambda number, out: number + 1)
 
     def reset_when(self, test):
-        """Steps once more from the first state where the output passes."""
+        """Steps once more from the first state if the output passes."""
         def step(now, given, state):
             answer = self.step(now, given, state)
             return self.step(now, given, self.initial) if test(answer[1]) else answer
         return Schedule(self.initial, step)
 
     def reset_after(self, duration):
-        """Begins anew by a clock of its own."""
+        """Starts again by a separate clock."""
         return both(self, elapsed()).reset_when(lambda out: out[1] >= duration).map(lambda out: out[0])
 
     def up_to(self, duration):
-        """Goes on while its clock is below the duration."""
+        """Continues while its clock is below the duration."""
         return both(self, up_to(duration)).map(lambda out: out[0])
 
     def forever(self):
-        """Begins anew where it is done."""
+        """Starts again when it is done."""
         def step(now, given, state):
             answer = self.step(now, given, state)
             return self.step(now, given, self.initial) if answer[2] is None else answer
@@ -108,12 +108,12 @@ def joined(left, right, choose):
 
 
 def both(left, right):
-    """&&: where both go on, at the later moment."""
+    """&&: if both continue, at the later moment."""
     return joined(left, right, lambda here, there: None if None in (here, there) else max(here, there))
 
 
 def either(left, right):
-    """||: where one goes on, at the earlier moment."""
+    """||: if one continues, at the earlier moment."""
     return joined(left, right, lambda here, there: min([it for it in (here, there) if it is not None], default=None))
 
 
@@ -145,7 +145,7 @@ def compose(left, right):
 
 
 def unfold(first, change):
-    """Always goes on at once."""
+    """Always continues immediately."""
     return Schedule(first, lambda now, given, state: (change(state), state, now))
 
 
@@ -155,7 +155,7 @@ def forever():
 
 
 def recurs(times):
-    """Goes on so many times."""
+    """Continues `times` times."""
     return forever().while_output(lambda out: out < times)
 
 
@@ -173,7 +173,7 @@ def elapsed():
 
 
 def up_to(duration):
-    """Goes on while less time has passed."""
+    """Continues while less time has passed."""
     return elapsed().while_output(lambda out: out < duration)
 
 
@@ -203,7 +203,7 @@ def fibonacci(delay):
 
 
 def windowed(window):
-    """The end of the window that has begun."""
+    """The end of the current window."""
     def step(now, given, state):
         begun = now if state is None else state
         return begun, now, now + window - (now - begun) % window
@@ -212,12 +212,12 @@ def windowed(window):
 
 
 def duration(delay):
-    """Goes on once, after the delay."""
+    """Continues once, after the delay."""
     return Schedule(True, lambda now, given, state: (False, delay, now + delay) if state else (False, 0, None))
 
 
 def from_durations(delay, *delays):
-    """Goes on once for each delay."""
+    """Continues once for each delay."""
     schedule = duration(delay)
     for more in delays:
         schedule = and_then(schedule, duration(more))
