@@ -133,8 +133,8 @@ class Known(InFolder):
             self.file(2, ending).write_bytes((other / f"part-000002.{ending}").read_bytes())
         support.write_digest(other / "part-000002.report")
         self.file(2, "sha256").write_bytes((other / "part-000002.sha256").read_bytes())
-        self.assertEqual(self.joined(), (2, "", "part-000002.report: is by its digest the report of another plan than the "
-                                                "manifest's part-000002.json\n"))
+        self.assertEqual(self.joined(), (2, "", "part-000002.report: its digest has another plan than the manifest's "
+                                                "part-000002.json\n"))
 
     def test_other_populations_are_found(self):
         other = make_population(self.top / "other", [f"x{number}" for number in range(11)])

@@ -40,26 +40,26 @@ TIMES = [("40", 40), ("40ms", 40), (" 1.5s ", 1500), ("0.001 s", 1), ("2min", 12
 
 # Fields that can't be parsed: the field, its text, and words of the message.
 UNREAD = [
-    ("script", "", "is no attempt"),
-    ("script", "40 error 503", "is no attempt"),
+    ("script", "", "is not an attempt"),
+    ("script", "40 error 503", "is not an attempt"),
     ("script", "40 err 503 x0", "1 to 1000 attempts"),
     ("script", "40 err 503 x1001", "1 to 1000 attempts"),
-    ("script", "40 err 503, ", "is no attempt"),
-    ("script", "4x err 503", "is no attempt"),
+    ("script", "40 err 503, ", "is not an attempt"),
+    ("script", "4x err 503", "is not an attempt"),
     ("script", "0 err 503", "at least 1 ms"),
-    ("script", "1 err 18446744073709551616", "is no whole number"),
-    ("until", "", "is no duration"),
-    ("until", "1 week", "is no duration"),
-    ("until", "-5", "is no duration"),
+    ("script", "1 err 18446744073709551616", "is not a whole number from"),
+    ("until", "", "is not a duration"),
+    ("until", "1 week", "is not a duration"),
+    ("until", "-5", "is not a duration"),
     ("until", "1000000000000000", "up to 999999999999999"),
     ("start", "1.5", "isn't a whole number of milliseconds"),
     ("start", "9" * 5000, "isn't a whole number of milliseconds"),
 ]
 UNREAD_OUTAGES = [
-    ("clients", "0", "from 1 to 10000"), ("clients", "10001", "from 1 to 10000"), ("spread", "x", "is no duration"),
-    ("down", "5s", "is no window"), ("down", "5s..5s", "ends before it begins"),
-    ("bad", "5 err 1, 5 err 2", "one attempt alone"),
-    ("good", "", "is no attempt"), ("seed", "-1", "is no whole number"),
+    ("clients", "0", "from 1 to 10000"), ("clients", "10001", "from 1 to 10000"), ("spread", "x", "is not a duration"),
+    ("down", "5s", "is not a window"), ("down", "5s..5s", "ends before it begins"),
+    ("bad", "5 err 1, 5 err 2", "only one attempt"),
+    ("good", "", "is not an attempt"), ("seed", "-1", "is not a whole number from"),
 ]
 
 # A schedule that is rejected, what the caret is under, and words of the cause or the help.
@@ -71,7 +71,7 @@ CARETS = [
     ("forever.whileOutptu(< 5)", "whileOutptu", "did you mean whileOutput?"),
     ("recurs(x)", "x", "whole number"),
     ("exponential(100, cap=5000)", "cap", "write (exponential(100) || spaced(5000))"),
-    ("recurs(n = 5)", "n", "write 5 alone"),
+    ("recurs(n = 5)", "n", "write only 5"),
     ("spaced(${PAUSE})", "$", "this template isn't filled in"),
     ("recurs(3).map(_1)", "map(_1)", "a number"),
     ("(windowed(1) && windowed(0))", "windowed(0)", "1 or more"),
@@ -336,7 +336,7 @@ class Fields(unittest.TestCase):
                 ("recur(3)", 0, 5, "did you mean rekurs?", None), ("(recurs(1))", 10, 1, "write recurs(1)", None),
                 ("recurs(1) && recurs(2)", 10, 2, "write (recurs(1) && B)", None),
                 ("exponential(9, cap=5)", 15, 3, "a cap is another schedule: write (exponential(9) || spaced(5))", None),
-                ("recurs(n=5)", 7, 1, "write 5 alone", None),
+                ("recurs(n=5)", 7, 1, "write only 5", None),
                 ("recurs(", 7, 1, "a ) is missing", None)]
         faults = [{"line": line, "at": at, "size": size, "help": help} for line, at, size, help, _ in rows]
         self.assertEqual(called(*[["asking.mended", fault] for fault in faults]), [wanted for *_, wanted in rows])
@@ -362,7 +362,7 @@ class Pictures(unittest.TestCase):
                  "is finished with (1,1) after 2 attempts, 15 ms; longest wait 5 ms, 5 ms in all"),
                 ("forever", "repeat", "5 err 7", "fails with 7 after 1 attempt, 5 ms"),
                 ("spaced(600)", "retry", "5 err 7",
-                 "still goes on at 1 s, after 2 attempts; longest wait 600 ms, 990 ms in all")]
+                 "is unfinished at 1 s, after 2 attempts; longest wait 600 ms, 990 ms in all")]
         made = called(*[question(a=a, mode=mode, script=script) for a, mode, script, _ in rows])
         verdicts = "(report => drawing.rowsOf(report).map(drawing.verdict))"
         found = called(*[[verdicts, report_of(it["text"])] for it in made])
@@ -431,7 +431,7 @@ class Whole(unittest.TestCase):
         self.assertEqual(re.findall(r"fetch\((.*?),", TEXT), ['"/report"'])
 
     def test_it_says_what_its_evaluator_is(self):
-        self.assertTrue("a further implementation of zsched, unproved and in" in TEXT)
+        self.assertTrue("a separate implementation of zsched, unproved and in" in TEXT)
 
     def test_every_field_has_a_label_and_a_place_for_its_fault(self):
         named = set(re.findall(r'<label for="(\w+)"', TEXT))
@@ -489,8 +489,9 @@ class Browser(unittest.TestCase):
 
     def test_compares_two_policies_in_an_outage(self):
         document = self.shown(a="exponential(100)", b="spaced(1000)", world="outage", until="3min")
-        self.assertRegex(document, r"A: all 200 clients are served by .*B: all 200 clients are served by ")
-        self.assertRegex(document, r"each of its \d+ attempts met the service as it is")
+        served = "all 200 clients are served, the last at "
+        self.assertRegex(document, rf"A: {served}.*B: {served}")
+        self.assertRegex(document, r"each of its \d+ attempts ends as the service says for its moment")
         self.assertEqual(len(re.findall(r"attempts that begin in each 1 s</text>", document)), 0)
         self.assertEqual(len(re.findall(r'aria-label="[AB]: attempts that begin in each 1 s"', document)), 2)
 

@@ -904,11 +904,11 @@ class Join(unittest.TestCase):
         os.link(first, link)
         self.assertEqual(self.refused(first, link), "first-link: is the same file as first, which is a part already")
         copy = self.part("copy", RETRIED)
-        self.assertEqual(self.refused(first, second, copy), "copy: line 1 has job a, which stands in first: line 1 too")
+        self.assertEqual(self.refused(first, second, copy), "copy: line 1 has job a, which is also in first: line 1")
         self.assertEqual(self.refused(first, self.part("other", WAITING.replace("job broken", "job a"))),
-                         "other: line 9 has job a, which stands in first: line 1 too")
+                         "other: line 9 has job a, which is also in first: line 1")
         self.assertEqual(self.refused(self.part("twice", WAITING.replace("job broken", "job beat"))),
-                         "twice: line 9 has job beat, which stands in twice: line 1 too")
+                         "twice: line 9 has job beat, which is also in twice: line 1")
 
     def test_parts_of_other_horizons_are_refused_by_name(self):
         first, second = self.part("first", RUNNING), self.part("second", WAITING)
@@ -926,7 +926,7 @@ class Join(unittest.TestCase):
             self.assertTrue(said.startswith("foreign: line 11 has another horizon"), said)
 
     def test_what_is_no_file_is_refused(self):
-        said = "zsched-report: /dev/null: is no regular file, and a part is read twice\n"
+        said = "zsched-report: /dev/null: is not a regular file, and a part is read twice\n"
         self.assertEqual(process("join", "/dev/null"), (2, "", said))
 
     def test_a_missing_part_is_told_by_name_and_nothing_is_written(self):

@@ -1,9 +1,9 @@
-"""A report read fast: pieces of its text, in which the attempts of all jobs become columns of numbers.
+"""A fast reader of reports. It splits the text into pieces, and the attempts of all jobs into columns of numbers.
 
-Of jobs whose lines after the name are equal one is read, if that leaves at most half of them. One pattern matches the
-jobs of a whole piece, and what isn't shown isn't parsed. It accepts nothing that `report.Reader` rejects. A piece in
-which it is unsure (a fault, or a number of 20 digits) is read line by line by a Reader, which decides, and names the
-fault's line. Pieces of a long report are read by several processes."""
+If at most half of the jobs of a piece differ in the lines after their names, equal jobs are read once. One pattern
+matches all jobs of a piece, and only what is shown is parsed. The fast way accepts nothing that `report.Reader`
+rejects. If it is unsure about a piece (a fault, or a number of 20 digits), a Reader reads the piece line by line, and
+names the fault's line. Several processes read the pieces of a long report."""
 import collections
 import io
 import itertools
@@ -17,7 +17,7 @@ from zsched_tools.patterns import maybe, run_of
 from zsched_tools.report import LONGEST_LINE, Attempt, Ending, Job, Reader, Total, is_output, text_lines
 
 PIECE = 2**18
-# The number of pieces that this process reads before others help.
+# The number of pieces that this process reads before other processes start.
 ALONE = 16
 MOST_OUTPUTS = 2**16
 
@@ -31,13 +31,13 @@ ASKED = {"retry": "err", "repeat": "ok"}
 
 
 def _goes_on(mode):
-    """The pattern of attempts after each of which the schedule continues."""
+    """The pattern of an attempt after which the schedule continues, with its step."""
     return (rf"attempt {_NUMBER} {_NUMBER}\.\.{_NUMBER} {ASKED[mode]} {_NUMBER}\n"
             rf"step {_NUMBER} out {_OUTPUT} next {_NUMBER}\n")
 
 
 _RUNS = "|".join(rf"(?<={mode}\n){run_of(_goes_on(mode))}" for mode in ASKED)
-# A job without its name, as far as it is in the piece; or else all that remains of the piece.
+# A job without its name, up to the end of the piece; otherwise the rest of the piece.
 _JOB = re.compile(rf"job (retry|repeat)\n({_RUNS})" + maybe(_LAST + _END) + r"|([\s\S]+)")
 _NAMES = re.compile(run_of(rf"{_LETTER}{{1,64}}+ "))
 _TOTAL = re.compile(r"polls (0|[1-9][0-9]*+)\n")
@@ -45,24 +45,26 @@ _HEAD = re.compile(rf"job ({_LETTER}{{1,64}}+) (retry|repeat)\n".encode())
 _BEFORE = re.compile(rf"attempt ({_NUMBER}) {_NUMBER}\.\.({_NUMBER}) (?:ok|err) {_NUMBER}\n"
                      rf"step {_NUMBER} out {_OUTPUT} next ({_NUMBER})\n".encode())
 _SHORT_OUTPUTS = re.compile(run_of(rf"(?:{_NUMBER}|\({_NUMBER},{_NUMBER}\))\n"))
-# An attempt's seven words are what remains without letters, but for those of outputs.
+# Without the letters a to z the two lines of an attempt have seven words; Left and Right become L and R.
 _LETTERS = bytes(range(ord("a"), ord("z") + 1))
 _SPACES = bytes.maketrans(b".\n", b"  ")
 WORDS = ("number", "begin", "end", "value", "number", "output", "next")
 _WORDS = len(WORDS)
 _NUMBERS = []
-# Mode, outcome of the last attempt, whether it has a step, and ending, of a job that ended and of one that goes on.
+# Mode, outcome of the last attempt, whether it has a step, and ending: of jobs that end in a piece, and of jobs that
+# continue in the next piece.
 _ENDED = {("retry", "ok", False, "succeeded"), ("retry", "err", True, "failed"), ("repeat", "err", False, "failed"),
           ("repeat", "ok", True, "finished"), ("retry", "", False, "unfinished"), ("repeat", "", False, "unfinished")}
 _GOING = {("retry", "", False, ""), ("repeat", "", False, "")}
 
 
 class Unsure(Exception):
-    """The fast way doesn't know whether a piece is right."""
+    """The fast way can't decide whether a piece is valid."""
 
 
 class Open(NamedTuple):
-    """A job that goes on in the next piece, with the last attempt's number, end and following moment."""
+    """A job that continues in the next piece. `number`, `end` and `following` are those of its last attempt: its
+    number, its end, and the moment at which the schedule continues."""
     name: str
     mode: str
     number: int = 0
@@ -71,15 +73,16 @@ class Open(NamedTuple):
 
 
 class Piece(NamedTuple):
-    """A piece of a report's text, and the job that it begins in the middle of."""
+    """A piece of a report's text, and the job that continues in it from the piece before."""
     text: bytes
     open: Open | None
 
 
 class Texts(NamedTuple):
-    """The words of the different jobs of a piece. `words` has seven for each attempt after which the schedule continues, of
-    all of them: those of WORDS. The other columns have one a job: the number of such attempts, then the words of the
-    attempt after which it doesn't continue and of the ending, which are empty if there is none."""
+    """The words of the different jobs of a piece. `words` has the seven words of WORDS for each attempt, of all jobs,
+    after which the schedule continues. The other columns have one entry for each job. `counts` has the number of such
+    attempts. The others have the words of the attempt after which the schedule doesn't continue, and of the ending; a
+    missing word is empty."""
     modes: tuple
     counts: list
     words: list
@@ -98,18 +101,18 @@ class Texts(NamedTuple):
 
 
 class Block:
-    """The jobs of a piece: `names`, and for each job the place of its lines in the columns, which have each different job
-    once. `times` has the number of jobs at each place.
-    `begins`, `ends` and `waits` are those of the attempts after which the schedule continues, place after place; those of
-    place j are at edges[j] up to edges[j + 1]. A wait is the time up to the job's next attempt; without one, up to the
-    horizon, or 0 if the job goes on in the next piece. `last_begins` and `last_ends` are those of the attempt after which
-    it doesn't continue; None if there is none, or if it runs. `first_begins` are those of the jobs' first attempts in this
-    piece, or None.
-    The first job had the attempts up to `before.number` in earlier pieces; `lead` is the wait after these."""
+    """The jobs of a piece. The columns contain each different job once. `names` are the jobs' names, `places` their
+    places in the columns, and `times` the number of jobs at each place.
+    `begins`, `ends` and `waits` are those of the attempts after which the schedule continues, in the order of the
+    places. Those of place j are at edges[j] up to edges[j + 1]. A wait ends at the job's next attempt. Without a next
+    attempt it ends at the horizon, or it is 0 if the job continues in the next piece. `last_begins` and `last_ends`
+    are those of the attempt after which the schedule doesn't continue. They are None without such an attempt, and the
+    end also if it runs. `first_begins` are those of the jobs' first attempts in this piece, or None.
+    Earlier pieces have the first job's attempts up to `before.number`; `lead` is the wait after these."""
 
     def __init__(self, names, places, texts, before):
         self.names, self.places, self.texts, self.before = names, places, texts, before
-        # Places rise in the order in which their first jobs stand.
+        # The places rise in the order of their first jobs.
         self.times = list(collections.Counter(places).values()) if self.is_shared() else [1] * len(places)
         self.begins, self.ends = [list(map(int, texts.words[place::_WORDS])) for place in (1, 2)]
         self.edges = list(itertools.accumulate(texts.counts, initial=0))
@@ -121,7 +124,7 @@ class Block:
         self.lead = self._lead()
 
     def _following(self):
-        """The moment of what follows each attempt after which the schedule continues."""
+        """The ends of the waits after the attempts after which the schedule continues."""
         following, ends = self.begins[1:], self.ends
         if not ends:
             return []
@@ -132,14 +135,14 @@ class Block:
         return following
 
     def _lead(self):
-        """The wait between the attempts of the first job in earlier pieces and what follows; None if there is none."""
+        """The wait between the first job's attempts in earlier pieces and what follows them, or None."""
         if self.before.end is None or not self.names:
             return None
         found = [moment for moment in [self.first_begins[0], self.ats[0]] if moment is not None]
         return found[0] - self.before.end if found else None
 
     def polls(self):
-        """For each place the number of moments at which the attempts began or ended in this piece."""
+        """For each place, the number of moments in this piece at which an attempt begins or ends."""
         texts = self.texts
         found = [2 * count + (begin != "") + (end != "")
                  for count, begin, end in zip(texts.counts, texts.begins, texts.ends)]
@@ -154,7 +157,7 @@ class Block:
         return found
 
     def ending(self, job):
-        """A job's ending, or None if it goes on."""
+        """A job's ending, or None if it continues in the next piece."""
         texts, place = self.texts, self.places[job]
         how, result = texts.hows[place], texts.results[place]
         if not how:
@@ -164,7 +167,7 @@ class Block:
                       int(texts.polls[place]))
 
     def of(self, jobs):
-        """The block of some of the jobs, by their numbers in order, each at a place of its own."""
+        """The block of some of the jobs, by their numbers in order, each at a separate place."""
         texts, edges, places = self.texts, self.edges, [self.places[job] for job in jobs]
         words = itertools.chain.from_iterable(texts.words[_WORDS * edges[it]:_WORDS * edges[it + 1]] for it in places)
         columns = {name: [getattr(texts, name)[it] for it in places]
@@ -173,15 +176,15 @@ class Block:
                      Texts(words=list(words), total=texts.total, **columns), self.before if 0 in jobs else Open("", ""))
 
     def is_shared(self):
-        """Whether there are jobs with equal lines."""
+        """Whether some jobs have equal lines, and so one place."""
         return len(self.places) > len(self.texts.modes)
 
     def is_last_alone(self):
-        """Whether no job but the last one has its lines at the last place."""
+        """Whether only the last job is at the last place."""
         return not self.places or self.places[-1] == len(self.times) - 1 and self.times[-1] == 1
 
     def groups(self):
-        """Pairs of a number and the block of a job from each place that has so many jobs."""
+        """Pairs of a number n and a block, which has one job from each place with n jobs."""
         if not self.is_shared():
             return [(1, self)]
         firsts, found = {}, {}
@@ -192,7 +195,7 @@ class Block:
         return [(times, self.of(jobs)) for times, jobs in found.items()]
 
     def attempts(self, job):
-        """A job's attempts in this piece as objects."""
+        """A job's attempts in this piece, as objects."""
         place = self.places[job]
         texts, first, edge = self.texts, self.edges[place], self.edges[place + 1]
         words, asked = texts.words[_WORDS * first:_WORDS * edge], ASKED[texts.modes[place]]
@@ -210,9 +213,9 @@ class Block:
 
 
 class Passed(NamedTuple):
-    """What is known after a piece: its lines, the polls of the jobs that end in it, the polls that the job which it
-    begins in must have had before (None if that doesn't end), the job that goes on, with its polls in the piece, and
-    the moments of endings."""
+    """What is known after a piece: the number of its lines; the polls of the jobs that end in it; the polls that its
+    first job must have in earlier pieces, or None if that job doesn't end in the piece; the job that continues in the
+    next piece, and its polls in this one; the horizon, the latest end, and the total."""
     lines: int
     polls: int
     before: int | None
@@ -224,7 +227,7 @@ class Passed(NamedTuple):
 
 
 def pieces(file, length=None):
-    """The pieces of a binary file. Each ends with a job, or, if a job is longer than a piece, with an attempt."""
+    """The pieces of a binary file. Each ends after a job, or after an attempt if a job is longer than a piece."""
     length = length or PIECE
     rest, going = b"", None
     while read := file.read(max(length, len(rest))):
@@ -240,7 +243,8 @@ def pieces(file, length=None):
 
 
 def _open_after(text, cut, going):
-    """The job in the middle of which a text is cut, as far as it can be read there."""
+    """The job in which a text is cut. None if the cut is between jobs, or if the text before it doesn't show the
+    job."""
     if not text.startswith(b"attempt ", cut):
         return None
     head = _HEAD.match(text, text.rfind(b"\njob ", 0, cut) + 1)
@@ -254,18 +258,18 @@ def _open_after(text, cut, going):
 
 
 def _numbers_of(texts):
-    """The numbers of texts, of which an empty one is None."""
+    """The numbers of texts; that of an empty text is None."""
     return list(map(int, texts)) if all(texts) else [int(text) if text else None for text in texts]
 
 
 def long(out):
-    """An output again, from that among the words, in which sides are single letters."""
+    """An output as in the report, from its form among the words, in which Left and Right are single letters."""
     return out.replace("L(", "Left(").replace("R(", "Right(")
 
 
 def _parted(piece):
-    """The names of a piece's jobs, for each the place of its lines among the different ones, and these as a text without
-    names. If over half of the jobs differ, or the piece begins in the middle of a job, all are taken as different."""
+    """The names of a piece's jobs, their places among the different jobs, and the text of the different jobs without
+    names. If more than half of the jobs differ, or the piece begins in the middle of a job, all count as different."""
     head = f"job {piece.open.name} {piece.open.mode}\n" if piece.open is not None else ""
     text = head + piece.text.decode("latin-1")
     if not text.startswith("job "):
@@ -281,7 +285,7 @@ def _parted(piece):
 
 
 def _texts(text):
-    """The words of different jobs, of which the form of each line is right."""
+    """The words of different jobs, whose lines have the right form."""
     found = _JOB.findall(text)
     total = None
     if found and found[-1][-1]:
@@ -296,7 +300,7 @@ def _texts(text):
 
 
 def _check_numbers(texts, number):
-    """Attempts must be numbered from 1, or from the number after that of the job's attempts in earlier pieces."""
+    """The numbers of a job's attempts must rise by 1, from 1 or from its last attempt in the pieces before."""
     counts = texts.counts
     most = max(counts, default=0) + 1
     if len(_NUMBERS) < most:
@@ -315,8 +319,8 @@ def _check_numbers(texts, number):
 
 
 def _check_endings(block):
-    """Each job must end as its last attempt says. A job that has no ending must be the last in the piece, and so must the
-    one before the total."""
+    """Each job's ending must fit its last attempt. Only the last job of a piece may have no ending, or be followed by
+    the total."""
     texts = block.texts
     found = set(zip(texts.modes, texts.outcomes, map(bool, texts.steps), texts.hows))
     if not found <= _ENDED:
@@ -334,7 +338,7 @@ def _check_endings(block):
 
 
 def _check_outputs(texts, outputs):
-    """Every output must be one of a schedule. Those in `outputs` are known to be."""
+    """Every output must be one of a schedule. Those in `outputs` were checked before."""
     found = set(texts.words[5::_WORDS])
     found.update(out.replace("Left", "L").replace("Right", "R") for out in set(texts.outs) - {""})
     found -= outputs
@@ -349,7 +353,7 @@ def _check_outputs(texts, outputs):
 
 
 def _check_times(block):
-    """Attempts must not overlap, and none begins before the schedule goes on."""
+    """Attempts must not overlap, and must not begin before the moment at which the schedule continues."""
     texts = block.texts
     if not all(map(operator.lt, block.begins, block.ends)) or min(block.waits, default=0) < 0 or (block.lead or 0) < 0:
         raise Unsure
@@ -361,7 +365,7 @@ def _check_times(block):
         for count, edge, begin in zip(texts.counts, block.edges[1:], texts.begins):
             if count:
                 following[edge - 1] = begin or nexts[edge - 1]
-        # Mostly each attempt begins just when the schedule goes on, which its text shows.
+        # Most attempts begin at the moment at which the schedule continues, so their texts are equal.
         if nexts != following and not all(map(operator.le, map(int, nexts), map(int, following))):
             raise Unsure
     if block.before.following is not None and any(first is not None and first < block.before.following
@@ -370,7 +374,7 @@ def _check_times(block):
 
 
 def _horizon(block):
-    """The horizon of the unfinished jobs, or None, and the latest end. No attempt begins after the horizon."""
+    """The horizon of the unfinished jobs, or None, and the latest end. No attempt may begin after the horizon."""
     texts = block.texts
     latest = max((at for at in block.ats if at is not None), default=0)
     if "unfinished" not in texts.hows:
@@ -384,7 +388,7 @@ def _horizon(block):
 
 
 def _passed(piece, block):
-    """What is known after a piece, which is checked."""
+    """What is known after a piece, whose times, horizon and polls are checked here."""
     texts, before = block.texts, block.before
     _check_times(block)
     horizon, latest = _horizon(block)
@@ -404,7 +408,7 @@ def _passed(piece, block):
 
 
 def _open_of(block, piece):
-    """The job that goes on after a piece."""
+    """The job that continues after a piece."""
     texts, name = block.texts, block.names[-1]
     if not texts.counts[-1]:
         is_first = piece.open is not None and len(block.names) == 1
@@ -417,7 +421,7 @@ _outputs = set()
 
 
 def _fast(view, piece):
-    """What is known after a piece and what a view shows of it; None if the fast way is unsure."""
+    """What is known after a piece, and what a view shows of it. None if the fast way is unsure."""
     try:
         names, places, text = _parted(piece)
         texts = _texts(text)
@@ -431,7 +435,7 @@ def _fast(view, piece):
 
 
 def _state(reader):
-    """The job that a Reader is in the middle of."""
+    """The job that a Reader has not read to its end, or None."""
     if reader.job is None:
         return None
     last = reader.attempt
@@ -441,8 +445,8 @@ def _state(reader):
 
 
 def _advance(reader, piece, passed):
-    """Brings a Reader behind a piece that was read fast. Returns False, and leaves it, if what is before the piece and
-    the piece don't fit together."""
+    """Advances a Reader past a piece that was read fast. If the piece doesn't fit what is before it, the Reader is
+    unchanged, and the result is False."""
     if (reader.total is not None or reader.is_step_due or _state(reader) != piece.open
             or passed.before not in (None, reader.polls)):
         return False
@@ -468,17 +472,17 @@ def _advance(reader, piece, passed):
 
 
 class _Gathered:
-    """The words of a piece, gathered record by record."""
+    """The words of a piece, collected record by record."""
 
     def __init__(self):
         self.jobs, self.words, self.total = [], [], None
 
     def begin(self, job):
-        """A job begins, or goes on in this piece."""
+        """Adds a job that begins or continues in this piece."""
         self.jobs.append([job.name, job.mode, 0, *[""] * 11])
 
     def add(self, record):
-        """One record more, of the last job or of the report."""
+        """Adds a record, of the last job or of the report."""
         if isinstance(record, Total):
             self.total = record.polls
         elif isinstance(record, Ending):
@@ -492,7 +496,7 @@ class _Gathered:
             self._add_last(record)
 
     def _add_last(self, attempt):
-        """The attempt after which the schedule doesn't continue."""
+        """Adds the attempt after which the schedule doesn't continue."""
         self.jobs[-1][3:5] = str(attempt.number), str(attempt.begin)
         if attempt.end is not None:
             self.jobs[-1][5:8] = str(attempt.end), attempt.outcome, str(attempt.value)
@@ -500,14 +504,14 @@ class _Gathered:
             self.jobs[-1][8:10] = str(attempt.number), attempt.out
 
     def block(self, before):
-        """All of it."""
+        """The block of everything that was added."""
         names, modes, counts, *rest = list(zip(*self.jobs)) if self.jobs else [()] * 14
         texts = Texts(modes, list(counts), self.words, *rest, self.total)
         return Block(names, range(len(names)), texts, before or Open("", ""))
 
 
 def _slow(reader, text, gathered):
-    """Gathers the records of a piece, as a Reader takes them line by line."""
+    """Collects the records of a piece, which a Reader reads line by line."""
     if reader.job is not None:
         gathered.begin(reader.job)
     for line in text_lines(io.TextIOWrapper(io.BytesIO(text), encoding="latin-1", newline="\n"), before=reader.line):
@@ -520,19 +524,19 @@ def _slow(reader, text, gathered):
 
 
 def shown(file, view, progress=None, is_shared=True, reader=None):
-    """What a view shows of each piece of a report, in order: `view` takes a Block, and runs in another process. What is
-    before a fault is yielded before the fault is raised."""
+    """What a view shows of each piece of a report, in order. `view` takes a Block, and may run in another process. The
+    results before a fault are yielded before the fault is raised."""
     reader, waiting = reader or Reader(), collections.deque()
 
     def given():
-        """The pieces, which are stored until they were read."""
+        """The pieces. Each is stored in `waiting` until its result is there."""
         for piece in pieces(file):
             waiting.append(piece)
             yield piece
     source = given()
 
     def work(piece):
-        """What is found in a piece."""
+        """The result for a piece."""
         return _fast(view, piece)
     shared = (processes.in_order if is_shared else map)(work, source)
     try:
@@ -553,7 +557,7 @@ def shown(file, view, progress=None, is_shared=True, reader=None):
 
 
 def _shown_slowly(reader, piece, view):
-    """What a view shows of a piece that is read line by line."""
+    """What a view shows of a piece, which is read line by line."""
     gathered, fault, before = _Gathered(), None, _state(reader)
     try:
         _slow(reader, piece.text, gathered)

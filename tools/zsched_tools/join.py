@@ -1,8 +1,9 @@
-"""One report of many: the jobs of the parts one after another, and the sum of their polls.
+"""Joins reports: the jobs of the parts in order, and the sum of their polls.
 
-All parts are read and compared before a byte is written; then they are copied. Neither holds a part in
-memory. Parts are read by several processes. With a manifest a part is compared with its digest, and its jobs' names
-with the manifest's; without one its lines are compared with each other, which a change of a value passes."""
+All parts are read and checked before a byte is written. Then they are copied. A part is never in memory as a whole.
+Several processes read the parts. With a manifest, a part is compared with its digest, and its jobs' names with those
+of the manifest. Without one, only the lines of the parts are compared with each other; this doesn't find a changed
+value."""
 import errno
 import functools
 import hashlib
@@ -18,7 +19,7 @@ from zsched_tools.progress import Progress
 from zsched_tools.report import Reader, as_text, text_lines
 
 PIECE = 2**20
-# As much as a processor holds near itself while it is hashed and looked through.
+# Bytes that fit into a processor's cache while they are hashed and searched.
 SHORT_PIECE = 2**16
 LONGEST_LAST = 100
 _LAST_LINE = re.compile(rb"\npolls (0|[1-9][0-9]*)\n\Z")
@@ -26,8 +27,8 @@ _LAST_LINE = re.compile(rb"\npolls (0|[1-9][0-9]*)\n\Z")
 
 @dataclass
 class Part:
-    """A report that was read: the place of its last line, what shows that it is still the same file, the horizon if
-    a job is unfinished, and the latest end of its jobs."""
+    """A report that was read. `length` is the number of bytes before its last line, and `state` identifies the
+    unchanged file. `horizon` is None if no job is unfinished. `latest` is the latest end of a job."""
     path: str
     length: int
     polls: int
@@ -36,30 +37,30 @@ class Part:
     latest: int
 
     def fits(self, horizon, latest):
-        """Whether its jobs may follow others of this horizon and latest end: no job ends after a horizon, and an
-        unfinished one ends there."""
+        """Whether its jobs may follow jobs with this horizon and latest end. No job may end after the horizon, and an
+        unfinished job ends at it."""
         horizons = {self.horizon, horizon} - {None}
         return not horizons or horizons == {max(self.latest, latest)}
 
 
 def _state(file, path):
-    """The file's identity, length and time of change. What isn't a file on a disk can't be read twice."""
+    """The identity, length and time of change of a file. Only a regular file can be read twice."""
     found = os.fstat(file.fileno())
     if not stat.S_ISREG(found.st_mode):
-        raise Refused(f"{path}: is no regular file, and a part is read twice")
+        raise Refused(f"{path}: is not a regular file, and a part is read twice")
     return found.st_dev, found.st_ino, found.st_size, found.st_mtime_ns
 
 
 def _marks(block):
-    """What `join` keeps of a piece: the names of the jobs that begin in it."""
+    """What `join` stores of a piece: the names of the jobs that begin in it."""
     names = Names()
     names.add_each(block.names[1 if block.before.name else 0:])
     return names
 
 
 def _read_part(path, horizon=None, latest=0):
-    """Reads one part to its end, and compares its moments with those of the parts before it. Returns the part and its
-    names."""
+    """Reads a part to its end, and compares its moments with those of the parts before it. Returns the part, and the
+    names of its jobs."""
     reader, names = Reader(), Names()
     reader.horizon, reader.latest = horizon, latest
     with open(path, "rb") as file:
@@ -74,7 +75,7 @@ def _read_part(path, horizon=None, latest=0):
 
 
 def _named(paths):
-    """The names of all parts again, each with its file and line."""
+    """Reads the names of all parts again, each with its file and line."""
     for path in paths:
         with open(path, "rb") as file:
             for number, line in enumerate(text_lines(as_text(file)), 1):
@@ -83,7 +84,8 @@ def _named(paths):
 
 
 def checked(paths, progress):
-    """All parts, each a whole report, with no file and no name of a job twice, and at one horizon."""
+    """Reads all parts. Each must be a whole report, no file and no name of a job may occur twice, and all have one
+    horizon."""
     names, parts, files, horizon, latest = Names(), [], {}, None, 0
     for path, (part, added) in zip(paths, processes.in_order(_read_part, paths)):
         progress.add(1)
@@ -99,7 +101,7 @@ def checked(paths, progress):
     repeated = first_repeat(repeats, _named(paths)) if repeats else None
     if repeated is not None:
         name, first, second = repeated
-        raise Refused(f"{second} has job {name}, which stands in {first} too")
+        raise Refused(f"{second} has job {name}, which is also in {first}")
     return parts
 
 
@@ -118,12 +120,12 @@ def _copy(part, write):
 
 
 def _progress(count, what):
-    """What a terminal shows of parts that are read."""
+    """What a terminal shows of parts that are read or written."""
     return Progress("zsched-report", lambda done: f"{done} of {count} {what}")
 
 
 def write_joined(paths, write):
-    """Writes the report of all parts as bytes if every part is good, else nothing."""
+    """Writes the report of all parts, as bytes, if every part is valid, else nothing."""
     progress = _progress(len(paths), "parts read")
     try:
         parts = checked(paths, progress)
@@ -151,14 +153,14 @@ def _sum_of(path):
 
 
 class _Heads:
-    """The SHA-256 of a report, that of its jobs' names, and their number, gathered by pieces of whole lines."""
+    """The SHA-256 of a report, that of its jobs' names, and the number of jobs, from pieces of whole lines."""
 
     def __init__(self):
         self.report, self.names = hashlib.sha256(), hashlib.sha256()
         self.jobs = 0
 
     def add(self, piece):
-        """A piece more."""
+        """Adds a piece."""
         self.report.update(piece)
         heads = piece.split(b"\njob ")
         if heads[0].startswith(b"job "):
@@ -171,23 +173,23 @@ class _Heads:
 
 
 def _read_known(folder, entry):
-    """Reads a part of a manifest: its plan, if that is here, its digest and its report. Returns the part."""
+    """Reads a part of a manifest: its plan, if that exists, its digest and its report. Returns the part."""
     place = os.path.join(folder, entry.name)
     report = f"{place}.report"
     with open(report, "rb") as file:
         state = _state(file, report)
         plan, wanted = manifest.digests(f"{place}.sha256", entry.name)
         if plan != entry.plan:
-            raise Refused(f"{report}: is by its digest the report of another plan than the manifest's {entry.name}.json")
+            raise Refused(f"{report}: its digest has another plan than the manifest's {entry.name}.json")
         if os.path.exists(f"{place}.json") and _sum_of(f"{place}.json") != entry.plan:
-            raise Refused(f"{place}.json: isn't the plan that the manifest has: its SHA-256 is another one")
+            raise Refused(f"{place}.json: isn't the plan of the manifest: it has another SHA-256")
         heads = _Heads()
         while piece := file.read(SHORT_PIECE):
             heads.add(piece + file.readline())
         file.seek(max(0, state[2] - LONGEST_LAST))
         last = _LAST_LINE.search(b"\n" + file.read())
     if heads.report.hexdigest() != wanted:
-        raise Refused(f"{report}: was changed or cut after its digest was made: its SHA-256 is another one")
+        raise Refused(f"{report}: was changed or cut after its digest was made: it has another SHA-256")
     if heads.names.hexdigest() != entry.names or heads.jobs != entry.jobs:
         raise Refused(f"{report}: has other jobs than the manifest's {entry.name}.json")
     if last is None:
@@ -196,7 +198,7 @@ def _read_known(folder, entry):
 
 
 def write_known(path, write):
-    """Writes the report of a manifest's parts as bytes if every part is good, else nothing."""
+    """Writes the report of a manifest's parts, as bytes, if every part is valid, else nothing."""
     entries, folder, parts = manifest.read(path), os.path.dirname(path), []
     absent = [name for name in (os.path.join(folder, entry.name + ending) for entry in entries
                                 for ending in (".report", ".sha256")) if not os.path.exists(name)]

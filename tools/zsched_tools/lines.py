@@ -1,8 +1,8 @@
-"""A report as JSON lines, and the report made again from them.
+"""Converts a report to JSON lines, and JSON lines to the report.
 
-Each attempt is an object of type `attempt`, each job's ending one of type `end`, and the last line one of type
-`total`. Numbers are JSON numbers, up to 2^64 - 1 (the total has no bound); outputs of schedules are texts, as the
-report has them."""
+Each attempt is an object of type `attempt`, each job's ending an object of type `end`, and the last line an object of
+type `total`. Numbers are JSON numbers, up to 2^64 - 1 (the total has no bound). Outputs of schedules are texts, as in
+the report."""
 import itertools
 import json
 import operator
@@ -18,7 +18,7 @@ _ordered = json.JSONEncoder(sort_keys=True).encode
 
 
 def _json(value):
-    """A number, a word of a report (none of which has a letter that JSON escapes) or None, as JSON."""
+    """A number, a word of a report or None, as JSON. No word of a report has a character that JSON escapes."""
     if value is None:
         return "null"
     return f'"{value}"' if isinstance(value, str) else value
@@ -37,20 +37,21 @@ def json_line(job, record):
     return f'{{"type":"total","polls":{record.polls}}}'
 
 
-# In place of the names of jobs with equal lines, which are made once.
+# Represents the name in the lines of jobs with equal lines, which are made once.
 _NAME = "\0"
-# Between the words of an attempt after which the schedule continues. The first and the outcome are its job's.
+# The texts between the words of an attempt after which the schedule continues. Those at 0 and 6 depend on the job.
 _BETWEEN = ["", None, ',"begin":', None, ',"end":', None, "", None, ',"waited":', None, ',"out":"', None, '","next":',
             None, "}\n"]
 
 
 def _names(block):
-    """The name in the lines of each place."""
+    """The name that the lines of each place have."""
     return itertools.repeat(_NAME) if block.is_shared() else block.names
 
 
 def _attempt_pieces(block, waits):
-    """The pieces of the JSON lines of all attempts after which a schedule continues: those of _BETWEEN for each."""
+    """The pieces of the JSON lines of all attempts after which a schedule continues: for each attempt those of
+    _BETWEEN."""
     texts, stride = block.texts, len(columns.WORDS)
     words, found, step = texts.words, _BETWEEN * len(block.begins), len(_BETWEEN)
     outs = words[5::stride]
@@ -67,7 +68,8 @@ def _attempt_pieces(block, waits):
 
 
 def _attempt_texts(block):
-    """For each place the JSON lines of the attempts after which a job's schedule continues, and the wait before the next."""
+    """For each place, the JSON lines of the attempts after which the schedule continues, and the wait after the last
+    one."""
     texts, edges, step = block.texts, block.edges, len(_BETWEEN)
     if not texts.words:
         return [""] * len(texts.modes), ["null"] * len(texts.modes)
@@ -82,7 +84,7 @@ def _attempt_texts(block):
 
 
 def _end_texts(block, waits):
-    """For each place the JSON lines of the attempt after which a job's schedule doesn't continue, and of its ending."""
+    """For each place, the JSON lines of the attempt after which the schedule doesn't continue, and of the ending."""
     texts = block.texts
     if block.lead is not None and not texts.counts[0]:
         waits[0] = str(block.lead)
@@ -115,13 +117,13 @@ def _lines_of(block):
 
 
 def write_lines(file, write, progress=None):
-    """Writes the JSON lines of a report, a binary file, each as soon as it is known."""
+    """Writes the JSON lines of a report, a binary file. Those of a piece are written as soon as it is read."""
     for text in columns.shown(file, _lines_of, progress):
         write(text)
 
 
 def _attempt_lines(item):
-    """The report's lines of an object of type attempt."""
+    """The report's lines for an object of type attempt."""
     if item["end"] is None:
         yield f"attempt {item['attempt']} {item['begin']}.. running"
     else:
@@ -132,13 +134,13 @@ def _attempt_lines(item):
 
 
 def _end_line(item):
-    """The report's line of an object of type end."""
+    """The report's line for an object of type end."""
     result = {"succeeded": f" {item['value']}", "failed": f" {item['value']}", "finished": f" {item['out']}"}
     return f"end {item['ending']}{result.get(item['ending'], '')} at {item['at']} polls {item['polls']}"
 
 
 def report_lines(item, is_open):
-    """The report's lines of a JSON object; the job's first line before them if no job is open."""
+    """The report's lines for a JSON object. If no job is open, the job's first line is before them."""
     if item["type"] == "total":
         return [f"polls {item['polls']}"]
     first = [] if is_open else [f"job {item['job']} {item['mode']}"]
@@ -150,7 +152,7 @@ def report_lines(item, is_open):
 
 
 def _again(reader, line):
-    """The report's lines of a JSON line, which is rejected if it isn't the object of just these lines."""
+    """The report's lines for a JSON line. The line is rejected if it differs from the object that these lines make."""
     item = _decode(line)
     job, record = reader.job, None
     texts = report_lines(item, job is not None)
@@ -166,8 +168,8 @@ def _again(reader, line):
 
 
 def write_report(source, write):
-    """Writes the report of JSON lines, each line as soon as it is known. The lines must be those that
-    `write_lines` gives for that report; the white space in them and the order of keys may be others."""
+    """Writes the report of JSON lines, line by line. The lines must be those that `write_lines` writes for that report,
+    except for white space and the order of keys."""
     reader, number = Reader(), 0
     for number, line in enumerate(text_lines(source), 1):
         try:
@@ -175,7 +177,7 @@ def write_report(source, write):
         except Refused as refused:
             raise Refused(f"line {number}, made into a report: {refused}") from None
         except (ValueError, KeyError, TypeError, AttributeError, RecursionError):
-            raise Refused(f"line {number} is no line of a report as JSON: {shown(line)}") from None
+            raise Refused(f"line {number} isn't a line of a report as JSON: {shown(line)}") from None
         for text in texts:
             write(text)
             write("\n")

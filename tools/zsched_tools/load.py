@@ -1,4 +1,5 @@
-"""The load of a report: what begins and ends in each step of time, and how many attempts run and wait at its end."""
+"""The load of a report: what begins and ends in each step of time, and the attempts that run and the jobs that wait at
+its end."""
 import collections
 import itertools
 import operator
@@ -15,12 +16,12 @@ SECOND = 1000
 
 
 def _is_known(moment):
-    """Whether there is a moment."""
+    """Whether a moment is there."""
     return moment is not None
 
 
 def _by_mode(block):
-    """The ends of the attempts after which the schedule continues, each list with the mode of its jobs."""
+    """Lists of the ends of attempts after which the schedule continues, each with the mode of its jobs."""
     modes = block.texts.modes
     if len(set(modes)) == 1:
         yield modes[0], block.ends
@@ -30,21 +31,22 @@ def _by_mode(block):
 
 
 class Load:
-    """What began and ended in each step of time: attempts that began, succeeded and failed; jobs that began and that
-    ended. A job begins with its first attempt; one that is unfinished at the horizon doesn't end."""
+    """What began and ended in each step of time. The counters have the attempts that began, succeeded and failed, and
+    the jobs that began and ended. A job begins with its first attempt. A job that is unfinished at the horizon doesn't
+    end."""
 
     def __init__(self, every):
         self.every = every
         self.begun, self.ok, self.err, self.joined, self.left = [collections.Counter() for _ in range(5)]
 
     def take(self, block):
-        """Adds a piece of a report. Returns the load itself."""
+        """Adds a piece of a report. Returns this load."""
         for times, part in block.groups():
             self._take(part, times)
         return self
 
     def _take(self, block, times):
-        """Adds jobs, each of which is there so many times."""
+        """Adds jobs, each `times` times."""
         texts, ends = block.texts, {"ok": [], "err": []}
         for mode, moments in _by_mode(block):
             ends[columns.ASKED[mode]].append(moments)
@@ -64,7 +66,7 @@ class Load:
                 counter.update({step: times * count for step, count in collections.Counter(steps).items()})
 
     def take_job(self, attempts, ending):
-        """Adds one job's attempts, each an `Attempt`."""
+        """Adds a job: its attempts, each an `Attempt`, and its ending."""
         if attempts:
             self.joined[attempts[0].begin // self.every] += 1
             self.left[ending.at // self.every] += ending.how != "unfinished"
@@ -74,7 +76,7 @@ class Load:
                 (self.ok if attempt.outcome == "ok" else self.err)[attempt.end // self.every] += 1
 
     def coarser(self, factor):
-        """The load in steps that are `factor` times as long."""
+        """The load in steps that are longer by the factor."""
         if factor == 1:
             return self
         found = Load(self.every * factor)
@@ -84,15 +86,15 @@ class Load:
         return found
 
     def fitted(self):
-        """The load in steps of a tenfold length, as often as it has too many."""
+        """The load in steps that are longer by a power of 10, so that attempts begin in at most MOST_FITTED of them."""
         found = self
         while len(found.begun) > MOST_FITTED:
             found = found.coarser(10)
         return found
 
     def clamped(self, first, last):
-        """The load in which everything before the first step is in the one before it, and everything after the last one in
-        the one after it."""
+        """The load from the first to the last step. What is before the first step is in the step before it, and what is
+        after the last step in the step after it."""
         found = Load(self.every)
         for mine, theirs in zip(self._counters(), found._counters()):
             for step, count in mine.items():
@@ -100,7 +102,8 @@ class Load:
         return found
 
     def joined_with(self, other):
-        """Both loads as one, in the longer one's steps or longer ones. One step is a multiple of the other."""
+        """Both loads as one. Its steps are the longer ones of both, or longer. The longer step must be a multiple of
+        the other."""
         every = max(self.every, other.every)
         mine, others = self.coarser(every // self.every), other.coarser(every // other.every)
         mine.add(others)
@@ -115,7 +118,7 @@ class Load:
         return self.begun, self.ok, self.err, self.joined, self.left
 
     def steps(self):
-        """The first and the last step in which anything happens; None if nothing does."""
+        """The first and the last step in which something begins or ends, or None."""
         keys = [step for counter in self._counters() for step, count in counter.items() if count]
         return (min(keys), max(keys)) if keys else None
 
@@ -127,8 +130,8 @@ class Load:
                           "take a longer --every")
 
     def rows(self):
-        """A row for each step: its first moment, attempts begun, ok, err in it, and attempts that run and jobs that wait
-        at its end."""
+        """A row for each step: its first moment; the attempts that begin, succeed and fail in it; the attempts that
+        run and the jobs that wait at its end."""
         found = self.steps()
         if found is None:
             return
@@ -156,7 +159,7 @@ def write_csv(load, write):
 
 
 def write_table(load, write):
-    """Writes the load as a table, and its sums."""
+    """Writes the load as a table, and the sums of attempts."""
     rows = list(load.rows())
     if rows:
         for line in table([HEAD] + [[duration(row[0]), *map(str, row[1:])] for row in rows], left=0):

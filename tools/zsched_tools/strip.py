@@ -1,4 +1,4 @@
-"""The load of many jobs as a picture: a strip of bars, under the rows of a picture or in their place."""
+"""Draws the load of many jobs as a strip of bars, below the rows of a picture or in place of them."""
 
 from zsched_tools import columns, picture
 from zsched_tools.axis import NEAREST_LABELS, Scale, View, labels, step_between_labels
@@ -9,12 +9,12 @@ from zsched_tools.load import Load
 from zsched_tools.report import Job
 from zsched_tools.summary import plural
 
-# In pixels: the height of the bars of attempts, that of running and waiting, and the room for words above each.
+# In pixels: the height of the bars of attempts, that of running and waiting, and that of the words above each.
 BARS = 56
 LINES = 40
 WORDS = 18
 HEIGHT = BARS + LINES + 2 * WORDS + 8
-# How many times as tall the bars are in a picture of their own.
+# The factor of the bars' heights in a picture that has only the strip.
 ALONE = 3
 FEWEST_ROWS = 17
 MOST_BARS = 200
@@ -22,12 +22,12 @@ LEFT = 24
 
 
 def step_of(first, last):
-    """A step of time that gives at most MOST_BARS steps from a first to a last moment."""
+    """A step of time, of which at most MOST_BARS are between a first and a last moment."""
     return step_between_labels(max(1, last - first), NEAREST_LABELS * MOST_BARS)
 
 
 def load_of_rows(rows, scale):
-    """The load of a picture's rows, in steps that a strip has room for."""
+    """The load of a picture's rows, in at most MOST_BARS steps."""
     found = Load(step_of(scale.first, scale.last))
     for row in rows:
         found.take_job(row.attempts, row.ending)
@@ -35,8 +35,8 @@ def load_of_rows(rows, scale):
 
 
 def strip(load, scale, top, times=1):
-    """The strip of a load below a height: attempts that ended in each step, and what runs and waits at its end. Its bars
-    are so many times as tall."""
+    """The strip of a load, from a height on: the attempts that ended in each step, and what runs and waits at its end.
+    `times` is a factor of the bars' heights."""
     first, last = scale.first // load.every, scale.last // load.every
     rows = [row for row in load.clamped(first, last).rows() if first <= row[0] // load.every <= last]
     most = max([max(row[1], row[2] + row[3]) for row in rows], default=0)
@@ -54,32 +54,32 @@ def strip(load, scale, top, times=1):
 
 
 def _lines(top, times):
-    """The heights of the two lines that the bars stand on."""
+    """The heights of the two lines at the bottom of the bars."""
     base = top + WORDS + times * BARS
     return base, base + WORDS + times * LINES
 
 
 def _grid(moment, scale, top):
-    """The line of a moment in a picture of a load alone: not through the words above the bars."""
+    """The line of a moment in a picture that has only a load. It doesn't cross the words above the bars."""
     base, floor = _lines(top, ALONE)
     at = place(scale.at(moment))
     return path(f"M{at} {place(top + WORDS)}V{place(base)}M{at} {place(base + WORDS)}V{place(floor + 8)}", "grid")
 
 
 def _words(long, short, scale, base):
-    """What a part of the strip shows, in as many words as there is room for."""
+    """What a part of the strip shows, in long words if they fit, else in short ones."""
     has_room = text_width(long, picture.SMALL_SIZE) <= scale.right - scale.left
     return text(scale.left, base, long if has_room else short, "axis")
 
 
 def _places(row, every, scale):
-    """Where a step is drawn: a little apart from the next one."""
+    """The left and the right end of a step's bar, with a gap before the next one."""
     left, right = max(scale.left, scale.at(max(row[0], scale.first))), scale.at(row[0] + every)
     return left, max(left + 0.5, right - 0.4)
 
 
 def _bars(rows, every, scale, base, unit):
-    """The attempts that ended in each step, with all figures in words."""
+    """The bars of the attempts that ended in each step, with the step's figures as titles."""
     for row in rows:
         moment, begun, ok, err, running, waiting = row
         if not begun + ok + err:
@@ -95,7 +95,7 @@ def _bars(rows, every, scale, base, unit):
 
 
 def _levels(rows, every, scale, base, unit):
-    """What runs and what waits at the end of each step."""
+    """The bars of what runs and what waits at the end of each step."""
     for row in rows:
         running, waiting = row[4:]
         left, right = _places(row, every, scale)
@@ -124,8 +124,8 @@ def _moments_of(load, view):
 
 
 def draw_strip(load, title, note=None, view=View(), width=None):
-    """The load as a picture of its own, in lines of SVG: a file as wide as a picture of rows, or, with a width, inside of
-    a page."""
+    """The load as a separate picture, in lines of SVG. Without a width it is a file, as wide as a picture of rows.
+    With a width it is a part of a page."""
     is_file, width = width is None, width or picture.WIDTH
     first, last = _moments_of(load, view)
     load = load.coarser(_round_number(-(-(-(-last // load.every) - first // load.every) // MOST_BARS)))
@@ -152,7 +152,7 @@ def draw_strip(load, title, note=None, view=View(), width=None):
 
 
 class Crowd:
-    """The jobs of a report that are drawn: at most MOST_JOBS rows, the number of all, and their load."""
+    """The jobs of a report that are drawn: at most MOST_JOBS rows, the number of all jobs, and their load."""
 
     def __init__(self, chosen):
         self.chosen = frozenset(chosen)
@@ -160,7 +160,8 @@ class Crowd:
         self.attempts = []
 
     def view(self, block):
-        """What is drawn of a piece: the names of jobs that end in it, the attempts if jobs are few, and the load."""
+        """What is drawn of a piece: the names of the jobs that end in it, the attempts if it has at most MOST_JOBS
+        jobs, and the load."""
         if self.chosen:
             block = block.of([job for job, name in enumerate(block.names) if name in self.chosen])
         names, places, texts = block.names, block.places, block.texts
@@ -170,7 +171,7 @@ class Crowd:
         return ended, kept, Load(1).take(block).fitted()
 
     def add(self, names, kept, load):
-        """One piece more."""
+        """Adds a piece."""
         self.jobs += len(names)
         self.missing.difference_update(names)
         self.load = self.load.joined_with(load)
@@ -195,5 +196,5 @@ def crowd_of(file, chosen, progress=None):
 
 
 def note_of(crowd):
-    """What is said above the load of jobs that are too many to draw."""
+    """The line above the load of jobs that are too many for rows."""
     return (f"{plural(crowd.jobs, 'job')}; a picture has room for the rows of {picture.MOST_JOBS}: choose some with --job NAME")

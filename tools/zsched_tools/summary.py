@@ -1,4 +1,4 @@
-"""A report as a table with a line a job, the most attempts that ran at once, and the times to the end."""
+"""A report as a table with a line for each job, the greatest number of attempts at once, and the times to the end."""
 import array
 import collections
 import functools
@@ -14,22 +14,22 @@ LEFT_COLUMNS = 3
 WIDEST_ENDING = 30
 PERCENTS = [50, 95, 99]
 WELL = ["succeeded", "finished"]
-# From how many lines of a table on several processes write it.
+# Several processes write a table with more lines.
 MANY_LINES = 100_000
 LINES_AT_ONCE = 10_000
 MOST_KNOWN = 2**16
 
 
 class Options(NamedTuple):
-    """What the user chose: the order of the table, one line in place of the table, and a limit in milliseconds."""
+    """The user's options: the order of the table, one line in place of the table, and a limit in milliseconds."""
     sort: str | None = None
     one_line: bool = False
     within: int | None = None
 
 
 class Figures(NamedTuple):
-    """What is known of jobs, as columns with an entry a place of a block. Times are milliseconds. What goes on at the
-    horizon, an attempt or a wait, counts up to there."""
+    """The figures of jobs, as columns with an entry for each place of a block. Times are milliseconds. An attempt or a
+    wait that has not ended at the horizon counts up to the horizon."""
     modes: list
     hows: list
     results: list
@@ -43,26 +43,27 @@ class Figures(NamedTuple):
     longest: list
 
     def of(self, places):
-        """Some of the places."""
+        """The figures of some places."""
         return Figures(*(column[places] for column in self))
 
     def joined_with(self, later):
-        """One job whose attempts go on in the next piece: all of them."""
+        """The figures of one job that continues in the next piece: of its attempts in both pieces."""
         sums = {name: [getattr(self, name)[0] + getattr(later, name)[0]]
                 for name in ("attempts", "oks", "errs", "busy", "waited")}
         begins = later.begins if self.begins[0] is None else self.begins
         return later._replace(begins=begins, longest=[max(self.longest[0], later.longest[0])], **sums)
 
 
-# What the table is sorted by, for each place; None for the names.
+# The keys by which the table is sorted, for each place; None for the names.
 SORTS = {"end": lambda figures: figures.ats, "name": None,
          "attempts": lambda figures: [-count for count in figures.attempts]}
 
 
 class Chunk(NamedTuple):
-    """Jobs that ended: their lines of the table, with tabs between the cells, and the greatest width of each column;
-    what the lines are sorted by; the times of those that aren't unfinished; how many ended well within the limit; the
-    endings; the attempts."""
+    """Jobs that ended. `rows` has their lines of the table, with tabs between the cells, and `widths` the greatest
+    width of each column. `keys` has the keys for sorting. `times` has the times to the end of the jobs that aren't
+    unfinished. `well` is the number of jobs that ended well within the limit. `endings` counts the endings, and
+    `attempts` the attempts."""
     rows: str
     widths: list
     keys: list
@@ -73,7 +74,7 @@ class Chunk(NamedTuple):
 
 
 def _sums(values, edges):
-    """The sums of the values between each two edges."""
+    """The sums of the values between neighbouring edges."""
     sums = list(itertools.accumulate(values, initial=0))
     found = list(map(sums.__getitem__, edges))
     return list(map(operator.sub, found[1:], found))
@@ -98,7 +99,7 @@ def _figures(block):
 
 
 class _Known(dict):
-    """What a function returns, for values that are often the same."""
+    """A cache of the results of a function."""
 
     def __init__(self, function):
         super().__init__()
@@ -115,7 +116,7 @@ _durations, _counts = _Known(duration), _Known(str)
 
 
 def ending_text(how, result, widest=WIDEST_ENDING):
-    """How a job ended, with its value or output, which is cut if it is long."""
+    """How a job ended, with its value or output. A long text is cut."""
     text = f"{how} {result}" if result else how
     return text if len(text) <= widest else text[:widest - 2] + ".."
 
@@ -132,7 +133,7 @@ def _rows(names, places, figures):
 
 
 def _chunk(options, names, places, figures):
-    """Jobs that ended: their names, and the place of each among the figures."""
+    """The chunk of jobs that ended, from their names and their places among the figures."""
     rows, widths, keys, well = "", [], [], 0
     hows, ats, begins, attempts = [list(map(column.__getitem__, places)) for column in (
         figures.hows, figures.ats, figures.begins, figures.attempts)]
@@ -147,13 +148,13 @@ def _chunk(options, names, places, figures):
 
 
 class Crowd:
-    """The moments at which attempts began and ended. One that ends at a moment doesn't run any more at that moment."""
+    """The moments at which attempts began and ended. An attempt doesn't run at the moment at which it ends."""
 
     def __init__(self):
         self.begun, self.ended = collections.Counter(), collections.Counter()
 
     def add(self, times, begins, ends):
-        """Moments in any order, each of which is there so many times."""
+        """Adds moments in any order, each `times` times."""
         for counter, moments in [(self.begun, begins), (self.ended, ends)]:
             if times == 1:
                 counter.update(moments)
@@ -162,7 +163,7 @@ class Crowd:
                     counter[moment] += times
 
     def most(self):
-        """The most attempts that ran at once, and the first moment at which so many did."""
+        """The greatest number of attempts that ran at once, and the first moment with that number."""
         moments = sorted({*self.begun, *self.ended})
         counts = [map(changes.get, moments, itertools.repeat(0)) for changes in (self.begun, self.ended)]
         running = list(itertools.accumulate(map(operator.sub, *counts)))
@@ -171,15 +172,16 @@ class Crowd:
 
 
 def _moments(runs, lasts):
-    """Moments as an array, which is short on its way from a process to another."""
+    """Moments as an array, which takes few bytes between processes."""
     found = array.array("Q", runs)
     found.extend(moment for moment in lasts if moment is not None)
     return found
 
 
 class _Found(NamedTuple):
-    """What a piece shows: the rest of the job that it begins in, the jobs that begin and end in it, the job that goes on
-    after it, when attempts began and ended, each with the number of jobs, and the total if it is there."""
+    """What a piece shows. `first` is the rest of a job of the pieces before, `whole` are the jobs that begin and end
+    in the piece, and `last` is the job that continues after it. `moments` are the begins and ends of attempts, with
+    the number of jobs that have them. `total` is None if it isn't in the piece."""
     first: tuple | None
     whole: Chunk
     last: tuple | None
@@ -201,14 +203,14 @@ def _shown(options, block):
 
 
 class Summary:
-    """All jobs of a report, chunk by chunk, the crowd, and the total of polls."""
+    """All jobs of a report in chunks, the crowd, and the total of polls."""
 
     def __init__(self, options):
         self.options, self.chunks, self.crowd, self.total = options, [], Crowd(), 0
         self.open = None
 
     def add(self, found):
-        """One piece more."""
+        """Adds a piece."""
         if found.first is not None:
             name, figures = found.first
             figures = figures if self.open is None else self.open[1].joined_with(figures)
@@ -227,7 +229,7 @@ class Summary:
         return sum(sum(chunk.endings.values()) for chunk in self.chunks)
 
     def table(self):
-        """The lines of the table, as texts of some lines each."""
+        """The lines of the table, as texts of several lines."""
         texts, count = [chunk.rows for chunk in self.chunks if chunk.rows], self.jobs()
         widths = list(map(max, zip(map(len, HEAD), *(chunk.widths for chunk in self.chunks if chunk.rows))))
         if self.options.sort:
@@ -269,14 +271,14 @@ def table(rows, left=LEFT_COLUMNS):
 
 
 def _percentiles(times, jobs):
-    """The times within which half of all jobs ended, and 95 and 99 of 100. An unfinished job takes longer than all."""
+    """The times within which 50, 95 and 99 % of the jobs ended. An unfinished job counts as the longest."""
     for percent in PERCENTS:
         rank = -(-percent * jobs // 100)
         yield f"p{percent} {duration(times[rank - 1]) if rank <= len(times) else 'unfinished'}"
 
 
 def _lines(summary):
-    """What is said of all jobs together."""
+    """The lines about all jobs together."""
     chunks, jobs, within = summary.chunks, summary.jobs(), summary.options.within
     endings = collections.Counter()
     for chunk in chunks:
@@ -298,8 +300,8 @@ def _lines(summary):
 
 
 def write_summary(file, write, options=Options(), progress=None):
-    """Writes the table, the number of endings of each kind, the most attempts at once, and the times to the end; or all
-    but the table in one line. `file` is binary."""
+    """Writes the table, the number of endings of each kind, the greatest number of attempts at once, and the times to
+    the end. With `one_line` it writes everything except the table, in one line. `file` is binary."""
     summary = summarised(file, options, progress)
     lines = list(_lines(summary))
     if options.one_line:
