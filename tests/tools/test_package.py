@@ -61,8 +61,10 @@ class Manual(unittest.TestCase):
     @unittest.skipIf(shutil.which("mandoc") is None, "mandoc isn't installed (Debian: mandoc)")
     def test_mandoc_has_nothing_to_say(self):
         for page in MANUALS:
-            ended = subprocess.run(["mandoc", "-T", "lint", page], capture_output=True, check=False)
-            self.assertEqual((ended.stdout.decode(), ended.returncode), ("", 0), page.name)
+            ended = subprocess.run(["mandoc", "-T", "lint", page], capture_output=True, text=True, check=False)
+            # The pages refer to each other, and aren't installed here.
+            said = [line for line in ended.stdout.splitlines() if "referenced manual not found: Xr zsched" not in line]
+            self.assertEqual(said, [], page.name)
 
     def test_names_every_word_of_plans_and_schedules(self):
         grammar = FORMATS.split("### Grammar")[1].split("### Limits")[0]
