@@ -219,7 +219,7 @@ ROWS = [
     Row("attempts with pairs and sides",
         attempts_of("(recurs(3) andThenEither (forever && identity))"), 2500,
         Cost(5900, 138, 0.01)),
-    Row("attempts in records", records(attempts_of("forever")), 2500, Cost(4800, 250, 0.01),
+    Row("attempts in records", records(attempts_of("forever")), 2700, Cost(4800, 250, 0.01),
         runs="zs_refusals"),
     Row("jobs due together", jobs_of("recurs(5)"), 1000, Cost(76_000, 2220, 20.5)),
     # Most of their cost is the parsing of their schedules.
@@ -251,7 +251,7 @@ ROWS = [
         runs="library program"),
     Row("leaves of a state", states, 100, Cost(800_000, 370, 240), runs="library state"),
     Row("steps of bounds", steps_of_bounds, 1000, Cost(4500, 0.01, 4.2), runs="library answer"),
-    Row("leaves of bounds", leaves_of_bounds, 100, Cost(8600, 419, 6.7),
+    Row("leaves of bounds", leaves_of_bounds, 100, Cost(9750, 525, 8.8),
         runs="library answer"),
 ]
 ROWS_BY_NAME = {row.name: row for row in ROWS}

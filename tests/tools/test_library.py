@@ -441,7 +441,7 @@ class FromC(unittest.TestCase):
     def test_the_deepest_schedules_need_no_more_stack_than_the_header_says(self):
         header, caller = (TOP / "include" / "zsched.h").read_text(), (TOP / "tests" / "library.c").read_text()
         stack = re.search(r"define STACK .(\d+) . 1024", caller)[1]
-        self.assertIn(f"and {stack} KiB of stack are free", header)
+        self.assertIn(f" {stack} KiB of stack are free", header)
         stack = re.search(r"define BOUNDS_STACK .(\d+) . 1024", caller)[1]
         self.assertIn(f"for zs_bounds {stack} KiB", header)
         requests = [Request(text.encode(), 40, [(1, 5), (5, 7), (9, 9)]) for text in DEEPEST]
