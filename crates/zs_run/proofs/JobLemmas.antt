@@ -1,12 +1,12 @@
 -- A loop over the jobs of a plan.
-use Rattle.std.proofs.Common.{◌≡◌, ℕ, ◌+◌, List, [], ◌∷◌, ◌++◌, map, Result, Ok, Err, refl, sym, ap, append_assoc, append-nil}
-use Rattle.serde_json.specs.View.{view}
-use Rattle.serde_json.specs.declared.value.Value.{Value}
+use Rattle.std.proofs.Common.{Global, ◌≡◌, ℕ, ◌+◌, List, [], ◌∷◌, ◌++◌, map, Result, Ok, Err, refl, sym, ap, append_assoc, append-nil}
+use Rattle.json.specs.declared.value.Value.{Value}
 use Rattle.zs_drive.specs.Values.{JobRecord, job_record}
 use Rattle.zs_drive.specs.declared.job.Job.{Job}
 use Rattle.zs_run.specs.declared.plan_fault.PlanFault.{PlanFault}
 use Rattle.zs_run.specs.Refusals.{◌>>=◌}
 use Rattle.zs_run.specs.Jobs.{job_of, jobs_of}
+use Rattle.zs_run.specs.TreeView.{view}
 
 -- the names of jobs
 abbrev pub names_of : List Job → List (List ℕ)
@@ -27,7 +27,7 @@ after_push front job (Ok jobs) = ap Ok (sym (append_assoc front (job ∷ []) job
 after_push front job (Err e) = refl
 
 -- one more job
-pub after_step : (front : List JobRecord) (number : ℕ) (names : List (List ℕ)) (value : Value) (rest : List Value) (job : JobRecord)
+pub after_step : (front : List JobRecord) (number : ℕ) (names : List (List ℕ)) (value : Value Global) (rest : List (Value Global)) (job : JobRecord)
     → job_of number names (view value) ≡ Ok job
     → after front (jobs_of number names (map view (value ∷ rest)))
     ≡ after (front ++ job ∷ []) (jobs_of (number + 1) (names ++ job.name ∷ []) (map view rest))
@@ -35,7 +35,7 @@ unfolding jobs_of
 after_step front number names value rest job given = rw given (after_push front job _)
 
 -- a fault of a job
-pub after_fault : (front : List JobRecord) (number : ℕ) (names : List (List ℕ)) (value : Value) (rest : List Value) (fault : PlanFault)
+pub after_fault : (front : List JobRecord) (number : ℕ) (names : List (List ℕ)) (value : Value Global) (rest : List (Value Global)) (fault : PlanFault)
     → job_of number names (view value) ≡ Err fault → after front (jobs_of number names (map view (value ∷ rest))) ≡ Err fault
 unfolding jobs_of
 after_fault front number names value rest fault given = rw given refl

@@ -1,6 +1,6 @@
 //! The parts of a population's input: a document without jobs, and the bytes of one job.
 ghost use Rattle.std.specs.Prelude.{◌≡◌, ◌++◌, ◌∷◌, [], ℕ, List, map, IfOk, None, Ok};
-ghost use Rattle.serde_json.specs.View.{view};
+ghost use Rattle.zs_run.specs.TreeView.{view};
 ghost use Rattle.zs_drive.specs.Values.{job_record};
 ghost use Rattle.zs_run.specs.declared.plan_fault.PlanFault.TheVariants as faults;
 ghost use Rattle.zs_run.specs.Refusals.{Gives};
@@ -13,8 +13,8 @@ use crate::plan::Plan;
 use crate::plan_fault::PlanFault;
 use crate::reading::{MAX_BYTES, read_tree};
 use crate::shapes::AskedTicks;
-use crate::tree::{has_only_keys, whole_or};
-use serde_json::Value;
+use crate::tree::{get, has_only_keys, whole_or};
+use json::{Scratch, Value};
 use std::alloc::{AllocError, Global};
 use std::collections::BTreeSet;
 use zs_drive::Job;
@@ -48,10 +48,10 @@ impl Head {
 
 // The head that a document is.
 #[tactic(auto, unfolding(crate::specs::Head::head_of_tree, crate::specs::Plan::is_cut))]
-fn head_in(alloc: Global, document: &Value) -> Result<Head, PlanFault>
+fn head_in(alloc: Global, document: &Value<'_>) -> Result<Head, PlanFault>
     ensures head { Gives head_record result (head_of_tree (view document.now)) }
 {
-    let ticks = AskedTicks::of(alloc, document.get("horizon"), document.get("ticks"))?;
+    let ticks = AskedTicks::of(alloc, get(document, "horizon"), get(document, "ticks"))?;
     let workers = whole_or(document, "workers", 1).ok_or(PlanFault::Shape { job: None })?;
     let grain = whole_or(document, "grain", 1).ok_or(PlanFault::Shape { job: None })?;
     if !has_only_keys(document, &["horizon", "ticks", "workers", "grain"]) {
@@ -73,7 +73,8 @@ pub fn read_head(alloc: Global, bytes: &[u8]) -> Result<Head, PlanFault>
     if bytes.len() > MAX_BYTES {
         return Err(PlanFault::TooLong);
     }
-    let document = read_tree(alloc, bytes)?;
+    let mut scratch = Scratch::new(alloc);
+    let document = read_tree(alloc, bytes, &mut scratch)?;
     head_in(alloc, &document)
 }
 
@@ -92,6 +93,7 @@ pub fn read_job(
     if bytes.len() > MAX_BYTES {
         return Err(PlanFault::TooLong);
     }
-    let value = read_tree(alloc, bytes)?;
+    let mut scratch = Scratch::new(alloc);
+    let value = read_tree(alloc, bytes, &mut scratch)?;
     job_of(alloc, number, names, &value)
 }

@@ -1,7 +1,7 @@
 //! The jobs of a plan.
 ghost use Rattle.std.specs.Prelude.{◌≡◌, ◌<◌, ◌^◌, ◌++◌, ◌∷◌, ◌&&◌, [], ℕ, List, map, length, IfOk, IfErr, OnOk, Some};
 ghost use Rattle.std.specs.List.{list_all};
-ghost use Rattle.serde_json.specs.View.{view};
+ghost use Rattle.zs_run.specs.TreeView.{view};
 ghost use Rattle.zs_term.specs.Schedule.{schedule_of};
 ghost use Rattle.zs_term.specs.Verdict.{verdict_of};
 ghost use Rattle.zs_drive.specs.Values.{job_record};
@@ -17,7 +17,7 @@ use crate::names::{add_name, is_name, is_used};
 use crate::plan_fault::PlanFault;
 use crate::shapes::JobParts;
 use crate::tree::has_only_keys;
-use serde_json::Value;
+use json::Value;
 use std::alloc::Global;
 use std::collections::BTreeSet;
 use zs_drive::{Job, Mode};
@@ -40,7 +40,7 @@ fn mode_of(text: &str) -> Option<Mode>
 
 // Whether a job and the entries of its script have no other key.
 #[tactic(auto, using(crate::proofs::Trees::list_all_map))]
-fn has_known_keys(job: &Value, entries: &[Value]) -> bool
+fn has_known_keys(job: &Value<'_>, entries: &[Value<'_>]) -> bool
     ensures value { result
         ≡ (has_only_keys job_keys (view job.now)
         && list_all (has_only_keys entry_keys) (map view entries.now)) }
@@ -78,7 +78,7 @@ pub(crate) fn job_of(
     alloc: Global,
     number: u64,
     names: &BTreeSet<String>,
-    value: &Value,
+    value: &Value<'_>,
 ) -> Result<Job, PlanFault>
     ensures value { (earlier : List (List ℕ)) → KnowsNames names.now earlier
         → Gives job_record result (job_of number earlier (view value.now)) }
@@ -112,10 +112,10 @@ fn take_job(
     alloc: Global,
     number: u64,
     names: &BTreeSet<String>,
-    value: Value,
+    value: Value<'_>,
 ) -> Result<Job, PlanFault>
     ensures value { (earlier : List (List ℕ)) → KnowsNames names.now earlier
-        → Gives job_record result (job_of number earlier (view value)) }
+        → Gives job_record result (job_of number earlier (view value.entry)) }
 {
     job_of(alloc, number, names, &value)
 }
@@ -140,11 +140,11 @@ pub fn add_job(
 
 /// The jobs of a list, or the first fault. Each value is dropped as soon as it is read, while it is
 /// in the cache. The names so far are in a set, so that each is looked up in short time.
-pub(crate) fn jobs_of(alloc: Global, values: Vec<Value>) -> Result<Vec<Job>, PlanFault>
+pub(crate) fn jobs_of(alloc: Global, values: Vec<Value<'_>>) -> Result<Vec<Job>, PlanFault>
     requires room { length values.items < 2 ^ 64 }
     ensures jobs { Gives (λ jobs. map job_record jobs.items) result
-        (jobs_of 0 [] (map view values.items)) }
-    ensures count { IfOk result (λ jobs. length jobs.items ≡ length values.items) }
+        (jobs_of 0 [] (map view values.entry.items)) }
+    ensures count { IfOk result (λ jobs. length jobs.items ≡ length values.entry.items) }
 {
     let mut jobs = Vec::new(alloc);
     let mut names = BTreeSet::new(alloc);

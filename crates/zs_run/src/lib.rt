@@ -19,6 +19,7 @@ mod job_reading;
 mod laws;
 mod marked;
 mod names;
+mod numbers;
 mod plan;
 mod plan_fault;
 mod reading;

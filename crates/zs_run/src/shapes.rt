@@ -1,14 +1,14 @@
 //! The parts of a document, a job and an entry: each is looked up once, and has its type from then
 //! on.
 ghost use Rattle.std.specs.Prelude.{◌≡◌, map, option_map, IfOk, None, Some};
-ghost use Rattle.serde_json.specs.View.{view};
+ghost use Rattle.zs_run.specs.TreeView.{view};
 ghost use Rattle.zs_run.specs.declared.plan_fault.PlanFault.TheVariants as faults;
 ghost use Rattle.zs_run.specs.Refusals.{Gives, demand_some};
 ghost use Rattle.zs_run.specs.Tree.{all_of, as_whole, as_wholes};
 
 use crate::plan_fault::PlanFault;
-use crate::tree::{as_list, list, take_list, text, whole_or};
-use serde_json::Value;
+use crate::tree::{as_list, as_whole, list, take_list, text, whole_or};
+use json::Value;
 use std::alloc::{AllocError, Global};
 use zs_agenda::Clock;
 
@@ -23,30 +23,30 @@ pub(crate) enum AskedTicks {
 
 /// The parts of a document beside its clock.
 #[derive(Drop)]
-pub(crate) struct DocumentParts {
+pub(crate) struct DocumentParts<'v> {
     pub(crate) workers: u64,
     pub(crate) grain: u64,
-    pub(crate) jobs: Vec<Value>,
+    pub(crate) jobs: Vec<Value<'v>>,
 }
 
 /// The parts of a job.
 #[derive(Drop)]
-pub(crate) struct JobParts<'v> {
-    pub(crate) name: &'v str,
-    pub(crate) mode: &'v str,
-    pub(crate) schedule: &'v str,
+pub(crate) struct JobParts<'v, 'a> {
+    pub(crate) name: &'a str,
+    pub(crate) mode: &'a str,
+    pub(crate) schedule: &'a str,
     pub(crate) start: u64,
-    pub(crate) entries: &'v [Value],
+    pub(crate) entries: &'v [Value<'a>],
 }
 
 // The whole numbers of a list.
-fn wholes_of(alloc: Global, items: &[Value]) -> Result<Vec<u64>, PlanFault>
+fn wholes_of(alloc: Global, items: &[Value<'_>]) -> Result<Vec<u64>, PlanFault>
     ensures value { Gives (λ numbers. numbers.items) result
         (demand_some (all_of as_whole (map view items.now)) (faults.Shape None)) }
 {
     let mut numbers = Vec::new(alloc);
     for item in items {
-        let Some(number) = item.as_u64() else {
+        let Some(number) = as_whole(item) else {
             return Err(PlanFault::Shape { job: None });
         };
         numbers.push(number)?;
@@ -55,7 +55,7 @@ fn wholes_of(alloc: Global, items: &[Value]) -> Result<Vec<u64>, PlanFault>
 }
 
 // The whole numbers of what has to be a list.
-fn wholes_in(alloc: Global, value: &Value) -> Result<Vec<u64>, PlanFault>
+fn wholes_in(alloc: Global, value: &Value<'_>) -> Result<Vec<u64>, PlanFault>
     ensures value { Gives (λ numbers. numbers.items) result
         (demand_some (as_wholes (view value.now)) (faults.Shape None)) }
 {
@@ -72,8 +72,8 @@ impl AskedTicks {
     /// The ticks of a document, by its keys `horizon` and `ticks`: just one of the two.
     pub(crate) fn of(
         alloc: Global,
-        horizon: Option<&Value>,
-        ticks: Option<&Value>,
+        horizon: Option<&Value<'_>>,
+        ticks: Option<&Value<'_>>,
     ) -> Result<AskedTicks, PlanFault>
         ensures value { Gives asked_view result
             (demand_some
@@ -82,7 +82,7 @@ impl AskedTicks {
     {
         match (horizon, ticks) {
             (Some(horizon), None) => {
-                let last = horizon.as_u64().ok_or(PlanFault::Shape { job: None })?;
+                let last = as_whole(horizon).ok_or(PlanFault::Shape { job: None })?;
                 Ok(AskedTicks::EveryMs(last))
             }
             (None, Some(ticks)) => Ok(AskedTicks::Listed(wholes_in(alloc, ticks)?)),
@@ -116,19 +116,19 @@ impl AskedTicks {
     }
 }
 
-impl DocumentParts {
+impl<'v> DocumentParts<'v> {
     ghost use Rattle.zs_run.specs.Shapes.{document_parts};
     ghost use Rattle.zs_run.specs.ShapeViews.{document_view};
 
     /// The parts of a document, if all are there and have their types. The list of jobs is taken
     /// out of it.
     #[tactic(auto, unfolding(crate::specs::Shapes::document_parts))]
-    pub(crate) fn of(alloc: Global, document: &mut Value) -> Option<DocumentParts>
-        ensures value { option_map document_view result ≡ document_parts (view document.old) }
+    pub(crate) fn of(document: Value<'v>) -> Option<DocumentParts<'v>>
+        ensures value { option_map document_view result ≡ document_parts (view document.entry) }
     {
-        let workers = whole_or(document, "workers", 1)?;
-        let grain = whole_or(document, "grain", 1)?;
-        let jobs = take_list(alloc, document, "jobs")?;
+        let workers = whole_or(&document, "workers", 1)?;
+        let grain = whole_or(&document, "grain", 1)?;
+        let jobs = take_list(document, "jobs")?;
         Some(DocumentParts {
             workers,
             grain,
@@ -137,13 +137,13 @@ impl DocumentParts {
     }
 }
 
-impl<'v> JobParts<'v> {
+impl<'v, 'a> JobParts<'v, 'a> {
     ghost use Rattle.zs_run.specs.Shapes.{job_parts};
     ghost use Rattle.zs_run.specs.ShapeViews.{job_view};
 
     /// The parts of a job, if all are there and have their types.
     #[tactic(auto, unfolding(crate::specs::Shapes::job_parts))]
-    pub(crate) fn of(job: &'v Value) -> Option<JobParts<'v>>
+    pub(crate) fn of(job: &'v Value<'a>) -> Option<JobParts<'v, 'a>>
         ensures value { option_map job_view result ≡ job_parts (view job.now) }
     {
         Some(JobParts {

@@ -1,13 +1,13 @@
-use Rattle.std.proofs.Common.{◌≡◌, ◌++◌, ◌∷◌, [], ◌∙◌, ℕ, List, sym, ap, refl, map, length, length-append, Ok, Err, rules, arith}
+use Rattle.std.proofs.Common.{Global, ◌≡◌, ◌++◌, ◌∷◌, [], ◌∙◌, ℕ, List, sym, ap, refl, length, length-append, Ok, Err, rules, arith}
 use Rattle.std.specs.Vec.Iter.{into_iter_items}
 use Rattle.std.proofs.lemmas.List.{map-append, nil_from_length}
 use Rattle.std.proofs.lemmas.Result.{err_from_is_err_and}
-use Rattle.serde_json.specs.View.{view}
-use Rattle.serde_json.specs.declared.value.Value.{Value}
+use Rattle.json.specs.declared.value.Value.{Value}
 use Rattle.zs_drive.specs.Values.{job_record}
 use Rattle.zs_drive.specs.declared.job.Job.{Job}
 use Rattle.zs_run.specs.Names.{KnowsNames}
 use Rattle.zs_run.specs.Jobs.{job_of}
+use Rattle.zs_run.specs.TreeView.{view}
 use Rattle.zs_run.proofs.JobLemmas.{names_of, after_none, after_step, after_fault, after_all}
 use Rattle.zs_run.proofs.job_reading.jobs_of.Goals as goal
 
@@ -27,13 +27,13 @@ loop-value-init c =
 pub overflow_add-number : goal.overflow_add-number
 overflow_add-number c =
     let step : into_iter_items c.loop-value.value-iterator ≡ c.in-Some.value ∷ into_iter_items c.next.new.self = c.in-Some.ensures.steps.0 in
-    omega (arith, ap (λ (vs : List Value). length vs) step, c.loop-value.invariant.count, c.requires.room)
+    omega (arith, ap (λ (vs : List (Value Global)). length vs) step, c.loop-value.invariant.count, c.requires.room)
 
 -- a job has a fault, which is the first of all jobs
 pub returns-in_err-job-clause-jobs : goal.returns-in_err-job-clause-jobs
 returns-in_err-job-clause-jobs c =
     let p = err_from_is_err_and c.from_residual.result c.from_residual.ensures.1 in
-    let rest : List Value = into_iter_items c.next.new.self in
+    let rest : List (Value Global) = into_iter_items c.next.new.self in
     let step : into_iter_items c.loop-value.value-iterator ≡ c.in-Some.value ∷ rest = c.in-Some.ensures.steps.0 in
     rw (p.1, p.2) (λ other.
     let fault : job_of c.loop-value.number (names_of c.loop-value.jobs.items) (view c.in-Some.value) ≡ Err c.in_err-job.field-0.0 =
@@ -43,7 +43,7 @@ returns-in_err-job-clause-jobs c =
 -- one more job and its name
 pub loop-value-preserved : goal.loop-value-preserved
 loop-value-preserved c =
-    let rest : List Value = into_iter_items c.next.new.self in
+    let rest : List (Value Global) = into_iter_items c.next.new.self in
     let step : into_iter_items c.loop-value.value-iterator ≡ c.in-Some.value ∷ rest = c.in-Some.ensures.steps.0 in
     let before : List Job = c.loop-value.jobs.items in
     let items : c.add_job.new.jobs.items ≡ before ++ c.in_ok-job.job ∷ [] = search rules in
@@ -53,7 +53,7 @@ loop-value-preserved c =
     c.in_ok-job.ensures.value (names_of before) c.loop-value.invariant.names in
     record {
       number = rw items (omega (arith, length-append before (c.in_ok-job.job ∷ []), c.loop-value.invariant.number));
-      count = omega (arith, ap (λ (vs : List Value). length vs) step, c.loop-value.invariant.count);
+      count = omega (arith, ap (λ (vs : List (Value Global)). length vs) step, c.loop-value.invariant.count);
       names = rw (items, map-append (λ (job : Job). (job_record job).name)) (known (names_of before) c.loop-value.invariant.names);
       jobs = rw (items, map-append job_record, map-append (λ (job : Job). (job_record job).name))
           (sym (after_step _ _ _ c.in-Some.value rest _ given) ∙ rw step at c.loop-value.invariant.jobs);
@@ -70,4 +70,4 @@ pub returns-clause-count : goal.returns-clause-count
 returns-clause-count c =
     let it = c.loop-value.value-iterator in
     let none : into_iter_items it ≡ [] = nil_from_length (into_iter_items it) (omega (arith, it.rest.ok.0, c.in-None.ensures.steps.0)) in
-    omega (arith, ap (λ (vs : List Value). length vs) none, c.loop-value.invariant.number, c.loop-value.invariant.count)
+    omega (arith, ap (λ (vs : List (Value Global)). length vs) none, c.loop-value.invariant.number, c.loop-value.invariant.count)

@@ -1,9 +1,9 @@
 use Rattle.std.proofs.Common.{◌≡◌, ◌+◌, map, length, []}
 use Rattle.std.specs.Vec.Iter.{into_iter_items}
-use Rattle.serde_json.specs.View.{view}
 use Rattle.zs_drive.specs.Values.{job_record}
 use Rattle.zs_run.specs.Jobs.{jobs_of}
 use Rattle.zs_run.specs.Names.{KnowsNames}
+use Rattle.zs_run.specs.TreeView.{view}
 use Rattle.zs_run.proofs.JobLemmas.{after, names_of}
 use Rattle.zs_run.proofs.job_reading.jobs_of.Given as goal
 
