@@ -4,18 +4,15 @@ import json
 import math
 import multiprocessing
 import os
-import pathlib
 import random
 import re
-import subprocess
 import sys
-import tempfile
 import unittest
-import xml.etree.ElementTree
 from unittest import mock
+from xml.etree import ElementTree
 
 import support
-from commands import run_here
+from commands import InFolder, errors_of, output_of, process, run_here
 from measured import measured
 from report_samples import (GREATEST, NO_REPORTS, REPORTS, RETRIED, RUNNING, SUMMARIES, WAITING, long_report,
                             random_report, wide_report)
@@ -34,11 +31,14 @@ TOOL = support.TOP / "tools" / "zsched-report"
 FORMS = ["lines", "summary", "svg", "html"]
 
 
-def process(*words, text=""):
+def apart(*words, text=""):
     """Runs the command in another process: status, standard output, standard error."""
-    ended = subprocess.run([sys.executable, TOOL, *words], input=text.encode("latin-1"), capture_output=True,
-                           check=False)
-    return ended.returncode, ended.stdout.decode(), ended.stderr.decode()
+    return process(sys.executable, TOOL, *words, given=text.encode("latin-1"))
+
+
+def of_shell(command):
+    """The same of a command line in which TOOL is the command."""
+    return process("bash", "-c", command.replace("TOOL", f"{sys.executable} {TOOL}"))
 
 
 def tool(*words, text=""):
@@ -66,16 +66,22 @@ def report_of(text):
     return "".join(out)
 
 
+def outcome(work):
+    """What a function writes, and the error if it rejects its text."""
+    out, fault = [], None
+    try:
+        work(out.append)
+    except Refused as refused:
+        fault = str(refused)
+    return "".join(out), fault
+
+
 def fault_of(work, text):
     """The error for a rejected text; None for an accepted one."""
-    try:
-        work(text)
-    except Refused as refused:
-        return str(refused)
-    return None
+    return outcome(lambda _: work(text))[1]
 
 
-class JsonLines(unittest.TestCase):
+class JsonLines(InFolder):
     """The JSON lines of a report hold all of its data."""
 
     def test_each_known_report_is_made_again_byte_for_byte(self):
@@ -104,12 +110,9 @@ class JsonLines(unittest.TestCase):
         self.assertEqual((second["begin"], second["end"], second["waited"]), (2**64 - 1, None, 1))
 
     def test_the_command_reads_a_file_or_standard_input(self):
-        with tempfile.NamedTemporaryFile("w") as file:
-            file.write(WAITING)
-            file.flush()
-            self.assertEqual(process("lines", file.name), (0, lines_of(WAITING), ""))
-        self.assertEqual(process("lines", text=WAITING), (0, lines_of(WAITING), ""))
-        self.assertEqual(process("from-lines", text=lines_of(WAITING)), (0, WAITING, ""))
+        self.assertEqual(apart("lines", self.file("report", WAITING)), (0, lines_of(WAITING), ""))
+        self.assertEqual(apart("lines", text=WAITING), (0, lines_of(WAITING), ""))
+        self.assertEqual(apart("from-lines", text=lines_of(WAITING)), (0, WAITING, ""))
 
     def test_other_white_space_and_another_order_of_keys_are_the_same_lines(self):
         others = "".join(json.dumps(json.loads(line), sort_keys=True) + "\n" for line in lines_of(WAITING).splitlines())
@@ -138,17 +141,14 @@ class JsonLines(unittest.TestCase):
                              f"ends after line {count}, without its last line, of type total")
 
     def test_a_long_report_takes_little_memory_and_time(self):
-        with tempfile.TemporaryDirectory() as folder:
-            path = pathlib.Path(folder) / "long"
-            path.write_text(long_report(50_000))
-            status, kilobytes, seconds = measured(TOOL, "lines", path, out=path.with_suffix(".lines"))
-            self.assertEqual(path.with_suffix(".lines").read_bytes().count(b"\n"), 50_002)
-        self.assertEqual(status, 0)
+        out = self.folder / "lines"
+        status, kilobytes, seconds = measured(TOOL, "lines", self.file("long", long_report(50_000)), out=out)
+        self.assertEqual((status, out.read_bytes().count(b"\n")), (0, 50_002))
         self.assertLess(kilobytes, 40_000)
         self.assertLess(seconds, 10)
 
 
-class Refusals(unittest.TestCase):
+class Refusals(InFolder):
     """A text that isn't a whole report is rejected, with the line's number."""
 
     def test_a_report_cut_after_each_line(self):
@@ -180,66 +180,49 @@ class Refusals(unittest.TestCase):
 
     def test_the_command_tells_the_place_and_ends_with_2(self):
         cut = WAITING[:WAITING.index("end failed")]
-        with tempfile.NamedTemporaryFile("w") as file:
-            file.write(cut)
-            file.flush()
-            for form in FORMS:
-                for words, text, place in [([file.name], "", file.name), ([], cut, "standard input")]:
-                    status, out, errors = process(form, *words, text=text)
-                    self.assertEqual((status, errors),
-                                     (2, f"zsched-report: {place}: ends after line 12, but an end is expected, "
-                                         "and there is no last line 'polls TOTAL'\n"))
-                    self.assertEqual(out, "" if form != "lines" else "".join(
-                        line + "\n" for line in lines_of(WAITING).splitlines()[:-2]))
+        file = self.file("cut", cut)
+        for form in FORMS:
+            written = "".join(lines_of(WAITING).splitlines(keepends=True)[:-2]) if form == "lines" else ""
+            for words, text, place in [([file], "", file), ([], cut, "standard input")]:
+                said = "ends after line 12, but an end is expected, and there is no last line 'polls TOTAL'"
+                self.assertEqual(apart(form, *words, text=text), (2, written, f"zsched-report: {place}: {said}\n"))
 
     def test_bytes_that_are_no_text_are_refused(self):
         for form in FORMS:
-            status, out, errors = tool(form, text="\xff\x00\n")
-            self.assertEqual((status, out), (2, ""))
+            errors = errors_of(self, tool(form, text="\xff\x00\n"))
             self.assertTrue(errors.startswith("zsched-report: standard input: line 1 isn't a line of a report"), errors)
 
     def test_a_file_that_is_not_there_ends_with_3(self):
         for words in [*([form, "/nowhere/x"] for form in FORMS), ["join", "/nowhere/x"]]:
-            self.assertEqual(process(*words), (3, "", "zsched-report: /nowhere/x: No such file or directory\n"))
+            self.assertEqual(apart(*words), (3, "", "zsched-report: /nowhere/x: No such file or directory\n"))
 
     def test_a_reader_that_goes_away_ends_it_quietly_but_for_join(self):
-        with tempfile.NamedTemporaryFile("w") as file:
-            file.write(long_report(20_000))
-            file.flush()
-            for form, status, said in [("lines", 141, b""), ("load --every 10ms", 141, b""),
-                                       ("join", 3, b"zsched-report: the reader of standard output closed it\n")]:
-                command = f"{sys.executable} {TOOL} {form} {file.name} | head -n 1 > {os.devnull}; exit ${{PIPESTATUS[0]}}"
-                ended = subprocess.run(["bash", "-c", command], capture_output=True, check=False)
-                self.assertEqual((ended.returncode, ended.stderr), (status, said), form)
+        file = self.file("long", long_report(20_000))
+        for form, status, said in [("lines", 141, ""), ("load --every 10ms", 141, ""),
+                                   ("join", 3, "zsched-report: the reader of standard output closed it\n")]:
+            ended = of_shell(f"TOOL {form} {file} | head -n 1 > {os.devnull}; exit ${{PIPESTATUS[0]}}")
+            self.assertEqual(ended[::2], (status, said), form)
 
     def test_an_output_that_takes_nothing_ends_it_with_3_and_one_line(self):
-        with tempfile.NamedTemporaryFile("w") as file:
-            file.write(long_report(2_000))
-            file.flush()
-            for form in ["lines", "load", "join"]:
-                for target, said in [("> /dev/full", "No space left on device"), (">&-", "standard output is closed")]:
-                    ended = subprocess.run(["bash", "-c", f"{sys.executable} {TOOL} {form} {file.name} {target}"],
-                                           capture_output=True, text=True, check=False)
-                    self.assertEqual((ended.returncode, ended.stderr), (3, f"zsched-report: {said}\n"), f"{form} {target}")
+        file = self.file("long", long_report(2_000))
+        for form in ["lines", "load", "join"]:
+            for target, said in [("> /dev/full", "No space left on device"), (">&-", "standard output is closed")]:
+                ended = of_shell(f"TOOL {form} {file} {target}")
+                self.assertEqual(ended[::2], (3, f"zsched-report: {said}\n"), f"{form} {target}")
 
     def test_no_python_and_an_old_one_are_told_in_one_line(self):
         for name in ["zsched-report", "zsched-plan"]:
             path = TOOL.with_name(name)
-            ended = subprocess.run(["/bin/sh", path, "--help"], env={"PATH": "/nowhere"}, capture_output=True, text=True,
-                                   check=False)
             said = f"{name}: needs Python 3.11 or later, and "
-            self.assertEqual((ended.returncode, ended.stdout, ended.stderr),
+            self.assertEqual(process("/bin/sh", path, "--help", PATH="/nowhere"),
                              (3, "", f"{said}there is no python3 on this machine\n"))
             inside = f"import sys; sys.version_info, __file__ = (3, 10, 4), {str(path)!r}; exec(open(__file__).read())"
-            ended = subprocess.run([sys.executable, "-c", inside], capture_output=True, text=True, check=False)
-            self.assertEqual((ended.returncode, ended.stdout, ended.stderr), (3, "", f"{said}this is Python 3.10\n"))
-            self.assertEqual(subprocess.run([path, "--help"], capture_output=True, check=False).returncode, 0)
+            self.assertEqual(process(sys.executable, "-c", inside), (3, "", f"{said}this is Python 3.10\n"))
+            self.assertEqual(process(path, "--help")[0], 0)
 
     def test_wrong_words_end_with_2(self):
         for words in [[], ["picture"], ["svg", "a", "b"], ["lines", "--title", "x"], ["join"]]:
-            status, out, errors = process(*words)
-            self.assertEqual((status, out), (2, ""), words)
-            self.assertIn("usage: zsched-report", errors)
+            self.assertIn("usage: zsched-report", errors_of(self, apart(*words), words))
 
 
 class Terminal(unittest.TestCase):
@@ -272,9 +255,7 @@ class Summary(unittest.TestCase):
         self.assertEqual(len(SUMMARIES), 6)
         for name, (rows, total, crowd, times) in SUMMARIES.items():
             with self.subTest(name):
-                status, out, errors = tool("summary", text=REPORTS[name])
-                self.assertEqual((status, errors), (0, ""))
-                told = out.splitlines()
+                told = output_of(self, tool("summary", text=REPORTS[name])).splitlines()
                 cells = [re.split(r"\s{2,}", line) for line in told[:len(rows) + 1]]
                 self.assertEqual(cells, [["job", "mode", "ending", "at", "attempts", "ok", "err", "busy", "waited",
                                           "longest wait"], *rows])
@@ -286,13 +267,12 @@ class Summary(unittest.TestCase):
         self.assertEqual({line.index(" repeat ") for line in told[1:3]}, {told[0].index(" mode ")})
 
     def test_a_report_without_jobs(self):
-        self.assertEqual(process("summary", text="polls 0\n"), (0, "0 jobs; 0 attempts; 0 polls\n", ""))
+        self.assertEqual(apart("summary", text="polls 0\n"), (0, "0 jobs; 0 attempts; 0 polls\n", ""))
 
     def test_an_output_that_is_long_is_cut(self):
         out = "[" + ",".join(["1"] * 500) + "]"
         text = f"job a repeat\nattempt 1 0..5 ok 1\nstep 1 out {out} done\nend finished {out} at 5 polls 2\npolls 2\n"
         self.assertLess(max(map(len, tool("summary", text=text)[1].splitlines())), 140)
-
 
     def test_tables_are_sorted_as_chosen(self):
         names = {order: [line.split()[0] for line in tool("summary", "--sort", order, text=WAITING)[1].splitlines()[1:3]]
@@ -319,9 +299,7 @@ class Summary(unittest.TestCase):
     def test_wrong_times_are_refused(self):
         for words in [["summary", "--within", "x"], ["summary", "--sort", "x"], ["load", "--every", "0"],
                       ["load", "--every", "1.5ms"], ["load", "--csv", "--svg"]]:
-            status, out, errors = tool(*words, text=RETRIED)
-            self.assertEqual((status, out), (2, ""))
-            self.assertIn("usage: zsched-report", errors)
+            self.assertIn("usage: zsched-report", errors_of(self, tool(*words, text=RETRIED)))
 
 
 class Load(unittest.TestCase):
@@ -341,9 +319,7 @@ class Load(unittest.TestCase):
     def test_four_loads_by_hand(self):
         for name, rows in self.LOADS.items():
             with self.subTest(name):
-                status, out, errors = tool("load", "--csv", text=REPORTS[name])
-                self.assertEqual((status, errors), (0, ""))
-                told = out.splitlines()
+                told = output_of(self, tool("load", "--csv", text=REPORTS[name])).splitlines()
                 self.assertEqual(told[0], "from_ms,begun,ok,err,running,waiting")
                 self.assertEqual([list(map(int, line.split(","))) for line in told[1:]], rows)
 
@@ -353,7 +329,7 @@ class Load(unittest.TestCase):
             ["from", "begun", "ok", "err", "running", "waiting"], ["0", "ms", "6", "3", "2", "1", "1"],
             ["2.5", "s", "1", "1", "0", "1", "0"], ["5", "s", "0", "1", "0", "0", "1"], [],
             ["7", "attempts:", "5", "ok,", "2", "err,", "0", "running", "at", "the", "horizon"]]))
-        self.assertEqual(process("load", text="polls 0\n"), (0, "0 attempts: 0 ok, 0 err, 0 running at the horizon\n", ""))
+        self.assertEqual(apart("load", text="polls 0\n"), (0, "0 attempts: 0 ok, 0 err, 0 running at the horizon\n", ""))
 
     def test_too_many_steps_are_refused(self):
         self.assertEqual(tool("load", "--every", "1ms", text=long_report(20_000)),
@@ -372,35 +348,27 @@ class Load(unittest.TestCase):
 
     def test_the_picture_has_all_figures_and_nothing_outside(self):
         for text in [wide_report(300, 4), RUNNING, GREATEST, "polls 0\n"]:
-            status, out, errors = tool("load", "--svg", "--every", "50ms", "--title", "A & B", text=text)
-            self.assertEqual((status, errors), (0, ""))
-            root = xml.etree.ElementTree.fromstring(out)
-            found = [it.text for it in root.iter(f"{SVG}title")]
-            self.assertEqual(sum(int(re.search(r"(\d+) begun", it)[1]) for it in found), text.count("\nattempt "))
+            root = drawn_by(self, "load", "--svg", "--every", "50ms", "--title", "A & B", text=text)
+            self.assertEqual(sum(begun_in(root)), text.count("\nattempt "))
             nothing_outside(self, root)
 
 
-class Fast(unittest.TestCase):
+class Fast(InFolder):
     """Pieces of a report, read by columns, are what a Reader makes of its lines."""
 
     def lines_of_reader(self, text):
         """The JSON lines of a report, record by record, and the error."""
-        out = []
-        try:
-            for job, record in records(io.StringIO(text)):
-                out.append(lines.json_line(job, record) + "\n")
-        except Refused as refused:
-            return "".join(out), str(refused)
-        return "".join(out), None
+        return outcome(lambda write: [write(lines.json_line(*it) + "\n") for it in records(io.StringIO(text))])
 
     def lines_of_pieces(self, text):
         """The same by pieces."""
+        return outcome(lambda write: lines.write_lines(io.BytesIO(text.encode("latin-1")), write))
+
+    def both(self, text, **options):
+        """The lines of the summary and the rows of the load of a report."""
         out = []
-        try:
-            lines.write_lines(io.BytesIO(text.encode("latin-1")), out.append)
-        except Refused as refused:
-            return "".join(out), str(refused)
-        return "".join(out), None
+        write_summary(io.BytesIO(text.encode()), out.append, Options(**options))
+        return "".join(out), list(load.read(io.BytesIO(text.encode()), 100).rows())
 
     def texts(self):
         """Reports, and texts that aren't reports."""
@@ -445,12 +413,9 @@ class Fast(unittest.TestCase):
 
     def test_summary_and_load_of_a_job_in_many_pieces(self):
         for text in [long_report(500), RUNNING, WAITING]:
-            whole = [], load.read(io.BytesIO(text.encode()), 100)
-            write_summary(io.BytesIO(text.encode()), whole[0].append, Options(within=500))
+            whole = self.both(text, within=500)
             with mock.patch.object(columns, "PIECE", 90):
-                cut = [], load.read(io.BytesIO(text.encode()), 100)
-                write_summary(io.BytesIO(text.encode()), cut[0].append, Options(within=500))
-            self.assertEqual((cut[0], list(cut[1].rows())), (whole[0], list(whole[1].rows())))
+                self.assertEqual(self.both(text, within=500), whole)
 
     def figures_of_reader(self, text, every):
         """The figures of the summary, job by job, and the rows of the load, from a Reader's records."""
@@ -491,8 +456,8 @@ class Fast(unittest.TestCase):
 
     def repeated(self, rng, text, jobs):
         """A report of `jobs` jobs, each with the lines of one of a report's."""
-        bodies = [part.partition(" ")[2] for part in ("\n" + text[:text.rindex("polls ", 0, -1)]).split("\njob ")[1:]]
-        bodies = [body.rstrip("\n") + "\n" for body in bodies]
+        parts = ("\n" + text[:text.rindex("polls ", 0, -1)]).split("\njob ")[1:]
+        bodies = [part.partition(" ")[2].rstrip("\n") + "\n" for part in parts]
         made = [f"job r{number} {rng.choice(bodies)}" for number in range(jobs)]
         polls = sum(int(it) for it in re.findall(r"^end .* polls (\d+)$", "".join(made), re.M))
         return "".join(made) + f"polls {polls}\n"
@@ -536,13 +501,10 @@ class Fast(unittest.TestCase):
                 text = text if kinds == 40 else self.repeated(rng, text, 40)
                 jobs, rows = self.figures_of_reader(text, 100)
                 with mock.patch.object(columns, "PIECE", length), mock.patch.object(columns, "_shown_slowly") as slow:
-                    out = []
-                    write_summary(io.BytesIO(text.encode()), out.append)
-                    found = load.read(io.BytesIO(text.encode()), 100)
+                    summary, found = self.both(text)
                 slow.assert_not_called()
-                cells = [re.split(r"\s{2,}", line) for line in "".join(out).splitlines()[1:41]]
-                self.assertEqual(cells, jobs)
-                self.assertEqual(list(found.rows()), rows)
+                self.assertEqual([re.split(r"\s{2,}", line) for line in summary.splitlines()[1:41]], jobs)
+                self.assertEqual(found, rows)
                 self.assertEqual(self.lines_of_pieces(text), self.lines_of_reader(text))
 
     def test_a_table_of_many_lines_is_written_by_several_processes(self):
@@ -550,27 +512,22 @@ class Fast(unittest.TestCase):
         for sort in [None, "name", "end", "attempts"]:
             found = []
             for many, at_once in [(10**6, 10**6), (10, 7)]:
-                out = []
-                with mock.patch.object(summary_tool, "MANY_LINES", many), \
-                        mock.patch.object(summary_tool, "LINES_AT_ONCE", at_once), \
+                with mock.patch.multiple(summary_tool, MANY_LINES=many, LINES_AT_ONCE=at_once), \
                         mock.patch.object(columns, "PIECE", 3000):
-                    write_summary(io.BytesIO(text.encode()), out.append, Options(sort))
-                found.append("".join(out))
+                    found.append(self.both(text, sort=sort)[0])
             self.assertEqual(found[0], found[1])
             self.assertEqual(found[0].count("\n"), 305)
 
     def test_the_forms_keep_up_with_the_program(self):
         text = wide_report(800, 60)
-        with tempfile.TemporaryDirectory() as folder:
-            path = pathlib.Path(folder) / "report"
-            path.write_text(text)
-            once = measured(TOOL, "from-lines", os.devnull, out=os.devnull)[2]
-            for form in [["lines"], ["summary", "--one-line"], ["load"]]:
-                status, kilobytes, seconds = measured(TOOL, *form, path, out=os.devnull)
-                self.assertEqual(status, 0)
-                self.assertLess(kilobytes, 60_000)
-                # Line by line took over one second a megabyte on the slowest machine that was seen.
-                self.assertLess(seconds - once, 0.4 * len(text) / 1e6)
+        path = self.file("report", text)
+        once = measured(TOOL, "from-lines", os.devnull, out=os.devnull)[2]
+        for form in [["lines"], ["summary", "--one-line"], ["load"]]:
+            status, kilobytes, seconds = measured(TOOL, *form, path, out=os.devnull)
+            self.assertEqual(status, 0)
+            self.assertLess(kilobytes, 60_000)
+            # Line by line took over one second a megabyte on the slowest machine that was seen.
+            self.assertLess(seconds - once, 0.4 * len(text) / 1e6)
 
 
 SVG = "{http://www.w3.org/2000/svg}"
@@ -622,12 +579,37 @@ def sizes(root):
 
 def picture_of(text, chosen=(), title="", view=View()):
     """The picture of a report, read as XML."""
-    return xml.etree.ElementTree.fromstring("".join(draw(rows_of(io.StringIO(text), chosen), title, view)))
+    return ElementTree.fromstring("".join(draw(rows_of(io.StringIO(text), chosen), title, view)))
+
+
+def drawn_by(test, *words, text):
+    """The picture that the command draws, read as XML."""
+    return ElementTree.fromstring(output_of(test, tool(*words, text=text)))
 
 
 def titles(root):
     """The texts of the attempts of a picture."""
     return [element.text for element in root.iter(f"{SVG}title") if element.text.startswith("attempt")]
+
+
+def jobs_in(root):
+    """The jobs whose attempts a picture has."""
+    return {title.split(" of ")[1].split(":")[0] for title in titles(root)}
+
+
+def begun_in(root):
+    """How many attempts begin in each step of a picture of a load."""
+    return [int(found[1]) for it in root.iter(f"{SVG}title") if (found := re.search(r"(\d+) begun", it.text))]
+
+
+def labels(root):
+    """The labels of the axis of a picture."""
+    return [it for it in root.iter(f"{SVG}text") if it.get("class") == "axis"]
+
+
+def bars(root):
+    """The bars of a picture that have a title."""
+    return [it for it in root.iter(f"{SVG}rect") if it.find(f"{SVG}title") is not None]
 
 
 def pictures():
@@ -685,25 +667,24 @@ class Pictures(unittest.TestCase):
         self.assertEqual([int(match[1]) for match in told[1:]], [int(match[2]) + 1 for match in told[:-1]])
 
     def test_outcomes_have_other_shapes(self):
-        root = picture_of(COARSE_AND_FAILED)
-        bars = [element for element in root.iter(f"{SVG}rect") if element.find(f"{SVG}title") is not None]
-        heights = {style: {bar.get("height") for bar in bars if bar.get("class") == style} for style in ["ok", "err"]}
+        drawn = bars(picture_of(REPORTS["coarse"]))
+        heights = {style: {bar.get("height") for bar in drawn if bar.get("class") == style} for style in ["ok", "err"]}
         self.assertEqual([len(heights["ok"]), len(heights["err"])], [1, 1])
         self.assertLess(float(*heights["err"]), 0.6 * float(*heights["ok"]))
-        self.assertEqual({bar.get("class") for bar in bars if bar.get("rx")}, {"ok"})
+        self.assertEqual({bar.get("class") for bar in drawn if bar.get("rx")}, {"ok"})
 
     def test_labels_of_the_axis_are_sensible_and_stand_apart(self):
         for text, wanted in [(RETRIED, ["0", "2 ms", "4 ms"]), (RUNNING, ["0", "2 s", "4 s"]),
                              (long_report(5_000), ["0", "10 s", "20 s"]),
                              (long_report(50_000), ["0", "1 min", "2 min"]),
                              (RUNNING.replace("at 10000", "at 39000"), ["0", "5 s", "10 s"])]:
-            labels = [it for it in picture_of(text).iter(f"{SVG}text") if it.get("class") == "axis"]
-            self.assertEqual([it.text for it in labels][:3], wanted)
-            places = [float(it.get("x")) for it in labels]
+            shown = labels(picture_of(text))
+            self.assertEqual([it.text for it in shown][:3], wanted)
+            places = [float(it.get("x")) for it in shown]
             self.assertGreaterEqual(min(right - left for left, right in zip(places, places[1:])), 89)
 
     def test_moments_that_are_far_from_0_count_from_the_first(self):
-        told = [it.text for it in picture_of(GREATEST).iter(f"{SVG}text") if it.get("class") == "axis"]
+        told = [it.text for it in labels(picture_of(GREATEST))]
         self.assertEqual(told[:3], ["time since moment 18446744073709551514 ms", "+0 ms", "+20 ms"])
 
     def test_an_unfinished_job_says_at_which_horizon(self):
@@ -714,8 +695,7 @@ class Pictures(unittest.TestCase):
     def test_jobs_are_chosen_by_name_and_of_more_than_200_the_load_is_drawn(self):
         many = wide_report(201, 2)
         for form in ["svg", "html"]:
-            status, out, errors = tool(form, "--title", "T & U", text=many)
-            self.assertEqual((status, errors), (0, ""))
+            out = output_of(self, tool(form, "--title", "T & U", text=many))
             self.assertIn("201 jobs; a picture has room for the rows of 200: choose some with --job NAME", out)
             self.assertNotIn("service-007", out)
             # 201 jobs, each with an attempt that fails and one that succeeds.
@@ -724,12 +704,9 @@ class Pictures(unittest.TestCase):
             wanted = [drawn * count for count in (402, 201, 201)]
             self.assertEqual([sum(int(row[place]) for row in figures) for place in range(3)], wanted)
             self.assertEqual(figures[-1][3:], ("0", "0"))
-        status, out, _ = tool("svg", "--job", "service-200", "--job", "service-007", text=many)
-        self.assertEqual({it.split(" of ")[1].split(":")[0] for it in titles(xml.etree.ElementTree.fromstring(out))},
-                         {"service-007", "service-200"})
-        self.assertNotIn(" begun, ", out)
-        told = titles(picture_of(many, ["service-200", "service-007"]))
-        self.assertEqual({it.split(" of ")[1].split(":")[0] for it in told}, {"service-007", "service-200"})
+        root = drawn_by(self, "svg", "--job", "service-200", "--job", "service-007", text=many)
+        self.assertEqual((jobs_in(root), begun_in(root)), ({"service-007", "service-200"}, []))
+        self.assertEqual(jobs_in(picture_of(many, ["service-200", "service-007"])), {"service-007", "service-200"})
         self.assertEqual(tool("html", "--job", "x", text=many),
                          (2, "", "zsched-report: standard input: has no job x\n"))
 
@@ -740,11 +717,10 @@ class Pictures(unittest.TestCase):
             ("a", "attempt 1 0..20 ok 1\nend succeeded 1 at 20 polls 2\n")]) + "polls 7\n"
         for words, wanted in [([], "bca"), (["--sort", "end"], "cab"), (["--sort", "name"], "abc"),
                               (["--sort", "attempts"], "cba")]:
-            status, out, _ = tool("svg", *words, text=text)
-            shown = [it.text for it in xml.etree.ElementTree.fromstring(out).iter(f"{SVG}text") if it.text in ("a", "b", "c")]
-            self.assertEqual((status, "".join(shown)), (0, wanted))
-            status, out, _ = tool("html", *words, text=text)
-            self.assertEqual((status, "".join(re.findall(r"^job (\w) retry$", out, re.M))), (0, wanted))
+            shown = [it.text for it in drawn_by(self, "svg", *words, text=text).iter(f"{SVG}text")]
+            self.assertEqual("".join(it for it in shown if it in ("a", "b", "c")), wanted)
+            out = output_of(self, tool("html", *words, text=text))
+            self.assertEqual("".join(re.findall(r"^job (\w) retry$", out, re.M)), wanted)
 
     def test_a_page_has_the_picture_and_no_network_address(self):
         for name, text in pictures():
@@ -762,9 +738,7 @@ class Pictures(unittest.TestCase):
         self.assertEqual(titles(root), [])
         self.assertEqual(len([it for it in root.iter(f"{SVG}path") if it.get("class") == "wait"]), 2)
         for words in [["--from", "5s", "--to", "5s"], ["--from", "1min"]]:
-            status, out, errors = tool("svg", *words, text=RUNNING)
-            self.assertEqual((status, out), (2, ""))
-            self.assertIn("--from must be before --to", errors)
+            self.assertIn("--from must be before --to", errors_of(self, tool("svg", *words, text=RUNNING)))
         self.assertIn('"x" is not a duration', tool("svg", "--from", "x", text=RUNNING)[2])
 
     def test_a_part_of_time_has_its_load_alone(self):
@@ -773,18 +747,15 @@ class Pictures(unittest.TestCase):
             begins = [int(begin) for begin in re.findall(r"^attempt \d+ (\d+)", text, re.MULTILINE)]
             for words, least, most in [(["--from", "300", "--to", "899"], 300, 900), (["--to", "899", "--log"], 0, 900),
                                        (["--log"], 0, max(begins) + 1)]:
-                status, out, errors = tool("svg", *words, text=text)
-                self.assertEqual((status, errors), (0, ""))
-                root = xml.etree.ElementTree.fromstring(out)
-                shown = [int(found[1]) for it in root.iter(f"{SVG}title") if (found := re.search(r": (\d+) begun, ", it.text))]
-                self.assertEqual(sum(shown), sum(least <= begin < most for begin in begins), f"{jobs} jobs, {words}")
+                root = drawn_by(self, "svg", *words, text=text)
+                wanted = sum(least <= begin < most for begin in begins)
+                self.assertEqual(sum(begun_in(root)), wanted, f"{jobs} jobs, {words}")
                 nothing_outside(self, root)
             self.assertEqual(tool("svg", "--from", "900", "--to", "300", text=text)[:2], (2, ""))
 
     def test_the_page_of_a_load_has_a_picture_for_each_width(self):
-        status, out, _ = tool("html", "--title", "T & U", text=wide_report(201, 2))
-        self.assertEqual(status, 0)
-        drawn = [xml.etree.ElementTree.fromstring(it.replace("<svg", f"<svg xmlns={SVG[1:-1]!r}", 1))
+        out = output_of(self, tool("html", "--title", "T & U", text=wide_report(201, 2)))
+        drawn = [ElementTree.fromstring(it.replace("<svg", f"<svg xmlns={SVG[1:-1]!r}", 1))
                  for it in re.findall("<svg.*?</svg>", out, re.DOTALL)]
         self.assertEqual([int(root.get("width")) for root in drawn], list(LOAD_WIDTHS))
         for root in drawn:
@@ -800,7 +771,7 @@ class Pictures(unittest.TestCase):
         self.assertIn("pattern{visibility:visible}", out)
 
     def test_no_line_of_the_grid_crosses_the_words_of_a_load(self):
-        root = xml.etree.ElementTree.fromstring(tool("svg", text=wide_report(201, 2))[1])
+        root = drawn_by(self, "svg", text=wide_report(201, 2))
         words = [float(it.get("y")) for it in root.iter(f"{SVG}text") if ":" in "".join(it.itertext())]
         lines = [it.get("d") for it in root.iter(f"{SVG}path") if it.get("class") == "grid"]
         self.assertTrue(words and lines)
@@ -808,19 +779,14 @@ class Pictures(unittest.TestCase):
             self.assertFalse([y for y in words if above < y < below], (above, below))
 
     def test_equal_ratios_are_equally_long_on_a_logarithmic_axis(self):
-        root = picture_of(RUNNING, view=View(is_log=True))
-        bars = [it for it in root.iter(f"{SVG}rect") if it.find(f"{SVG}title") is not None]
-        left = [float(bar.get("x")) for bar in bars]
+        left = [float(bar.get("x")) for bar in bars(picture_of(RUNNING, view=View(is_log=True)))]
         scale = Scale(0, 10000, left[0], left[0] + 1000, 700)
         self.assertEqual([round(scale.at(moment)) for moment in (0, 700, 2100, 4900)],
                          [round(left[0] + 1000 * number / math.log2(1 + 10000 / 700)) for number in (0, 1, 2, 3)])
-        plain = [float(bar.get("x")) for bar in picture_of(RUNNING).iter(f"{SVG}rect")
-                 if bar.find(f"{SVG}title") is not None]
+        plain = [float(bar.get("x")) for bar in bars(picture_of(RUNNING))]
         self.assertGreater(left[1] - left[0], 2 * (plain[1] - plain[0]))
         for name, text in pictures():
-            root = picture_of(text, view=View(is_log=True))
-            labels = [it for it in root.iter(f"{SVG}text") if it.get("class") == "axis"]
-            places = sorted({float(it.get("x")) for it in labels})
+            places = sorted({float(it.get("x")) for it in labels(picture_of(text, view=View(is_log=True)))})
             self.assertTrue(all(right - left > 59 for left, right in zip(places[1:], places[2:])), name)
 
     def test_a_picture_is_dark_where_that_is_preferred_and_has_no_small_letter(self):
@@ -831,7 +797,7 @@ class Pictures(unittest.TestCase):
     def test_a_picture_of_a_file_is_as_large_as_it_was_drawn(self):
         for words in [["svg"], ["load", "--svg", "--every", "50ms"]]:
             for text in [WAITING, wide_report(201, 2)]:
-                root = xml.etree.ElementTree.fromstring(tool(*words, text=text)[1])
+                root = drawn_by(self, *words, text=text)
                 self.assertEqual(["0", "0", root.get("width"), root.get("height")], root.get("viewBox").split())
                 self.assertIsNone(root.get("style"))
 
@@ -845,117 +811,99 @@ class Pictures(unittest.TestCase):
 
     def test_the_command_writes_picture_and_page(self):
         for form, make in [("svg", draw), ("html", page)]:
-            status, out, errors = process(form, "--title", "T", "--job", "beat", text=WAITING)
-            self.assertEqual((status, errors), (0, ""))
+            out = output_of(self, apart(form, "--title", "T", "--job", "beat", text=WAITING))
             made = "".join(make(rows_of(io.StringIO(WAITING), ["beat"]), "T"))
             self.assertEqual(out.replace("\n", ""), made.replace("\n", ""))
 
     def test_the_picture_of_the_documents_is_that_of_its_example(self):
         report_text = (support.TOP / "examples" / "two_policies.json.stdout").read_text()
-        status, out, _ = tool("svg", text=report_text)
-        self.assertEqual(status, 0)
-        self.assertEqual(out, (support.TOP / "docs" / "two_policies.svg").read_text())
+        self.assertEqual(tool("svg", text=report_text), (0, (support.TOP / "docs" / "two_policies.svg").read_text(), ""))
 
 
-COARSE_AND_FAILED = REPORTS["coarse"]
-
-
-class Join(unittest.TestCase):
+class Join(InFolder):
     """One report of many."""
-
-    def setUp(self):
-        self.folder = tempfile.TemporaryDirectory()
-        self.addCleanup(self.folder.cleanup)
-
-    def part(self, name, text):
-        """A file with a part's text."""
-        path = pathlib.Path(self.folder.name) / name
-        path.write_text(text)
-        return str(path)
 
     def refused(self, *parts):
         """The error for rejected parts, without the folder's name; no byte is written."""
-        status, out, errors = tool("join", *parts)
-        self.assertEqual((status, out), (2, ""))
-        return errors.replace(f"{self.folder.name}/", "").removeprefix("zsched-report: ").removesuffix("\n")
+        errors = errors_of(self, tool("join", *parts))
+        return errors.replace(f"{self.folder}/", "").removeprefix("zsched-report: ").removesuffix("\n")
 
     def test_jobs_stand_in_order_and_polls_are_added(self):
-        parts = [self.part("a", RETRIED), self.part("b", WAITING), self.part("c", "polls 0\n")]
+        parts = [self.file("a", RETRIED), self.file("b", WAITING), self.file("c", "polls 0\n")]
         whole = RETRIED.removesuffix("polls 3\n") + WAITING.removesuffix("polls 9\n") + "polls 12\n"
-        self.assertEqual(process("join", *parts), (0, whole, ""))
+        self.assertEqual(apart("join", *parts), (0, whole, ""))
         self.assertEqual(tool("join", parts[0]), (0, RETRIED, ""))
         self.assertEqual(tool("lines", text=whole)[0], 0)
 
     def test_empty_cut_and_foreign_parts_are_refused_by_name(self):
-        good = self.part("good", WAITING)
+        good = self.file("good", WAITING)
         for end in [0, 1, 5, len(RETRIED) - 8, len(RETRIED) - 1]:
-            bad = self.part("bad", RETRIED[:end])
+            bad = self.file("bad", RETRIED[:end])
             for parts in [[bad, good], [good, bad]]:
                 self.assertTrue(self.refused(*parts).startswith("bad: "), end)
-        self.assertEqual(self.refused(good, self.part("bad", "{}\n")), "bad: line 1 isn't a line of a report: '{}'")
-        self.assertEqual(self.refused(self.part("bad", RETRIED + RETRIED.replace("job a", "job b")), good),
+        self.assertEqual(self.refused(good, self.file("bad", "{}\n")), "bad: line 1 isn't a line of a report: '{}'")
+        self.assertEqual(self.refused(self.file("bad", RETRIED + RETRIED.replace("job a", "job b")), good),
                          "bad: line 7 is after the last line: 'job b retry'")
 
     def test_repeated_parts_are_refused_by_name(self):
-        first, second = self.part("first", RETRIED), self.part("second", WAITING)
+        first, second = self.file("first", RETRIED), self.file("second", WAITING)
         self.assertEqual(self.refused(first, second, first),
                          "first: is the same file as first, which is a part already")
-        link = first + "-link"
+        link = self.folder / "first-link"
         os.link(first, link)
         self.assertEqual(self.refused(first, link), "first-link: is the same file as first, which is a part already")
-        copy = self.part("copy", RETRIED)
+        copy = self.file("copy", RETRIED)
         self.assertEqual(self.refused(first, second, copy), "copy: line 1 has job a, which is also in first: line 1")
-        self.assertEqual(self.refused(first, self.part("other", WAITING.replace("job broken", "job a"))),
+        self.assertEqual(self.refused(first, self.file("other", WAITING.replace("job broken", "job a"))),
                          "other: line 9 has job a, which is also in first: line 1")
-        self.assertEqual(self.refused(self.part("twice", WAITING.replace("job broken", "job beat"))),
+        self.assertEqual(self.refused(self.file("twice", WAITING.replace("job broken", "job beat"))),
                          "twice: line 9 has job beat, which is also in twice: line 1")
 
     def test_parts_of_other_horizons_are_refused_by_name(self):
-        first, second = self.part("first", RUNNING), self.part("second", WAITING)
+        first, second = self.file("first", RUNNING), self.file("second", WAITING)
         self.assertEqual(self.refused(first, second), "second: line 8 has another horizon than a job before it, 10000: "
                                                       "'end unfinished at 4000 polls 5'")
-        late = self.part("late", RETRIED.replace("5..10", "5..10000").replace("at 10", "at 10000"))
+        late = self.file("late", RETRIED.replace("5..10", "5..10000").replace("at 10", "at 10000"))
         self.assertTrue(self.refused(late, second).startswith("second: line 8 is at odds with a horizon of 4000"))
 
     def test_of_two_bad_parts_the_first_is_named(self):
-        good, cut, foreign = self.part("good", WAITING), self.part("cut", RETRIED[:-1]), self.part("foreign", RUNNING)
+        good, cut, foreign = self.file("good", WAITING), self.file("cut", RETRIED[:-1]), self.file("foreign", RUNNING)
         for number in range(8):
-            others = [self.part(f"good-{at}", RETRIED.replace("job a", f"job a{at}")) for at in range(number)]
+            others = [self.file(f"good-{at}", RETRIED.replace("job a", f"job a{at}")) for at in range(number)]
             self.assertTrue(self.refused(*others, cut, good, foreign).startswith("cut: line 6 is cut"))
             said = self.refused(good, *others, foreign, cut)
             self.assertTrue(said.startswith("foreign: line 11 has another horizon"), said)
 
     def test_what_is_no_file_is_refused(self):
         said = "zsched-report: /dev/null: is not a regular file, and a part is read twice\n"
-        self.assertEqual(process("join", "/dev/null"), (2, "", said))
+        self.assertEqual(apart("join", "/dev/null"), (2, "", said))
 
     def test_a_missing_part_is_told_by_name_and_nothing_is_written(self):
-        missing = os.path.join(self.folder.name, "missing")
-        self.assertEqual(tool("join", self.part("a", RETRIED), missing),
+        missing = self.folder / "missing"
+        self.assertEqual(tool("join", self.file("a", RETRIED), missing),
                          (3, "", f"zsched-report: {missing}: No such file or directory\n"))
 
     def test_a_part_that_changes_after_it_was_read_is_not_copied(self):
-        path = self.part("a", RETRIED)
+        path = self.file("a", RETRIED)
         written = []
 
         def write(piece):
             """Stores a piece, and truncates the other part."""
             written.append(piece)
             os.truncate(other, 0)
-        other = self.part("b", WAITING)
+        other = self.file("b", WAITING)
         with self.assertRaises(OSError):
             write_joined([path, other], write)
         self.assertEqual(written, [RETRIED.removesuffix("polls 3\n").encode()])
 
     def test_many_parts_take_little_memory(self):
-        parts = []
-        for number in range(40):
-            parts.append(self.part(f"part-{number:03}", wide_report(500, 2).replace("job service", f"job s{number}")))
-        whole = pathlib.Path(self.folder.name) / "whole"
+        parts = [self.file(f"part-{number:03}", wide_report(500, 2).replace("job service", f"job s{number}"))
+                 for number in range(40)]
+        whole = self.folder / "whole"
         status, kilobytes, _ = measured(TOOL, "join", *parts, out=whole)
         self.assertEqual(status, 0)
         self.assertEqual(whole.read_text(), "".join(
-            pathlib.Path(part).read_text().removesuffix("polls 2000\n") for part in parts) + "polls 80000\n")
+            part.read_text().removesuffix("polls 2000\n") for part in parts) + "polls 80000\n")
         self.assertLess(kilobytes, 40_000)
 
 
