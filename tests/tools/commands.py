@@ -49,7 +49,7 @@ def run_here(main, *words, given=b""):
 def process(*words, given=b"", folder=None, **variables):
     """Runs a command in another process, with more variables: status, standard output, standard error."""
     ended = subprocess.run([str(it) for it in words], input=given, capture_output=True, cwd=folder, check=False,
-                           env={**os.environ, **variables})
+                           env={**os.environ, **variables}, timeout=300)
     return ended.returncode, ended.stdout.decode(), ended.stderr.decode()
 
 

@@ -329,7 +329,8 @@ class Load(unittest.TestCase):
             ["from", "begun", "ok", "err", "running", "waiting"], ["0", "ms", "6", "3", "2", "1", "1"],
             ["2.5", "s", "1", "1", "0", "1", "0"], ["5", "s", "0", "1", "0", "0", "1"], [],
             ["7", "attempts:", "5", "ok,", "2", "err,", "0", "running", "at", "the", "horizon"]]))
-        self.assertEqual(apart("load", text="polls 0\n"), (0, "0 attempts: 0 ok, 0 err, 0 running at the horizon\n", ""))
+        said = "0 attempts: 0 ok, 0 err, 0 running at the horizon\n"
+        self.assertEqual(apart("load", text="polls 0\n"), (0, said, ""))
 
     def test_too_many_steps_are_refused(self):
         self.assertEqual(tool("load", "--every", "1ms", text=long_report(20_000)),
@@ -817,7 +818,8 @@ class Pictures(unittest.TestCase):
 
     def test_the_picture_of_the_documents_is_that_of_its_example(self):
         report_text = (support.TOP / "examples" / "two_policies.json.stdout").read_text()
-        self.assertEqual(tool("svg", text=report_text), (0, (support.TOP / "docs" / "two_policies.svg").read_text(), ""))
+        picture = (support.TOP / "docs" / "two_policies.svg").read_text()
+        self.assertEqual(tool("svg", text=report_text), (0, picture, ""))
 
 
 class Join(InFolder):
