@@ -53,6 +53,15 @@ def process(*words, given=b"", folder=None, **variables):
     return ended.returncode, ended.stdout.decode(), ended.stderr.decode()
 
 
+def output(words, **more):
+    """The output of a program that has to succeed."""
+    ended = subprocess.run([str(it) for it in words], capture_output=True, check=False, timeout=120, **more)
+    if ended.returncode:
+        said = (ended.stdout[-1000:] + ended.stderr[-2000:]).decode(errors="replace")
+        raise AssertionError(f"{words}: status {ended.returncode}: {said}")
+    return ended.stdout.decode()
+
+
 def output_of(test, ended, name=None):
     """The output of a command that has to succeed with no line of errors."""
     test.assertEqual(ended[::2], (0, ""), name)

@@ -26,7 +26,7 @@ import answers
 import generator
 import reference
 from answers import BINDINGS, Flaky, ran
-from support import TOP, shown, tree
+from support import TOP, shown, steps_of, tree
 from zsched_tools import program
 
 MAKE = TOP / "tools" / "make-library"
@@ -352,20 +352,6 @@ class FromC(unittest.TestCase):
         subprocess.run(words, input=b'#include "zsched.h"\n', check=True)
 
 
-def steps_of(report):
-    """The steps of each job of a report: moment, input, output, and the next moment or None."""
-    jobs = []
-    for line in report.decode().splitlines():
-        words = line.split()
-        if words[0] == "job":
-            jobs.append([])
-        elif words[0] == "attempt" and words[-1] != "running":
-            moment, value = int(words[2].partition("..")[2]), int(words[4])
-        elif words[0] == "step":
-            jobs[-1].append((moment, value, words[3], None if words[4] == "done" else int(words[5])))
-    return jobs
-
-
 class FromPython(unittest.TestCase):
     """The binding for Python."""
 
@@ -396,7 +382,7 @@ class FromPython(unittest.TestCase):
             status, report, _ = program.run(zsched, generator.json_text(chance, plan).encode())
             # A schedule at a limit may be made past it.
             jobs = plan["jobs"] if status == 0 else []
-            for job, steps in zip(jobs, steps_of(report), strict=True):
+            for job, steps in zip(jobs, steps_of(report.decode()), strict=True):
                 self.replay(job["schedule"], steps)
                 done += bool(steps)
         self.assertGreaterEqual(done, SCHEDULES)

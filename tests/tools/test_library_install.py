@@ -13,6 +13,7 @@ import sys
 import unittest
 
 from answers import Flaky
+from commands import output
 from support import TOP
 from test_library import made_library, path, version_number
 
@@ -81,14 +82,6 @@ def setUpModule():
     """Builds the library. What is built of it is removed at the end."""
     global folder
     folder = made_library()
-
-
-def output(words, **more):
-    """The output of a program that has to succeed."""
-    ended = subprocess.run([str(it) for it in words], capture_output=True, text=True, check=False, timeout=120, **more)
-    if ended.returncode:
-        raise AssertionError(f"{words}: status {ended.returncode}: {ended.stdout[-1000:]}{ended.stderr[-2000:]}")
-    return ended.stdout
 
 
 def lines_of(word):

@@ -7,7 +7,7 @@ import types
 import unittest
 
 import zio_model as zio
-from support import TOP
+from support import TOP, steps_of
 from zsched_tools import program
 
 PAGE = (TOP / "docs" / "RECIPES.md").read_text()
@@ -32,8 +32,7 @@ def parts_of(row, letters):
     seen = zio.both(zio.linear(3), zio.identity())
     s = part(seen.map(lambda out: 2 * out[1]), "(linear(3) && identity).map(_2).map(* 2)")
     if row == "`s.forever`":
-        both = zio.both(zio.recurs(k), zio.spaced(7))
-        s = part(both.map(lambda out: 77), f"(recurs({k}) && spaced(7)).map(as 77)")
+        s = part(zio.both(zio.recurs(k), zio.spaced(7)).map(lambda out: 77), f"(recurs({k}) && spaced(7)).map(as 77)")
     if row == "`s.addDelay(_ => d)`":
         s = part(zio.recurs(k), f"recurs({k})")
     a = part(zio.both(zio.spaced(4), zio.recurs(2)).map(lambda out: out[1]), "(spaced(4) && recurs(2)).map(_2)")
@@ -101,11 +100,6 @@ def operators(v):
     }
 
 
-def definitions(v):
-    """ZIO's schedule of each row that says 'the same'."""
-    return {**constructors(v), **operators(v)}
-
-
 def rows_of_the_tables():
     """The rows of the tables for ZIO's schedules: the name in ZIO, the text here, and the remark."""
     for line in TABLES.split("### Effects")[0].splitlines():
@@ -122,23 +116,8 @@ def text_with(text, letters, s, a, b):
 
 def script_of(chance, key):
     """A script at random whose outcomes never end the job."""
-    size = chance.randrange(1, 9)
     times, values = [1, 1, 2, 3, 9, 60], [0, 1, 3, 5, 6, 8, 9, 10]
-    return [{"ms": chance.choice(times), key: chance.choice(values)} for _ in range(size)]
-
-
-def steps_of(report):
-    """For each job of a report the moments, inputs, outputs and next moments of its steps."""
-    jobs = []
-    for line in report.splitlines():
-        words = line.split()
-        if words[0] == "job":
-            jobs.append([])
-        elif words[0] == "attempt" and words[-1] != "running":
-            ended = int(words[2].split("..")[1]), int(words[4])
-        elif words[0] == "step":
-            jobs[-1].append((*ended, words[3], None if words[-1] == "done" else int(words[-1])))
-    return jobs
+    return [{"ms": chance.choice(times), key: chance.choice(values)} for _ in range(chance.randrange(1, 9))]
 
 
 def first_difference(schedule, steps):
@@ -236,7 +215,7 @@ class ForZio(unittest.TestCase):
     def test_the_same_rows_are_defined(self):
         named = [name for name, _, said in rows_of_the_tables() if said.startswith("the same")]
         v = types.SimpleNamespace(d=1, e=2, k=3, N=4, s=zio.forever(), a=zio.forever(), b=zio.forever())
-        self.assertEqual(named, list(definitions(v)))
+        self.assertEqual(named, [*constructors(v), *operators(v)])
 
     def test_the_same_is_the_same(self):
         zsched = program.find()
@@ -250,7 +229,7 @@ class ForZio(unittest.TestCase):
                 s, a, b = parts_of(name, letters)
                 models = types.SimpleNamespace(**vars(letters), s=s.model, a=a.model, b=b.model)
                 for mode, key in [("retry", "err"), ("repeat", "ok")] * (JOBS // 2):
-                    schedules.append((f"{name} with {numbers}", definitions(models)[name]))
+                    schedules.append((f"{name} with {numbers}", {**constructors(models), **operators(models)}[name]))
                     jobs.append({"name": f"j{len(jobs)}", "mode": mode, "schedule": text_with(text, letters, s, a, b),
                                  "script": script_of(chance, key)})
         plan = json.dumps({"horizon": HORIZON, "jobs": jobs}).encode()
