@@ -120,7 +120,7 @@ def is_built():
 
 
 def found_zsched():
-    """The program that the variable ZSCHED names, or else the built one. Without one this process ends with status 2."""
+    """The program that the variable ZSCHED names, or else the built one. Without one this process exits with 2."""
     try:
         return find()
     except NoProgram as cause:

@@ -7,16 +7,16 @@
 
 A survivor is a file crates/NAME/survivors/BELIEF.edit with the lines of a wrong body (tests/wrong_edits.py), and a line
 `caught-by:` in place of the function: CRATE::TEST for a test of a crate, hostile::FUNCTION for a function of
-tests/refused_growths.py, growth::ROW for a row of tests/growth.py, examples::PLAN or large_plans::PLAN for a plan of that
-part, library::TEST for a test of FromC in tests/tools/test_library.py, or `examples`, `reference` or `large_plans` for the
-plans of these parts of the gate. First it checks whether all still apply, and whether what they name is there.
+tests/refused_growths.py, growth::ROW for a row of tests/growth.py, examples::PLAN or large_plans::PLAN for a plan of
+that part, library::TEST for a test of FromC in tests/tools/test_library.py, or `examples`, `reference` or `large_plans`
+for the plans of these parts of the gate. First it checks whether all still apply, and whether what they name is there.
 
-All are planted in one copy of the crates, as tests/differences.py plants its edits, and a number picks one at run time. Of
-that copy the program, zs_refusals and the tests of a crate are built once, without proofs and without the checks of
-`rt try` (tests/unproved.py). What catches a survivor has to pass in them while no number is picked. An edit that changes
-more than bodies of functions has a copy for itself. So has each one for library: the library is proved and built, over the
-libraries that ./check built. The last line is 'N passed, M failed'; the status is 0 if M is 0, 1 if it isn't, and 2 if one
-no longer applies, if what should catch it fails without it, or if `rt` isn't there.
+All are planted in one copy of the crates, as tests/differences.py plants its edits, and a number picks one at run time.
+Of that copy the program, zs_refusals and the tests of a crate are built once, without proofs and without the checks of
+`rt try` (tests/unproved.py). What catches a survivor has to pass in them while no number is picked. An edit that
+changes more than bodies of functions has a copy for itself. So has each one for library: the library is proved and
+built, over the libraries that ./check built. The last line is 'N passed, M failed'; the status is 0 if M is 0, 1 if it
+isn't, and 2 if one no longer applies, if what should catch it fails without it, or if `rt` isn't there.
 
 With --wrong-bodies the edits are those of crates/NAME/wrong-bodies with a line `caught-by:`: the prover rejects these too,
 and a plan or a test shows them all the same."""
@@ -126,7 +126,7 @@ class Failures(support.Count):
 
 @functools.cache
 def cases_of(part):
-    """Plans of a part of the gate: a name, a plan and its report each. Those of tests/plans/ are in other batches too."""
+    """Plans of a part of the gate: a name, a plan and a report each. Those of tests/plans/ are in other batches too."""
     if part == "examples":
         paths = [path for path in support.plans_with_reports() if path.parent.name == "plans"]
         return [(path.stem, text, support.report_beside(path)) for path in paths
@@ -143,7 +143,7 @@ def cases_of(part):
 
 
 class Planted:
-    """Survivors in a copy of the crates: one that is alone as it is; of several a number picks one, and 0 picks none."""
+    """Survivors in a copy of the crates: one alone is planted as it is; of several a number picks one, and 0 none."""
 
     def __init__(self, folder, survivors, is_alone=False):
         self.folder = folder

@@ -1,4 +1,4 @@
-"""The reports of the folder reports for tests of zsched-report, and their lines of the summary, computed by hand from the
+"""The reports in reports/ for tests of zsched-report, and their lines of the summary, computed by hand from the
 texts: busy is the sum of all ends less begins, waited that of all begins less the ends before them, both up to the
 horizon. A job's time to its end is that end less the begin of its first attempt; of n jobs in the order of their times,
 the unfinished ones last, p95 is that of job number 0.95 n, rounded up."""
