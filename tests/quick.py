@@ -1,14 +1,14 @@
 #!/usr/bin/env python3
 """The quick gate: proves what changed over stored proofs, and runs plans on the unproved program.
 
-A crate whose files changed since it was last seen proved here is checked again. If more than bodies of functions changed (a
-definition, a contract, a type), so are the crates above it. Meanwhile the program is built without proofs, with checks, and
-runs the plans of examples/ and tests/plans/ and the hostile plans. If it was built from the same sources before, that one
-runs. ./check tests what this doesn't: proofs from nothing, wrong bodies and tests of the crates. The last line is
-'N passed, M failed'.
+A crate whose files changed since it was last seen proved here is checked again. If more than bodies of functions
+changed (a definition, a contract, a type), so are the crates above it. Meanwhile the program is built without proofs,
+with checks, and runs the plans of examples/ and tests/plans/ and the hostile plans. If it was built from the same
+sources before, that one runs. ./check tests what this doesn't: proofs from nothing, wrong bodies and tests of the
+crates. The last line is 'N passed, M failed'.
 
     python3 tests/quick.py             what ./check quick runs
-    python3 tests/quick.py --proved    counts the crates of the program as proved, without a check: ./run --proved calls it so"""
+    python3 tests/quick.py --proved    counts the crates of the program as proved, without a check, for ./run --proved"""
 import concurrent.futures
 import hashlib
 import os
@@ -119,7 +119,7 @@ def take_as_proved(names):
 
 
 def built_program():
-    """The program of the sources as they are: the proved one, or an unproved one, stored where ./run stores and finds it."""
+    """The program of the sources as they are: the proved one, or an unproved one, where ./run stores and finds it."""
     if is_built():
         return ZSCHED
     total = sources_sum()

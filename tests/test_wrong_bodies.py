@@ -87,22 +87,25 @@ echo only=1 proved=1
 
 def make_crate(top):
     """Writes a repository of the one crate, with its edits."""
-    folder = top / "crates" / "two_numbers"
-    (folder / "src").mkdir(parents=True)
-    (folder / "wrong-bodies").mkdir()
-    (top / "crates.txt").write_text("two_numbers:\n", encoding="utf-8")
-    (folder / "src" / "lib.rt").write_text(SOURCE, encoding="utf-8")
+    texts = {"crates.txt": "two_numbers:\n", "crates/two_numbers/src/lib.rt": SOURCE}
     for name, lines, _ in EDITS:
-        text = "\n".join(["file: src/lib.rt", *lines])
-        (folder / "wrong-bodies" / f"{name}.edit").write_text(text + "\n", encoding="utf-8")
+        texts[f"crates/two_numbers/wrong-bodies/{name}.edit"] = "\n".join(["file: src/lib.rt", *lines, ""])
+    for name, text in texts.items():
+        (top / name).parent.mkdir(parents=True, exist_ok=True)
+        (top / name).write_text(text, encoding="utf-8")
+
+
+def ran(folder, *words, **more):
+    """A run of the runner on that repository."""
+    return subprocess.run([sys.executable, RUNNER, "--top", folder, *words], capture_output=True, text=True,
+                          timeout=900, **more)
 
 
 def test_runner(count):
     """The whole runner on that crate."""
     with tempfile.TemporaryDirectory() as folder:
         make_crate(pathlib.Path(folder))
-        words = [sys.executable, RUNNER, "--top", folder, "--anew"]
-        ended = subprocess.run(words, capture_output=True, text=True, timeout=900)
+        ended = ran(folder, "--anew")
     lines = ended.stdout.split("\n")
     print(ended.stdout + ended.stderr, end="")
     for name, _, told in EDITS:
@@ -130,7 +133,7 @@ def without_proofs():
 def test_kept(count):
     """An edit that passed is tried again only with --anew; after a change of the crate all are tried."""
     with without_proofs() as (folder, tools):
-        words = [sys.executable, RUNNER, "--top", folder, "--edit", "the_lesser", "--edit", "no_limit"]
+        words = ["--edit", "the_lesser", "--edit", "no_limit"]
         source = pathlib.Path(folder) / "crates" / "two_numbers" / "src" / "lib.rt"
         for name, more, text, told in [("at first", [], SOURCE, "2 of 2 wrong bodies rejected"),
                                        ("again", [], SOURCE, "2 of 2 wrong bodies were rejected by an earlier run"),
@@ -138,9 +141,9 @@ def test_kept(count):
                                        ("with a comment more", [], SOURCE + "\n// More.\n", "2 of 2 wrong bodies were rejected by"),
                                        ("changed", [], SOURCE + "\nfn more() {}\n", "2 of 2 wrong bodies rejected")]:
             source.write_text(text, encoding="utf-8")
-            ended = subprocess.run([*words, *more], capture_output=True, text=True, timeout=300, env=tools)
-            count.test(f"edits that passed, {name}", told in ended.stdout or ended.stdout, True)
-            count.test(f"edits that passed, {name}: last line", ended.stdout.split("\n")[-2], "2 passed, 0 failed")
+            said = ran(folder, *words, *more, env=tools).stdout
+            count.test(f"edits that passed, {name}", told in said or said, True)
+            count.test(f"edits that passed, {name}: last line", said.split("\n")[-2], "2 passed, 0 failed")
 
 
 def test_code(count):
@@ -159,11 +162,11 @@ def test_code(count):
 def test_followed(count):
     """A crate is tried once it is named as proved; one that never is has failed. An edit that failed is tried again."""
     with without_proofs() as (folder, tools):
-        words = [sys.executable, RUNNER, "--top", folder, "--edit", "the_lesser", "--edit", "a_right_body", "--follow"]
+        words = ["--edit", "the_lesser", "--edit", "a_right_body", "--follow"]
         for text, last in [("two_numbers\n", "1 passed, 1 failed"), ("two_numbers\n", "1 passed, 1 failed"),
                            ("another\n", "0 passed, 2 failed")]:
-            ended = subprocess.run(words, input=text, capture_output=True, text=True, timeout=300, env=tools)
-            count.test(f"--follow with {text.strip()}", ended.stdout.split("\n")[-2], last)
+            said = ran(folder, *words, input=text, env=tools).stdout
+            count.test(f"--follow with {text.strip()}", said.split("\n")[-2], last)
 
 
 def test_turns(count):
@@ -182,21 +185,15 @@ def test_turns(count):
     count.test("turns in ten days", days, {"a": 2, "b": 2})
 
 
-def edit_of(folder, lines):
-    """An edit with these lines, read."""
-    path = pathlib.Path(folder) / "an.edit"
-    path.write_text("\n".join(["function: f", "file: src/a.rt", *lines]), encoding="utf-8")
-    edit = Edit(path)
-    edit.read()
-    return edit
-
-
 def made_by(folder, text, edits):
-    """The text with these edits made together, or why one can't be."""
+    """The text with edits of these lines made together, or why one can't be."""
+    path, made = pathlib.Path(folder) / "an.edit", []
     try:
-        made = [edit_of(folder, lines) for lines in edits]
-        for edit in made:
-            edit.place({"src/a.rt": text})
+        for lines in edits:
+            path.write_text("\n".join(["function: f", "file: src/a.rt", *lines]), encoding="utf-8")
+            made.append(Edit(path))
+            made[-1].read()
+            made[-1].place({"src/a.rt": text})
         return edited({"src/a.rt": text}, made)[0]["src/a.rt"]
     except BadEdit as fault:
         return str(fault)
@@ -206,19 +203,23 @@ def test_places(count):
     """Edits are made by place, whatever text another edit brings."""
     text = "fn f() { one(two) }\nfn g() { three }\n"
     with tempfile.TemporaryDirectory() as folder:
-        made = lambda *edits: made_by(folder, text, edits)
         first, second = ["old: one(two)", "new: three"], ["old: three", "new: one(two), 3"]
-        count.test("two edits", made(first, second), "fn f() { three }\nfn g() { one(two), 3 }\n")
-        count.test("in the other order", made(second, first), "fn f() { three }\nfn g() { one(two), 3 }\n")
-        count.test("a second pair", made(["old: one(", "new: ((one, ", "old: two", "new: 2)"]),
-                   "fn f() { ((one, 2)) }\nfn g() { three }\n")
-        count.test("a pair in what the first wrote", made(["old: one", "new: four(5)", "old: 5", "new: 6"]),
-                   "fn f() { four(6)(two) }\nfn g() { three }\n")
-        count.test("a pair that makes one place", made(["old: one(two)", "new: 1", "old: fn g", "new: fn h"]),
-                   "fn f() { 1 }\nfn h() { three }\n")
-        count.test("a text that stands twice", "2 times" in made(["old: fn ", "new: fn"]), True)
-        told = made(["old: one", "new: 1", "old: 1(two", "new: 2"])
-        count.test("a text over a pair's edge", "join the pairs" in told, True)
+        for name, edits, wanted in [
+            ("two edits", [first, second], "fn f() { three }\nfn g() { one(two), 3 }\n"),
+            ("in the other order", [second, first], "fn f() { three }\nfn g() { one(two), 3 }\n"),
+            ("a second pair", [["old: one(", "new: ((one, ", "old: two", "new: 2)"]],
+             "fn f() { ((one, 2)) }\nfn g() { three }\n"),
+            ("a pair in what the first wrote", [["old: one", "new: four(5)", "old: 5", "new: 6"]],
+             "fn f() { four(6)(two) }\nfn g() { three }\n"),
+            ("a pair that makes one place", [["old: one(two)", "new: 1", "old: fn g", "new: fn h"]],
+             "fn f() { 1 }\nfn h() { three }\n"),
+        ]:
+            count.test(name, made_by(folder, text, edits), wanted)
+        for name, lines, said in [
+            ("a text that stands twice", ["old: fn ", "new: fn"], "2 times"),
+            ("a text over a pair's edge", ["old: one", "new: 1", "old: 1(two", "new: 2"], "join the pairs"),
+        ]:
+            count.test(name, said in made_by(folder, text, [lines]), True)
 
 
 def test_said(count):
@@ -275,11 +276,5 @@ def waited_for(holds):
 
 def test_all(count):
     """All tests."""
-    test_places(count)
-    test_said(count)
-    test_turns(count)
-    test_code(count)
-    test_kept(count)
-    test_followed(count)
-    test_end(count)
-    test_runner(count)
+    for test in [test_places, test_said, test_turns, test_code, test_kept, test_followed, test_end, test_runner]:
+        test(count)

@@ -26,6 +26,7 @@ import answers
 import generator
 import reference
 from answers import BINDINGS, Flaky, ran
+from commands import errors_of, output_of, process
 from support import TOP, shown, steps_of, tree
 from zsched_tools import program
 
@@ -498,13 +499,16 @@ class FromPython(unittest.TestCase):
             self.assertEqual(self.zsched.calls.library().zs_fault_text(13, 1234, room, size), len(text))
             self.assertEqual(room.value, text[:size].ljust(len(text) + 3, b"-"))
 
-    def test_a_long_output_of_a_state_is_whole(self):
+    def test_a_long_output_is_whole(self):
         text = "recurs(18446744073709551615)"
         for _ in range(7):
             text = f"({text} && {text})"
         answer, wanted = self.zsched.Stepper(text).after(3), self.zsched.Schedule(text).after(3)
         self.assertEqual(answer, wanted)
         self.assertGreater(len(answer.output), 256)
+        schedule = self.zsched.Schedule("forever.collectAll")
+        outputs = [schedule.after(number).output for number in range(200)]
+        self.assertEqual(outputs[-1], "[" + ",".join(map(str, range(199))) + "]")
 
     def test_the_state_after_many_steps_is_as_long_as_before(self):
         text = "(windowed(7) || fibonacci(3)).resetWhen(_1 >= 1000)"
@@ -513,12 +517,6 @@ class FromPython(unittest.TestCase):
         for number in range(20000):
             answer = stepper.after(number)
         self.assertEqual((len(stepper.state), answer.output.partition(",")[0]), (size, "(999"))
-
-    def test_a_long_output_is_whole(self):
-        schedule = self.zsched.Schedule("forever.collectAll")
-        for number in range(200):
-            answer = schedule.after(number)
-        self.assertEqual(answer.output, "[" + ",".join(map(str, range(199))) + "]")
 
     def test_threads_may_call_at_once(self):
         together = threading.Barrier(4)
@@ -798,16 +796,12 @@ class Examples(unittest.TestCase):
         self.assertEqual(ran([*words, "Steps"], BINDINGS / "java").splitlines(), wanted)
 
     def test_make_library_tells_what_it_does_and_refuses_other_words(self):
-        said = ran([MAKE, "--help"], TOP)
-        self.assertIn("Exit status: 0", said)
-        ended = subprocess.run([MAKE, "other"], capture_output=True, text=True)
-        self.assertEqual((ended.returncode, ended.stdout), (2, ""))
-        self.assertIn("make-library: error:", ended.stderr)
+        self.assertIn("Exit status: 0", output_of(self, process(MAKE, "--help")))
+        self.assertIn("make-library: error:", errors_of(self, process(MAKE, "other")))
 
     def test_make_library_says_that_it_needs_the_toolchain(self):
-        ended = subprocess.run([sys.executable, MAKE], capture_output=True, text=True, env={"PATH": room.name})
-        wanted = "make-library: the Rattle toolchain (the command 'rt') isn't on this machine\n"
-        self.assertEqual((ended.returncode, ended.stdout, ended.stderr), (2, "", wanted))
+        said = "make-library: the Rattle toolchain (the command 'rt') isn't on this machine\n"
+        self.assertEqual(process(sys.executable, MAKE, PATH=room.name), (2, "", said))
 
 
 if __name__ == "__main__":

@@ -1,4 +1,5 @@
 """zsched-report: JSON lines and back, the summary, pictures, pages, and one report of many."""
+import collections
 import io
 import json
 import math
@@ -46,12 +47,6 @@ def tool(*words, text=""):
     return run_here(report_command.main, TOOL.name, *words, given=text.encode("latin-1"))
 
 
-def known_reports():
-    """The reports of the repository, by name."""
-    files = sorted([*support.TOP.glob("examples/*.stdout"), *support.TOP.glob("tests/plans/*.stdout")])
-    return {file.name: file.read_text() for file in files}
-
-
 def lines_of(text):
     """The JSON lines of a report."""
     out = []
@@ -85,7 +80,8 @@ class JsonLines(InFolder):
     """The JSON lines of a report hold all of its data."""
 
     def test_each_known_report_is_made_again_byte_for_byte(self):
-        known = known_reports()
+        files = [*support.TOP.glob("examples/*.stdout"), *support.TOP.glob("tests/plans/*.stdout")]
+        known = {file.name: file.read_text() for file in sorted(files)}
         self.assertGreater(len(known), 60)
         # Plans that differ by their workers alone have one report.
         for text, name in {text: name for name, text in {**known, **REPORTS}.items()}.items():
@@ -319,9 +315,9 @@ class Load(unittest.TestCase):
     def test_four_loads_by_hand(self):
         for name, rows in self.LOADS.items():
             with self.subTest(name):
-                told = output_of(self, tool("load", "--csv", text=REPORTS[name])).splitlines()
-                self.assertEqual(told[0], "from_ms,begun,ok,err,running,waiting")
-                self.assertEqual([list(map(int, line.split(","))) for line in told[1:]], rows)
+                head, *told = output_of(self, tool("load", "--csv", text=REPORTS[name])).splitlines()
+                self.assertEqual(head, "from_ms,begun,ok,err,running,waiting")
+                self.assertEqual([list(map(int, line.split(","))) for line in told], rows)
 
     def test_the_table_has_the_same_figures_and_their_sums(self):
         status, out, _ = tool("load", "--every", "2.5s", text=REPORTS["coarse"])
@@ -420,37 +416,30 @@ class Fast(InFolder):
 
     def figures_of_reader(self, text, every):
         """The figures of the summary, job by job, and the rows of the load, from a Reader's records."""
-        jobs, steps, attempts = [], {}, []
-
-        def count(place, moment, number=1):
-            """Adds to a column of the load."""
-            steps.setdefault(moment // every, [0] * 5)[place] += number
+        jobs, steps, attempts = [], collections.defaultdict(lambda: [0] * 5), []
         for job, record in records(io.StringIO(text)):
             if isinstance(record, Attempt):
                 attempts.append(record)
-                count(0, record.begin)
-                count(3, record.begin)
-                if len(attempts) == 1:
-                    count(4, record.begin)
+                for place in [0, 3, *[4] * (len(attempts) == 1)]:
+                    steps[record.begin // every][place] += 1
                 if record.end is not None:
-                    count(1 if record.outcome == "ok" else 2, record.end)
-                    count(3, record.end, -1)
+                    steps[record.end // every][1 if record.outcome == "ok" else 2] += 1
+                    steps[record.end // every][3] -= 1
             elif isinstance(record, Ending):
                 busy = [(record.at if it.end is None else it.end) - it.begin for it in attempts]
                 waits = [it.waited for it in attempts[1:]]
                 if attempts and attempts[-1].end is not None:
                     waits.append(record.at - attempts[-1].end)
                 if attempts and record.how != "unfinished":
-                    count(4, record.at, -1)
-                ok = sum(it.outcome == "ok" for it in attempts)
-                err = sum(it.outcome == "err" for it in attempts)
+                    steps[record.at // every][4] -= 1
+                outcomes = [it.outcome for it in attempts]
                 jobs.append([job.name, job.mode, " ".join(filter(None, [record.how, record.result()])), duration(record.at),
-                             str(len(attempts)), str(ok), str(err),
+                             *map(str, [len(attempts), outcomes.count("ok"), outcomes.count("err")]),
                              *map(duration, [sum(busy), sum(waits), max(waits, default=0)])])
                 attempts = []
         rows, running, open_ = [], 0, 0
         for step in range(min(steps), max(steps) + 1):
-            begun, ok, err, changed, joined = steps.get(step, [0] * 5)
+            begun, ok, err, changed, joined = steps[step]
             running, open_ = running + changed, open_ + joined
             rows.append([step * every, begun, ok, err, running, open_ - running])
         return jobs, rows
@@ -536,21 +525,18 @@ SVG = "{http://www.w3.org/2000/svg}"
 
 def corners(element, size):
     """The places that an element covers, by its numbers alone. A text counts as 0.55 of its size a letter."""
-    def number(name):
-        """A number of the element; 0 if it has none."""
-        return float(element.get(name, "0"))
+    number = lambda name: float(element.get(name, "0"))
     kind = element.tag.removeprefix(SVG)
     if kind == "rect":
-        yield number("x"), number("y")
-        yield number("x") + number("width"), number("y") + number("height")
+        x, y = number("x"), number("y")
+        yield from [(x, y), (x + number("width"), y + number("height"))]
     elif kind == "circle":
-        yield number("cx") - number("r"), number("cy") - number("r")
-        yield number("cx") + number("r"), number("cy") + number("r")
+        x, y, r = number("cx"), number("cy"), number("r")
+        yield from [(x - r, y - r), (x + r, y + r)]
     elif kind == "text":
-        width = 0.55 * size * len(element.text)
+        width, y = 0.55 * size * len(element.text), number("y")
         left = number("x") - {"middle": width / 2, "end": width}.get(element.get("text-anchor"), 0)
-        yield left, number("y") - size
-        yield left + width, number("y") + size / 4
+        yield from [(left, y - size), (left + width, y + size / 4)]
     elif kind == "path":
         yield from path_places(element.get("d"))
 
@@ -660,12 +646,11 @@ class Pictures(unittest.TestCase):
             "attempt 2 of broken: 160..170 ms, err 9; took 10 ms, waited 100 ms"])
 
     def test_attempts_that_are_near_each_other_share_a_block(self):
-        root = picture_of(long_report(5_000))
-        form = re.compile(r"attempts (\d+) to (\d+) of hammer: (\d+)\.\.(\d+) ms, 0 ok, (\d+) err")
-        told = [form.fullmatch(title) for title in titles(root)]
+        form = re.compile(r"attempts (\d+) to (\d+) of hammer: \d+\.\.\d+ ms, 0 ok, (\d+) err")
+        told = [tuple(map(int, form.fullmatch(title).groups())) for title in titles(picture_of(long_report(5_000)))]
         self.assertLess(len(told), 120)
-        self.assertEqual(sum(int(match[5]) for match in told), 5_000)
-        self.assertEqual([int(match[1]) for match in told[1:]], [int(match[2]) + 1 for match in told[:-1]])
+        self.assertEqual(sum(number for _, _, number in told), 5_000)
+        self.assertEqual([first for first, _, _ in told[1:]], [last + 1 for _, last, _ in told[:-1]])
 
     def test_outcomes_have_other_shapes(self):
         drawn = bars(picture_of(REPORTS["coarse"]))
@@ -736,8 +721,8 @@ class Pictures(unittest.TestCase):
         shown = titles(picture_of(RUNNING, view=View(2000, 6000)))
         self.assertEqual([it.split(" of ")[0] for it in shown], ["attempt 2", "attempt 3"])
         root = picture_of(RUNNING, view=View(2500, 3300))
-        self.assertEqual(titles(root), [])
-        self.assertEqual(len([it for it in root.iter(f"{SVG}path") if it.get("class") == "wait"]), 2)
+        waits = [it for it in root.iter(f"{SVG}path") if it.get("class") == "wait"]
+        self.assertEqual((titles(root), len(waits)), ([], 2))
         for words in [["--from", "5s", "--to", "5s"], ["--from", "1min"]]:
             self.assertIn("--from must be before --to", errors_of(self, tool("svg", *words, text=RUNNING)))
         self.assertIn('"x" is not a duration', tool("svg", "--from", "x", text=RUNNING)[2])
@@ -854,8 +839,8 @@ class Join(InFolder):
         link = self.folder / "first-link"
         os.link(first, link)
         self.assertEqual(self.refused(first, link), "first-link: is the same file as first, which is a part already")
-        copy = self.file("copy", RETRIED)
-        self.assertEqual(self.refused(first, second, copy), "copy: line 1 has job a, which is also in first: line 1")
+        said = "copy: line 1 has job a, which is also in first: line 1"
+        self.assertEqual(self.refused(first, second, self.file("copy", RETRIED)), said)
         self.assertEqual(self.refused(first, self.file("other", WAITING.replace("job broken", "job a"))),
                          "other: line 9 has job a, which is also in first: line 1")
         self.assertEqual(self.refused(self.file("twice", WAITING.replace("job broken", "job beat"))),
@@ -886,16 +871,9 @@ class Join(InFolder):
                          (3, "", f"zsched-report: {missing}: No such file or directory\n"))
 
     def test_a_part_that_changes_after_it_was_read_is_not_copied(self):
-        path = self.file("a", RETRIED)
-        written = []
-
-        def write(piece):
-            """Stores a piece, and truncates the other part."""
-            written.append(piece)
-            os.truncate(other, 0)
-        other = self.file("b", WAITING)
+        path, other, written = self.file("a", RETRIED), self.file("b", WAITING), []
         with self.assertRaises(OSError):
-            write_joined([path, other], write)
+            write_joined([path, other], lambda piece: (written.append(piece), os.truncate(other, 0)))
         self.assertEqual(written, [RETRIED.removesuffix("polls 3\n").encode()])
 
     def test_many_parts_take_little_memory(self):
