@@ -8,7 +8,7 @@ sources before, that one runs. ./check tests what this doesn't: proofs from noth
 crates. The last line is 'N passed, M failed'.
 
     python3 tests/quick.py             what ./check quick runs
-    python3 tests/quick.py --proved    counts the crates of the program as proved, without a check, for ./run --proved"""
+    python3 tests/quick.py --proved    counts the crates of the program as proved, unchecked, for ./run --proved"""
 import concurrent.futures
 import hashlib
 import os

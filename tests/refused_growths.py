@@ -168,27 +168,19 @@ def many_jobs_are_refused_well(count, refuser):
 
 
 def program_without_threads(count, refuser):
-    """A machine on which no thread can be started."""
-    ended = refuser.run(program.ZSCHED, program.heavy_jobs(2, 3)[0], refuse_threads=1)
-    count.test("no thread can be started", ended, NO_THREAD)
-    for case, (text, report) in [("one worker", program.heavy_jobs(1, 3)), ("one batch", program.heavy_jobs(4, 120)),
-                                 ("10,000 jobs in one batch", program.equal_jobs(MANY_NAMES, 4, 10000))]:
-        ended = refuser.run(program.ZSCHED, text, refuse_threads=1)
-        count.test(f"no thread for {case}", ended, (0, report, b""))
-
-
-def program_with_few_threads(count, refuser):
-    """Some threads can be started: three workers need two starts at each of three moments, and two batches need one."""
-    jobs = [("heavy jobs", program.heavy_jobs(3, 1), program.heavy_jobs(4, 60)),
-            ("seven jobs", program.equal_jobs("abcdefg", 3, 1), program.equal_jobs("abcdefg", 64, 4))]
-    for case, (text, report), (pair, its_report) in jobs:
-        for number in range(1, 8):
-            ended = refuser.run(program.ZSCHED, text, refuse_threads=number)
-            wanted = NO_THREAD if number <= 6 else (0, report, b"")
-            count.test(f"{case}, start {number} of a thread and all later ones refused", ended, wanted)
-        for number, wanted in [(3, NO_THREAD), (4, (0, its_report, b""))]:
-            ended = refuser.run(program.ZSCHED, pair, refuse_threads=number)
-            count.test(f"{case} in two batches, start {number} of a thread refused", ended, wanted)
+    """No thread can be started, or only some: three workers need two starts at each of three moments, and two batches
+    need one."""
+    heavy, equal = program.heavy_jobs, program.equal_jobs
+    cases = [("two workers", heavy(2, 3), 1, False), ("one worker", heavy(1, 3), 1, True),
+             ("one batch", heavy(4, 120), 1, True), ("10,000 jobs in one batch", equal(MANY_NAMES, 4, 10000), 1, True)]
+    for name, plan, pair in [("heavy jobs", heavy(3, 1), heavy(4, 60)),
+                             ("seven jobs", equal("abcdefg", 3, 1), equal("abcdefg", 64, 4))]:
+        cases += [(name, plan, number, number > 6) for number in range(1, 8)]
+        cases += [(f"{name} in two batches", pair, number, number > 3) for number in [3, 4]]
+    for case, (text, report), number, is_enough in cases:
+        ended = refuser.run(program.ZSCHED, text, refuse_threads=number)
+        wanted = (0, report, b"") if is_enough else NO_THREAD
+        count.test(f"{case}, start {number} of a thread and all later ones refused", ended, wanted)
 
 
 def two_causes_are_told_apart(count, refuser):
@@ -302,8 +294,7 @@ def test(count, folder):
     """All tests of this file."""
     refuser = Refuser(folder)
     for part in [calls_are_refused_well, program_is_refused_well, many_jobs_are_refused_well, program_without_threads,
-                 program_with_few_threads, two_causes_are_told_apart, populations_are_refused_well,
-                 many_blocks_are_refused_well]:
+                 two_causes_are_told_apart, populations_are_refused_well, many_blocks_are_refused_well]:
         part(count, refuser)
     many_jobs_with_little_memory(count)
     populations_with_little_memory(count)

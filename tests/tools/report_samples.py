@@ -1,39 +1,15 @@
-"""The reports in reports/ for tests of zsched-report, and their lines of the summary, computed by hand from the
-texts: busy is the sum of all ends less begins, waited that of all begins less the ends before them, both up to the
-horizon. A job's time to its end is that end less the begin of its first attempt; of n jobs in the order of their times,
-the unfinished ones last, p95 is that of job number 0.95 n, rounded up."""
+"""The reports in reports/ for tests of zsched-report; beside each is its summary, computed by hand from its text, and
+beside four their load. Busy is the sum of all ends less begins, waited that of all begins less the ends before them, both
+up to the horizon. A job's time to its end is that end less the begin of its first attempt; of n jobs in the order of
+their times, the unfinished ones last, p95 is that of job number 0.95 n, rounded up."""
 import pathlib
 
-REPORTS = {name: (pathlib.Path(__file__).with_name("reports") / f"{name}.txt").read_text()
+FOLDER = pathlib.Path(__file__).with_name("reports")
+REPORTS = {name: (FOLDER / f"{name}.txt").read_text()
            for name in ["retried", "running", "coarse", "never", "waiting", "greatest"]}
 RETRIED, RUNNING, _, _, WAITING, GREATEST = REPORTS.values()
-
-# job, mode, ending, at, attempts, ok, err, busy, waited, longest wait
-SUMMARIES = {
-    "retried": ([["a", "retry", "succeeded 1", "10 ms", "2", "1", "1", "10 ms", "0 ms", "0 ms"]],
-                "1 job: 1 succeeded; 2 attempts; 3 polls", "most attempts at once: 1, first at 0 ms",
-                "time to the end: p50 10 ms, p95 10 ms, p99 10 ms"),
-    "running": ([["nightly-export", "retry", "unfinished", "10 s", "5", "0", "4", "3 s", "7 s", "3 s"]],
-                "1 job: 1 unfinished; 5 attempts; 9 polls", "most attempts at once: 1, first at 0 ms",
-                "time to the end: p50 unfinished, p95 unfinished, p99 unfinished"),
-    "coarse": ([["probe-disk", "repeat", "unfinished", "5 s", "4", "4", "0", "3 s", "2 s", "1 s"],
-                ["warm-cache", "retry", "succeeded 1", "3 s", "3", "1", "2", "2 s", "500 ms", "250 ms"]],
-               "2 jobs: 1 unfinished, 1 succeeded; 7 attempts; 14 polls", "most attempts at once: 2, first at 1.5 s",
-               "time to the end: p50 2.5 s, p95 unfinished, p99 unfinished"),
-    "never": ([["never", "retry", "unfinished", "1 min 30 s", "0", "0", "0", "0 ms", "0 ms", "0 ms"],
-               ["drain", "repeat", "finished [17,9]", "60 ms", "3", "3", "0", "60 ms", "0 ms", "0 ms"]],
-              "2 jobs: 1 unfinished, 1 finished; 3 attempts; 4 polls", "most attempts at once: 1, first at 0 ms",
-              "time to the end: p50 60 ms, p95 unfinished, p99 unfinished"),
-    "waiting": ([["beat", "repeat", "unfinished", "4 s", "3", "3", "0", "2.5 s", "1.5 s", "1 s"],
-                 ["broken", "repeat", "failed 9", "170 ms", "2", "1", "1", "20 ms", "100 ms", "100 ms"]],
-                "2 jobs: 1 unfinished, 1 failed; 5 attempts; 9 polls", "most attempts at once: 2, first at 50 ms",
-                "time to the end: p50 120 ms, p95 unfinished, p99 unfinished"),
-    "greatest": ([["edge", "retry", "unfinished", "213503982334 d 14 h 25 min 51.615 s", "2", "0", "1", "100 ms",
-                   "1 ms", "1 ms"]],
-                 "1 job: 1 unfinished; 2 attempts; 3 polls",
-                 "most attempts at once: 1, first at 213503982334 d 14 h 25 min 51.514 s",
-                 "time to the end: p50 unfinished, p95 unfinished, p99 unfinished"),
-}
+SUMMARIES = {name: (FOLDER / f"{name}.summary").read_text() for name in REPORTS}
+LOADS = {name: (FOLDER / f"{name}.csv").read_text() for name in ["running", "coarse", "never", "waiting"]}
 
 # Texts that aren't reports, and the beginning of the error.
 NO_REPORTS = [

@@ -295,9 +295,6 @@ class Use(InFolder):
                 source = self.faulty.decode()[:100] + " .."
                 self.assertEqual(found, (2, "", wanted.format(name, source)))
 
-    def test_a_plan_without_a_fault(self):
-        self.assertEqual(self.run_command("good.json"), (0, "good.json: no fault\n", ""))
-
     def test_an_empty_plan(self):
         self.assertIn("--> standard input:1:1", errors_of(self, self.run_command()))
 
@@ -307,25 +304,24 @@ class Use(InFolder):
         self.assertEqual(errors.split("\n")[0], "zsched: plan is longer than 16777216 bytes")
         self.assertIn("--> plan.json:2:16777214\n", errors)
 
-    def test_a_file_that_cannot_be_read(self):
-        for name, text in [("none.json", "No such file or directory"), (".", "Is a directory")]:
-            self.assertEqual(self.run_command(name), (3, "", f"zsched-explain: {name}: {text}\n"))
-
     def test_standard_output_that_is_full(self):
         ended = process("sh", "-c", f"{sys.executable} {COMMAND} good.json --zsched {self.zsched} > /dev/full",
                         folder=self.folder)
         self.assertEqual(ended, (3, "", "zsched-explain: standard output: No space left on device\n"))
 
-    def test_a_program_that_is_not_there(self):
-        for arguments, environment in [(["--zsched", "/none"], {}), ([], {"ZSCHED": "/none"})]:
-            with self.subTest(arguments):
-                self.assertEqual(self.run_command("plan.json", *arguments, **environment),
-                                 (1, "", "zsched-explain: no program at /none\n"))
-
-    def test_the_programs_other_statuses_are_kept(self):
-        for text, wanted in [("echo zsched: out of memory >&2; exit 4", (4, "", "zsched: out of memory\n")),
-                             ("kill -9 $$", (137, "", ""))]:
-            self.assertEqual(self.run_command("plan.json", "--zsched", self.script("other", text)), wanted)
+    def test_how_it_ends(self):
+        failing, killed = self.script("failing", "echo zsched: out of memory >&2; exit 4"), self.script("killed", "kill -9 $$")
+        missing = 1, "", "zsched-explain: no program at /none\n"
+        for name, words, variables, wanted in [
+                ("a plan without a fault", ["good.json"], {}, (0, "good.json: no fault\n", "")),
+                ("no file", ["none.json"], {}, (3, "", "zsched-explain: none.json: No such file or directory\n")),
+                ("a folder", ["."], {}, (3, "", "zsched-explain: .: Is a directory\n")),
+                ("no program", ["plan.json", "--zsched", "/none"], {}, missing),
+                ("no program", ["plan.json"], {"ZSCHED": "/none"}, missing),
+                ("another status", ["plan.json", "--zsched", failing], {}, (4, "", "zsched: out of memory\n")),
+                ("a killed program", ["plan.json", "--zsched", killed], {}, (137, "", ""))]:
+            with self.subTest(name, words=words):
+                self.assertEqual(self.run_command(*words, **variables), wanted)
 
     def test_a_look_is_given_up_where_the_plan_has_no_fault(self):
         other = self.script("other", "exit 0")

@@ -614,27 +614,24 @@ class Retries(unittest.TestCase):
         self.clock = Clock()
         self.retrying = lambda text, **more: zsched.retrying(text, clock=self.clock, **{"sleep": self.clock.sleep, **more})
 
-    def test_a_function_is_tried_until_it_answers(self):
-        told = []
-        by = self.retrying("(exponential(10) && recurs(5))", before_sleep=lambda *words: told.append(words[1:]))
-        self.assertEqual(by(Refusing(self.clock, 3))(value=7), 7)
-        self.assertEqual(self.clock.slept, [0.01, 0.02, 0.04])
-        self.assertEqual(told, [(1, 0.01), (2, 0.02), (3, 0.04)])
-
-    def test_the_last_error_goes_on_its_way(self):
-        with self.assertRaisesRegex(OSError, "^7 left$"):
-            self.retrying("(spaced(30) && recurs(2))")(Refusing(self.clock, 10))()
-        self.assertEqual(self.clock.slept, [0.03, 0.03])
-
-    def test_other_errors_are_not_kept_back(self):
-        with self.assertRaisesRegex(KeyError, "left"):
-            self.retrying("spaced(30)", on=(OSError, EOFError))(Refusing(self.clock, 10, KeyError))()
-        self.assertEqual(self.clock.slept, [])
-
-    def test_the_input_is_that_of_the_error(self):
-        effect = Refusing(self.clock, 10)
-        with self.assertRaisesRegex(OSError, "^7 left$"):
-            self.retrying("spaced(30).whileInput(> 7)", input_of=lambda error: int(str(error)[0]))(effect)()
+    def test_a_function_is_tried_until_the_schedule_is_done(self):
+        digit = lambda error: int(str(error)[0])
+        for name, text, more, times, error, wanted, slept in [
+                ("it returns", "(exponential(10) && recurs(5))", {}, 3, OSError, None, [0.01, 0.02, 0.04]),
+                ("a list", "(linear(10) && recurs(5)).collectAll", {}, 3, OSError, None, [0.01, 0.02, 0.03]),
+                ("the last error", "(spaced(30) && recurs(2))", {}, 10, OSError, "^7 left$", [0.03, 0.03]),
+                ("another error", "spaced(30)", {"on": (OSError, EOFError)}, 10, KeyError, "left", []),
+                ("its input", "spaced(30).whileInput(> 7)", {"input_of": digit}, 10, OSError, "^7 left$", [0.03] * 2)]:
+            with self.subTest(name):
+                self.clock.slept, told = [], []
+                by = self.retrying(text, before_sleep=lambda *words: told.append(words[1:]), **more)
+                tried = by(Refusing(self.clock, times, error))
+                if wanted:
+                    with self.assertRaisesRegex(error, wanted):
+                        tried()
+                else:
+                    self.assertEqual(tried(value=7), 7)
+                self.assertEqual((self.clock.slept, told), (slept, list(enumerate(slept, 1))))
 
     def test_it_is_a_loop_too(self):
         effect, numbers = Refusing(self.clock, 2), []
@@ -700,10 +697,6 @@ class Retries(unittest.TestCase):
                 effect()
         self.assertEqual((attempt.number, len(self.clock.slept), self.clock.slept[-1]), (5001, 5000, 0.007))
         self.assertEqual(len(run.schedule.state), len(self.zsched.Stepper("(linear(1) || spaced(7))").state))
-
-    def test_a_schedule_that_collects_is_followed_by_its_list(self):
-        self.assertEqual(self.retrying("(linear(10) && recurs(5)).collectAll")(Refusing(self.clock, 3))(), "done")
-        self.assertEqual(self.clock.slept, [0.01, 0.02, 0.03])
 
     def test_one_may_serve_many_calls(self):
         by = self.retrying("(spaced(10) && recurs(1))")

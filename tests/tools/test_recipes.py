@@ -39,9 +39,9 @@ def parts_of(row, letters):
     return s, a, part(zio.exponential(5), "exponential(5)")
 
 
-def constructors(v):
-    """ZIO's schedule of each row of the first table that says 'the same'."""
-    n, k = v.N, v.k
+def definitions(v):
+    """ZIO's schedule of each row of the tables that says 'the same'."""
+    s, a, b, n, k = v.s, v.a, v.b, v.N, v.k
     return {
         "`Schedule.forever`, `Schedule.count`": zio.forever(),
         "`Schedule.recurs(k)`": zio.recurs(k),
@@ -65,13 +65,6 @@ def constructors(v):
         "`Schedule.succeed(N)`": zio.forever().map(lambda out: n),
         "`Schedule.fromFunction(_ * N)`": zio.identity().map(lambda x: x * n),
         "`Schedule.unfold(N)(_ + 1)`": zio.unfold(n, lambda x: x + 1),
-    }
-
-
-def operators(v):
-    """ZIO's schedule of each row of the second table that says 'the same'."""
-    s, a, b, n, k = v.s, v.a, v.b, v.N, v.k
-    return {
         "`a && b`, `a zip b`, `a <*> b` (`both`)": zio.both(a, b),
         "`a <* b`, `a zipLeft b`": zio.both(a, b).map(lambda out: out[0]),
         "`a *> b`, `a zipRight b`": zio.both(a, b).map(lambda out: out[1]),
@@ -215,7 +208,7 @@ class ForZio(unittest.TestCase):
     def test_the_same_rows_are_defined(self):
         named = [name for name, _, said in rows_of_the_tables() if said.startswith("the same")]
         v = types.SimpleNamespace(d=1, e=2, k=3, N=4, s=zio.forever(), a=zio.forever(), b=zio.forever())
-        self.assertEqual(named, [*constructors(v), *operators(v)])
+        self.assertEqual(named, list(definitions(v)))
 
     def test_the_same_is_the_same(self):
         zsched = program.find()
@@ -229,7 +222,7 @@ class ForZio(unittest.TestCase):
                 s, a, b = parts_of(name, letters)
                 models = types.SimpleNamespace(**vars(letters), s=s.model, a=a.model, b=b.model)
                 for mode, key in [("retry", "err"), ("repeat", "ok")] * (JOBS // 2):
-                    schedules.append((f"{name} with {numbers}", {**constructors(models), **operators(models)}[name]))
+                    schedules.append((f"{name} with {numbers}", definitions(models)[name]))
                     jobs.append({"name": f"j{len(jobs)}", "mode": mode, "schedule": text_with(text, letters, s, a, b),
                                  "script": script_of(chance, key)})
         plan = json.dumps({"horizon": HORIZON, "jobs": jobs}).encode()

@@ -15,7 +15,7 @@ from xml.etree import ElementTree
 import support
 from commands import InFolder, errors_of, output_of, process, run_here
 from measured import measured
-from report_samples import (GREATEST, NO_REPORTS, REPORTS, RETRIED, RUNNING, SUMMARIES, WAITING, long_report,
+from report_samples import (GREATEST, LOADS, NO_REPORTS, REPORTS, RETRIED, RUNNING, SUMMARIES, WAITING, long_report,
                             random_report, wide_report)
 from zsched_tools import columns, lines, load, progress, report_command
 from zsched_tools import summary as summary_tool
@@ -248,14 +248,9 @@ class Summary(unittest.TestCase):
     """The table with a line a job."""
 
     def test_six_reports_by_hand(self):
-        self.assertEqual(len(SUMMARIES), 6)
-        for name, (rows, total, crowd, times) in SUMMARIES.items():
+        for name, wanted in SUMMARIES.items():
             with self.subTest(name):
-                told = output_of(self, tool("summary", text=REPORTS[name])).splitlines()
-                cells = [re.split(r"\s{2,}", line) for line in told[:len(rows) + 1]]
-                self.assertEqual(cells, [["job", "mode", "ending", "at", "attempts", "ok", "err", "busy", "waited",
-                                          "longest wait"], *rows])
-                self.assertEqual(told[len(rows) + 1:], ["", total, crowd, times])
+                self.assertEqual(tool("summary", text=REPORTS[name]), (0, wanted, ""))
 
     def test_columns_stand_under_each_other(self):
         told = tool("summary", text=WAITING)[1].splitlines()
@@ -301,23 +296,10 @@ class Summary(unittest.TestCase):
 class Load(unittest.TestCase):
     """The begins and ends in each step of time."""
 
-    # Computed by hand from the reports' texts: first moment of the step, begun, ok, err, running, waiting.
-    LOADS = {
-        "running": [[0, 1, 0, 1, 0, 1], [1000, 1, 0, 0, 1, 0], [2000, 0, 0, 1, 0, 1], [3000, 1, 0, 0, 1, 0],
-                    [4000, 0, 0, 1, 0, 1], [5000, 0, 0, 0, 0, 1], [6000, 1, 0, 1, 0, 1], [7000, 0, 0, 0, 0, 1],
-                    [8000, 0, 0, 0, 0, 1], [9000, 1, 0, 0, 1, 0]],
-        "coarse": [[0, 3, 1, 1, 1, 1], [1000, 3, 1, 1, 2, 0], [2000, 0, 1, 0, 1, 1], [3000, 1, 1, 0, 1, 0],
-                   [4000, 0, 0, 0, 1, 0], [5000, 0, 1, 0, 0, 1]],
-        "never": [[0, 3, 3, 0, 0, 0]],
-        "waiting": [[0, 3, 2, 1, 0, 1], [1000, 1, 0, 0, 1, 0], [2000, 0, 0, 0, 1, 0], [3000, 1, 2, 0, 0, 1]],
-    }
-
     def test_four_loads_by_hand(self):
-        for name, rows in self.LOADS.items():
+        for name, wanted in LOADS.items():
             with self.subTest(name):
-                head, *told = output_of(self, tool("load", "--csv", text=REPORTS[name])).splitlines()
-                self.assertEqual(head, "from_ms,begun,ok,err,running,waiting")
-                self.assertEqual([list(map(int, line.split(","))) for line in told], rows)
+                self.assertEqual(tool("load", "--csv", text=REPORTS[name]), (0, wanted, ""))
 
     def test_the_table_has_the_same_figures_and_their_sums(self):
         status, out, _ = tool("load", "--every", "2.5s", text=REPORTS["coarse"])
