@@ -136,10 +136,8 @@ def most_attempts(tokens, is_long):
 def made_clock(chance, is_long):
     """A clock, as the key and the value of a document, and how many attempts it has room for."""
     if chance.random() < 0.6:
-        if is_long:
-            horizon = chance.choice([10, 100, 500, 1000, 2000, 3000])
-        else:
-            horizon = chance.choice([0, 1, 2, 5, 10, 20, 50, 100, 300, 1000, 10 ** 6, 10 ** 12, LAST_TICK])
+        horizon = chance.choice([10, 100, 500, 1000, 2000, 3000] if is_long else
+                                [0, 1, 2, 5, 10, 20, 50, 100, 300, 1000, 10 ** 6, 10 ** 12, LAST_TICK])
         return "horizon", horizon, horizon + 1
     ticks = [chance.choice([0, 0, 1, 5, 100])]
     gaps = chance.choice([[1], [1, 2, 5], [1, 1, 2, 10, 100], [1, 7, 10 ** 6, 10 ** 14]])
@@ -202,12 +200,11 @@ def made_plan(chance):
 
 def start_together(chance, jobs):
     """The jobs of a plan. Most start together, so that polls of several are due at one moment and threads share them."""
-    together = jobs[0].get("start") if jobs else None
+    together = {"start": jobs[0]["start"]} if jobs and "start" in jobs[0] else {}
     for job in jobs:
         if chance.random() < 0.85:
             job.pop("start", None)
-            if together is not None:
-                job["start"] = together
+            job.update(together)
     return jobs
 
 
@@ -323,9 +320,8 @@ def reworded(change):
 def no_term(chance, text):
     """The text isn't a term."""
     at = chance.randrange(len(text) + 1)
-    signs = ["(", ")", ",", ".", "&&", "&", "|", "<", "=", "!", "+", "*", "_1", "_3", "_", "01", "00", "7", " ", "\t",
-             "\n", "\0", "x", "as", "forever", "recurs(", "\u00e9", "\u2028", "\U0001f600", ".map", ".collectAll.", "$",
-             "-1", "1.5"]
+    signs = ["(", ")", ",", ".", "&&", "&", "|", "<", "=", "!", "+", "*", "_1", "_3", "_", "01", "00", "7", " ", "\t", "\n",
+             "\0", "x", "as", "forever", "recurs(", "\u00e9", "\u2028", "\U0001f600", ".map", ".collectAll.", "$", "-1", "1.5"]
     return chance.choice([text[:at] + chance.choice(signs) + text[at:], text[:at], text[:at] + text[at + 1:],
                           text + chance.choice(signs), "(" * chance.randrange(1, 200) + text,
                           re.sub("(?=[0-9]+)", "0", text, count=1), f"({text} && recurs(00))"])

@@ -38,11 +38,14 @@ def ended(text, *words, seconds=PATIENCE, **more):
     return ending(started, seconds)
 
 
-def output_is_full(count):
-    """A device that is full: nothing was written, or only what the fault reports."""
-    with open("/dev/full", "wb") as full:
-        status, _, errors = ended(ONE_JOB, stdout=full)
-    count.test("output to a full device", (status, errors), (3, b"zsched: write failed after 0 bytes\n"))
+def output_takes_nothing(count):
+    """A device that is full, and a pipe whose reader closed it before: nothing was written."""
+    receiving, closed = os.pipe()
+    os.close(receiving)
+    for name, output in [("a full device", os.open("/dev/full", os.O_WRONLY)), ("a closed pipe", closed)]:
+        status, _, errors = ended(ONE_JOB, stdout=output)
+        os.close(output)
+        count.test(f"output to {name}", (status, errors), (3, b"zsched: write failed after 0 bytes\n"))
 
 
 def errors_are_full(count):
@@ -50,15 +53,6 @@ def errors_are_full(count):
     with open("/dev/full", "wb") as full:
         status, output, _ = ending(begun(stdin=subprocess.DEVNULL, stderr=full))
     count.test("errors to a full device", (status, output), (2, b""))
-
-
-def pipe_is_closed(count):
-    """A reader of the report that closes the pipe before the report was written."""
-    receiving, sending = os.pipe()
-    os.close(receiving)
-    status, _, errors = ended(ONE_JOB, stdout=sending)
-    os.close(sending)
-    count.test("a closed pipe", (status, errors), (3, b"zsched: write failed after 0 bytes\n"))
 
 
 def reader_takes_ten_bytes(count):
@@ -160,7 +154,7 @@ def memory_is_short(count):
 
 def test(count, folder):
     """All tests of this file."""
-    for part in [output_is_full, errors_are_full, pipe_is_closed, reader_takes_ten_bytes, input_is_a_folder,
-                 input_never_ends, input_comes_slowly, output_is_read_slowly, arguments_are_ignored, memory_is_short]:
+    for part in [output_takes_nothing, errors_are_full, reader_takes_ten_bytes, input_is_a_folder, input_never_ends,
+                 input_comes_slowly, output_is_read_slowly, arguments_are_ignored, memory_is_short]:
         part(count)
     file_is_limited(count, folder)

@@ -5,6 +5,7 @@ import contextlib
 import datetime
 import os
 import pathlib
+import shutil
 import signal
 import subprocess
 import sys
@@ -21,78 +22,31 @@ from wrong_edits import BadEdit, Edit, edited
 
 RUNNER = pathlib.Path(__file__).resolve().parent / "wrong_bodies.py"
 
-SOURCE = RUNNER.with_name("two_numbers.rt").read_text()
-
-# The output of a check for a function with an open goal, for some that only wait, for a closure, and for a cycle of calls.
-SAID = """./proofs/m/+both/Answers.antt:4:5: error: `one-returns`: the two types differ
-note: src/lib.rt:9:1: it is not proved that what the function ensures holds when it returns (`returns-in-Ok`)
-fn a::f: no proof: expected answers in ./proofs/f/Answers.antt; `search` did not prove `returns-in-Ok`, `returns`
-fn a::g: no proof: it calls `a::f`, which is not proved
-fn a::h: no proof: the borrow checker's part in its proof is not made yet: a call of `a::g` has no contract yet
-note: src/lib.rt:30:1: it is not proved that what the function ensures holds when it returns (`returns`)
-fn a::fn::k::any: no proof: expected answers in ./proofs/fn/k/any/Answers.antt; `search` did not prove `returns`
-fn a::k: proved
-fn a::m::one: not proved; it calls `a::f`, which is not proved
-fn a::m::two: not proved; in `a::m::one`, of this cycle of calls: it calls `a::f`, which is not proved
-note: src/m.rt:7:1: it is not proved that what the function ensures holds when it returns (`Thing::far-returns`)
-fn a::m::Thing::far: not proved
-note: src/m.rt:7:1: it is not proved that what the function ensures holds when it returns (`Thing::far-returns`)
-fn a::m::near: not proved
-./proofs/m/+again/Answers.antt:9:5: error: `returns-in-Two`: the two types differ
-fn a::m::again: not proved
-impl a::Thing: not proved; it waits for the proof of `k`
-logic=not-proved
-"""
+# A repository of one crate. toolchain.sh is a toolchain that proves nothing: `greater` and `up_to_ten` are open if the
+# call names them, and no other function. said.txt is the output of a check for a function with an open goal, for some
+# that only wait, for a closure, and for a cycle of calls.
+CRATE = RUNNER.with_name("two_numbers")
+SOURCE = (CRATE / "crates" / "two_numbers" / "src" / "lib.rt").read_text()
 CYCLES = "".join(f"#[cycle({name})]\nfn {function}() {{}}\n" for name, function in [
     ("both", "one"), ("both", "two"), ("place", "far"), ("place", "near")])
 
-# Each edit: its name, its lines, and how it is reported. Those that pass are rejected.
-EDITS = [
-    ("the_lesser", ["function: greater", "old: if a < b { b }", "new: if b < a { b }"], "rejected by greater"),
-    ("no_limit", ["function: up_to_ten", "goal: returns-else..", "old: else { 10 }", "new: else { a }"],
-     "rejected by up_to_ten: returns-else"),
-    ("nothing_below_ten", ["function: up_to_ten", "goal: returns-then..", "old: < 10 { a }", "new: < 10 { 0 }"],
-     "rejected by up_to_ten: returns-then"),
-    ("no_limit_above", ["function: greater_up_to_ten", "old: up_to_ten(greater(a, b))", "new: greater(a, b)"],
-     "rejected by greater_up_to_ten"),
-    ("a_right_body", ["function: zero", "old:     0", "new:     1 - 1"], "NOT REJECTED"),
-    ("does_not_apply", ["function: zero", "old: if a > b", "new: if true"], "src/lib.rt 0 times"),
-    ("does_not_compile", ["function: one", "old:     1", "new:     nothing"], "can't be tried: src/lib.rt:"),
-    ("of_another_type", ["function: two", "old:     2", "new:     true"], "can't be tried: src/lib.rt:"),
-    ("one_round_more", ["function: zero", "old:     0", "new:     2 - 2"], "it needs a round after the 3"),
-    ("elsewhere", ["function: zero", "old: if a < b { b } else { a }", "new: if a < b { a } else { b }"],
-     "NOT REJECTED: zero is still proved"),
-    ("elsewhere_too", ["function: greater_up_to_ten", "old: if a < 10 { a }", "new: if a < 20 { a }"],
-     "rejected elsewhere: up_to_ten is left open"),
-    ("another_goal", ["function: zero", "goal: requires", "old:     0", "new:     1"], "the goal requires is not open"),
-    ("no_such_function", ["function: three", "old:     0", "new:     1"], "has no function `three`"),
-    ("no_function", ["old:     0", "new:     1"], "it has no line 'function:'"),
-]
-
-
-# A toolchain that proves nothing: `greater` and `up_to_ten` are open if the call names them, and no other function.
-TOOL = """#!/bin/sh
-[ "$1" = version ] && echo none
-[ "$2" = --crate-name ] && [ -n "$SLOW" ] && exec sleep 60
-while [ $# -gt 0 ]; do
-  case "$1 $2" in
-    "--only greater" | "--only up_to_ten") echo "fn two_numbers::$2: no proof: \\`search\\` did not prove \\`returns-else\\`" ;;
-    "--only "*) echo "fn two_numbers::$2: proved" ;;
-  esac
-  shift
-done
-echo only=1 proved=1
-"""
-
-
-def make_crate(top):
-    """Writes a repository of the one crate, with its edits."""
-    texts = {"crates.txt": "two_numbers:\n", "crates/two_numbers/src/lib.rt": SOURCE}
-    for name, lines, _ in EDITS:
-        texts[f"crates/two_numbers/wrong-bodies/{name}.edit"] = "\n".join(["file: src/lib.rt", *lines, ""])
-    for name, text in texts.items():
-        (top / name).parent.mkdir(parents=True, exist_ok=True)
-        (top / name).write_text(text, encoding="utf-8")
+# How each edit of the crate is reported. Those that pass are rejected.
+EDITS = {
+    "the_lesser": "rejected by greater",
+    "no_limit": "rejected by up_to_ten: returns-else",
+    "nothing_below_ten": "rejected by up_to_ten: returns-then",
+    "no_limit_above": "rejected by greater_up_to_ten",
+    "a_right_body": "NOT REJECTED",
+    "does_not_apply": "src/lib.rt 0 times",
+    "does_not_compile": "can't be tried: src/lib.rt:",
+    "of_another_type": "can't be tried: src/lib.rt:",
+    "one_round_more": "it needs a round after the 3",
+    "elsewhere": "NOT REJECTED: zero is still proved",
+    "elsewhere_too": "rejected elsewhere: up_to_ten is left open",
+    "another_goal": "the goal requires is not open",
+    "no_such_function": "has no function `three`",
+    "no_function": "it has no line 'function:'",
+}
 
 
 def ran(folder, *words, **more):
@@ -104,15 +58,15 @@ def ran(folder, *words, **more):
 def test_runner(count):
     """The whole runner on that crate."""
     with tempfile.TemporaryDirectory() as folder:
-        make_crate(pathlib.Path(folder))
+        shutil.copytree(CRATE, folder, dirs_exist_ok=True)
         ended = ran(folder, "--anew")
     lines = ended.stdout.split("\n")
     print(ended.stdout + ended.stderr, end="")
-    for name, _, told in EDITS:
+    for name, told in EDITS.items():
         of_it = [line for line in lines if f"/{name}.edit:" in line or f"/{name}:" in line]
         count.test(f"{name} is reported once", len(of_it), 1)
         count.test(f"{name} is reported as what it is", [told in line for line in of_it], [True])
-    passed = sum(told.startswith("rejected by") for _, _, told in EDITS)
+    passed = sum(told.startswith("rejected by") for told in EDITS.values())
     count.test("last line", lines[-2:], [f"{passed} passed, {len(EDITS) - passed} failed", ""])
     count.test("status", ended.returncode, 1)
 
@@ -121,12 +75,11 @@ def test_runner(count):
 def without_proofs():
     """The folder of a repository of that crate, and variables under which the toolchain is the script in its place."""
     with tempfile.TemporaryDirectory() as folder:
-        make_crate(pathlib.Path(folder))
+        shutil.copytree(CRATE, folder, dirs_exist_ok=True)
         tools = pathlib.Path(folder) / "bin"
         tools.mkdir()
         for name in ["rt", "rattle"]:
-            (tools / name).write_text(TOOL, encoding="utf-8")
-            (tools / name).chmod(0o755)
+            shutil.copy(CRATE / "toolchain.sh", tools / name)
         yield folder, {**os.environ, "PATH": f"{tools}:{os.environ['PATH']}", "XDG_CACHE_HOME": f"{folder}/cache"}
 
 
@@ -224,7 +177,7 @@ def test_places(count):
 
 def test_said(count):
     """Which goals belong to a function itself, and which only wait."""
-    said = Said(SAID, "a", {"src/m.rt": CYCLES})
+    said = Said((CRATE / "said.txt").read_text(), "a", {"src/m.rt": CYCLES})
     goals = lambda name: list(dict.fromkeys(it.goal for it in said.own_goals(name)))
     count.test("goals of f", goals("f"), ["returns-in-Ok", "returns"])
     count.test("goals of a function that waits", goals("g") + goals("h"), [])

@@ -260,12 +260,15 @@ class FromC(unittest.TestCase):
         # It prints the results of one thread, once four threads returned the same.
         self.judge_steps([path("caller"), "threads"])
 
-    def test_each_request_for_memory_of_a_step_may_be_refused(self):
-        requests = [it for it in self.requests if it.pairs and b"collectAll" not in it.text][:REFUSED_STEPS]
-        for way in ["state", "program"]:
-            found = [int(line) for line in called([path("caller"), "refuse", way], requests)]
-            self.assertEqual(len(found), REFUSED_STEPS)
-            self.assertGreater(sum(found), 2 * REFUSED_STEPS)
+    def test_each_request_for_memory_may_be_refused(self):
+        flat = [it for it in self.requests if it.pairs and b"collectAll" not in it.text][:REFUSED_STEPS]
+        for way, requests in [([], self.requests[:REFUSED]), (["state"], flat), (["program"], flat)]:
+            with self.subTest(way):
+                found = [int(line) for line in called([path("caller"), "refuse", *way], requests)]
+                self.assertEqual(len(found), REFUSED_STEPS if way else REFUSED)
+                self.assertGreater(sum(found), 2 * len(found))
+        bounds = [f".{text.encode().hex()} b 5" for text in BOUNDS]
+        self.assertGreater(min(map(int, called([path("caller"), "refuse"], bounds))), 2)
 
     def test_a_schedule_that_keeps_a_list_has_no_state(self):
         requests = [Request(text, 5, [(1, 0)]) for text in [b"forever.collectAll", b"(recurs(1) && elapsed.collectAll).map(_1)"]]
@@ -303,10 +306,6 @@ class FromC(unittest.TestCase):
         wanted = [f"{number} 0 0 0 0 0 0 0 {at}" for number, at in (wanted.split() for _, wanted in faults)]
         self.assertEqual(called([path("caller"), "answer"], [f".{it.text.hex()} b 1000" for it, _ in faults]), wanted)
 
-    def test_each_request_for_memory_of_bounds_may_be_refused(self):
-        found = [int(line) for line in called([path("caller"), "refuse"], [f".{text.encode().hex()} b 5" for text in BOUNDS])]
-        self.assertGreater(min(found), 2)
-
     @unittest.skipIf(shutil.which("valgrind") is None, "valgrind isn't on this machine")
     def test_valgrind_finds_no_error_and_no_lost_memory(self):
         words = ["valgrind", "--quiet", "--error-exitcode=9", "--leak-check=full", "--show-leak-kinds=all"]
@@ -329,11 +328,6 @@ class FromC(unittest.TestCase):
         for way in ["state", "program"]:
             self.judge_requests([path("caller"), "threads", way], flat)
 
-    def test_each_request_for_memory_may_be_refused(self):
-        found = [int(line) for line in called([path("caller"), "refuse"], self.requests[:REFUSED])]
-        self.assertEqual(len(found), REFUSED)
-        self.assertGreater(sum(found), 2 * REFUSED)
-
     def test_long_texts_long_lists_and_many_words_are_taken(self):
         many_words = tree(400).replace("forever", "fixed(7)").encode()
         requests = [Request(b"recurs(" + b" " * 100_000 + b"3)", 2, [(5, 7)]),
@@ -344,8 +338,8 @@ class FromC(unittest.TestCase):
 
     def test_a_step_visits_a_part_twice_where_it_resets(self):
         requests = [Request(b"elapsed.resetWhen(>= 5)", 1, pairs) for pairs in [[(1, 0)], [(1, 0), (5, 0)], [(1, 0), (6, 0)]]]
-        lines = called([path("caller"), "answer"], requests)
-        self.assertEqual(lines, ["0 1 1 2 0 .30", "0 5 1 2 0 .34", "0 6 1 3 0 .30"])
+        wanted = ["0 1 1 2 0 .30", "0 5 1 2 0 .34", "0 6 1 3 0 .30"]
+        self.assertEqual(called([path("caller"), "answer"], requests), wanted)
 
     @unittest.skipIf(shutil.which("c++") is None, "c++ isn't on this machine")
     def test_the_header_is_one_of_cpp_too(self):
@@ -391,11 +385,14 @@ class FromPython(unittest.TestCase):
     def test_a_text_that_is_no_schedule_is_told_with_its_place(self):
         faults = [("recurs(1) && recurs(2)", 11, 10, "no term at byte 10"), ("exponential(1, 0)", 14, 0, "factor is 0"),
                   ("recurs(18446744073709551616)", 13, 7, "number too large at byte 7"), ("windowed(0)", 16, 0, "window is 0"),
-                  ("recurs(1).map(_1)", 15, 0, "no kind"), ("forever" + ".map(+ 1)" * 64, 12, 0, "too big")]
-        for text, number, at, words in faults:
-            with self.assertRaises(self.zsched.ScheduleFault) as caught:
-                self.zsched.check(text)
-            self.assertEqual((caught.exception.number, caught.exception.at, str(caught.exception)), (number, at, words))
+                  ("recurs(1).map(_1)", 15, 0, "no kind"), ("forever" + ".map(+ 1)" * 64, 12, 0, "too big"),
+                  ("?", 11, 0, "no term at byte 0"), ("forever.", 11, 8, "no term at byte 8")]
+        for text, *wanted in faults:
+            for call in [self.zsched.check, lambda text: self.zsched.bounds(text, 9)]:
+                with self.assertRaises(self.zsched.ScheduleFault) as caught:
+                    call(text)
+                fault = caught.exception
+                self.assertEqual([fault.text, fault.number, fault.at, str(fault)], [text, *wanted])
 
     def test_bounds_of_policies_are_those_that_were_worked_out_by_hand(self):
         for text, numbers in BOUNDS.items():
@@ -420,11 +417,7 @@ class FromPython(unittest.TestCase):
             self.assertFalse(self.zsched.bounds(text, steps).within(most, most), text)
         self.assertTrue(self.zsched.bounds("recurs(5)", 6).within(6, 0))
 
-    def test_bounds_are_refused_as_other_calls_refuse(self):
-        for text, number, at in [("?", 11, 0), ("forever.", 11, 8), ("windowed(0)", 16, 0), ("forever" + ".map(+ 1)" * 64, 12, 0)]:
-            with self.assertRaises(self.zsched.ScheduleFault) as caught:
-                self.zsched.bounds(text, 9)
-            self.assertEqual((caught.exception.text, caught.exception.number, caught.exception.at), (text, number, at))
+    def test_numbers_of_steps_that_bounds_take(self):
         for error, steps in [(OverflowError, -1), (OverflowError, 2 ** 64), (TypeError, 9.0), (TypeError, None)]:
             with self.assertRaises(error):
                 self.zsched.bounds("recurs(1)", steps)
