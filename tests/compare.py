@@ -45,11 +45,6 @@ def differs(zsched, plan):
 
 # ---- Making a plan small
 
-def smaller_numbers(number):
-    """Numbers below one, the least first."""
-    return [other for other in dict.fromkeys([0, 1, 2, number // 2, number - 1]) if other < number]
-
-
 def smaller_texts(text):
     """Shorter texts, which leave out a piece: first those without a long one."""
     length = len(text) // 2
@@ -95,7 +90,7 @@ def smaller_trees(tree, key=None):
         for at, value in enumerate(tree[:20]):
             yield from (tree[:at] + [smaller] + tree[at + 1:] for smaller in smaller_trees(value))
     elif type(tree) is int:
-        yield from smaller_numbers(tree)
+        yield from (number for number in dict.fromkeys([0, 1, 2, tree // 2, tree - 1]) if number < tree)
     elif isinstance(tree, str):
         yield from smaller_schedules(tree) if key == "schedule" else smaller_texts(tree)
 

@@ -320,8 +320,9 @@ def reworded(change):
 def no_term(chance, text):
     """The text isn't a term."""
     at = chance.randrange(len(text) + 1)
-    signs = ["(", ")", ",", ".", "&&", "&", "|", "<", "=", "!", "+", "*", "_1", "_3", "_", "01", "00", "7", " ", "\t", "\n",
-             "\0", "x", "as", "forever", "recurs(", "\u00e9", "\u2028", "\U0001f600", ".map", ".collectAll.", "$", "-1", "1.5"]
+    signs = ["(", ")", ",", ".", "&&", "&", "|", "<", "=", "!", "+", "*", "_1", "_3", "_", "01", "00", "7", " ", "\t",
+             "\n", "\0", "x", "as", "forever", "recurs(", "\u00e9", "\u2028", "\U0001f600", ".map", ".collectAll.", "$",
+             "-1", "1.5"]
     return chance.choice([text[:at] + chance.choice(signs) + text[at:], text[:at], text[:at] + text[at + 1:],
                           text + chance.choice(signs), "(" * chance.randrange(1, 200) + text,
                           re.sub("(?=[0-9]+)", "0", text, count=1), f"({text} && recurs(00))"])

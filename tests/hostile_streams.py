@@ -39,17 +39,14 @@ def ended(text, *words, seconds=PATIENCE, **more):
 
 
 def output_takes_nothing(count):
-    """A device that is full, and a pipe whose reader closed it before: nothing was written."""
+    """A device that is full, and a pipe whose reader closed it before: nothing was written. Without standard error too
+    the status still shows the fault."""
     receiving, closed = os.pipe()
     os.close(receiving)
     for name, output in [("a full device", os.open("/dev/full", os.O_WRONLY)), ("a closed pipe", closed)]:
         status, _, errors = ended(ONE_JOB, stdout=output)
         os.close(output)
         count.test(f"output to {name}", (status, errors), (3, b"zsched: write failed after 0 bytes\n"))
-
-
-def errors_are_full(count):
-    """Standard error that accepts nothing: the status still shows the fault."""
     with open("/dev/full", "wb") as full:
         status, output, _ = ending(begun(stdin=subprocess.DEVNULL, stderr=full))
     count.test("errors to a full device", (status, output), (2, b""))
@@ -154,7 +151,7 @@ def memory_is_short(count):
 
 def test(count, folder):
     """All tests of this file."""
-    for part in [output_takes_nothing, errors_are_full, reader_takes_ten_bytes, input_is_a_folder, input_never_ends,
+    for part in [output_takes_nothing, reader_takes_ten_bytes, input_is_a_folder, input_never_ends,
                  input_comes_slowly, output_is_read_slowly, arguments_are_ignored, memory_is_short]:
         part(count)
     file_is_limited(count, folder)

@@ -1,11 +1,9 @@
 #!/usr/bin/env python3
 """Runs zsched on large plans, and compares its results with tests/reference.py: status, output and standard error.
 
-    python3 tests/large_plans.py
-
-The plans have many attempts, items, ticks, rounds, jobs or bytes. The reports of the largest are made by a loop here, and
-not by the reference. A machine that runs this has the memory and the threads for them, so a status 4 fails. The last line
-is 'N passed, M failed'; the exit status is 0 if M is 0, 1 if it isn't, and 2 if there is no program."""
+The plans have many attempts, items, ticks, rounds, jobs or bytes. The reports of the largest are made by a loop here,
+and not by the reference. A machine that runs this has the memory and the threads for them, so a status 4 fails. The
+last line is 'N passed, M failed'; the exit status is 0 if M is 0, 1 if it isn't, and 2 if there is no program."""
 import json
 import socket
 import subprocess

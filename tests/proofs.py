@@ -73,19 +73,16 @@ def environment():
     return {**jobs, **os.environ}
 
 
-def knows_anew():
-    """Whether `rt ci` of this toolchain knows --anew. One that stores no proofs always proves all."""
-    said = subprocess.run(["rt", "help"], capture_output=True, text=True, check=False)
-    return "--anew" in said.stdout + said.stderr
-
-
 def main():
     """Runs `rt ci`, and prints its output."""
     words = parser_of(__doc__)
     words.add_argument("--anew", action="store_true", help="prove all")
     is_anew = words.parse_args().anew
+    # A toolchain that knows no --anew stores no proofs, and always proves all.
+    said = subprocess.run(["rt", "help"], capture_output=True, text=True, check=False)
+    knows_anew = "--anew" in said.stdout + said.stderr
     before = left_libraries.sources_sum()
-    running = subprocess.Popen(["rt", "ci", *["--anew"] * (is_anew and knows_anew())], cwd=TOP, env=environment(),
+    running = subprocess.Popen(["rt", "ci", *["--anew"] * (is_anew and knows_anew)], cwd=TOP, env=environment(),
                                text=True, errors="replace", stdout=subprocess.PIPE, stderr=subprocess.STDOUT)
     usage = Usage(os.getsid(0))
     usage.start()

@@ -494,12 +494,6 @@ def json_number(text):
     return float(text)
 
 
-def json_depth(text):
-    """How many lists and objects are within each other in a document."""
-    signs = re.findall(r"[\[{\]}]", JSON_STRING.sub("", text))
-    return max(itertools.accumulate(1 if sign in "[{" else -1 for sign in signs), default=0)
-
-
 def read_json(plan):
     """The document of these bytes. Python's reader alone would also take NaN, halves of characters and more levels."""
     try:
@@ -507,7 +501,9 @@ def read_json(plan):
         tree = json.loads(text, parse_int=json_number, parse_float=json_number, parse_constant=json_number)
     except (ValueError, RecursionError):
         raise Fault(NO_JSON) from None
-    if json_depth(text) > DEEPEST_JSON or any(found[1] for found in JSON_ESCAPE.finditer(text)):
+    signs = re.findall(r"[\[{\]}]", JSON_STRING.sub("", text))
+    depth = max(itertools.accumulate(1 if sign in "[{" else -1 for sign in signs), default=0)
+    if depth > DEEPEST_JSON or any(found[1] for found in JSON_ESCAPE.finditer(text)):
         raise Fault(NO_JSON)
     return tree
 

@@ -11,15 +11,14 @@ tests/refused_growths.py, growth::ROW for a row of tests/growth.py, examples::PL
 that part, library::TEST for a test of FromC in tests/tools/test_library.py, or `examples`, `reference` or `large_plans`
 for the plans of these parts of the gate. First it checks whether all still apply, and whether what they name is there.
 
-All are planted in one copy of the crates, as tests/differences.py plants its edits, and a number picks one at run time.
-Of that copy the program, zs_refusals and the tests of a crate are built once, without proofs and without the checks of
-`rt try` (tests/unproved.py). What catches a survivor has to pass in them while no number is picked. An edit that
-changes more than bodies of functions has a copy for itself. So has each one for library: the library is proved and
-built, over the libraries that ./check built. The last line is 'N passed, M failed'; the status is 0 if M is 0, 1 if it
-isn't, and 2 if one no longer applies, if what should catch it fails without it, or if `rt` isn't there.
+All are planted in one copy of the crates, as tests/differences.py plants its edits, and a number picks one at run time;
+what catches it has to pass while none is picked. An edit of more than bodies of functions has a copy for itself. So has
+each one for library, which is proved and built over the libraries that ./check built. The last line is
+'N passed, M failed'; the status is 0 if M is 0, 1 if it isn't, and 2 if one no longer applies, if what should catch it
+fails without it, or if `rt` isn't there.
 
-With --wrong-bodies the edits are those of crates/NAME/wrong-bodies with a line `caught-by:`: the prover rejects these too,
-and a plan or a test shows them all the same."""
+With --wrong-bodies the edits are those of crates/NAME/wrong-bodies with a line `caught-by:`: the prover rejects these
+too, and a plan or a test shows them all the same."""
 import dataclasses
 import datetime
 import functools
@@ -57,10 +56,7 @@ class Misfit(Exception):
     """A survivor no longer applies, or `rt` gave no verdict."""
 
 
-@functools.cache
-def texts_here(crate):
-    """The texts of a crate of this tree."""
-    return texts_of(TOP / "crates" / crate)
+texts_here = functools.cache(texts_of)
 
 
 @functools.cache
@@ -86,7 +82,7 @@ class Survivor(Edit):
 
     def place_in(self, folder):
         """Finds its places in the crates of a folder: the texts of its crate."""
-        texts = texts_here(self.crate) if folder == TOP else texts_of(folder / "crates" / self.crate)
+        texts = (texts_here if folder == TOP else texts_of)(folder / "crates" / self.crate)
         self.changes.clear()
         try:
             self.place(texts)
@@ -290,12 +286,6 @@ def judge(survivors):
     return missed
 
 
-def some_of(survivors, number, day):
-    """A number of the survivors, in turn by the day: each is among them again after all others were."""
-    begin = day.toordinal() * number % len(survivors)
-    return (survivors + survivors)[begin:begin + number]
-
-
 def main():
     """The command line."""
     arguments = support.parser_of(__doc__)
@@ -318,7 +308,10 @@ def main():
         if not survivors:
             arguments.error("there is no such survivor")
         if given.some:
-            survivors = some_of(survivors, min(given.some, len(survivors)), datetime.date.today())
+            # In turn by the day: each is among them again after all others were.
+            number = min(given.some, len(survivors))
+            begin = datetime.date.today().toordinal() * number % len(survivors)
+            survivors = (survivors + survivors)[begin:begin + number]
         if not given.check and shutil.which("rt") is None:
             raise Misfit("the command 'rt' isn't on this machine")
         missed = 0 if given.check else judge(survivors)

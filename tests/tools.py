@@ -87,7 +87,7 @@ def run_over_library(names, folder):
         variables = built_library(folder)
     except subprocess.CalledProcessError as failed:
         print(f"the library can't be built: make-library ended with status {failed.returncode}", flush=True)
-        return [(0, 1) for _ in names]
+        return [(0, 1)] * len(names)
     with concurrent.futures.ThreadPoolExecutor(len(names)) as pool:
         return list(pool.map(lambda name: run_apart(name, **variables), names))
 

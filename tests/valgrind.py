@@ -2,11 +2,9 @@
 """Runs the built program on a dozen plans and on many jobs under valgrind, each cut in several ways: by memcheck, and
 if there are several workers by helgrind and drd. The rounds of the jobs with 998 nodes start threads.
 
-    python3 tests/valgrind.py
-
-Each report has to be the right one. memcheck has to name no error and no lost memory. helgrind and drd may name only reads
-of a queue's places by the queue itself, as docs/TESTING.md explains. It isn't part of ./check, since it needs valgrind,
-and takes some ten minutes. The last line is 'N passed, M failed'."""
+Each report has to be the right one. memcheck has to name no error and no lost memory. helgrind and drd may name only
+reads of a queue's places by the queue itself, as docs/TESTING.md explains. It isn't part of ./check, since it needs
+valgrind, and takes some ten minutes. The last line is 'N passed, M failed'."""
 import pathlib
 import shutil
 import sys
@@ -48,19 +46,17 @@ def cases(cuts):
     return found
 
 
-def is_of_a_queue(error):
-    """Whether an error is an access to a queue's places, made by the queue. The first stack shows where it was made."""
-    if error.findtext("kind") not in ["Race", "ConflictingAccess"]:
-        return False
-    place = error.find("stack/frame/fn")
-    return place is not None and place.text.startswith(QUEUE)
-
-
 def errors_of(path):
-    """The kinds of the errors in a tool's file, and how many more are of a queue."""
-    errors = list(xml.etree.ElementTree.parse(path).getroot().iter("error"))
-    kinds = [error.findtext("kind") for error in errors if not is_of_a_queue(error)]
-    return kinds, len(errors) - len(kinds)
+    """The kinds of the errors in a tool's file, and how many more are accesses to a queue's places, made by the queue, as
+    the first stack shows."""
+    kinds, of_queues = [], 0
+    for error in xml.etree.ElementTree.parse(path).getroot().iter("error"):
+        kind, place = error.findtext("kind"), error.findtext("stack/frame/fn") or ""
+        if kind in ["Race", "ConflictingAccess"] and place.startswith(QUEUE):
+            of_queues += 1
+        else:
+            kinds.append(kind)
+    return kinds, of_queues
 
 
 def main():

@@ -1,7 +1,7 @@
 """The reports in reports/ for tests of zsched-report; beside each is its summary, computed by hand from its text, and
-beside four their load. Busy is the sum of all ends less begins, waited that of all begins less the ends before them, both
-up to the horizon. A job's time to its end is that end less the begin of its first attempt; of n jobs in the order of
-their times, the unfinished ones last, p95 is that of job number 0.95 n, rounded up."""
+beside four their load. Busy is the sum of all ends less begins, waited that of all begins less the ends before them,
+both up to the horizon. A job's time to its end is that end less the begin of its first attempt; of n jobs in the order
+of their times, the unfinished ones last, p95 is that of job number 0.95 n, rounded up."""
 import pathlib
 
 FOLDER = pathlib.Path(__file__).with_name("reports")

@@ -48,12 +48,6 @@ def told_of(look, status, line):
     return ended, output.getvalue(), errors.getvalue()
 
 
-def help_of(errors):
-    """The text of the help line, or nothing."""
-    found = re.search(r"^ *= help: (.*)$", errors, re.M)
-    return found[1] if found else ""
-
-
 class Mistakes(unittest.TestCase):
     """The table of mistakes."""
 
@@ -71,7 +65,7 @@ class Mistakes(unittest.TestCase):
                 errors = errors_of(self, told_of(look, 2, said))
                 self.assertEqual(errors.split("\n")[0], f"zsched: {fault}")
                 self.assertEqual(PLACE.findall(errors), [(str(line), str(column))], errors)
-                self.assertIn(word, help_of(errors))
+                self.assertIn(word, "".join(re.findall(r"^ *= help: (.*)$", errors, re.M)))
 
     def test_the_caret_stands_below_the_place(self):
         for name, marked, fault, _ in MISTAKES:
@@ -281,19 +275,12 @@ class Use(InFolder):
                        **{"ZSCHED": self.zsched, **variables})
 
     def test_a_plan_is_read_from_a_file_or_standard_input(self):
-        wanted = "\n".join([
-            "zsched: job 0: schedule: no term at byte 8",
-            " --> {}:1:72",
-            "  |",
-            "1 | {}",
-            "  | " + " " * 71 + "^ a number has no unit",
-            "  = help: write 3000: all times are milliseconds",
-            '  = job 0 is "a"', ""])
+        shown = [f"1 | {self.faulty.decode()[:100]} ..", "  | " + " " * 71 + "^ a number has no unit",
+                 "  = help: write 3000: all times are milliseconds", '  = job 0 is "a"', ""]
         for arguments, name in [(["plan.json"], "plan.json"), (["-"], "standard input"), ([], "standard input")]:
             with self.subTest(arguments):
-                found = self.run_command(*arguments, text=self.faulty)
-                source = self.faulty.decode()[:100] + " .."
-                self.assertEqual(found, (2, "", wanted.format(name, source)))
+                lines = ["zsched: job 0: schedule: no term at byte 8", f" --> {name}:1:72", "  |", *shown]
+                self.assertEqual(self.run_command(*arguments, text=self.faulty), (2, "", "\n".join(lines)))
 
     def test_an_empty_plan(self):
         self.assertIn("--> standard input:1:1", errors_of(self, self.run_command()))
@@ -310,7 +297,7 @@ class Use(InFolder):
         self.assertEqual(ended, (3, "", "zsched-explain: standard output: No space left on device\n"))
 
     def test_how_it_ends(self):
-        failing, killed = self.script("failing", "echo zsched: out of memory >&2; exit 4"), self.script("killed", "kill -9 $$")
+        failing = self.script("failing", "echo zsched: out of memory >&2; exit 4")
         missing = 1, "", "zsched-explain: no program at /none\n"
         for name, words, variables, wanted in [
                 ("a plan without a fault", ["good.json"], {}, (0, "good.json: no fault\n", "")),
@@ -319,7 +306,7 @@ class Use(InFolder):
                 ("no program", ["plan.json", "--zsched", "/none"], {}, missing),
                 ("no program", ["plan.json"], {"ZSCHED": "/none"}, missing),
                 ("another status", ["plan.json", "--zsched", failing], {}, (4, "", "zsched: out of memory\n")),
-                ("a killed program", ["plan.json", "--zsched", killed], {}, (137, "", ""))]:
+                ("killed", ["plan.json", "--zsched", self.script("killed", "kill -9 $$")], {}, (137, "", ""))]:
             with self.subTest(name, words=words):
                 self.assertEqual(self.run_command(*words, **variables), wanted)
 

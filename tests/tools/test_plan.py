@@ -206,26 +206,23 @@ NO_LINES = [
 class Refusals(WithPlans):
     """The error for a rejected plan has file and line, and no file is written."""
 
-    def fault(self, text, is_lines):
-        """The error for a plan, without its name."""
+    def refuse(self, text, is_lines, beginning):
+        """The error for a plan begins so, after the plan's name."""
         path = self.plan(text)
         with self.assertRaises(Refused) as caught:
             write_parts(path, is_lines, 2, self.folder / "parts")
         self.assertEqual([it.name for it in self.folder.iterdir()], ["plan"])
-        told = str(caught.exception)
-        self.assertTrue(told.startswith(f"{path}: "), told)
-        return told.removeprefix(f"{path}: ")
+        self.assertTrue(str(caught.exception).startswith(f"{path}: {beginning}"), caught.exception)
 
     def test_what_is_no_plan(self):
         for is_lines, table in [(False, NO_PLANS), (True, NO_LINES)]:
             for text, beginning in table:
                 with self.subTest(text[:80]):
-                    told = self.fault(text, is_lines)
-                    self.assertTrue(told.startswith(beginning), told)
+                    self.refuse(text, is_lines, beginning)
 
     def test_a_plan_cut_anywhere(self):
         for end in range(len(WHOLE.rstrip())):
-            self.assertTrue(self.fault(WHOLE[:end], False).startswith("line "))
+            self.refuse(WHOLE[:end], False, "line ")
 
     def test_a_part_that_no_run_would_take(self):
         job = '{"name":"%d","x":"' + "x" * 6_000_000 + '"}'
@@ -236,13 +233,12 @@ class Refusals(WithPlans):
         self.assertEqual(len(self.parts(text, 2)), 2)
 
     def test_the_command_tells_the_place_and_ends_with_2(self):
-        path = self.plan('{"jobs":[\n7]}')
-        said = "line 2: the job that begins here isn't an object with a name"
-        self.assertEqual(tool("split", 5, path, "-o", self.folder / "p"), (2, "", f"zsched-plan: {path}: {said}\n"))
-        self.assertEqual(tool("split", 5, self.folder / "none", "-o", self.folder / "p"),
-                         (3, "", f"zsched-plan: {self.folder / 'none'}: No such file or directory\n"))
-        self.assertEqual(tool("split", 5, "/dev/null", "-o", self.folder / "p"),
-                         (2, "", "zsched-plan: /dev/null: is not a regular file, and a plan may be read twice\n"))
+        for path, status, said in [
+                (self.plan('{"jobs":[\n7]}'), 2, "line 2: the job that begins here isn't an object with a name"),
+                (self.folder / "none", 3, "No such file or directory"),
+                ("/dev/null", 2, "is not a regular file, and a plan may be read twice")]:
+            ended = tool("split", 5, path, "-o", self.folder / "p")
+            self.assertEqual(ended, (status, "", f"zsched-plan: {path}: {said}\n"))
         self.assertEqual([it.name for it in self.folder.iterdir()], ["plan"])
 
     def test_folders_that_have_something_are_left_alone(self):
@@ -318,15 +314,13 @@ class Whole(WithPlans):
             folder = self.folder / str(seed)
             whole = self.file(f"{seed}.json", random_plan(rng))
             write_parts(whole, False, rng.randint(1, 8), folder)
-            out = io.BytesIO()
+            joined, known = io.BytesIO(), io.BytesIO()
             reports = self.reports(sorted(folder.glob("*.json")))
-            write_joined(reports, out.write)
-            wanted = self.reports([whole])[0].read_bytes()
-            self.assertEqual(out.getvalue(), wanted, f"seed {seed}")
+            write_joined(reports, joined.write)
             for report in reports:
                 support.write_digest(report)
-            known = io.BytesIO()
             write_known(folder / "manifest", known.write)
-            self.assertEqual(known.getvalue(), wanted, f"seed {seed}")
+            wanted = self.reports([whole])[0].read_bytes()
+            self.assertEqual((joined.getvalue(), known.getvalue()), (wanted, wanted), f"seed {seed}")
             attempts += wanted.count(b"\nattempt ")
         self.assertGreater(attempts, 10 * RANDOM_PLANS)

@@ -242,9 +242,8 @@ class Stopped(InFolder):
         server = play.Server(0, program.find(), seconds)
         thread = threading.Thread(target=server.serve_forever)
         thread.start()
-        self.addCleanup(thread.join)
-        self.addCleanup(server.server_close)
-        self.addCleanup(server.shutdown)
+        for clean in [thread.join, server.server_close, server.shutdown]:
+            self.addCleanup(clean)
         connection = http.client.HTTPConnection("127.0.0.1", server.server_port, timeout=30)
         connection.request("POST", "/report", question("forever", horizon="99999998"))
         fault = json.loads(connection.getresponse().read())["fault"]
@@ -306,9 +305,8 @@ class CommandLine(unittest.TestCase):
 
     def test_ends_at_once_when_it_is_told_to(self):
         for number in [signal.SIGINT, signal.SIGTERM]:
-            words = [TOOL, "--port", "0", "--zsched", program.find()]
-            pipes = {"stdout": subprocess.PIPE, "stderr": subprocess.PIPE}
-            with self.subTest(number), subprocess.Popen(words, **pipes) as server:
+            words, pipe = [TOOL, "--port", "0", "--zsched", program.find()], subprocess.PIPE
+            with self.subTest(number), subprocess.Popen(words, stdout=pipe, stderr=pipe) as server:
                 server.stdout.readline()
                 server.send_signal(number)
                 try:
@@ -324,9 +322,9 @@ class Browser(Served):
 
     def test_shows_what_the_program_gives(self):
         document = opened(self.url)
-        self.assertIn("comes from zsched itself", inside(document, "engine"))
-        self.assertIn("gives up with 503 after 11 attempts, 13.54 s; longest wait 2 s", inside(document, "state"))
-        self.assertIn("end failed 503 at 13540 polls 22", inside(document, "report"))
+        for name, words in [("engine", "comes from zsched itself"), ("report", "end failed 503 at 13540 polls 22"),
+                            ("state", "gives up with 503 after 11 attempts, 13.54 s; longest wait 2 s")]:
+            self.assertIn(words, inside(document, name))
         self.assertNotIn('class="fault shown"', document)
 
     def test_shows_a_fault_as_the_program_and_its_rules_tell_it(self):
