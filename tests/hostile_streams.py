@@ -69,19 +69,14 @@ def reader_takes_ten_bytes(count):
     count.test(f"a reader that takes ten bytes, the fault {errors}", is_right, True)
 
 
-def limited_file(limit):
-    """A function that a process runs before its program, so that its files may grow to `limit` bytes only."""
-    def limit_files():
-        signal.signal(signal.SIGXFSZ, signal.SIG_IGN)
-        resource.setrlimit(resource.RLIMIT_FSIZE, (limit, limit))
-    return limit_files
-
-
 def file_is_limited(count, folder):
     """A file that may grow to a number of bytes only: exactly the bytes that the fault reports were written."""
     for limit in [1, 20, 111]:
+        def limit_files(limits=(limit, limit)):
+            signal.signal(signal.SIGXFSZ, signal.SIG_IGN)
+            resource.setrlimit(resource.RLIMIT_FSIZE, limits)
         with open(os.path.join(folder, f"limited-{limit}"), "wb+") as output:
-            status, _, errors = ended(ONE_JOB, stdout=output, preexec_fn=limited_file(limit))
+            status, _, errors = ended(ONE_JOB, stdout=output, preexec_fn=limit_files)
             output.seek(0)
             written = output.read()
         wanted = (3, f"zsched: write failed after {limit} bytes\n".encode(), ONE_REPORT[:limit])

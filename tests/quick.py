@@ -67,19 +67,14 @@ def sums(name):
                 continue
             text = file.read_text(encoding="utf-8")
             whole.update(f"{file.relative_to(TOP)}\n{text}".encode())
-            if part == "specs":
-                heads.update(text.encode())
-            elif part == "src":
-                heads.update("\n".join(heads_of(text)).encode())
+            heads.update({"specs": text, "src": "\n".join(heads_of(text))}.get(part, "").encode())
     return [whole.hexdigest(), heads.hexdigest()]
 
 
 def kept(name):
     """The sums of a crate at its last check here that passed, if there was one."""
-    try:
-        return (CRATES / name / "out" / "quick").read_text().split()
-    except FileNotFoundError:
-        return ["", ""]
+    file = CRATES / name / "out" / "quick"
+    return file.read_text().split() if file.exists() else ["", ""]
 
 
 def changed(listed):

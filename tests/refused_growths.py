@@ -79,11 +79,9 @@ CASES = [
 
 MANY_PLACES = 40
 MANY_NAMES = [f"j{number}" for number in range(10000)]
-
 # How the program ends if memory or a thread is missing: with nothing written.
 NO_MEMORY = (4, b"", b"zsched: out of memory\n")
 NO_THREAD = (4, b"", b"zsched: no thread\n")
-
 # A population's run without memory: at a line of it, or while a block is run.
 POPULATION_ENDS = re.compile(rb"zsched-population: (?:line (\d+): )?out of memory\n")
 BLOCK_OF_JOBS = 10_000

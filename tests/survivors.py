@@ -107,17 +107,13 @@ class Survivor(Edit):
             raise Misfit(f"{self.crate}/{self.name}: there is no {self.caught_by}, which should catch it")
 
 
-class Failures(support.Count):
+class Failures(list):
     """The names of the tests that failed."""
-
-    def __init__(self):
-        super().__init__()
-        self.names = []
 
     def test(self, name, found, wanted):
         """One test, which passes if both values are equal."""
         if found != wanted:
-            self.names.append(name)
+            self.append(name)
 
 
 @functools.cache
@@ -204,7 +200,7 @@ def failed(planted, place, name):
         large_plans.test_sizes(failures, planted.program("zsched"), name)
     else:
         return failed_tests(planted, place, name)
-    return failures.names
+    return failures
 
 
 def caught_by_library(survivor, folder):

@@ -47,8 +47,8 @@ def cases(cuts):
 
 
 def errors_of(path):
-    """The kinds of the errors in a tool's file, and how many more are accesses to a queue's places, made by the queue, as
-    the first stack shows."""
+    """The kinds of the errors in a tool's file, and how many more are accesses to a queue's places, made by the queue,
+    as the first stack shows."""
     kinds, of_queues = [], 0
     for error in xml.etree.ElementTree.parse(path).getroot().iter("error"):
         kind, place = error.findtext("kind"), error.findtext("stack/frame/fn") or ""

@@ -32,12 +32,9 @@ from zsched_tools import program
 
 MAKE = TOP / "tools" / "make-library"
 HERE = TOP / "tests" / "tools"
-REQUESTS = 2000
-SCHEDULES = 2000
-MOST_STEPS = 40
-REFUSED = 200
-REFUSED_STEPS = 60
-UNDER_VALGRIND = 60
+REQUESTS = SCHEDULES = 2000
+MOST_STEPS, UNDER_VALGRIND = 40, 60
+REFUSED, REFUSED_STEPS = 200, 60
 UNTOUCHED = "aa"
 WRAPPED = ["-Wl,--wrap=malloc,--wrap=realloc,--wrap=free", "-lpthread"]
 # The folders in which Debian's packages put the sources of crates.

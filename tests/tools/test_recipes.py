@@ -188,11 +188,9 @@ class Recipes(unittest.TestCase):
         jobs = [{"name": f"j{number}", "mode": "retry", "schedule": example["jobs"][0]["schedule"],
                  "script": [{"ms": chance.choice(times), "err": 1} for _ in range(30)] + [{"ms": 1, "ok": 0}]}
                 for number in range(100)]
-        plan = json.dumps({"horizon": 1000000, "jobs": jobs}).encode()
-        status, report, _ = program.run(program.find(), plan, 60)
-        self.assertEqual(status, 0)
+        status, report, _ = program.run(program.find(), json.dumps({"horizon": 1000000, "jobs": jobs}).encode(), 60)
         found = steps_of(report.decode())
-        self.assertEqual([len(steps) for steps in found], [30] * 100)
+        self.assertEqual((status, [len(steps) for steps in found]), (0, [30] * 100))
         self.assertEqual([first_difference(schedule, steps) for steps in found], [None] * 100)
 
 
@@ -225,8 +223,7 @@ class ForZio(unittest.TestCase):
                     schedules.append((f"{name} with {numbers}", definitions(models)[name]))
                     jobs.append({"name": f"j{len(jobs)}", "mode": mode, "schedule": text_with(text, letters, s, a, b),
                                  "script": script_of(chance, key)})
-        plan = json.dumps({"horizon": HORIZON, "jobs": jobs}).encode()
-        status, report, errors = program.run(zsched, plan, 60)
+        status, report, errors = program.run(zsched, json.dumps({"horizon": HORIZON, "jobs": jobs}).encode(), 60)
         self.assertEqual((status, errors), (0, b""))
         found = steps_of(report.decode())
         self.assertEqual(len(found), len(jobs))
