@@ -15,7 +15,7 @@ from unittest import mock
 
 import reference
 from browser import CHROMIUM, inside, opened
-from commands import InFolder, run_here
+from commands import InFolder, errors_of, output_of, process, run_here
 from support import TOP
 from zsched_tools import certificate, curve, curve_page, curve_picture, drawn, outage, outage_command, scenario
 from zsched_tools import program as zsched
@@ -311,8 +311,7 @@ class Certificates(WithFiles):
         other = "s/^end succeeded 200 at 3300/end failed 503 at 3300/"
         changing.write_text(f'#!/bin/sh\n{zsched.find()} | sed "{other}"\n')
         changing.chmod(stat.S_IRWXU)
-        status, out, err = tool(SMALL, program=changing)
-        self.assertEqual((status, out), (1, ""))
+        err = errors_of(self, tool(SMALL, program=changing), status=1)
         self.assertEqual(err, "zsched-outage: policy steady: job c2: simulated succeeded 200 at 3300 after 4 attempts; "
                               "the report has failed 503 at 3300 after 4 attempts\n")
 
@@ -378,8 +377,7 @@ class Files(WithFiles):
 
     def made(self, folder, given):
         here = self.folder / folder
-        status, out, err = tool(given, "-o", here / "out", "--svg", here / "p.svg", "--html", here / "p.html")
-        self.assertEqual((status, err), (0, ""))
+        out = output_of(self, tool(given, "-o", here / "out", "--svg", here / "p.svg", "--html", here / "p.html"))
         return {**self.files(folder), "table": out.encode()}
 
     def test_the_same_seed_gives_the_same_bytes(self):
@@ -566,8 +564,7 @@ class Faults(unittest.TestCase):
                 self.assertIn(old, json.dumps(SMALL))
                 text = json.dumps(SMALL).replace(old, new, 1)
                 at = text.index(place.replace("¦", "")) + place.index("¦")
-                status, out, err = tool(None, text=text.encode())
-                self.assertEqual((status, out), (2, ""))
+                err = errors_of(self, tool(None, text=text.encode()))
                 self.assertRegex(err, rf"^zsched-outage: standard input:1:{at + 1}: ")
                 self.assertIn(cause, err.partition("\n")[0])
                 self.assertIn(help, err)
