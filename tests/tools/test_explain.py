@@ -443,26 +443,7 @@ class All(InFolder):
         return [line.strip().removeprefix("zsched: ") for line, _ in found]
 
     def test_each_fault_has_its_place(self):
-        lines = self.places("""{
-  "horizon": 1000,
-  »"worker": 4,
-  "grain": »0,
-  »"more": {"a": [1,
-    2]},
-  "workers": »65,
-  "jobs": [
-    {"name": "a", "mode": "retry", "schedule": "recurs(3»s)", "script": [{"ms": 5, "err": 7}]},
-    {"name": "b", "mode": »"loop", "schedule": "recurs(5)", "script": [{"ms": 5, "err": 7}]},
-    »7,
-    {"name": "c",
-     "mode": "retry", "schedule": "recurs(5)",
-     "script": »[]}, {"name": "d»d d", "mode": "retry", "schedule": "recurs(5)", "script": [{"ms": 5, "err": 7}]},
-    {"name": "e", "mode": "retry", "schedule": "recurs(5)", "script": [{"ms": 5, "err": 7}]},
-    {"name": »"e", "mode": "retry", "schedule": "recurs(5)", "script": [{"ms": 5, "err": 7}]}
-  ],
-  »"last": 1
-}
-""".replace("d»d d", "d»\u00e9"))
+        lines = self.places((TOP / "tests" / "tools" / "many_faults.txt").read_text())
         self.assertEqual(lines[:4], ["plan: unknown key"] * 3 + ["plan: out of range"])
         self.assertEqual(lines[-1], "job 6: name used before")
 

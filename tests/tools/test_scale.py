@@ -101,6 +101,11 @@ class Recipes(InFolder):
             self.skipTest(f"{' '.join(words)} ends with {ended.returncode} on this machine")
         return ended.stdout
 
+    def needs_parallel(self):
+        """Skips the test if GNU's parallel isn't on this machine."""
+        if "GNU" not in self.needs("parallel", "--version"):
+            self.skipTest("the parallel of this machine isn't GNU's")
+
     def run_in_folder(self, commands):
         """Runs commands in the folder: status and errors."""
         ended = subprocess.run(["bash", "-c", commands], cwd=self.folder, env=self.environment, capture_output=True,
@@ -282,13 +287,11 @@ class Recipes(InFolder):
             self.assertEqual(self.run_in_folder(f"cp kept parts/{name}"), (0, ""))
 
     def test_gnu_parallel(self):
-        if "GNU" not in self.needs("parallel", "--version"):
-            self.skipTest("the parallel of this machine isn't GNU's")
+        self.needs_parallel()
         self.check_recipe(recipe("GNU parallel")[0], 1, joins=False)
 
     def test_gnu_parallel_on_several_machines(self):
-        if "GNU" not in self.needs("parallel", "--version"):
-            self.skipTest("the parallel of this machine isn't GNU's")
+        self.needs_parallel()
         self.needs("rsync", "--version")
         self.program("ssh", SSH.format(folder=self.folder))
         self.program("zsched", f"#!/bin/sh\necho run >> ~/../${{HOME##*/}}.log\nexec {self.zsched}\n")
@@ -343,12 +346,6 @@ class Recipes(InFolder):
         (self.folder / "run_parts.py").write_text(recipe("Dask", "python")[0])
         self.check_recipe(recipe("Dask")[0], 1, times=1)
 
-    def write_population(self, jobs):
-        """Writes population.jsonl, and returns the report of its jobs."""
-        names = [f"job-{number}" for number in range(jobs)]
-        (self.folder / "population.jsonl").write_bytes(support.population(names, 1, 1))
-        return support.equal_jobs(names, 1, 1)[1]
-
     def test_one_program(self):
         try:
             found = zsched.find_population()
@@ -358,8 +355,10 @@ class Recipes(InFolder):
             self.skipTest("zsched_population isn't built")
         (commands,), whole = recipe("One program, without parts"), self.folder / "whole.report"
         partial = self.folder / "whole.partial"
-        right = self.write_population(MANY_JOBS)
-        block = support.equal_jobs([f"job-{number}" for number in range(10_000)], 1, 1)[1].rpartition(b"polls ")[0]
+        names = [f"job-{number}" for number in range(MANY_JOBS)]
+        self.file("population.jsonl", support.population(names, 1, 1))
+        right = support.equal_jobs(names, 1, 1)[1]
+        block = support.equal_jobs(names[:10_000], 1, 1)[1].rpartition(b"polls ")[0]
         # It gets no line after the first of the second block.
         self.program("zsched-population", f"#!/bin/sh\n[ ! -e {self.folder}/slow ] && exec {found}\n"
                                           f"(head -n 10002; sleep 60) | {found}\n")
@@ -390,8 +389,7 @@ class Recipes(InFolder):
         population.write_bytes(good)
 
     def test_the_pipe(self):
-        if "GNU" not in self.needs("parallel", "--version"):
-            self.skipTest("the parallel of this machine isn't GNU's")
+        self.needs_parallel()
         script, commands, repeats = recipe("The pipe, without parts")
         (self.folder / "run-block.sh").write_text(script)
         jobs = [support.job(f"job-{number}") for number in range(JOBS)]
