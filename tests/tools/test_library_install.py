@@ -292,7 +292,8 @@ class Packages(unittest.TestCase):
 
     def test_a_service_in_c_is_built_from_there(self):
         library = next(self.root.rglob("libzsched.a")).parent
-        output(["cc", "-o", path("packaged"), SERVICE / "service.c", "-I", self.root / "usr/include", "-L", library, "-lzsched"])
+        output(["cc", "-o", path("packaged"), SERVICE / "service.c", "-I", self.root / "usr/include", "-L", library,
+                "-lzsched"])
         self.assertEqual(output([path("packaged")], env={"LD_LIBRARY_PATH": str(library)}), "100 300 700 1500 3100 ")
 
 

@@ -320,7 +320,8 @@ class Load(unittest.TestCase):
     def test_the_picture_has_all_figures_and_nothing_outside(self):
         for text in [wide_report(300, 4), RUNNING, GREATEST, "polls 0\n"]:
             root = drawn_by(self, "load", "--svg", "--every", "50ms", "--title", "A & B", text=text)
-            self.assertEqual(sum(begun_in(root)), text.count("\nattempt "))
+            found = [re.search(r"(\d+) begun", it.text) for it in root.iter(f"{SVG}title")]
+            self.assertEqual(sum(int(it[1]) for it in found), text.count("\nattempt "))
             nothing_outside(self, root)
 
 
@@ -558,11 +559,6 @@ def jobs_in(root):
     return {title.split(" of ")[1].split(":")[0] for title in titles(root)}
 
 
-def begun_in(root):
-    """How many attempts begin in each step of a picture of a load."""
-    return [int(found[1]) for it in root.iter(f"{SVG}title") if (found := re.search(r"(\d+) begun", it.text))]
-
-
 def labels(root):
     """The labels of the axis of a picture."""
     return [it for it in root.iter(f"{SVG}text") if it.get("class") == "axis"]
@@ -662,8 +658,9 @@ class Pictures(unittest.TestCase):
             wanted = [drawn * count for count in (402, 201, 201)]
             self.assertEqual([sum(int(row[place]) for row in figures) for place in range(3)], wanted)
             self.assertEqual(figures[-1][3:], ("0", "0"))
-        root = drawn_by(self, "svg", "--job", "service-200", "--job", "service-007", text=many)
-        self.assertEqual((jobs_in(root), begun_in(root)), ({"service-007", "service-200"}, []))
+        out = output_of(self, tool("svg", "--job", "service-200", "--job", "service-007", text=many))
+        self.assertNotIn(" begun, ", out)
+        self.assertEqual(jobs_in(ElementTree.fromstring(out)), {"service-007", "service-200"})
         self.assertEqual(jobs_in(picture_of(many, ["service-200", "service-007"])), {"service-007", "service-200"})
         self.assertEqual(tool("html", "--job", "x", text=many),
                          (2, "", "zsched-report: standard input: has no job x\n"))
@@ -706,8 +703,9 @@ class Pictures(unittest.TestCase):
             for words, least, most in [(["--from", "300", "--to", "899"], 300, 900), (["--to", "899", "--log"], 0, 900),
                                        (["--log"], 0, max(begins) + 1)]:
                 root = drawn_by(self, "svg", *words, text=text)
+                found = [re.search(r": (\d+) begun, ", it.text) for it in root.iter(f"{SVG}title")]
                 wanted = sum(least <= begin < most for begin in begins)
-                self.assertEqual(sum(begun_in(root)), wanted, f"{jobs} jobs, {words}")
+                self.assertEqual(sum(int(it[1]) for it in found if it), wanted, f"{jobs} jobs, {words}")
                 nothing_outside(self, root)
             self.assertEqual(tool("svg", "--from", "900", "--to", "300", text=text)[:2], (2, ""))
 
