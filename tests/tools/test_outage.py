@@ -275,8 +275,8 @@ class Certificates(WithFiles):
     def test_the_command_ends_with_status_1(self):
         other = "s/^end succeeded 200 at 3300/end failed 503 at 3300/"
         changing = self.script("zsched", f'{zsched.find()} | sed "{other}"')
-        said = ("zsched-outage: policy steady: job c2: simulated succeeded 200 at 3300 after 4 attempts; the report has "
-                "failed 503 at 3300 after 4 attempts\n")
+        said = ("zsched-outage: policy steady: job c2: simulated succeeded 200 at 3300 after 4 attempts; the report "
+                "has failed 503 at 3300 after 4 attempts\n")
         self.assertEqual(tool(SMALL, program=changing), (1, "", said))
 
     def test_a_scenario_that_does_not_settle_names_its_clients(self):
