@@ -27,18 +27,6 @@ if [ "$(cat at)" = "$call half" ]; then {program} "$@" > half; head -c $(($(wc -
 {program} "$@"
 [ "$(cat at)" != "$call after" ] || kill -9 0
 """
-# In place of Slurm's: it runs an array's tasks on this machine, except the one that the file `cancelled` names, and
-# ends with 0 as Slurm's does when a task is cancelled before it begins.
-SBATCH = """#!/bin/bash
-case "$*" in "--wait --array="*" part.sbatch") ;; *) echo "sbatch: $*" >&2; exit 2 ;; esac
-array=${2#--array=}
-for task in ${array//,/ }; do
-  [ "$task" = "$(cat cancelled 2> /dev/null)" ] && continue
-  SLURM_ARRAY_TASK_ID=$task sh part.sbatch > parts/slurm-$task.out 2>&1
-done
-exit 0
-"""
-
 # A plan of 10^15 attempts, with its newline of 114 bytes.
 ENDLESS = """{"horizon":999999999999999,"jobs":[{"name":"a","mode":"repeat","schedule":"forever",\
 "script":[{"ms":1,"ok":1}]}]}
@@ -324,7 +312,7 @@ class Recipes(InFolder):
         self.check_recipe(commands, 3)
 
     def test_an_array_by_a_program_that_stands_in_for_slurm(self):
-        self.program("sbatch", SBATCH)
+        self.program("sbatch", (support.TOP / "tests" / "tools" / "sbatch.sh").read_text())
         script, commands = recipe("Slurm")
         (self.folder / "part.sbatch").write_text(script)
         self.check_recipe(commands, 3)
