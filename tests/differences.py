@@ -29,7 +29,8 @@ EPILOG = """exit status: 0 if each edit differs as its file says; 1 if one doesn
 crate can't be built."""
 EXAMPLE = re.compile(r"none: .+|(?P<call>\w+\(.*\)) -> (?P<right>.*\S) \| (?P<wrong>.*\S)")
 FOUND = re.compile(r"^ *difference: (\w+) (right|wrong):(.*)$", re.M)
-# The folder of calls, and of the code in C and its declarations by which the body that runs is chosen.
+# The folder of calls, and of the code in C and its declarations by which the body that runs is chosen. `rt ci` allows
+# no file in it whose name ends with .rt.
 HERE = TOP / "tests" / "differences"
 TEST = """
 #[test]
@@ -131,7 +132,7 @@ def plant(copy, edits, texts):
     """Plants the bodies of a crate's edits in a copy of it, by their numbers."""
     (copy / "c").mkdir()
     shutil.copy(HERE / "chosen.c", copy / "c")
-    shutil.copy(HERE / "chosen.rt", copy / "src")
+    shutil.copy(HERE / "chosen.rt.txt", copy / "src" / "chosen.rt")
     for file, text in with_bodies(texts, bodies_of(edits, texts)).items():
         (copy / file).write_text(text)
     root = copy / "src" / "lib.rt"

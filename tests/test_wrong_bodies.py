@@ -22,11 +22,11 @@ from wrong_edits import BadEdit, Edit, edited
 
 RUNNER = pathlib.Path(__file__).resolve().parent / "wrong_bodies.py"
 
-# A repository of one crate. toolchain.sh is a toolchain that proves nothing: `greater` and `up_to_ten` are open if the
-# call names them, and no other function. said.txt is the output of a check for a function with an open goal, for some
-# that only wait, for a closure, and for a cycle of calls.
+# A crate: its source (`rt ci` allows no file here whose name ends with .rt) and its edits. toolchain.sh is a toolchain
+# that proves nothing: `greater` and `up_to_ten` are open if the call names them, and no other function. said.txt is what
+# a check says of a function with an open goal, of some that only wait, of a closure, and of a cycle of calls.
 CRATE = RUNNER.with_name("two_numbers")
-SOURCE = (CRATE / "crates" / "two_numbers" / "src" / "lib.rt").read_text()
+SOURCE = (CRATE / "lib.rt.txt").read_text()
 CYCLES = "".join(f"#[cycle({name})]\nfn {function}() {{}}\n" for name, function in [
     ("both", "one"), ("both", "two"), ("place", "far"), ("place", "near")])
 
@@ -49,6 +49,15 @@ EDITS = {
 }
 
 
+def make_crate(top):
+    """Writes a repository of the one crate, with its edits."""
+    folder = top / "crates" / "two_numbers"
+    shutil.copytree(CRATE / "wrong-bodies", folder / "wrong-bodies")
+    (folder / "src").mkdir()
+    (folder / "src" / "lib.rt").write_text(SOURCE)
+    (top / "crates.txt").write_text("two_numbers:\n")
+
+
 def ran(folder, *words, **more):
     """A run of the runner on that repository."""
     return subprocess.run([sys.executable, RUNNER, "--top", folder, *words], capture_output=True, text=True,
@@ -58,7 +67,7 @@ def ran(folder, *words, **more):
 def test_runner(count):
     """The whole runner on that crate."""
     with tempfile.TemporaryDirectory() as folder:
-        shutil.copytree(CRATE, folder, dirs_exist_ok=True)
+        make_crate(pathlib.Path(folder))
         ended = ran(folder, "--anew")
     lines = ended.stdout.split("\n")
     print(ended.stdout + ended.stderr, end="")
@@ -75,7 +84,7 @@ def test_runner(count):
 def without_proofs():
     """The folder of a repository of that crate, and variables under which the toolchain is the script in its place."""
     with tempfile.TemporaryDirectory() as folder:
-        shutil.copytree(CRATE, folder, dirs_exist_ok=True)
+        make_crate(pathlib.Path(folder))
         tools = pathlib.Path(folder) / "bin"
         tools.mkdir()
         for name in ["rt", "rattle"]:
