@@ -23,8 +23,8 @@ from wrong_edits import BadEdit, Edit, edited
 RUNNER = pathlib.Path(__file__).resolve().parent / "wrong_bodies.py"
 
 # A crate: its source (`rt ci` allows no file here whose name ends with .rt) and its edits. toolchain.sh is a toolchain
-# that proves nothing: `greater` and `up_to_ten` are open if the call names them, and no other function. said.txt is what
-# a check says of a function with an open goal, of some that only wait, of a closure, and of a cycle of calls.
+# that proves nothing: `greater` and `up_to_ten` are open if the call names them, and no other function. said.txt is
+# what a check says of a function with an open goal, of some that only wait, of a closure, and of a cycle of calls.
 CRATE = RUNNER.with_name("two_numbers")
 SOURCE = (CRATE / "lib.rt.txt").read_text()
 CYCLES = "".join(f"#[cycle({name})]\nfn {function}() {{}}\n" for name, function in [
