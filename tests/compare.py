@@ -45,11 +45,6 @@ def differs(zsched, plan):
 
 # ---- Making a plan small
 
-def smaller_numbers(number):
-    """Numbers below one, the least first."""
-    return [other for other in dict.fromkeys([0, 1, 2, number // 2, number - 1]) if other < number]
-
-
 def smaller_texts(text):
     """Shorter texts, which leave out a piece: first those without a long one."""
     length = len(text) // 2
@@ -95,7 +90,7 @@ def smaller_trees(tree, key=None):
         for at, value in enumerate(tree[:20]):
             yield from (tree[:at] + [smaller] + tree[at + 1:] for smaller in smaller_trees(value))
     elif type(tree) is int:
-        yield from smaller_numbers(tree)
+        yield from (number for number in dict.fromkeys([0, 1, 2, tree // 2, tree - 1]) if number < tree)
     elif isinstance(tree, str):
         yield from smaller_schedules(tree) if key == "schedule" else smaller_texts(tree)
 
@@ -107,25 +102,16 @@ def as_bytes(tree):
 
 def small(is_wanted, plan, most_tries=MOST_TRIES):
     """A plan that still satisfies the condition, as small as it gets in `most_tries` tries."""
-    tries = 0
     try:
         tree = json.loads(plan)
         is_tree = is_wanted(as_bytes(tree))
     except (ValueError, RecursionError):
         is_tree = False
-    current = tree if is_tree else plan
-    smaller = smaller_trees if is_tree else smaller_texts
-    made = as_bytes if is_tree else bytes
-    again = True
-    while again:
-        again = False
-        for candidate in smaller(current):
-            tries += 1
-            if tries > most_tries:
-                return made(current)
-            if is_wanted(made(candidate)):
-                current, again = candidate, True
-                break
+    found, smaller, made = (tree, smaller_trees, as_bytes) if is_tree else (plan, smaller_texts, bytes)
+    tries = iter(range(most_tries))
+    while found is not None:
+        current = found
+        found = next((it for it in smaller(current) if next(tries, None) is not None and is_wanted(made(it))), None)
     return made(current)
 
 
@@ -143,11 +129,7 @@ def told(zsched, seed, plan):
 def compared(words):
     """Compares on some seeds: how many passed, and the texts of the differences."""
     zsched, seeds = words
-    texts = []
-    for seed in seeds:
-        plan = plan_of(seed)
-        if difference(zsched, plan):
-            texts.append(told(zsched, seed, plan))
+    texts = [told(zsched, seed, plan) for seed in seeds if difference(zsched, plan := plan_of(seed))]
     return len(seeds) - len(texts), texts
 
 
@@ -164,8 +146,7 @@ def main():
                            help="the seeds from A on, without B (0..2000)")
     arguments.add_argument("--processes", type=int, choices=range(1, 65), default=1, metavar="N",
                            help="the number of processes, 1 to 64 (1)")
-    given, zsched = arguments.parse_args(), found_zsched()
-    begun = time.monotonic()
+    given, zsched, begun = arguments.parse_args(), found_zsched(), time.monotonic()
     seeds = given.seeds
     chunks = [(zsched, seeds[at:at + CHUNK]) for at in range(0, len(seeds), CHUNK)]
     passed = failed = 0

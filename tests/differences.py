@@ -29,27 +29,9 @@ EPILOG = """exit status: 0 if each edit differs as its file says; 1 if one doesn
 crate can't be built."""
 EXAMPLE = re.compile(r"none: .+|(?P<call>\w+\(.*\)) -> (?P<right>.*\S) \| (?P<wrong>.*\S)")
 FOUND = re.compile(r"^ *difference: (\w+) (right|wrong):(.*)$", re.M)
-# The number of the edit whose body runs, 0 for the right ones: the one that was chosen last, or that the environment names.
-# It is in C: Rattle has no variable of a whole program. Each crate with edits has this code, of which the linker takes one.
-C_CODE = """#include <stdint.h>
-#include <stdlib.h>
-#define SHARED __attribute__((weak))
-SHARED uint64_t zs_number = UINT64_MAX;
-SHARED uint64_t zs_chosen(void) {
-    if (zs_number == UINT64_MAX) {
-        const char *text = getenv("ZS_CHOSEN");
-        zs_number = text ? strtoull(text, NULL, 10) : 0;
-    }
-    return zs_number;
-}
-SHARED void zs_choose(uint64_t n) { zs_number = n; }
-"""
-CHOICE = """// Which edit's body runs.
-unsafe extern "C" {
-    pub(crate) safe fn zs_chosen() -> u64;
-    pub(crate) safe fn zs_choose(n: u64);
-}
-"""
+# The folder of calls, and of the code in C and its declarations by which the body that runs is chosen. `rt ci` allows
+# no file in it whose name ends with .rt.
+HERE = TOP / "tests" / "differences"
 TEST = """
 #[test]
 fn {name}(rt: HostRuntime) -> Result<(), Fail> {{
@@ -135,7 +117,7 @@ def test_of(number, example):
 
 def calls_of(crate):
     """The names of the functions in a crate's file of calls."""
-    path = TOP / "tests" / "differences" / f"{crate}.calls"
+    path = HERE / f"{crate}.calls"
     return set(FUNCTION.findall(path.read_text(encoding="utf-8"))) if path.exists() else set()
 
 
@@ -149,8 +131,8 @@ def copy_crates(folder):
 def plant(copy, edits, texts):
     """Plants the bodies of a crate's edits in a copy of it, by their numbers."""
     (copy / "c").mkdir()
-    (copy / "c" / "chosen.c").write_text(C_CODE)
-    (copy / "src" / "chosen.rt").write_text(CHOICE)
+    shutil.copy(HERE / "chosen.c", copy / "c")
+    shutil.copy(HERE / "chosen.rt.txt", copy / "src" / "chosen.rt")
     for file, text in with_bodies(texts, bodies_of(edits, texts)).items():
         (copy / file).write_text(text)
     root = copy / "src" / "lib.rt"
@@ -162,7 +144,7 @@ def write_copy(folder, crate, examples, texts):
     copy_crates(folder)
     copy = folder / "crates" / crate
     plant(copy, {number: example.edit for number, example in examples.items()}, texts)
-    calls = (TOP / "tests" / "differences" / f"{crate}.calls").read_text(encoding="utf-8")
+    calls = (HERE / f"{crate}.calls").read_text(encoding="utf-8")
     tests = "".join(test_of(number, example) for number, example in examples.items())
     (copy / "src" / "differences.rt").write_text(calls + tests)
     root = copy / "src" / "lib.rt"

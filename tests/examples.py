@@ -1,16 +1,13 @@
 #!/usr/bin/env python3
-"""Runs the program on each plan of examples/ and tests/plans/, and compares its report with the
-file next to the plan.
+"""Runs the program on each plan of examples/ and tests/plans/, and compares its report with the file next to the plan.
 
-Each plan runs as it is, and then under twelve cuts: 1, 2, 7 and 64 workers, each with a grain of 1,
-3 and 10000. The report has to be the same. The reports were computed by hand or by another
-program, never written by zsched.
+Each plan runs as it is, and then under twelve cuts: 1, 2, 7 and 64 workers, each with a grain of 1, 3 and 10000. The
+report has to be the same. The reports were computed by hand or by another program, never written by zsched.
 
     python3 tests/examples.py [PLAN.json ..]      these plans alone
 
-The program is the one that this tree built, or the one that the variable ZSCHED names. The last
-line is 'N passed, M failed'; the status is 0 if M is 0, and 2 if the program or a plan isn't
-there."""
+The program is the one that this tree built, or the one that the variable ZSCHED names. The last line is
+'N passed, M failed'; the status is 0 if M is 0, and 2 if the program or a plan isn't there."""
 import pathlib
 import sys
 
@@ -21,14 +18,6 @@ from support import Count, found_zsched, parser_of, plans_with_reports, recut, r
 CUTS = [(workers, grain) for workers in [1, 2, 7, 64] for grain in [1, 3, 10000]]
 
 
-def cuts_of(text):
-    """A plan's bytes as they are, and with each number of workers and each grain: pairs of a name
-    and bytes."""
-    yield "as it is", text
-    for workers, grain in CUTS:
-        yield f"{workers} workers, grain {grain}", recut(text, workers, grain)
-
-
 def main():
     """Runs the plans, and returns the exit status."""
     words = parser_of(__doc__)
@@ -37,9 +26,11 @@ def main():
     zsched, count = found_zsched(), Count()
     try:
         for path in plans:
-            wanted = (0, report_beside(path), b"")
-            for cut, text in cuts_of(path.read_bytes()):
-                count.test(f"{path}: {cut}", run(zsched, text), wanted)
+            wanted, text = (0, report_beside(path), b""), path.read_bytes()
+            count.test(f"{path}: as it is", run(zsched, text), wanted)
+            for workers, grain in CUTS:
+                found = run(zsched, recut(text, workers, grain))
+                count.test(f"{path}: {workers} workers, grain {grain}", found, wanted)
     except (OSError, ValueError) as cause:
         print(f"examples.py: {cause}", file=sys.stderr)
         return 2

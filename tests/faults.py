@@ -7,7 +7,7 @@ import re
 from typing import NamedTuple
 
 from mistakes import MISTAKES
-from support import ONE_JOB, job, plan
+from support import ONE_JOB, job, plan, tree
 
 LONGEST = 16777216
 DEEP = 100000
@@ -53,13 +53,6 @@ def of_schedule(text, *cases):
 def script(entries):
     """A job's script of these entries, as JSON text."""
     return '"script":[' + ",".join(entries) + "]"
-
-
-def balanced(leaves):
-    """The text of a balanced tree of `leaves` leaves."""
-    if leaves == 1:
-        return "forever"
-    return f"({balanced(leaves // 2)} && {balanced(leaves - leaves // 2)})"
 
 
 def faults_of_documents():
@@ -141,7 +134,7 @@ def faults_of_schedules():
                     ("(" * DEEP, DEEP), ("(" * DEEP + "forever", DEEP + 7)),
         of_schedule("too big",
                     ("(" * DEEP + "forever" + " && forever)" * DEEP,), ("forever" + ".collectAll" * DEEP,),
-                    ("forever" + ".collectAll" * 64,), ("forever" + ".resetWhen(= 0)" * 9,), (balanced(501),)),
+                    ("forever" + ".collectAll" * 64,), ("forever" + ".resetWhen(= 0)" * 9,), (tree(501),)),
         of_schedule("number too large at byte N",
                     ("recurs(18446744073709551616)", 7), ("recurs(" + "9" * DEEP + ")", 7)),
         of_schedule("factor is 0", ("exponential(1, 0)",), ("(exponential(1, 0) && windowed(0))",)),

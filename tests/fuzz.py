@@ -7,6 +7,7 @@ Each run has to end in time, by no signal, with status 0, 2 or 3, or with 4 if t
 form of a report, and a fault has its text on standard error and nothing on standard output. Now and then a plan is run
 on another number of workers too, and has to give the same report. The same seed gives the same plans in the same order.
 A plan that ends otherwise is stored in a file; the file's name and how the run ended are printed."""
+import collections
 import random
 import re
 import resource
@@ -67,23 +68,17 @@ def cut_otherwise(chance, text):
         return None
 
 
-def seeds_of_the_repository():
-    """The plans of the repository, and some that the other tests make."""
-    seeds = [file.read_bytes() for file in plans_with_reports() if file.stat().st_size < 20000]
-    return seeds + [ONE_JOB, equal_jobs("abcdefg", 2, 3)[0]]
-
-
 def fuzz(count, seconds, seed):
     """Runs the program until the time is over."""
     chance = random.Random(seed)
-    seeds = seeds_of_the_repository()
-    end = time.monotonic() + seconds
-    statuses = {}
+    seeds = [file.read_bytes() for file in plans_with_reports() if file.stat().st_size < 20000]
+    seeds += [ONE_JOB, equal_jobs("abcdefg", 2, 3)[0]]
+    end, statuses = time.monotonic() + seconds, collections.Counter()
     while time.monotonic() < end:
         text = next_text(chance, seeds)
         is_long = may_take_long(text)
         ended = run(ZSCHED, text, seconds=1 if is_long else PATIENCE, preexec_fn=limit_memory)
-        statuses[ended[0]] = statuses.get(ended[0], 0) + 1
+        statuses[ended[0]] += 1
         other = cut_otherwise(chance, text) if ended[0] == 0 and chance.random() < 0.2 else None
         if other is not None:
             count.test(f"the report of {text[:300]} on another cut", run(ZSCHED, other), ended)
@@ -93,9 +88,9 @@ def fuzz(count, seconds, seed):
         with tempfile.NamedTemporaryFile(prefix="zsched-fuzz-", suffix=".json", delete=False) as file:
             file.write(text)
         count.test(f"{file.name}, seed {seed}", ended, "a lawful end")
-    count.test("plans tried", sum(statuses.values()) > FEWEST, True)
+    count.test("plans tried", statuses.total() > FEWEST, True)
     told = ", ".join(f"{number} of status {status}" for status, number in sorted(statuses.items(), key=str))
-    print(f"fuzz: seed {seed}, {sum(statuses.values())} plans: {told}".replace("status None", "no end within a second"))
+    print(f"fuzz: seed {seed}, {statuses.total()} plans: {told}".replace("status None", "no end within a second"))
 
 
 def main():

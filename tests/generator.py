@@ -90,16 +90,12 @@ def at_a_limit(chance):
             tail = [".", "map", "(", "+", "1", ")"] if chance.random() < 0.5 else [".", *tested(chance, "whileInput")]
             first = ["(", *tokens, "||", *leaf(chance), ")", ".", "map", "(", "_1", ")"]
             tokens = chance.choice([tokens + tail, first])
-        return tokens if depth_of(tokens) <= 64 else at_a_limit(chance)
+        depth = 1 + sum(token in (".", "||") for token in tokens)
+        return tokens if depth <= 64 else at_a_limit(chance)
     tokens = leaf(chance)
     for _ in range(8):
         tokens += [".", *tested(chance, "resetWhen")]
     return ["(", *balanced(chance, 244), chance.choice(["&&", "||"]), *tokens, ")"]
-
-
-def depth_of(tokens):
-    """The depth of a chain of `at_a_limit`."""
-    return 1 + sum(token in (".", "||") for token in tokens)
 
 
 def balanced(chance, leaves):
@@ -140,10 +136,8 @@ def most_attempts(tokens, is_long):
 def made_clock(chance, is_long):
     """A clock, as the key and the value of a document, and how many attempts it has room for."""
     if chance.random() < 0.6:
-        if is_long:
-            horizon = chance.choice([10, 100, 500, 1000, 2000, 3000])
-        else:
-            horizon = chance.choice([0, 1, 2, 5, 10, 20, 50, 100, 300, 1000, 10 ** 6, 10 ** 12, LAST_TICK])
+        horizon = chance.choice([10, 100, 500, 1000, 2000, 3000] if is_long else
+                                [0, 1, 2, 5, 10, 20, 50, 100, 300, 1000, 10 ** 6, 10 ** 12, LAST_TICK])
         return "horizon", horizon, horizon + 1
     ticks = [chance.choice([0, 0, 1, 5, 100])]
     gaps = chance.choice([[1], [1, 2, 5], [1, 1, 2, 10, 100], [1, 7, 10 ** 6, 10 ** 14]])
@@ -206,12 +200,11 @@ def made_plan(chance):
 
 def start_together(chance, jobs):
     """The jobs of a plan. Most start together, so that polls of several are due at one moment and threads share them."""
-    together = jobs[0].get("start") if jobs else None
+    together = {"start": jobs[0]["start"]} if jobs and "start" in jobs[0] else {}
     for job in jobs:
         if chance.random() < 0.85:
             job.pop("start", None)
-            if together is not None:
-                job["start"] = together
+            job.update(together)
     return jobs
 
 
@@ -301,19 +294,6 @@ def unknown_job_key(chance, tree, number):
     return tree
 
 
-def wrong_mode(chance, tree, number):
-    """The mode of a job is another text."""
-    tree["jobs"][number]["mode"] = chance.choice(["loop", "Retry", "", "retry ", "repeat\0", "retryrepeat"])
-    return tree
-
-
-def wrong_name(chance, tree, number):
-    """The name of a job breaks its rule."""
-    names = ["", "a" * 65, "a" * 65, "a b", "\u00e9" * 32, "a\n", "a/b", "\0", "\uff41"]
-    tree["jobs"][number]["name"] = chance.choice(names)
-    return tree
-
-
 def same_name(chance, tree, number):
     """A job has the name of an earlier one."""
     jobs = tree["jobs"]
@@ -324,13 +304,17 @@ def same_name(chance, tree, number):
     return tree
 
 
-def reworded(change):
-    """A fault that changes the text of a job's schedule."""
+def of_job(change):
+    """A fault that is a change of a job."""
     def changed(chance, tree, number):
-        job = tree["jobs"][number]
-        job["schedule"] = change(chance, job["schedule"])
+        change(chance, tree["jobs"][number])
         return tree
     return changed
+
+
+def reworded(change):
+    """A fault that changes the text of a job's schedule."""
+    return of_job(lambda chance, job: job.update(schedule=change(chance, job["schedule"])))
 
 
 def no_term(chance, text):
@@ -383,29 +367,21 @@ def zero_window(chance, text):
                           f"({text} andThenEither windowed(0).map(+ 1))"])
 
 
-def empty_script(_, tree, number):
-    """A script is empty."""
-    tree["jobs"][number]["script"] = []
-    return tree
-
-
-def long_script(_, tree, number):
-    """A script has too many entries."""
-    script = tree["jobs"][number]["script"] or [{"ms": 1, "ok": 1}]
-    tree["jobs"][number]["script"] = (script * 1001)[:1001]
-    return tree
-
-
-def zero_ms(chance, tree, number):
+def zero_ms(chance, job):
     """An entry takes 0 ms."""
-    script = tree["jobs"][number]["script"]
+    script = job["script"]
     script.insert(chance.randrange(len(script) + 1), {"ms": 0, chance.choice(["ok", "err"]): 1})
-    return tree
 
 
+MODES = ["loop", "Retry", "", "retry ", "repeat\0", "retryrepeat"]
+NAMES = ["", "a" * 65, "a" * 65, "a b", "\u00e9" * 32, "a\n", "a/b", "\0", "\uff41"]
+wrong_mode = of_job(lambda chance, job: job.update(mode=chance.choice(MODES)))
+wrong_name = of_job(lambda chance, job: job.update(name=chance.choice(NAMES)))
+empty_script = of_job(lambda _, job: job.update(script=[]))
+long_script = of_job(lambda _, job: job.update(script=((job["script"] or [{"ms": 1, "ok": 1}]) * 1001)[:1001]))
 FAULTS = [wrong_document_shape, unknown_document_key, document_out_of_range, wrong_job_shape, unknown_job_key,
           wrong_mode, wrong_name, same_name, reworded(no_term), reworded(too_big), reworded(big_number),
-          reworded(zero_factor), reworded(no_kind), reworded(zero_window), empty_script, long_script, zero_ms]
+          reworded(zero_factor), reworded(no_kind), reworded(zero_window), empty_script, long_script, of_job(zero_ms)]
 
 DOCUMENT_FAULTS = 3     # the first of them are faults of the document
 
@@ -474,8 +450,7 @@ ODD_PIECES = [
     "\x1f", '"\\ud800"', '"\\udc00\\ud800"', '"\\ud83d\\ude00"', '"\\ud83dx"', '"\\ud83d\\u0041"', '"\\u00"', '"\\x"',
     '"\\/"', '"\\u0000"', '"\\b\\f\\n\\r\\t"', '"\x01"', '"\x7f"', '"\u00e9\U0001f600"', "1" * 309, "9" * 400,
     "-" + "9" * 400, "1" * 20, "18446744073709551615", "18446744073709551616", "1.7976931348623158e308",
-    "1.797693134862315808e308",
-    "1.8e308", "5e-324"]
+    "1.797693134862315808e308", "1.8e308", "5e-324"]
 ODD_BYTES = [b"\xff", b"\x80", b"\xc3", b"\xc0\x80", b"\xed\xa0\x80", b"\xf4\x90\x80\x80", b"\xe2\x82", b"\xef\xbb\xbf",
              b"\xf0\x9f\x98\x80"]
 

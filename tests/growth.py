@@ -58,25 +58,22 @@ class Cost:
 
     def less(self, other, things=1):
         """What this costs more than another, for each of a number of things."""
-        return Cost((self.instructions - other.instructions) / things,
-                    (self.held - other.held) / things, (self.requests - other.requests) / things)
+        return Cost((self.instructions - other.instructions) / things, (self.held - other.held) / things,
+                    (self.requests - other.requests) / things)
 
     def text(self):
         """The cost as a text."""
-        return (f"{self.instructions:,.0f} instructions, {self.held:,.1f} bytes, "
-                f"{self.requests:,.2f} requests")
+        return f"{self.instructions:,.0f} instructions, {self.held:,.1f} bytes, {self.requests:,.2f} requests"
 
     def is_within(self, most):
         """Whether each number is within a limit."""
-        return [self.instructions <= most.instructions, self.held <= most.held,
-                self.requests <= most.requests]
+        return [self.instructions <= most.instructions, self.held <= most.held, self.requests <= most.requests]
 
 
 @dataclasses.dataclass
 class Row:
-    """What grows: its name, a function that makes the input of n things, the smaller n, and the
-    limit for each further thing. If n is 0 nothing grows, and the limit is for the whole run. The
-    program is zsched, or the one that `runs` names, and has this status."""
+    """What grows: its name, a function that makes the input of n things, the smaller n, and the limit for each further
+    thing. If n is 0 nothing grows, and the limit is for the whole run. `runs` names the program, which ends so."""
     name: str
     make: Callable
     size: int
@@ -94,8 +91,7 @@ def plan(jobs, **more):
 def job(number, schedule, script=((1, 0),), **more):
     """A job that the schedule alone ends. The script is pairs of milliseconds and values."""
     entries = [{"ms": ms, "ok": value} for ms, value in script]
-    return {"name": f"job{number}", "mode": "repeat", "schedule": schedule, "script": entries,
-            **more}
+    return {"name": f"job{number}", "mode": "repeat", "schedule": schedule, "script": entries, **more}
 
 
 def attempts_of(schedule):
@@ -119,10 +115,8 @@ def jobs_one_after_the_other(count):
 
 
 def jobs_that_end_together(count):
-    """Jobs that begin one after the other and end at one moment. The last one waits for that moment
-    before all others."""
-    jobs = [job(number, "recurs(0)", [(count - number, 0)], start=number + 1)
-            for number in range(count - 1)]
+    """Jobs that begin one after the other and end at one moment, for which the last one waits before all others."""
+    jobs = [job(number, "recurs(0)", [(count - number, 0)], start=number + 1) for number in range(count - 1)]
     return plan([*jobs, job(count - 1, "recurs(0)", [(count + 1, 0)])])
 
 
@@ -216,43 +210,32 @@ ROWS = [
     Row("no job", lambda _: plan([]), 0, Cost(250_000, 1000, 17)),
     Row("one job", lambda _: jobs_of("recurs(0)")(1), 0, Cost(280_000, 3300, 52)),
     Row("attempts", attempts_of("forever"), 2500, Cost(4400, 138, 0.01)),
-    Row("attempts with pairs and sides",
-        attempts_of("(recurs(3) andThenEither (forever && identity))"), 2500,
+    Row("attempts with pairs and sides", attempts_of("(recurs(3) andThenEither (forever && identity))"), 2500,
         Cost(5900, 138, 0.01)),
-    Row("attempts in records", records(attempts_of("forever")), 2700, Cost(4800, 250, 0.01),
-        runs="zs_refusals"),
+    Row("attempts in records", records(attempts_of("forever")), 2700, Cost(4800, 250, 0.01), runs="zs_refusals"),
     Row("jobs due together", jobs_of("recurs(5)"), 1000, Cost(76_000, 2220, 20.5)),
     # Most of their cost is the parsing of their schedules.
-    Row("jobs of 100 nodes", jobs_of(f"(recurs(0) && {tree(50)})"), 100,
-        Cost(290_000, 17_300, 422)),
+    Row("jobs of 100 nodes", jobs_of(f"(recurs(0) && {tree(50)})"), 100, Cost(290_000, 17_300, 422)),
     Row("jobs of 100 attempts", jobs_of("recurs(99)"), 100, Cost(420_000, 11_500, 28.8)),
     Row("jobs at moments of their own", jobs_one_after_the_other, 1000, Cost(68_000, 2240, 22.6)),
-    Row("jobs that come due in another order", jobs_that_end_together, 1000,
-        Cost(68_000, 2240, 22.6)),
+    Row("jobs that come due in another order", jobs_that_end_together, 1000, Cost(68_000, 2240, 22.6)),
     Row("ticks", ticks, 20_000, Cost(1200, 83, 0.01)),
     Row("leaves of a schedule", leaves, 100, Cost(68_000, 270, 209)),
-    Row("collected items", items_of("(identity.collectAll && recurs({})).map(_2)"), 1000,
-        Cost(5700, 129, 2.1)),
-    Row("counted items", items_of("(identity.collectAll.map(size) && recurs({})).map(_2)"), 1000,
-        Cost(5900, 129, 2.1)),
+    Row("collected items", items_of("(identity.collectAll && recurs({})).map(_2)"), 1000, Cost(5700, 129, 2.1)),
+    Row("counted items", items_of("(identity.collectAll.map(size) && recurs({})).map(_2)"), 1000, Cost(5900, 129, 2.1)),
     Row("batches", batches, 500, Cost(64_000, 2230, 23.6)),
     Row("open parentheses", parentheses, 100_000, Cost(150, 3.5, 0.01), status=2),
     Row("bytes of a schedule", spaces, 500_000, Cost(45, 3.2, 0.01)),
     # The keys of an object are stored in order, which costs a logarithm more.
     Row("keys", keys, 2000, Cost(15_800, 171, 1.2), status=2, times=5.6),
     Row("entries of a script", entries_of_a_script, 250, Cost(7000, 975, 3.2)),
-    Row("pairs of an answer", pairs_of_a_history, 2500, Cost(4000, 31, 2.1),
-        runs="library answer"),
-    Row("bytes of an answer's text", long_text, 20_000, Cost(500, 4.6, 0.01),
-        runs="library answer"),
-    Row("pairs of steps", pairs_of_a_history, 2500, Cost(15_000, 31, 14.7),
-        runs="library state"),
-    Row("steps of a program", steps_of_a_policy, 2500, Cost(2200, 31, 0.01),
-        runs="library program"),
+    Row("pairs of an answer", pairs_of_a_history, 2500, Cost(4000, 31, 2.1), runs="library answer"),
+    Row("bytes of an answer's text", long_text, 20_000, Cost(500, 4.6, 0.01), runs="library answer"),
+    Row("pairs of steps", pairs_of_a_history, 2500, Cost(15_000, 31, 14.7), runs="library state"),
+    Row("steps of a program", steps_of_a_policy, 2500, Cost(2200, 31, 0.01), runs="library program"),
     Row("leaves of a state", states, 100, Cost(800_000, 370, 240), runs="library state"),
     Row("steps of bounds", steps_of_bounds, 1000, Cost(4500, 0.01, 4.2), runs="library answer"),
-    Row("leaves of bounds", leaves_of_bounds, 100, Cost(9750, 525, 8.8),
-        runs="library answer"),
+    Row("leaves of bounds", leaves_of_bounds, 100, Cost(9750, 525, 8.8), runs="library answer"),
 ]
 ROWS_BY_NAME = {row.name: row for row in ROWS}
 
@@ -269,8 +252,7 @@ class Meter:
             counted = pathlib.Path(room, "dhat")
             words = ["valgrind", "--tool=dhat", f"--dhat-out-file={counted}", *self.programs[runs]]
             try:
-                ended = subprocess.run(words, input=text, capture_output=True, timeout=PATIENCE,
-                                       check=False)
+                ended = subprocess.run(words, input=text, capture_output=True, timeout=PATIENCE, check=False)
             except subprocess.TimeoutExpired:
                 return NO_LIMIT
             said = ended.stderr.decode(errors="replace")
@@ -343,9 +325,8 @@ def programs_of(folder, zsched, rows):
     if any(name.startswith("library") for name in wanted) and shutil.which("cc"):
         driver = build_library(folder)
         if driver:
-            programs["library answer"] = [driver, "answer"]
-            programs["library state"] = [driver, "answer", "state"]
-            programs["library program"] = [driver, "answer", "program"]
+            programs.update({"library answer": [driver, "answer"], "library state": [driver, "answer", "state"],
+                             "library program": [driver, "answer", "program"]})
     return programs
 
 
@@ -358,8 +339,7 @@ def main():
     rows = [row for row in ROWS if row.name in (given.row or [row.name])]
     count = Count()
     if shutil.which("valgrind") is None:
-        print("growth: left out, since valgrind isn't on this machine: " + ", ".join(
-            row.name for row in rows))
+        print("growth: left out, since valgrind isn't on this machine: " + ", ".join(row.name for row in rows))
         count.test("nothing is counted", True, True)
         return count.close()
     with tempfile.TemporaryDirectory() as folder:

@@ -1,6 +1,6 @@
 """Plans that no honest user writes: each with the status, the text of the fault, and nothing on standard output."""
-from faults import DEEP, LONGEST, balanced, refused, script
-from support import BLOCK, ONE_JOB, ONE_REPORT, ZSCHED, equal_jobs, heavy_jobs, job, plan, run
+from faults import DEEP, LONGEST, refused, script
+from support import BLOCK, ONE_JOB, ONE_REPORT, ZSCHED, equal_jobs, heavy_jobs, job, plan, run, tree
 
 FEWEST = 250
 
@@ -18,7 +18,7 @@ def accepted_plans():
         ("a name of 64 bytes", plan([job(named)]), (BLOCK.format(named) + "polls 3\n").encode()),
         ("a script of 1,000 entries", plan([job(script=script(entries))]), ONE_REPORT),
         ("a schedule of depth 64", plan([job(schedule=deep, mode="repeat", script=failing)]), ended),
-        ("a schedule of 1,000 nodes", plan([job(schedule=balanced(500) + ".collectAll", mode="repeat", script=failing)]), ended),
+        ("a schedule of 1,000 nodes", plan([job("a", tree(500) + ".collectAll", "repeat", failing)]), ended),
         ("a plan of 16,777,216 bytes", ONE_JOB.ljust(LONGEST), ONE_REPORT),
         ("workers 64 and grain 10000", plan(more=',"workers":64,"grain":10000'), ONE_REPORT),
         ("a number with 100,000 spaces before it", plan([job(schedule="recurs(" + " " * DEEP + "3)")]), ONE_REPORT),
@@ -46,7 +46,6 @@ def test(count):
         count.test(f"10,000 jobs, {workers} workers, grain {grain}", run(ZSCHED, text), (0, report, b""))
     for workers in [1, 2, 7, 64]:
         for grain in [1, 3, 10000]:
-            text, report = equal_jobs("abcdefg", workers, grain)
-            count.test(f"seven jobs, {workers} workers, grain {grain}", run(ZSCHED, text), (0, report, b""))
-            text, report = heavy_jobs(workers, grain)
-            count.test(f"heavy jobs, {workers} workers, grain {grain}", run(ZSCHED, text), (0, report, b""))
+            for name, (text, report) in {"seven": equal_jobs("abcdefg", workers, grain),
+                                         "heavy": heavy_jobs(workers, grain)}.items():
+                count.test(f"{name} jobs, {workers} workers, grain {grain}", run(ZSCHED, text), (0, report, b""))

@@ -1,4 +1,5 @@
 """Standard streams that fail, end early, never end, or give one byte at a time."""
+import functools
 import os
 import resource
 import signal
@@ -30,32 +31,25 @@ def ending(started, seconds=PATIENCE):
     return started.returncode, output, errors
 
 
-def output_is_full(count):
-    """A device that is full: nothing was written, or only what the fault reports."""
-    with open("/dev/full", "wb") as full:
-        started = begun(stdout=full)
-        started.stdin.write(ONE_JOB)
-        status, _, errors = ending(started)
-    count.test("output to a full device", (status, errors), (3, b"zsched: write failed after 0 bytes\n"))
+def ended(text, *words, seconds=PATIENCE, **more):
+    """How the program ends that reads a text."""
+    started = begun(*words, **more)
+    started.stdin.write(text)
+    return ending(started, seconds)
 
 
-def errors_are_full(count):
-    """Standard error that accepts nothing: the status still shows the fault."""
-    with open("/dev/full", "wb") as full:
-        started = begun(stdin=subprocess.DEVNULL, stderr=full)
-        status, output, _ = ending(started)
-    count.test("errors to a full device", (status, output), (2, b""))
-
-
-def pipe_is_closed(count):
-    """A reader of the report that closes the pipe before the report was written."""
-    receiving, sending = os.pipe()
+def output_takes_nothing(count):
+    """A device that is full, and a pipe whose reader closed it before: nothing was written. Without standard error too
+    the status still shows the fault."""
+    receiving, closed = os.pipe()
     os.close(receiving)
-    started = begun(stdout=sending)
-    os.close(sending)
-    started.stdin.write(ONE_JOB)
-    status, _, errors = ending(started)
-    count.test("a closed pipe", (status, errors), (3, b"zsched: write failed after 0 bytes\n"))
+    for name, output in [("a full device", os.open("/dev/full", os.O_WRONLY)), ("a closed pipe", closed)]:
+        status, _, errors = ended(ONE_JOB, stdout=output)
+        os.close(output)
+        count.test(f"output to {name}", (status, errors), (3, b"zsched: write failed after 0 bytes\n"))
+    with open("/dev/full", "wb") as full:
+        status, output, _ = ending(begun(stdin=subprocess.DEVNULL, stderr=full))
+    count.test("errors to a full device", (status, output), (2, b""))
 
 
 def reader_takes_ten_bytes(count):
@@ -75,21 +69,14 @@ def reader_takes_ten_bytes(count):
     count.test(f"a reader that takes ten bytes, the fault {errors}", is_right, True)
 
 
-def limited_file(limit):
-    """A function that a process runs before its program, so that its files may grow to `limit` bytes only."""
-    def limit_files():
-        signal.signal(signal.SIGXFSZ, signal.SIG_IGN)
-        resource.setrlimit(resource.RLIMIT_FSIZE, (limit, limit))
-    return limit_files
-
-
 def file_is_limited(count, folder):
     """A file that may grow to a number of bytes only: exactly the bytes that the fault reports were written."""
     for limit in [1, 20, 111]:
+        def limit_files(limits=(limit, limit)):
+            signal.signal(signal.SIGXFSZ, signal.SIG_IGN)
+            resource.setrlimit(resource.RLIMIT_FSIZE, limits)
         with open(os.path.join(folder, f"limited-{limit}"), "wb+") as output:
-            started = begun(stdout=output, preexec_fn=limited_file(limit))
-            started.stdin.write(ONE_JOB)
-            status, _, errors = ending(started)
+            status, _, errors = ended(ONE_JOB, stdout=output, preexec_fn=limit_files)
             output.seek(0)
             written = output.read()
         wanted = (3, f"zsched: write failed after {limit} bytes\n".encode(), ONE_REPORT[:limit])
@@ -145,31 +132,21 @@ def output_is_read_slowly(count):
 def arguments_are_ignored(count):
     """Arguments of any kind, including one that isn't text."""
     for argument in ["--help", "-", "", b"\xff"]:
-        started = begun(argument)
-        started.stdin.write(ONE_JOB)
-        count.test(f"the argument {argument}", ending(started), (0, ONE_REPORT, b""))
+        count.test(f"the argument {argument}", ended(ONE_JOB, argument), (0, ONE_REPORT, b""))
 
 
 def memory_is_short(count):
     """A plan that needs more memory than there is: out of memory, and nothing written."""
     text = (b'{"horizon":100000,"jobs":[{"name":"a","mode":"repeat","schedule":"forever.collectAll.collectAll",'
             b'"script":[{"ms":1,"ok":0}]}]}')
-    limit = (resource.RLIMIT_AS, (SHORT_MEMORY, SHORT_MEMORY))
-    started = begun(preexec_fn=lambda: resource.setrlimit(*limit))
-    started.stdin.write(text)
-    count.test("a plan too large for memory", ending(started, 60), (4, b"", b"zsched: out of memory\n"))
+    limit = functools.partial(resource.setrlimit, resource.RLIMIT_AS, (SHORT_MEMORY, SHORT_MEMORY))
+    found = ended(text, seconds=60, preexec_fn=limit)
+    count.test("a plan too large for memory", found, (4, b"", b"zsched: out of memory\n"))
 
 
 def test(count, folder):
     """All tests of this file."""
-    output_is_full(count)
-    errors_are_full(count)
-    pipe_is_closed(count)
-    reader_takes_ten_bytes(count)
+    for part in [output_takes_nothing, reader_takes_ten_bytes, input_is_a_folder, input_never_ends,
+                 input_comes_slowly, output_is_read_slowly, arguments_are_ignored, memory_is_short]:
+        part(count)
     file_is_limited(count, folder)
-    input_is_a_folder(count)
-    input_never_ends(count)
-    input_comes_slowly(count)
-    output_is_read_slowly(count)
-    arguments_are_ignored(count)
-    memory_is_short(count)

@@ -1,11 +1,9 @@
 #!/usr/bin/env python3
 """Runs zsched on large plans, and compares its results with tests/reference.py: status, output and standard error.
 
-    python3 tests/large_plans.py
-
-The plans have many attempts, items, ticks, rounds, jobs or bytes. The reports of the largest are made by a loop here, and
-not by the reference. A machine that runs this has the memory and the threads for them, so a status 4 fails. The last line
-is 'N passed, M failed'; the exit status is 0 if M is 0, 1 if it isn't, and 2 if there is no program."""
+The plans have many attempts, items, ticks, rounds, jobs or bytes. The reports of the largest are made by a loop here,
+and not by the reference. A machine that runs this has the memory and the threads for them, so a status 4 fails. The
+last line is 'N passed, M failed'; the exit status is 0 if M is 0, 1 if it isn't, and 2 if there is no program."""
 import json
 import socket
 import subprocess
@@ -49,8 +47,8 @@ def attempts_over_each_operator():
     """Jobs of 500 attempts, an operator over growing parts each."""
     schedules = ["(forever && identity)", "(recurs(3) || elapsed)", "(recurs(250) andThenEither identity)",
                  "identity.whileInput(< 1000)", "(identity && elapsed).whileOutput(_2 < 2000)",
-                 "identity.map(+ 5).map(* 7)",
-                 "recurs(900).resetWhen(= 7)", "(recurs(2) andThenEither recurs(3)).map(merge).resetWhen(= 3)",
+                 "identity.map(+ 5).map(* 7)", "recurs(900).resetWhen(= 7)",
+                 "(recurs(2) andThenEither recurs(3)).map(merge).resetWhen(= 3)",
                  "identity.collectAll.resetWhen(size = 9)", "identity.collectAll.map(size)",
                  "(linear(1) && forever.collectAll.map(size)).resetWhen(_1 > 50).resetWhen(_2 = 9)"]
     jobs = [job(number, schedule, range(9), 2) for number, schedule in enumerate(schedules)]
@@ -84,36 +82,36 @@ def many_jobs(count, workers, grain):
     return plan(jobs, horizon=20, workers=workers, grain=grain)
 
 
-def ended(attempts, ending, polls):
-    """How a plan of one job ends, with these lines of its attempts: what `run` returns of it."""
-    report = "\n".join([*attempts, f"end {ending} polls {polls}", f"polls {polls}"]) + "\n"
-    return 0, report.encode(), b""
+def lines_of(name, outs, start=0, ms=1, value=0):
+    """The lines of a repeat with these outputs, whose attempts come one immediately after the other."""
+    lines, at = [f"job {name} repeat"], start
+    for n, out in enumerate(outs, 1):
+        at += ms
+        decision = "done" if n == len(outs) else f"next {at}"
+        lines += [f"attempt {n} {at - ms}..{at} ok {value}", f"step {n} out {out} {decision}"]
+    return [*lines, f"end finished {outs[-1]} at {at} polls {len(outs) + 1}"]
+
+
+def ended(lines, polls):
+    """What `run` returns of a plan whose jobs have these lines."""
+    return 0, "\n".join([*lines, f"polls {polls}", ""]).encode(), b""
 
 
 def many_attempts(count):
     """A job of `count` attempts."""
-    lines = ["job j0 repeat"]
-    for n in range(count):
-        decision = "done" if n == count - 1 else f"next {n + 1}"
-        lines += [f"attempt {n + 1} {n}..{n + 1} ok 0", f"step {n + 1} out {n} {decision}"]
-    return plan([job(0, f"recurs({count - 1})")], horizon=LAST_TICK), ended(lines, f"finished {count - 1} at {count}", count + 1)
+    return plan([job(0, f"recurs({count - 1})")], horizon=LAST_TICK), ended(lines_of("j0", range(count)), count + 1)
 
 
 def long_report(items):
     """A list of `items` greatest numbers; each step outputs those before it."""
-    lines, out = ["job j0 repeat"], ""
-    for n in range(items + 1):
-        out = "[" + ",".join([str(M)] * n) + "]"
-        decision = "done" if n == items else f"next {n + 1}"
-        lines += [f"attempt {n + 1} {n}..{n + 1} ok {M}", f"step {n + 1} out {out} {decision}"]
+    outs = ["[" + ",".join([str(M)] * n) + "]" for n in range(items + 1)]
     schedule = f"(identity && recurs({items})).map(_1).collectAll"
-    return plan([job(0, schedule, [M])], horizon=LAST_TICK), ended(lines, f"finished {out} at {items + 1}", items + 2)
+    return plan([job(0, schedule, [M])], horizon=LAST_TICK), ended(lines_of("j0", outs, value=M), items + 2)
 
 
 def long_schedule(spaces):
     """A schedule of a little over `spaces` bytes."""
-    lines = ["job j0 repeat", "attempt 1 0..1 ok 0", "step 1 out 0 done"]
-    return plan([job(0, "recurs(" + " " * spaces + "0)")], horizon=9), ended(lines, "finished 0 at 1", 2)
+    return plan([job(0, "recurs(" + " " * spaces + "0)")], horizon=9), ended(lines_of("j0", [0]), 2)
 
 
 def deep_schedule(levels):
@@ -125,28 +123,17 @@ def deep_schedule(levels):
 def many_moments(count):
     """`count` jobs that begin one after the other: the first half from its last job to its first, the others in order."""
     starts = [*range(count, 0, -2), *range(count + 2, 2 * count + 1, 2)]
-    lines = []
-    for number, start in enumerate(starts):
-        lines += [f"job j{number} repeat", f"attempt 1 {start}..{start + 1} ok 0", "step 1 out 0 done",
-                  f"end finished 0 at {start + 1} polls 2"]
+    lines = [line for number, start in enumerate(starts) for line in lines_of(f"j{number}", [0], start)]
     jobs = [{**job(number, "recurs(0)"), "start": start} for number, start in enumerate(starts)]
-    return plan(jobs, horizon=2 * count + 1), (0, "\n".join([*lines, f"polls {2 * count}", ""]).encode(), b"")
+    return plan(jobs, horizon=2 * count + 1), ended(lines, 2 * count)
 
 
 def late_moments(names):
     """Jobs of three attempts, of which the last ends at the last tick, each a batch of two threads."""
     start = LAST_TICK - 6
-    lines = []
-    for name in names:
-        lines.append(f"job {name} repeat")
-        for n in range(3):
-            begun = start + 2 * n
-            decision = "done" if n == 2 else f"next {begun + 2}"
-            lines += [f"attempt {n + 1} {begun}..{begun + 2} ok 0", f"step {n + 1} out {n} {decision}"]
-        lines.append(f"end finished 2 at {LAST_TICK} polls 4")
+    lines = [line for name in names for line in lines_of(name, range(3), start, 2)]
     jobs = [{**job(0, "recurs(2)", ms=2), "name": name, "start": start} for name in names]
-    report = "\n".join([*lines, f"polls {4 * len(names)}", ""])
-    return plan(jobs, horizon=LAST_TICK, workers=2), (0, report.encode(), b"")
+    return plan(jobs, horizon=LAST_TICK, workers=2), ended(lines, 4 * len(names))
 
 
 # A function that makes a plan, and how its run ends. Each is past a size at which a wrong body could stop working.

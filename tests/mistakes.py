@@ -1,4 +1,5 @@
 """Plans with one mistake each. The sign » marks the place of the mistake, and isn't part of the plan."""
+import pathlib
 
 PLAN = """{{
   "horizon": 1000,
@@ -175,101 +176,17 @@ JOBS = [
 ]
 
 
-def _no_term(name, text, help):
-    """A mistake of spelling in a schedule. The place that the program reports is that of the sign."""
-    escaped = text.encode().find("»".encode())
-    return name, with_schedule(text), f"job 0: schedule: no term at byte {escaped}", help
+def spelling_mistakes():
+    """The mistakes of spelling in a schedule, from mistakes.tsv: a name, the schedule and a word of the help each, with
+    tabs between. The place that the program reports is that of the sign."""
+    for line in pathlib.Path(__file__).with_suffix(".tsv").read_text(encoding="utf-8").splitlines():
+        name, text, help = line.split("\t")
+        place = text.encode().index("»".encode())
+        yield name, with_schedule(text), f"job 0: schedule: no term at byte {place}", help
 
 
 SCHEDULES = [
-    _no_term("no schedule", "»", "recurs(3)"),
-    _no_term("seconds", "spaced(10»s)", "10000"),
-    _no_term("a duration of Scala", "spaced(5».minutes)", "300000"),
-    _no_term("a fraction of a second", "spaced(1».5.seconds)", "1500"),
-    _no_term("a fraction", "spaced(2».5)", "milliseconds"),
-    _no_term("a factor with a point", "exponential(100, 1».5)", "linear"),
-    _no_term("a number in groups", "spaced(60»_000)", "60000"),
-    _no_term("a number of a schedule with leading zeros", "recurs(»007)", "7"),
-    _no_term("a negative number", "spaced(»-5)", "negative"),
-    _no_term("a number in quotes", "spaced(»'5')", "numbers"),
-    _no_term("a number with an exponent in a schedule", "spaced(1»e3)", "write 1000"),
-    _no_term("a number with a point and an exponent", "spaced(1».5e3)", "write 1500"),
-    _no_term("a word behind a number", "spaced(1 »fast)", "write )"),
-    _no_term("a template of Helm", "recurs(»{{ .Values.retries }})", "the value"),
-    _no_term("a variable of a shell", "recurs(»${RETRIES})", "the value"),
-    _no_term("a pick of a pick", "((recurs(3) && spaced(10)) && elapsed).whileOutput(_1»._2 < 5)",
-             ".map(_1).whileOutput(_2 .."),
-    _no_term("a pick of a pick in map", "((recurs(3) && spaced(10)) && elapsed).map(_1»._2)", ".map(_1).map(_2)"),
-    _no_term("three numbers", "exponential(100, 2», 5)", "exponential(100, 2)"),
-    _no_term("a cap with a name", "exponential(100, »cap=5000)", "(exponential(100) || spaced(5000))"),
-    _no_term("numbers with names", "exponential(»base=100, factor=2)", "write exponential(100, 2)"),
-    _no_term("a number with a name", "recurs(»times=3)", "write recurs(3)"),
-    _no_term("a cap as a method", "exponential(100).»min(spaced(5000))", "(S || spaced(N))"),
-    _no_term("a line of cron", "»*/5 * * * *", "fixed(300000)"),
-    _no_term("a name of cron", "»@hourly", "fixed(3600000)"),
-    _no_term("another word for recurs", "»retries(3)", "recurs(N)"),
-    _no_term("a duration of ISO 8601", "spaced(»PT5S)", "write 5000"),
-    _no_term("a semicolon", "exponential(100)»; recurs(5)", "&&"),
-    _no_term("a parenthesis of another script", "(exponential(100) && recurs(5)»）", "write )"),
-    _no_term("upTo with a time", "spaced(10).»upTo(30s)", "(spaced(10) && elapsed.whileOutput(< 30000)).map(_1)"),
-    _no_term("no number", "recurs(»)", "recurs(3)"),
-    _no_term("no parentheses", "recurs »3", "recurs(3)"),
-    _no_term("parentheses behind forever", "forever»()", "forever"),
-    _no_term("parentheses behind collectAll", "forever.collectAll»()", "collectAll"),
-    _no_term("a word misspelled", "(»exponentail(100) && recurs(5))", "exponential"),
-    _no_term("a word in capitals", "»Forever", "forever"),
-    _no_term("a method misspelled", "forever.»whileOutptu(< 5)", "whileOutput"),
-    _no_term("a word of another library", "»everySecond", "forever"),
-    _no_term("the object of ZIO", "»Schedule.recurs(3)", "Schedule."),
-    _no_term("upTo of ZIO", "spaced(10).»upTo(1000)", "elapsed.whileOutput"),
-    _no_term("andThen of ZIO", "(recurs(3) »andThen spaced(10))", "andThenEither"),
-    _no_term("andThen as a method", "recurs(3).»andThen(spaced(10))", "merge"),
-    _no_term("untilInput of ZIO", "forever.»untilInput(= 0)", "whileInput"),
-    _no_term("untilOutput of ZIO", "forever.»untilOutput(> 5)", "whileOutput"),
-    _no_term("jittered of ZIO", "exponential(100).»jittered", "left out"),
-    _no_term("resetAfter of ZIO", "exponential(100).»resetAfter(60000)", "resetWhen"),
-    _no_term("once of ZIO", "»once", "recurs(1)"),
-    _no_term("a count with a point", "recurs(1».5)", "retries"),
-    _no_term("a calendar", "»dayOfWeek(1)", "calendar"),
-    _no_term("an effect of ZIO", "forever.»whileInputZIO(f)", "effects"),
-    _no_term("++ of ZIO", "(recurs(3) »++ spaced(10))", "merge"),
-    _no_term(">>> of ZIO", "(recurs(3) »>>> spaced(10))", "left out"),
-    _no_term("<* of ZIO", "(recurs(3) »<* spaced(10))", "map(_1)"),
-    _no_term("an underscore of Scala", "forever.whileOutput(»_ < 5)", "< 5"),
-    _no_term("a function of Scala", "identity.map(»x => x + 1)", "+ 1"),
-    _no_term("a part of Scala", "(forever && elapsed).map(»_._2)", "_2"),
-    _no_term("a third part", "(forever && elapsed).map(»_3)", "_2"),
-    _no_term("one ampersand", "(recurs(3) »& spaced(10))", "&&"),
-    _no_term("the word or", "(recurs(3) »or spaced(10))", "||"),
-    _no_term("the word and in capitals", "(recurs(3) »AND spaced(10))", "&&"),
-    _no_term("a name of ZIO in small letters", "spaced(10).»upto(1000)", "elapsed.whileOutput"),
-    _no_term("two equals signs", "identity.whileInput(=»= 5)", "="),
-    _no_term("no comparison", "identity.whileInput(»503)", "= 503"),
-    _no_term("a part of the input", "identity.whileInput(»_1 = 5)", "comparison"),
-    _no_term("a function that is a number", "identity.map(»5)", "as 5"),
-    _no_term("a subtraction", "identity.map(»- 1)", "+ N"),
-    _no_term("a division", "identity.map(»/ 2)", "* N"),
-    _no_term("two comparisons in a test", "identity.whileInput(> 5 »&& < 9)", "one test after another"),
-    _no_term("one of two comparisons", "identity.whileInput(= 5 »|| = 9)", "(S.whileInput(..) ||"),
-    _no_term("no schedule behind an operator", "recurs(3) »&&", "(recurs(3) && B)"),
-    _no_term("no parentheses around &&", "recurs(3) »&& spaced(10)", "(recurs(3) && spaced(10))"),
-    _no_term("three parts", "(recurs(3) && spaced(10) »&& elapsed)", "((recurs(3) && spaced(10)) &&"),
-    _no_term("a parenthesis too few", "(recurs(3) && spaced(10)»", ") is"),
-    _no_term("a parenthesis too few in a leaf", "(recurs(3 »&& spaced(10))", ")"),
-    _no_term("a parenthesis too few at the beginning", "recurs(3) »&& spaced(10))", "beginning"),
-    _no_term("a parenthesis too many", "(recurs(3) && spaced(10))»)", "remove it"),
-    _no_term("parentheses for nothing", "(recurs(3)») ", "recurs(3)"),
-    _no_term("an operator too few", "(recurs(3) »spaced(10))", "&&"),
-    _no_term("a comma between schedules", "(recurs(3)», spaced(10))", "&&"),
-    _no_term("half an operator's schedules", "(recurs(3) && »)", ""),
-    _no_term("two numbers", "spaced(10», 20)", "exponential"),
-    _no_term("a number with a comma in a schedule", "spaced(10»,000)", "10000"),
-    _no_term("a leaf as a method", "exponential(100).»recurs(5)", "&& recurs"),
-    _no_term("forever as a method of ZIO", "recurs(3).»forever", "resetWhen"),
-    _no_term("a delay that is added", "recurs(3).»addDelay(5)", "spaced"),
-    _no_term("a point too few", "exponential(100) »map(+ 1)", ".map"),
-    _no_term("a number alone", "»500", "spaced(500)"),
-    _no_term("a space that isn't one", "(recurs(3) »\u00a0&& spaced(10))", "spaces"),
+    *spelling_mistakes(),
     ("a line end in a schedule", with_schedule("(recurs(3)»\\n&& spaced(10))"),
      "job 0: schedule: no term at byte 10", "spaces"),
     ("a fault behind an escape", with_schedule("(recurs(\\u0033) »\\u0026 spaced(10))"),

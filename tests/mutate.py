@@ -72,33 +72,32 @@ def overwritten(chance, text):
     return text[:at] + bytes([chance.randrange(256)]).decode(errors="surrogateescape") + text[at + chance.randrange(2):]
 
 
+def replaced(chance, text, pattern, make):
+    """The text with a match of a pattern replaced by what is made of it and of all matches."""
+    found = list(re.finditer(pattern, text))
+    if not found:
+        return text
+    place = chance.choice(found)
+    return text[:place.start()] + make(place[0], found) + text[place.end():]
+
+
 def swapped(chance, text):
     """A token replaced: by one of its sort, or by another one of the same plan."""
     pattern, choices = chance.choice(SWAPS)
-    places = list(re.finditer(pattern, text))
-    if not places:
-        return text
-    place = chance.choice(places)
-    new = chance.choice(places)[0] if chance.random() < 0.2 else chance.choice(choices)
-    return text[:place.start()] + new + text[place.end():]
+    return replaced(chance, text, pattern, lambda _, found: (
+        chance.choice(found)[0] if chance.random() < 0.2 else chance.choice(choices)))
 
 
 def misspelled(chance, text):
     """A key with a letter dropped, doubled or moved."""
-    keys = list(re.finditer(r'"[a-z]+"(?= *:)', text))
-    if not keys:
-        return text
-    key = chance.choice(keys)
-    return text[:key.start() + 1] + chance.choice([dropped, doubled, moved])(chance, key[0][1:-1]) + text[key.end() - 1:]
+    change = lambda key, _: f'"{chance.choice([dropped, doubled, moved])(chance, key[1:-1])}"'
+    return replaced(chance, text, r'"[a-z]+"(?= *:)', change)
 
 
 def wrapped(chance, text):
     """A whole list, object or call taken out, put in quotes, or twice."""
-    found = list(re.finditer(r"\[[^\[\]]*\]|\{[^{}]*\}|\([^()]*\)", text))
-    if not found:
-        return text
-    out = chance.choice(found)
-    return text[:out.start()] + chance.choice(["", f'"{out[0]}"', "7", out[0] + out[0]]) + text[out.end():]
+    return replaced(chance, text, r"\[[^\[\]]*\]|\{[^{}]*\}|\([^()]*\)",
+                    lambda out, _: chance.choice(["", f'"{out}"', "7", out + out]))
 
 
 def places_of(value):
@@ -130,8 +129,7 @@ def regrown(chance, text):
     return json.dumps(tree)
 
 
-CHANGES = [inserted, dropped, doubled, moved, swapped, swapped, swapped, swapped, misspelled, wrapped, regrown, cut,
-           overwritten]
+CHANGES = [inserted, dropped, doubled, moved, *[swapped] * 4, misspelled, wrapped, regrown, cut, overwritten]
 
 
 def changed_once(chance, text):

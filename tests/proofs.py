@@ -66,18 +66,11 @@ class Usage(threading.Thread):
 
 
 def environment():
-    """The variables for `rt ci`. It delays proofs until more memory is free than they take, so it gets the number that
-    may run at once, if there are four gigabytes for each."""
+    """The variables for `rt ci`: the number of proofs that may run at once, if there are four gigabytes for each."""
     memory = os.sysconf("SC_PAGE_SIZE") * os.sysconf("SC_PHYS_PAGES")
     processors = len(os.sched_getaffinity(0))
     jobs = {"RT_JOBS": str(processors)} if memory >= 4_000_000_000 * processors else {}
     return {**jobs, **os.environ}
-
-
-def knows_anew():
-    """Whether `rt ci` of this toolchain knows --anew. One that stores no proofs always proves all."""
-    said = subprocess.run(["rt", "help"], capture_output=True, text=True, check=False)
-    return "--anew" in said.stdout + said.stderr
 
 
 def main():
@@ -85,9 +78,12 @@ def main():
     words = parser_of(__doc__)
     words.add_argument("--anew", action="store_true", help="prove all")
     is_anew = words.parse_args().anew
+    # A toolchain that knows no --anew stores no proofs, and always proves all.
+    said = subprocess.run(["rt", "help"], capture_output=True, text=True, check=False)
+    knows_anew = "--anew" in said.stdout + said.stderr
     before = left_libraries.sources_sum()
-    running = subprocess.Popen(["rt", "ci", *["--anew"] * (is_anew and knows_anew())], cwd=TOP, env=environment(), text=True, errors="replace",
-                               stdout=subprocess.PIPE, stderr=subprocess.STDOUT)
+    running = subprocess.Popen(["rt", "ci", *["--anew"] * (is_anew and knows_anew)], cwd=TOP, env=environment(),
+                               text=True, errors="replace", stdout=subprocess.PIPE, stderr=subprocess.STDOUT)
     usage = Usage(os.getsid(0))
     usage.start()
     passed, failed = 0, 1

@@ -1,16 +1,14 @@
 #!/usr/bin/env python3
 """The quick gate: proves what changed over stored proofs, and runs plans on the unproved program.
 
-A crate whose files changed since it was last seen proved here is checked again. If more than bodies
-of functions changed (a definition, a contract, a type), so are the crates above it. Meanwhile the
-program is built without proofs, with checks, and runs the plans of examples/ and tests/plans/ and
-the hostile plans. If it was built from the same sources before, that one runs. ./check tests what
-this doesn't: proofs from nothing, wrong bodies and tests of the crates. The last line is
-'N passed, M failed'.
+A crate whose files changed since it was last seen proved here is checked again. If more than bodies of functions
+changed (a definition, a contract, a type), so are the crates above it. Meanwhile the program is built without proofs,
+with checks, and runs the plans of examples/ and tests/plans/ and the hostile plans. If it was built from the same
+sources before, that one runs. ./check tests what this doesn't: proofs from nothing, wrong bodies and tests of the
+crates. The last line is 'N passed, M failed'.
 
     python3 tests/quick.py             what ./check quick runs
-    python3 tests/quick.py --proved    counts the crates of the program as proved, without a check:
-                                       ./run --proved calls it so"""
+    python3 tests/quick.py --proved    counts the crates of the program as proved, unchecked, for ./run --proved"""
 import concurrent.futures
 import hashlib
 import os
@@ -23,8 +21,7 @@ sys.dont_write_bytecode = True
 import hostile_plans
 import unproved
 from prover import crates_of
-from support import (
-    TOP, ZSCHED, Count, is_built, plans_with_reports, report_beside, run, sources_sum)
+from support import TOP, ZSCHED, Count, is_built, plans_with_reports, report_beside, run, sources_sum
 
 CRATES = TOP / "crates"
 BUILT = CRATES / "zsched" / "out"
@@ -47,11 +44,6 @@ def crates():
             for name, crate in listed.items() if name not in OF_TESTS}
 
 
-def crates_of_the_program():
-    """The crates of zsched."""
-    return [*crates()["zsched"], "zsched"]
-
-
 def heads_of(text):
     """The lines of a source that callers may use: each head up to the body, a clause with all its lines, an enum with its
     variants, a struct with its fields."""
@@ -59,12 +51,10 @@ def heads_of(text):
     for line in text.splitlines():
         if HEAD.match(line):
             is_within = True
-        elif is_within and re.match(r"^\s*[{}]", line):
+        elif re.match(r"^\s*[{}]", line):
             is_within = False
-        if is_within:
-            found.append(line)
-        if BODY.match(line):
-            is_within = False
+        found += [line] * is_within
+        is_within = is_within and not BODY.match(line)
     return found
 
 
@@ -77,19 +67,14 @@ def sums(name):
                 continue
             text = file.read_text(encoding="utf-8")
             whole.update(f"{file.relative_to(TOP)}\n{text}".encode())
-            if part == "specs":
-                heads.update(text.encode())
-            elif part == "src":
-                heads.update("\n".join(heads_of(text)).encode())
+            heads.update({"specs": text, "src": "\n".join(heads_of(text))}.get(part, "").encode())
     return [whole.hexdigest(), heads.hexdigest()]
 
 
 def kept(name):
     """The sums of a crate at its last check here that passed, if there was one."""
-    try:
-        return (CRATES / name / "out" / "quick").read_text().split()
-    except FileNotFoundError:
-        return ["", ""]
+    file = CRATES / name / "out" / "quick"
+    return file.read_text().split() if file.exists() else ["", ""]
 
 
 def changed(listed):
@@ -129,8 +114,7 @@ def take_as_proved(names):
 
 
 def built_program():
-    """The program of the sources as they are: the proved one, or an unproved one, which is stored
-    where ./run stores and finds it."""
+    """The program of the sources as they are: the proved one, or an unproved one, where ./run stores and finds it."""
     if is_built():
         return ZSCHED
     total = sources_sum()
@@ -172,7 +156,7 @@ def run_plans(count):
 def main(words):
     """Both halves in parallel."""
     if words == ["--proved"]:
-        take_as_proved(crates_of_the_program())
+        take_as_proved([*crates()["zsched"], "zsched"])
         return 0
     if words:
         print("quick: the only word is --proved", file=sys.stderr)

@@ -9,6 +9,9 @@ output is evaluated from the whole history, one job is evaluated after another, 
 Results are cached, but only so that none is computed twice. What has one letter in the documents has it here."""
 import argparse
 import bisect
+import itertools
+import json
+import math
 import re
 import sys
 from typing import NamedTuple
@@ -475,118 +478,34 @@ def report(jobs, clock, most=None):
 #
 # A whole number becomes an int and every other number a float; an object becomes a dict, a list a list, a text a str.
 
-JSON_SPACE = re.compile(r"[ \t\n\r]*")
-JSON_SPACES = {" ", "\t", "\n", "\r"}
-JSON_TEXT = re.compile(r'"((?:[^"\\\x00-\x1f]++|\\(?:["\\/bfnrt]|u[0-9a-fA-F]{4}))*+)"')
-JSON_NUMBER = re.compile(r"-?(?:0|[1-9][0-9]*+)(?:\.[0-9]++)?(?:[eE][+-]?[0-9]++)?")
-JSON_WORD = re.compile(r"true|false|null")
-JSON_WORDS = {"t": True, "f": False, "n": None}
-JSON_ESCAPE = re.compile(r"\\(?:u([dD][89abAB][0-9a-fA-F]{2})\\u([dD][c-fC-F][0-9a-fA-F]{2})|u([0-9a-fA-F]{4})|(.))")
-ESCAPED = {"b": "\b", "f": "\f", "n": "\n", "r": "\r", "t": "\t", '"': '"', "\\": "\\", "/": "/"}
+JSON_STRING = re.compile(r'"(?:[^"\\]|\\.)*+"')
+# An escape, as two if both are halves of one character. The group is a half that is alone.
+JSON_ESCAPE = re.compile(r"\\(?:u[dD][89abAB]\w\w\\u[dD][c-fC-F]|(u[dD][89a-fA-F])|.)")
+DEEPEST_JSON = 127
 NO_JSON = "plan is not JSON"
-
-
-class Json:
-    """A reader of one JSON document. `at` is the position of the next character."""
-
-    def __init__(self, text):
-        self.text = text
-        self.at = 0
-
-    def sign(self):
-        """The sign that comes next after white space, or "" at the end. It isn't consumed."""
-        if self.text[self.at:self.at + 1] in JSON_SPACES:
-            self.at = JSON_SPACE.match(self.text, self.at).end()
-        return self.text[self.at:self.at + 1]
-
-    def take(self, *signs):
-        """Consumes one of these signs after white space."""
-        sign = self.sign()
-        if sign not in signs:
-            raise Fault(NO_JSON)
-        self.at += len(sign)
-        return sign
-
-    def match(self, pattern):
-        """Consumes what matches a pattern."""
-        found = pattern.match(self.text, self.at)
-        if not found:
-            raise Fault(NO_JSON)
-        self.at = found.end()
-        return found
-
-    def document(self):
-        """The value of the whole text."""
-        value = self.value(0)
-        self.take("")
-        return value
-
-    def value(self, depth):
-        """Reads a value at a depth of `depth` lists and objects."""
-        sign = self.sign()
-        if depth == 127 and sign in ("[", "{"):
-            raise Fault(NO_JSON)
-        if sign == "[":
-            return list(self.members("[", "]", lambda: self.value(depth + 1)))
-        if sign == "{":
-            return dict(self.members("{", "}", lambda: self.pair(depth + 1)))
-        if sign == '"':
-            return self.string()
-        if sign in JSON_WORDS:
-            self.match(JSON_WORD)
-            return JSON_WORDS[sign]
-        return json_number(self.match(JSON_NUMBER)[0])
-
-    def members(self, begin, end, member):
-        """Reads members with commas between, from one sign to another."""
-        self.take(begin)
-        if self.sign() == end:
-            self.take(end)
-            return
-        yield member()
-        while self.take(",", end) != end:
-            yield member()
-
-    def pair(self, depth):
-        """Reads a key and its value."""
-        self.sign()
-        key = self.string()
-        self.take(":")
-        return key, self.value(depth)
-
-    def string(self):
-        """Reads a text."""
-        return JSON_ESCAPE.sub(unescaped, self.match(JSON_TEXT)[1])
-
-
-def unescaped(found):
-    """The character that an escape represents. An unpaired half of a pair of surrogates is invalid."""
-    high, low, unit, sign = found.groups()
-    if sign:
-        return ESCAPED[sign]
-    if high:
-        return chr(0x10000 + (int(high, 16) - 0xD800) * 0x400 + int(low, 16) - 0xDC00)
-    if 0xD800 <= int(unit, 16) < 0xE000:
-        raise Fault(NO_JSON)
-    return chr(int(unit, 16))
 
 
 def json_number(text):
     """A whole number as an int, and another number as a float."""
     if text.isdigit() and len(text) <= 20 and int(text) <= M:
         return int(text)
-    number = float(text)
-    if number in (float("inf"), float("-inf")):
+    if not math.isfinite(float(text)):
         raise Fault(NO_JSON)
-    return number
+    return float(text)
 
 
 def read_json(plan):
-    """The document of these bytes."""
+    """The document of these bytes. Python's reader alone would also take NaN, halves of characters and more levels."""
     try:
-        return Json(plan.decode("utf-8")).document()
-    except UnicodeDecodeError:
+        text = plan.decode("utf-8")
+        tree = json.loads(text, parse_int=json_number, parse_float=json_number, parse_constant=json_number)
+    except (ValueError, RecursionError):
         raise Fault(NO_JSON) from None
+    signs = re.findall(r"[\[{\]}]", JSON_STRING.sub("", text))
+    depth = max(itertools.accumulate(1 if sign in "[{" else -1 for sign in signs), default=0)
+    if depth > DEEPEST_JSON or any(found[1] for found in JSON_ESCAPE.finditer(text)):
+        raise Fault(NO_JSON)
+    return tree
 
 
 # ---- Plans

@@ -17,9 +17,8 @@ MOST_REQUESTS = 5000
 
 @dataclasses.dataclass
 class Case:
-    """Calls of zs_refusals: the name of the case, their input, and their result. For each call that allocates memory
-    the line that it prints if one of its allocations failed, in the order of the calls. A call that starts threads may
-    print another line, if the start of a thread was what ran out of memory."""
+    """Calls of zs_refusals: the name of the case, their input, and their result. `lines` are what they print if one of
+    their allocations failed, in the order of the calls; `may` is what they print if a thread couldn't be started."""
     name: str
     given: str
     made: str
@@ -79,12 +78,10 @@ CASES = [
 ]
 
 MANY_PLACES = 40
-
+MANY_NAMES = [f"j{number}" for number in range(10000)]
 # How the program ends if memory or a thread is missing: with nothing written.
 NO_MEMORY = (4, b"", b"zsched: out of memory\n")
 NO_THREAD = (4, b"", b"zsched: no thread\n")
-
-
 # A population's run without memory: at a line of it, or while a block is run.
 POPULATION_ENDS = re.compile(rb"zsched-population: (?:line (\d+): )?out of memory\n")
 BLOCK_OF_JOBS = 10_000
@@ -97,26 +94,33 @@ class Refuser:
         source = pathlib.Path(__file__).resolve().parent / "refuse.c"
         self.library = pathlib.Path(folder) / "refuse.so"
         self.count = pathlib.Path(folder) / "requests"
-        subprocess.run(
-            ["cc", "-shared", "-fPIC", "-O2", "-Wall", "-Werror", "-o", self.library, source, "-ldl", "-lpthread"],
-            check=True)
+        words = ["cc", "-shared", "-fPIC", "-O2", "-Wall", "-Werror", "-o", self.library, source, "-ldl", "-lpthread"]
+        subprocess.run(words, check=True)
 
     def run(self, binary, text, **refusal):
-        """Runs a program with failures. Returns how it ended, and the number of allocations (0 if it was killed)."""
+        """How a program with failures ends. `requests` is then the number of its allocations (0 if it was killed)."""
         self.count.write_text("0")
-        environment = dict(os.environ, LD_PRELOAD=str(self.library), REFUSE_COUNT=str(self.count))
-        environment.update({name.upper(): str(value) for name, value in refusal.items()})
+        failures = {name.upper(): str(value) for name, value in refusal.items()}
+        environment = {**os.environ, "LD_PRELOAD": str(self.library), "REFUSE_COUNT": str(self.count), **failures}
         ended = program.run(binary, text, environment)
-        return ended, int(self.count.read_text())
+        self.requests = int(self.count.read_text())
+        return ended
 
     def each(self, binary, text, refusal="refuse_at"):
         """How a run ends for each N, in order, with N, until N is past the number of allocations."""
         for number in range(1, MOST_REQUESTS):
-            ended, requests = self.run(binary, text, **{refusal: number})
+            ended = self.run(binary, text, **{refusal: number})
+            requests = self.requests
             yield number, ended
             if requests < number and ended[0] is not None and ended[0] >= 0:
                 return
         raise RuntimeError(f"more than {MOST_REQUESTS} requests")
+
+
+def limited(binary, text, millions):
+    """How a program ends with a limit of some million bytes on all of its memory."""
+    limit = (millions * 1_000_000, millions * 1_000_000)
+    return program.run(binary, text, preexec_fn=functools.partial(resource.setrlimit, resource.RLIMIT_AS, limit))
 
 
 def calls_are_refused_well(count, refuser):
@@ -138,9 +142,8 @@ def calls_are_refused_well(count, refuser):
 
 def program_is_refused_well(count, refuser):
     """The program on one job and on seven: out of memory, or no thread, and nothing written; or the right report."""
-    names = "abcdefg"
     cases = [("one job", (program.ONE_JOB, program.ONE_REPORT))]
-    cases += [(f"seven jobs, {w} workers, grain {g}", program.equal_jobs(names, w, g)) for w, g in [(1, 1), (2, 3)]]
+    cases += [(f"seven jobs, {w} workers, grain {g}", program.equal_jobs("abcdefg", w, g)) for w, g in [(1, 1), (2, 3)]]
     for case, (text, report) in cases:
         right = [(0, report, b""), NO_MEMORY, NO_THREAD]
         for refusal in ["refuse_at", "refuse_from"]:
@@ -150,45 +153,32 @@ def program_is_refused_well(count, refuser):
 
 def many_jobs_are_refused_well(count, refuser):
     """The program on 10,000 jobs, and on jobs whose rounds start threads; allocations fail at places all over the run."""
-    names = [f"j{number}" for number in range(10000)]
-    cases = [(f"10,000 jobs, {w} workers", program.equal_jobs(names, w, g)) for w, g in [(1, 1), (2, 3)]]
+    cases = [(f"10,000 jobs, {w} workers", program.equal_jobs(MANY_NAMES, w, g)) for w, g in [(1, 1), (2, 3)]]
     cases += [(f"heavy jobs, {w} workers", program.heavy_jobs(w, g)) for w, g in [(1, 1), (4, 3)]]
     for case, (text, report) in cases:
         right = [(0, report, b""), NO_MEMORY, NO_THREAD]
-        whole, requests = refuser.run(program.ZSCHED, text)
-        count.test(f"{case}, nothing refused", whole, right[0])
+        count.test(f"{case}, nothing refused", refuser.run(program.ZSCHED, text), right[0])
+        requests = refuser.requests
         for place in range(MANY_PLACES):
             number = 1 + requests * place // MANY_PLACES
-            ended, _ = refuser.run(program.ZSCHED, text, refuse_at=number)
+            ended = refuser.run(program.ZSCHED, text, refuse_at=number)
             count.test(f"{case}, request {number} refused", ended if ended not in right else right, right)
 
 
 def program_without_threads(count, refuser):
-    """A machine on which no thread can be started."""
-    text, _ = program.heavy_jobs(2, 3)
-    ended, _ = refuser.run(program.ZSCHED, text, refuse_threads=1)
-    count.test("no thread can be started", ended, NO_THREAD)
-    many = [f"j{number}" for number in range(10000)]
-    alone = [("one worker", program.heavy_jobs(1, 3)), ("one batch", program.heavy_jobs(4, 120)),
-             ("10,000 jobs in one batch", program.equal_jobs(many, 4, 10000))]
-    for case, (text, report) in alone:
-        ended, _ = refuser.run(program.ZSCHED, text, refuse_threads=1)
-        count.test(f"no thread for {case}", ended, (0, report, b""))
-
-
-def program_with_few_threads(count, refuser):
-    """A machine on which some threads can be started: three workers need two starts of a thread at each of three moments,
-    and two batches need one, whatever the number of workers."""
-    jobs = [("heavy jobs", program.heavy_jobs(3, 1), program.heavy_jobs(4, 60)),
-            ("seven jobs", program.equal_jobs("abcdefg", 3, 1), program.equal_jobs("abcdefg", 64, 4))]
-    for case, (text, report), (pair, its_report) in jobs:
-        for number in range(1, 8):
-            ended, _ = refuser.run(program.ZSCHED, text, refuse_threads=number)
-            wanted = NO_THREAD if number <= 6 else (0, report, b"")
-            count.test(f"{case}, start {number} of a thread and all later ones refused", ended, wanted)
-        for number, wanted in [(3, NO_THREAD), (4, (0, its_report, b""))]:
-            ended, _ = refuser.run(program.ZSCHED, pair, refuse_threads=number)
-            count.test(f"{case} in two batches, start {number} of a thread refused", ended, wanted)
+    """No thread can be started, or only some: three workers need two starts at each of three moments, and two batches
+    need one."""
+    heavy, equal = program.heavy_jobs, program.equal_jobs
+    cases = [("two workers", heavy(2, 3), 1, False), ("one worker", heavy(1, 3), 1, True),
+             ("one batch", heavy(4, 120), 1, True), ("10,000 jobs in one batch", equal(MANY_NAMES, 4, 10000), 1, True)]
+    for name, plan, pair in [("heavy jobs", heavy(3, 1), heavy(4, 60)),
+                             ("seven jobs", equal("abcdefg", 3, 1), equal("abcdefg", 64, 4))]:
+        cases += [(name, plan, number, number > 6) for number in range(1, 8)]
+        cases += [(f"{name} in two batches", pair, number, number > 3) for number in [3, 4]]
+    for case, (text, report), number, is_enough in cases:
+        ended = refuser.run(program.ZSCHED, text, refuse_threads=number)
+        wanted = (0, report, b"") if is_enough else NO_THREAD
+        count.test(f"{case}, start {number} of a thread and all later ones refused", ended, wanted)
 
 
 def two_causes_are_told_apart(count, refuser):
@@ -200,13 +190,11 @@ def two_causes_are_told_apart(count, refuser):
             ("the third worker can't be started", {"refuse_threads": 2}, NO_THREAD),
             ("the second worker finds no memory, and the third can't be started",
              {"refuse_within": 1, "refuse_threads": 2}, NO_MEMORY)]:
-        ended, _ = refuser.run(program.ZSCHED, text, **refusal)
-        count.test(case, ended, wanted)
+        count.test(case, refuser.run(program.ZSCHED, text, **refusal), wanted)
 
 
 class Population:
-    """Equal jobs as JSON lines, and how their run may end: with the report, or without memory, and then with the lines of
-    all blocks before."""
+    """Equal jobs as JSON lines, and how their run may end: with the report, or without memory after some blocks."""
 
     def __init__(self, jobs, workers, grain):
         names = [f"j{number}" for number in range(jobs)]
@@ -217,8 +205,8 @@ class Population:
                        for first in range(0, jobs + 1, BLOCK_OF_JOBS)]
 
     def place(self, ended):
-        """Where a run ended: (blocks before, line, or the line after the last one of the block that was run), None for
-        the whole report. ValueError if no run may end so."""
+        """Where a run ended: the number of blocks before, and a line (after a block's last one if that was run).
+        None for the whole report; ValueError if no run may end so."""
         status, output, errors = ended
         if ended == (0, self.report, b""):
             return None
@@ -246,8 +234,8 @@ class Population:
 
 
 def populations_are_refused_well(count, refuser):
-    """zsched-population on seven jobs, with each allocation failing: it reports the line, or that a block ran out of
-    memory. A later allocation fails at no earlier place, and each line is such a place."""
+    """zsched-population on seven jobs, with each allocation failing: each line is a place at which it reports that, and
+    a later allocation fails at no earlier place."""
     for workers, grain in [(1, 1), (2, 3)]:
         population = Population(7, workers, grain)
         case, places = f"a population on {workers} workers", []
@@ -266,15 +254,16 @@ def many_blocks_are_refused_well(count, refuser):
     for workers, grain in [(1, 1), (2, 5000)]:
         population = Population(2 * BLOCK_OF_JOBS + 3, workers, grain)
         case, found = f"three blocks on {workers} workers", set()
-        whole, requests = refuser.run(program.POPULATION, population.text)
+        whole = refuser.run(program.POPULATION, population.text)
+        requests = refuser.requests
         count.test(f"{case}, nothing refused", whole, (0, population.report, b""))
         for place in range(0, MANY_PLACES, 2):
             number = 1 + requests * place // MANY_PLACES
-            ended, _ = refuser.run(program.POPULATION, population.text, refuse_at=number)
+            ended = refuser.run(program.POPULATION, population.text, refuse_at=number)
             reached = population.test(count, f"{case}, request {number} refused", ended)
             found.add(reached[0] if reached else None)
         count.test(f"{case}, blocks before a refusal", found >= {0, 1}, True)
-        ended, _ = refuser.run(program.POPULATION, population.text, refuse_threads=1)
+        ended = refuser.run(program.POPULATION, population.text, refuse_threads=1)
         wanted = (4, b"", b"zsched-population: no thread\n") if workers > 1 else whole
         count.test(f"{case}, no thread can be started", ended, wanted)
 
@@ -283,9 +272,7 @@ def populations_with_little_memory(count):
     """zsched-population on more than two blocks, with a limit of some million bytes on all of its memory."""
     population = Population(2 * BLOCK_OF_JOBS + 3, 1, 1)
     for millions in [4, 8, 16, 24, 32, 40, 48, 256]:
-        limit = (millions * 1_000_000, millions * 1_000_000)
-        ended = program.run(program.POPULATION, population.text,
-                            preexec_fn=functools.partial(resource.setrlimit, resource.RLIMIT_AS, limit))
+        ended = limited(program.POPULATION, population.text, millions)
         place = population.test(count, f"three blocks, {millions},000,000 bytes of memory", ended)
         if millions in (4, 256):
             count.test(f"three blocks, {millions},000,000 bytes are enough", place is None, millions == 256)
@@ -293,25 +280,19 @@ def populations_with_little_memory(count):
 
 def many_jobs_with_little_memory(count):
     """The program on 10,000 jobs, with limits of some million bytes on all of its memory: from too few to enough."""
-    text, report = program.equal_jobs([f"j{number}" for number in range(10000)], 2, 3)
+    text, report = program.equal_jobs(MANY_NAMES, 2, 3)
     ends = {4: [NO_MEMORY], 256: [(0, report, b"")]}
     for millions in [4, 8, 16, 24, 32, 40, 48, 64, 256]:
         right = ends.get(millions, [(0, report, b""), NO_MEMORY, NO_THREAD])
-        limit = (millions * 1_000_000, millions * 1_000_000)
-        ended = program.run(program.ZSCHED, text, preexec_fn=functools.partial(resource.setrlimit, resource.RLIMIT_AS, limit))
+        ended = limited(program.ZSCHED, text, millions)
         count.test(f"10,000 jobs, {millions},000,000 bytes of memory", ended if ended not in right else right, right)
 
 
 def test(count, folder):
     """All tests of this file."""
     refuser = Refuser(folder)
-    calls_are_refused_well(count, refuser)
-    program_is_refused_well(count, refuser)
-    many_jobs_are_refused_well(count, refuser)
-    program_without_threads(count, refuser)
-    program_with_few_threads(count, refuser)
-    two_causes_are_told_apart(count, refuser)
+    for part in [calls_are_refused_well, program_is_refused_well, many_jobs_are_refused_well, program_without_threads,
+                 two_causes_are_told_apart, populations_are_refused_well, many_blocks_are_refused_well]:
+        part(count, refuser)
     many_jobs_with_little_memory(count)
-    populations_are_refused_well(count, refuser)
-    many_blocks_are_refused_well(count, refuser)
     populations_with_little_memory(count)

@@ -49,6 +49,20 @@ def report_beside(path):
     return path.with_name(path.name + ".stdout").read_bytes()
 
 
+def steps_of(report):
+    """For each job of a report the moments, inputs, outputs and next moments (None if done) of its steps."""
+    jobs = []
+    for line in report.splitlines():
+        words = line.split()
+        if words[0] == "job":
+            jobs.append([])
+        elif words[0] == "attempt" and words[-1] != "running":
+            ended = int(words[2].partition("..")[2]), int(words[4])
+        elif words[0] == "step":
+            jobs[-1].append((*ended, words[3], None if words[4] == "done" else int(words[5])))
+    return jobs
+
+
 def recut(text, workers, grain):
     """A plan with other numbers of workers and of jobs in a batch."""
     return json.dumps({**json.loads(text), "workers": workers, "grain": grain}).encode()
@@ -79,8 +93,7 @@ HEAVY = f"(recurs(3) && {tree(498)}).map(_1)"
 
 
 def heavy_jobs(workers, grain):
-    """A plan of 120 equal jobs, and its report. Their schedules have 998 nodes and are evaluated at moment 5 only, as
-    `recurs(3)` would be. All jobs are due at 0, 5 and 10."""
+    """A plan of 120 equal jobs of 998 nodes, and its report. All are due at 0, 5 and 10, and evaluated at 5 alone."""
     return equal_jobs([f"j{number}" for number in range(120)], workers, grain, HEAVY)
 
 
@@ -89,8 +102,7 @@ def run(program, text, environment=None, seconds=60, **more):
     and errors."""
     words = program if isinstance(program, list) else [program]
     try:
-        ended = subprocess.run(
-            words, input=text, capture_output=True, timeout=seconds, env=environment, **more)
+        ended = subprocess.run(words, input=text, capture_output=True, timeout=seconds, env=environment, **more)
     except subprocess.TimeoutExpired:
         return None, b"", b""
     return ended.returncode, ended.stdout, ended.stderr
@@ -108,8 +120,7 @@ def is_built():
 
 
 def found_zsched():
-    """The program that the variable ZSCHED names, or else the built one. Without one this process
-    ends with status 2."""
+    """The program that the variable ZSCHED names, or else the built one. Without one this process exits with 2."""
     try:
         return find()
     except NoProgram as cause:
@@ -119,8 +130,7 @@ def found_zsched():
 
 def parser_of(text, **more):
     """A parser of a script's options, with the script's text as help."""
-    return argparse.ArgumentParser(
-        description=text, formatter_class=argparse.RawDescriptionHelpFormatter, **more)
+    return argparse.ArgumentParser(description=text, formatter_class=argparse.RawDescriptionHelpFormatter, **more)
 
 
 def take_no_words(text):

@@ -5,24 +5,20 @@
     python3 tests/survivors.py --some 5           five of them, others on another day: the date chooses
     python3 tests/survivors.py --check            only whether each still applies, and what it names is there
 
-It first checks, also with --some, whether all still apply, and whether the tests and plans that wrong bodies name are there.
-
 A survivor is a file crates/NAME/survivors/BELIEF.edit with the lines of a wrong body (tests/wrong_edits.py), and a line
 `caught-by:` in place of the function: CRATE::TEST for a test of a crate, hostile::FUNCTION for a function of
-tests/refused_growths.py, growth::ROW for a row of tests/growth.py, examples::PLAN or large_plans::PLAN for a plan of that
-part, library::TEST for a test of FromC in tests/tools/test_library.py, or `examples`, `reference` or `large_plans` for the
-plans of these parts of the gate.
+tests/refused_growths.py, growth::ROW for a row of tests/growth.py, examples::PLAN or large_plans::PLAN for a plan of
+that part, library::TEST for a test of FromC in tests/tools/test_library.py, or `examples`, `reference` or `large_plans`
+for the plans of these parts of the gate. First it checks whether all still apply, and whether what they name is there.
 
-All are planted in one copy of the crates, as tests/differences.py plants its edits: each function that they change gets a
-body for each of them, and a number picks one at run time. Of that copy the program, zs_refusals and the tests of a crate
-are built once, without proofs and without the checks of `rt try` (tests/unproved.py). What catches a survivor has to
-pass in them while no number is picked. An edit that changes more than bodies of functions has a copy for itself. So has
-each one for library: the library is proved and built, over the libraries that ./check built. The last line is
-'N passed, M failed'; a survivor passes if it is caught. The exit status is 0 if M is 0, 1 if it isn't, and 2 if one no
-longer applies, if what should catch it fails without it, or if `rt` isn't there.
+All are planted in one copy of the crates, as tests/differences.py plants its edits, and a number picks one at run time;
+what catches it has to pass while none is picked. An edit of more than bodies of functions has a copy for itself. So has
+each one for library, which is proved and built over the libraries that ./check built. The last line is
+'N passed, M failed'; the status is 0 if M is 0, 1 if it isn't, and 2 if one no longer applies, if what should catch it
+fails without it, or if `rt` isn't there.
 
-With --wrong-bodies the edits are those of crates/NAME/wrong-bodies with a line `caught-by:`: the prover rejects these too,
-and a plan or a test shows them all the same."""
+With --wrong-bodies the edits are those of crates/NAME/wrong-bodies with a line `caught-by:`: the prover rejects these
+too, and a plan or a test shows them all the same."""
 import dataclasses
 import datetime
 import functools
@@ -60,10 +56,7 @@ class Misfit(Exception):
     """A survivor no longer applies, or `rt` gave no verdict."""
 
 
-@functools.cache
-def texts_here(crate):
-    """The texts of a crate of this tree."""
-    return texts_of(TOP / "crates" / crate)
+texts_here = functools.cache(texts_of)
 
 
 @functools.cache
@@ -87,14 +80,10 @@ class Survivor(Edit):
         """The crate whose test catches it, or the part of the gate, and the name in that if there is one."""
         return tuple(self.caught_by.partition("::")[::2])
 
-    def forget(self):
-        """Forgets its places."""
-        self.changes.clear()
-
     def place_in(self, folder):
         """Finds its places in the crates of a folder: the texts of its crate."""
-        texts = texts_here(self.crate) if folder == TOP else texts_of(folder / "crates" / self.crate)
-        self.forget()
+        texts = (texts_here if folder == TOP else texts_of)(folder / "crates" / self.crate)
+        self.changes.clear()
         try:
             self.place(texts)
         except BadEdit as cause:
@@ -118,23 +107,18 @@ class Survivor(Edit):
             raise Misfit(f"{self.crate}/{self.name}: there is no {self.caught_by}, which should catch it")
 
 
-class Failures(support.Count):
+class Failures(list):
     """The names of the tests that failed."""
-
-    def __init__(self):
-        super().__init__()
-        self.names = []
 
     def test(self, name, found, wanted):
         """One test, which passes if both values are equal."""
         if found != wanted:
-            self.names.append(name)
+            self.append(name)
 
 
 @functools.cache
 def cases_of(part):
-    """Plans of a part of the gate: a name, a plan and its report each, from the file next to it or from the reference. Those
-    of tests/plans/ are there in other batches too."""
+    """Plans of a part of the gate: a name, a plan and a report each. Those of tests/plans/ are in other batches too."""
     if part == "examples":
         paths = [path for path in support.plans_with_reports() if path.parent.name == "plans"]
         return [(path.stem, text, support.report_beside(path)) for path in paths
@@ -151,8 +135,7 @@ def cases_of(part):
 
 
 class Planted:
-    """Survivors in a copy of the crates. What is built of it is built once. One that is alone is planted as it is; of
-    several a number picks one, and the number 0 none."""
+    """Survivors in a copy of the crates: one alone is planted as it is; of several a number picks one, and 0 none."""
 
     def __init__(self, folder, survivors, is_alone=False):
         self.folder = folder
@@ -170,8 +153,7 @@ class Planted:
         os.environ["ZS_CHOSEN"] = str(self.numbers.get(survivor.path, 0) if survivor else 0)
 
     def program(self, crate, *words):
-        """A program of the copy, or with the word --test that of a crate's tests, built without proofs. Tests are run a
-        few times, so that they aren't optimized."""
+        """A program of the copy, or with the word --test that of a crate's tests, built once and without proofs."""
         program = self.folder / f"{crate}.built"
         if not program.exists():
             try:
@@ -191,56 +173,44 @@ def failed_tests(planted, crate, name):
     return [name] if support.run([tests, listed[0]], b"", seconds=PATIENCE)[0] != 0 else []
 
 
-def failed_refusals(planted, name):
-    """The cases of a function of refused_growths.py that fail with the program of a copy."""
-    support.ZSCHED = planted.program("zsched")
-    failures = Failures()
-    getattr(refused_growths, name)(failures, refused_growths.Refuser(planted.folder))
-    return failures.names
-
-
-def failed_growth(planted, name):
-    """The tests of a row of growth.py that fail with a program of a copy."""
+def failed_growth(planted, failures, name):
+    """A row of growth.py, with a program of a copy."""
     if shutil.which("valgrind") is None:
         raise Misfit("the command 'valgrind' isn't on this machine")
     row = growth.ROWS_BY_NAME[name]
     most = dataclasses.replace(row.most, instructions=CHOOSING * row.most.instructions)
-    row = dataclasses.replace(row, most=most)
-    failures = Failures()
-    growth.judge(failures, growth.Meter(planted.folder, {row.runs: [planted.program(row.runs)]}), row, False)
-    return failures.names
-
-
-def failed_size(planted, name):
-    """The plan of large_plans.py, if the program of a copy returns another result for it."""
-    failures = Failures()
-    large_plans.test_sizes(failures, planted.program("zsched"), name)
-    return failures.names
-
-
-def failed_plans(planted, part, only):
-    """The plans of a part, or only one, on which the program of a copy ends with other bytes or another status."""
-    program = planted.program("zsched")
-    return [name for name, text, report in cases_of(part)
-            if only in ["", name] and support.run(program, text, seconds=PATIENCE)[:2] != (0, report)]
+    meter = growth.Meter(planted.folder, {row.runs: [planted.program(row.runs)]})
+    growth.judge(failures, meter, dataclasses.replace(row, most=most), False)
 
 
 def failed(planted, place, name):
-    """What fails in a copy with the survivor that was picked: of a part of the gate, or a test of a crate."""
+    """What fails in a copy with the survivor that was picked: tests of a part of the gate, or a test of a crate."""
+    failures = Failures()
     if place == "hostile":
-        return failed_refusals(planted, name)
-    if place == "growth":
-        return failed_growth(planted, name)
-    if not name or place == "examples":
-        return failed_plans(planted, place, name)
-    return failed_size(planted, name) if place == "large_plans" else failed_tests(planted, place, name)
+        support.ZSCHED = planted.program("zsched")
+        getattr(refused_growths, name)(failures, refused_growths.Refuser(planted.folder))
+    elif place == "growth":
+        failed_growth(planted, failures, name)
+    elif not name or place == "examples":
+        program = planted.program("zsched")
+        for case, text, report in cases_of(place):
+            if name in ["", case]:
+                failures.test(case, support.run(program, text, seconds=PATIENCE)[:2], (0, report))
+    elif place == "large_plans":
+        large_plans.test_sizes(failures, planted.program("zsched"), name)
+    else:
+        return failed_tests(planted, place, name)
+    return failures
 
 
-def library_failure(name, copy):
-    """The test of the library that fails over the library of a copy, which is proved and built."""
+def caught_by_library(survivor, folder):
+    """The test that fails over the library of a copy with the survivor, which is proved and built."""
+    copy, name = folder / survivor.name, survivor.where()[1]
+    shutil.copytree(TOP / "crates", copy / "crates")
+    survivor.apply(copy)
     for part in ["tools", "tests", "include"]:
         shutil.copytree(TOP / part, copy / part)
-    for file in ["HANDLES", "VERSION"]:
+    for file in ["HANDLES", "VERSION", "crates.txt"]:
         shutil.copy(TOP / file, copy)
     made = subprocess.run([copy / "tools" / "make-library"], capture_output=True, text=True, check=False)
     if made.returncode:
@@ -250,18 +220,8 @@ def library_failure(name, copy):
                                 "PYTHONPATH": f"{TOP}/tests:{TOP}/tools"}, capture_output=True, text=True, check=False)
     if not re.search(r"^Ran 1 test in ", ended.stderr, re.MULTILINE):
         raise Misfit(f"{name} of the library didn't run: {ended.stderr[-500:]}")
-    return [name] if ended.returncode else []
-
-
-def caught_by_library(survivor, folder):
-    """What catches a survivor in a copy of the crates with their proofs, of which the library is made."""
-    copy = folder / survivor.name
-    shutil.copytree(TOP / "crates", copy / "crates")
-    shutil.copy(TOP / "crates.txt", copy)
-    survivor.apply(copy)
-    found = library_failure(survivor.where()[1], copy)
     shutil.rmtree(copy)
-    return found
+    return [name] if ended.returncode else []
 
 
 def is_only_bodies(survivor):
@@ -271,7 +231,7 @@ def is_only_bodies(survivor):
     except BadEdit:
         return False
     finally:
-        survivor.forget()
+        survivor.changes.clear()
     return True
 
 
@@ -322,18 +282,6 @@ def judge(survivors):
     return missed
 
 
-def shown_wrong_bodies():
-    """The wrong bodies that a plan or a test shows."""
-    bodies = map(Survivor, sorted(TOP.glob("crates/*/wrong-bodies/*.edit")))
-    return [body for body in bodies if body.caught_by]
-
-
-def some_of(survivors, number, day):
-    """A number of the survivors, in turn by the day: each is among them again after all others were."""
-    begin = day.toordinal() * number % len(survivors)
-    return (survivors + survivors)[begin:begin + number]
-
-
 def main():
     """The command line."""
     arguments = support.parser_of(__doc__)
@@ -344,7 +292,9 @@ def main():
     arguments.add_argument("--check", action="store_true", help="build nothing: check whether each applies")
     given = arguments.parse_args()
     try:
-        survivors, bodies = list(map(Survivor, sorted(TOP.glob("crates/*/survivors/*.edit")))), shown_wrong_bodies()
+        survivors, bodies = (list(map(Survivor, sorted(TOP.glob(f"crates/*/{folder}/*.edit"))))
+                             for folder in ["survivors", "wrong-bodies"])
+        bodies = [body for body in bodies if body.caught_by]
         for edit in [*survivors, *bodies]:
             edit.check()
         # Those of one test together: without them it is built once.
@@ -354,7 +304,10 @@ def main():
         if not survivors:
             arguments.error("there is no such survivor")
         if given.some:
-            survivors = some_of(survivors, min(given.some, len(survivors)), datetime.date.today())
+            # In turn by the day: each is among them again after all others were.
+            number = min(given.some, len(survivors))
+            begin = datetime.date.today().toordinal() * number % len(survivors)
+            survivors = (survivors + survivors)[begin:begin + number]
         if not given.check and shutil.which("rt") is None:
             raise Misfit("the command 'rt' isn't on this machine")
         missed = 0 if given.check else judge(survivors)

@@ -179,14 +179,9 @@ def test_words(count):
 def main():
     """All tests."""
     count = Count()
-    test_floors(count)
-    test_judged(count)
-    test_limit(count)
-    test_heads(count)
-    test_plans_of_quick(count)
-    test_words(count)
-    test_sabotages(count)
-    test_wrong_bodies.test_all(count)
+    for test in [test_floors, test_judged, test_limit, test_heads, test_plans_of_quick, test_words, test_sabotages,
+                 test_wrong_bodies.test_all]:
+        test(count)
     return count.close()
 
 

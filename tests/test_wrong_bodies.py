@@ -5,6 +5,7 @@ import contextlib
 import datetime
 import os
 import pathlib
+import shutil
 import signal
 import subprocess
 import sys
@@ -21,143 +22,60 @@ from wrong_edits import BadEdit, Edit, edited
 
 RUNNER = pathlib.Path(__file__).resolve().parent / "wrong_bodies.py"
 
-SOURCE = """//! Two numbers.
-#![tactic(auto)]
-
-ghost use Rattle.std.specs.Prelude.{◌≡◌, ◌≤◌};
-
-/// The greater of two numbers.
-pub fn greater(a: u64, b: u64) -> u64
-    ensures first { a ≤ result }
-    ensures second { b ≤ result }
-{
-    if a < b { b } else { a }
-}
-
-/// The number, or 10 where it is more.
-pub fn up_to_ten(a: u64) -> u64
-    ensures limit { result ≤ 10 }
-    ensures value { a ≤ 10 → result ≡ a }
-{
-    if a < 10 { a } else { 10 }
-}
-
-/// The greater of two numbers, or 10 where it is more.
-pub fn greater_up_to_ten(a: u64, b: u64) -> u64
-    ensures limit { result ≤ 10 }
-{
-    up_to_ten(greater(a, b))
-}
-
-/// Nothing.
-pub fn zero() -> u64
-    ensures value { result ≡ 0 }
-{
-    0
-}
-
-/// One.
-pub fn one() -> u64
-    ensures value { result ≡ 1 }
-{
-    1
-}
-
-/// Two.
-pub fn two() -> u64
-    ensures value { result ≡ 2 }
-{
-    2
-}
-"""
-
-# The output of a check for a function with an open goal, for some that only wait, for a closure, and for a cycle of calls.
-SAID = """./proofs/m/+both/Answers.antt:4:5: error: `one-returns`: the two types differ
-note: src/lib.rt:9:1: it is not proved that what the function ensures holds when it returns (`returns-in-Ok`)
-fn a::f: no proof: expected answers in ./proofs/f/Answers.antt; `search` did not prove `returns-in-Ok`, `returns`
-fn a::g: no proof: it calls `a::f`, which is not proved
-fn a::h: no proof: the borrow checker's part in its proof is not made yet: a call of `a::g` has no contract yet
-note: src/lib.rt:30:1: it is not proved that what the function ensures holds when it returns (`returns`)
-fn a::fn::k::any: no proof: expected answers in ./proofs/fn/k/any/Answers.antt; `search` did not prove `returns`
-fn a::k: proved
-fn a::m::one: not proved; it calls `a::f`, which is not proved
-fn a::m::two: not proved; in `a::m::one`, of this cycle of calls: it calls `a::f`, which is not proved
-note: src/m.rt:7:1: it is not proved that what the function ensures holds when it returns (`Thing::far-returns`)
-fn a::m::Thing::far: not proved
-note: src/m.rt:7:1: it is not proved that what the function ensures holds when it returns (`Thing::far-returns`)
-fn a::m::near: not proved
-./proofs/m/+again/Answers.antt:9:5: error: `returns-in-Two`: the two types differ
-fn a::m::again: not proved
-impl a::Thing: not proved; it waits for the proof of `k`
-logic=not-proved
-"""
+# A crate: its source (`rt ci` allows no file here whose name ends with .rt) and its edits. toolchain.sh is a toolchain
+# that proves nothing: `greater` and `up_to_ten` are open if the call names them, and no other function. said.txt is
+# what a check says of a function with an open goal, of some that only wait, of a closure, and of a cycle of calls.
+CRATE = RUNNER.with_name("two_numbers")
+SOURCE = (CRATE / "lib.rt.txt").read_text()
 CYCLES = "".join(f"#[cycle({name})]\nfn {function}() {{}}\n" for name, function in [
     ("both", "one"), ("both", "two"), ("place", "far"), ("place", "near")])
 
-# Each edit: its name, its lines, and how it is reported. Those that pass are rejected.
-EDITS = [
-    ("the_lesser", ["function: greater", "old: if a < b { b }", "new: if b < a { b }"], "rejected by greater"),
-    ("no_limit", ["function: up_to_ten", "goal: returns-else..", "old: else { 10 }", "new: else { a }"],
-     "rejected by up_to_ten: returns-else"),
-    ("nothing_below_ten", ["function: up_to_ten", "goal: returns-then..", "old: < 10 { a }", "new: < 10 { 0 }"],
-     "rejected by up_to_ten: returns-then"),
-    ("no_limit_above", ["function: greater_up_to_ten", "old: up_to_ten(greater(a, b))", "new: greater(a, b)"],
-     "rejected by greater_up_to_ten"),
-    ("a_right_body", ["function: zero", "old:     0", "new:     1 - 1"], "NOT REJECTED"),
-    ("does_not_apply", ["function: zero", "old: if a > b", "new: if true"], "src/lib.rt 0 times"),
-    ("does_not_compile", ["function: one", "old:     1", "new:     nothing"], "can't be tried: src/lib.rt:"),
-    ("of_another_type", ["function: two", "old:     2", "new:     true"], "can't be tried: src/lib.rt:"),
-    ("one_round_more", ["function: zero", "old:     0", "new:     2 - 2"], "it needs a round after the 3"),
-    ("elsewhere", ["function: zero", "old: if a < b { b } else { a }", "new: if a < b { a } else { b }"],
-     "NOT REJECTED: zero is still proved"),
-    ("elsewhere_too", ["function: greater_up_to_ten", "old: if a < 10 { a }", "new: if a < 20 { a }"],
-     "rejected elsewhere: up_to_ten is left open"),
-    ("another_goal", ["function: zero", "goal: requires", "old:     0", "new:     1"], "the goal requires is not open"),
-    ("no_such_function", ["function: three", "old:     0", "new:     1"], "has no function `three`"),
-    ("no_function", ["old:     0", "new:     1"], "it has no line 'function:'"),
-]
-
-
-# A toolchain that proves nothing: `greater` and `up_to_ten` are open if the call names them, and no other function.
-TOOL = """#!/bin/sh
-[ "$1" = version ] && echo none
-[ "$2" = --crate-name ] && [ -n "$SLOW" ] && exec sleep 60
-while [ $# -gt 0 ]; do
-  case "$1 $2" in
-    "--only greater" | "--only up_to_ten") echo "fn two_numbers::$2: no proof: \\`search\\` did not prove \\`returns-else\\`" ;;
-    "--only "*) echo "fn two_numbers::$2: proved" ;;
-  esac
-  shift
-done
-echo only=1 proved=1
-"""
+# How each edit of the crate is reported. Those that pass are rejected.
+EDITS = {
+    "the_lesser": "rejected by greater",
+    "no_limit": "rejected by up_to_ten: returns-else",
+    "nothing_below_ten": "rejected by up_to_ten: returns-then",
+    "no_limit_above": "rejected by greater_up_to_ten",
+    "a_right_body": "NOT REJECTED",
+    "does_not_apply": "src/lib.rt 0 times",
+    "does_not_compile": "can't be tried: src/lib.rt:",
+    "of_another_type": "can't be tried: src/lib.rt:",
+    "one_round_more": "it needs a round after the 3",
+    "elsewhere": "NOT REJECTED: zero is still proved",
+    "elsewhere_too": "rejected elsewhere: up_to_ten is left open",
+    "another_goal": "the goal requires is not open",
+    "no_such_function": "has no function `three`",
+    "no_function": "it has no line 'function:'",
+}
 
 
 def make_crate(top):
     """Writes a repository of the one crate, with its edits."""
     folder = top / "crates" / "two_numbers"
-    (folder / "src").mkdir(parents=True)
-    (folder / "wrong-bodies").mkdir()
-    (top / "crates.txt").write_text("two_numbers:\n", encoding="utf-8")
-    (folder / "src" / "lib.rt").write_text(SOURCE, encoding="utf-8")
-    for name, lines, _ in EDITS:
-        text = "\n".join(["file: src/lib.rt", *lines])
-        (folder / "wrong-bodies" / f"{name}.edit").write_text(text + "\n", encoding="utf-8")
+    shutil.copytree(CRATE / "wrong-bodies", folder / "wrong-bodies")
+    (folder / "src").mkdir()
+    (folder / "src" / "lib.rt").write_text(SOURCE)
+    (top / "crates.txt").write_text("two_numbers:\n")
+
+
+def ran(folder, *words, **more):
+    """A run of the runner on that repository."""
+    return subprocess.run([sys.executable, RUNNER, "--top", folder, *words], capture_output=True, text=True,
+                          timeout=900, **more)
 
 
 def test_runner(count):
     """The whole runner on that crate."""
     with tempfile.TemporaryDirectory() as folder:
         make_crate(pathlib.Path(folder))
-        words = [sys.executable, RUNNER, "--top", folder, "--anew"]
-        ended = subprocess.run(words, capture_output=True, text=True, timeout=900)
+        ended = ran(folder, "--anew")
     lines = ended.stdout.split("\n")
     print(ended.stdout + ended.stderr, end="")
-    for name, _, told in EDITS:
+    for name, told in EDITS.items():
         of_it = [line for line in lines if f"/{name}.edit:" in line or f"/{name}:" in line]
         count.test(f"{name} is reported once", len(of_it), 1)
         count.test(f"{name} is reported as what it is", [told in line for line in of_it], [True])
-    passed = sum(told.startswith("rejected by") for _, _, told in EDITS)
+    passed = sum(told.startswith("rejected by") for told in EDITS.values())
     count.test("last line", lines[-2:], [f"{passed} passed, {len(EDITS) - passed} failed", ""])
     count.test("status", ended.returncode, 1)
 
@@ -170,15 +88,14 @@ def without_proofs():
         tools = pathlib.Path(folder) / "bin"
         tools.mkdir()
         for name in ["rt", "rattle"]:
-            (tools / name).write_text(TOOL, encoding="utf-8")
-            (tools / name).chmod(0o755)
+            shutil.copy(CRATE / "toolchain.sh", tools / name)
         yield folder, {**os.environ, "PATH": f"{tools}:{os.environ['PATH']}", "XDG_CACHE_HOME": f"{folder}/cache"}
 
 
 def test_kept(count):
     """An edit that passed is tried again only with --anew; after a change of the crate all are tried."""
     with without_proofs() as (folder, tools):
-        words = [sys.executable, RUNNER, "--top", folder, "--edit", "the_lesser", "--edit", "no_limit"]
+        words = ["--edit", "the_lesser", "--edit", "no_limit"]
         source = pathlib.Path(folder) / "crates" / "two_numbers" / "src" / "lib.rt"
         for name, more, text, told in [("at first", [], SOURCE, "2 of 2 wrong bodies rejected"),
                                        ("again", [], SOURCE, "2 of 2 wrong bodies were rejected by an earlier run"),
@@ -186,9 +103,9 @@ def test_kept(count):
                                        ("with a comment more", [], SOURCE + "\n// More.\n", "2 of 2 wrong bodies were rejected by"),
                                        ("changed", [], SOURCE + "\nfn more() {}\n", "2 of 2 wrong bodies rejected")]:
             source.write_text(text, encoding="utf-8")
-            ended = subprocess.run([*words, *more], capture_output=True, text=True, timeout=300, env=tools)
-            count.test(f"edits that passed, {name}", told in ended.stdout or ended.stdout, True)
-            count.test(f"edits that passed, {name}: last line", ended.stdout.split("\n")[-2], "2 passed, 0 failed")
+            said = ran(folder, *words, *more, env=tools).stdout
+            count.test(f"edits that passed, {name}", told in said or said, True)
+            count.test(f"edits that passed, {name}: last line", said.split("\n")[-2], "2 passed, 0 failed")
 
 
 def test_code(count):
@@ -207,11 +124,11 @@ def test_code(count):
 def test_followed(count):
     """A crate is tried once it is named as proved; one that never is has failed. An edit that failed is tried again."""
     with without_proofs() as (folder, tools):
-        words = [sys.executable, RUNNER, "--top", folder, "--edit", "the_lesser", "--edit", "a_right_body", "--follow"]
+        words = ["--edit", "the_lesser", "--edit", "a_right_body", "--follow"]
         for text, last in [("two_numbers\n", "1 passed, 1 failed"), ("two_numbers\n", "1 passed, 1 failed"),
                            ("another\n", "0 passed, 2 failed")]:
-            ended = subprocess.run(words, input=text, capture_output=True, text=True, timeout=300, env=tools)
-            count.test(f"--follow with {text.strip()}", ended.stdout.split("\n")[-2], last)
+            said = ran(folder, *words, input=text, env=tools).stdout
+            count.test(f"--follow with {text.strip()}", said.split("\n")[-2], last)
 
 
 def test_turns(count):
@@ -230,21 +147,15 @@ def test_turns(count):
     count.test("turns in ten days", days, {"a": 2, "b": 2})
 
 
-def edit_of(folder, lines):
-    """An edit with these lines, read."""
-    path = pathlib.Path(folder) / "an.edit"
-    path.write_text("\n".join(["function: f", "file: src/a.rt", *lines]), encoding="utf-8")
-    edit = Edit(path)
-    edit.read()
-    return edit
-
-
 def made_by(folder, text, edits):
-    """The text with these edits made together, or why one can't be."""
+    """The text with edits of these lines made together, or why one can't be."""
+    path, made = pathlib.Path(folder) / "an.edit", []
     try:
-        made = [edit_of(folder, lines) for lines in edits]
-        for edit in made:
-            edit.place({"src/a.rt": text})
+        for lines in edits:
+            path.write_text("\n".join(["function: f", "file: src/a.rt", *lines]), encoding="utf-8")
+            made.append(Edit(path))
+            made[-1].read()
+            made[-1].place({"src/a.rt": text})
         return edited({"src/a.rt": text}, made)[0]["src/a.rt"]
     except BadEdit as fault:
         return str(fault)
@@ -254,24 +165,28 @@ def test_places(count):
     """Edits are made by place, whatever text another edit brings."""
     text = "fn f() { one(two) }\nfn g() { three }\n"
     with tempfile.TemporaryDirectory() as folder:
-        made = lambda *edits: made_by(folder, text, edits)
         first, second = ["old: one(two)", "new: three"], ["old: three", "new: one(two), 3"]
-        count.test("two edits", made(first, second), "fn f() { three }\nfn g() { one(two), 3 }\n")
-        count.test("in the other order", made(second, first), "fn f() { three }\nfn g() { one(two), 3 }\n")
-        count.test("a second pair", made(["old: one(", "new: ((one, ", "old: two", "new: 2)"]),
-                   "fn f() { ((one, 2)) }\nfn g() { three }\n")
-        count.test("a pair in what the first wrote", made(["old: one", "new: four(5)", "old: 5", "new: 6"]),
-                   "fn f() { four(6)(two) }\nfn g() { three }\n")
-        count.test("a pair that makes one place", made(["old: one(two)", "new: 1", "old: fn g", "new: fn h"]),
-                   "fn f() { 1 }\nfn h() { three }\n")
-        count.test("a text that stands twice", "2 times" in made(["old: fn ", "new: fn"]), True)
-        told = made(["old: one", "new: 1", "old: 1(two", "new: 2"])
-        count.test("a text over a pair's edge", "join the pairs" in told, True)
+        for name, edits, wanted in [
+            ("two edits", [first, second], "fn f() { three }\nfn g() { one(two), 3 }\n"),
+            ("in the other order", [second, first], "fn f() { three }\nfn g() { one(two), 3 }\n"),
+            ("a second pair", [["old: one(", "new: ((one, ", "old: two", "new: 2)"]],
+             "fn f() { ((one, 2)) }\nfn g() { three }\n"),
+            ("a pair in what the first wrote", [["old: one", "new: four(5)", "old: 5", "new: 6"]],
+             "fn f() { four(6)(two) }\nfn g() { three }\n"),
+            ("a pair that makes one place", [["old: one(two)", "new: 1", "old: fn g", "new: fn h"]],
+             "fn f() { 1 }\nfn h() { three }\n"),
+        ]:
+            count.test(name, made_by(folder, text, edits), wanted)
+        for name, lines, said in [
+            ("a text that stands twice", ["old: fn ", "new: fn"], "2 times"),
+            ("a text over a pair's edge", ["old: one", "new: 1", "old: 1(two", "new: 2"], "join the pairs"),
+        ]:
+            count.test(name, said in made_by(folder, text, [lines]), True)
 
 
 def test_said(count):
     """Which goals belong to a function itself, and which only wait."""
-    said = Said(SAID, "a", {"src/m.rt": CYCLES})
+    said = Said((CRATE / "said.txt").read_text(), "a", {"src/m.rt": CYCLES})
     goals = lambda name: list(dict.fromkeys(it.goal for it in said.own_goals(name)))
     count.test("goals of f", goals("f"), ["returns-in-Ok", "returns"])
     count.test("goals of a function that waits", goals("g") + goals("h"), [])
@@ -323,11 +238,5 @@ def waited_for(holds):
 
 def test_all(count):
     """All tests."""
-    test_places(count)
-    test_said(count)
-    test_turns(count)
-    test_code(count)
-    test_kept(count)
-    test_followed(count)
-    test_end(count)
-    test_runner(count)
+    for test in [test_places, test_said, test_turns, test_code, test_kept, test_followed, test_end, test_runner]:
+        test(count)

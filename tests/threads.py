@@ -64,7 +64,7 @@ class Counter:
     def run(self, plan):
         """How a run of a plan ended, and the number of threads that it started."""
         self.file.write_text("-1")
-        ended, _ = self.refuser.run(ZSCHED, plan, count_threads=self.file)
+        ended = self.refuser.run(ZSCHED, plan, count_threads=self.file)
         return ended, int(self.file.read_text())
 
 

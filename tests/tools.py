@@ -62,8 +62,7 @@ def run(name):
 
 
 def run_apart(name, **more):
-    """Runs a file in a separate process, with more variables, prints its output, and returns how many tests passed
-    and failed."""
+    """Runs a file in a separate process, with more variables; prints its output, and returns its counts."""
     ended = subprocess.run([sys.executable, __file__, name], stdin=subprocess.DEVNULL, stdout=subprocess.PIPE,
                            stderr=subprocess.STDOUT, text=True, errors="replace", check=False, env={**os.environ, **more})
     lines = ended.stdout.rstrip("\n").split("\n")
@@ -73,8 +72,7 @@ def run_apart(name, **more):
 
 
 def built_library(folder):
-    """Builds the library in a folder, unless the toolchain isn't there or a built one is named; returns the variable that
-    names it."""
+    """Builds the library in a folder if there is a toolchain and none is named; returns the variable that names it."""
     if "ZSCHED_LIBRARY_DIR" in os.environ or not shutil.which("rt"):
         return {}
     begun = time.monotonic()
@@ -89,7 +87,7 @@ def run_over_library(names, folder):
         variables = built_library(folder)
     except subprocess.CalledProcessError as failed:
         print(f"the library can't be built: make-library ended with status {failed.returncode}", flush=True)
-        return [(0, 1) for _ in names]
+        return [(0, 1)] * len(names)
     with concurrent.futures.ThreadPoolExecutor(len(names)) as pool:
         return list(pool.map(lambda name: run_apart(name, **variables), names))
 
@@ -97,12 +95,9 @@ def run_over_library(names, folder):
 def classes_of(name):
     """The classes of tests in a file."""
     suites, found = [unittest.defaultTestLoader.loadTestsFromName(name)], set()
-    while suites:
-        for test in suites.pop():
-            if isinstance(test, unittest.TestSuite):
-                suites.append(test)
-            else:
-                found.add(f"{name}.{type(test).__qualname__}")
+    for suite in suites:
+        suites += [test for test in suite if isinstance(test, unittest.TestSuite)]
+        found |= {f"{name}.{type(test).__qualname__}" for test in suite if isinstance(test, unittest.TestCase)}
     return sorted(found)
 
 

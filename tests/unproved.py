@@ -1,10 +1,8 @@
-"""Builds the program of a folder of crates without any proof, with the checks that `rt try` adds or
-without them.
+"""Builds the program of a folder of crates without any proof, with the checks that `rt try` adds or without them.
 
-`rt try` stores no program, and checks names during its build. So it is called in a copy of the kit:
-a folder of links, in which the linker stores the program and no names are checked. valgrind
-can't run a program with the address sanitizer: without checks the compiler leaves the sanitizer
-out, and the sanitizer's library is empty."""
+`rt try` stores no program, and checks names during its build. So it is called in a copy of the kit: a folder of links,
+in which the linker stores the program and no names are checked. valgrind can't run a program with the address
+sanitizer: without checks the compiler leaves the sanitizer out, and the sanitizer's library is empty."""
 import os
 import pathlib
 import shutil
@@ -13,8 +11,7 @@ import subprocess
 import tempfile
 import time
 
-# The compiler is also the tool that lists names, by the name by which it is called. A script
-# doesn't learn that name.
+# The compiler is also the tool that lists names, by the name by which it is called. A script doesn't learn that name.
 COMPILER = """#!/bin/bash
 case " $* " in
   *" --extern-only "* | *" --undefined-only "*) exec -a llvm-nm "{kit}/toolchain/bin/clang" "$@" ;;
@@ -80,9 +77,8 @@ def copy_kit(kit, target, program, level):
 
 
 def build(crate, program, *words, level="-O2", **more):
-    """Builds the program of a crate's folder into a file, or with the word --test that of its
-    tests, with more variables: by a level of optimizing, or with checks if it is None. It doesn't
-    wait for what `rt try` does after that."""
+    """Builds the program of a crate's folder into a file, or with the word --test that of its tests, with more
+    variables: by a level of optimizing, or with checks if it is None. It doesn't wait for what `rt try` does then."""
     found = shutil.which("rt")
     if found is None:
         raise NotBuilt("the command 'rt' isn't on this machine")

@@ -2,11 +2,9 @@
 """Runs the built program on a dozen plans and on many jobs under valgrind, each cut in several ways: by memcheck, and
 if there are several workers by helgrind and drd. The rounds of the jobs with 998 nodes start threads.
 
-    python3 tests/valgrind.py
-
-Each report has to be the right one. memcheck has to name no error and no lost memory. helgrind and drd may name only reads
-of a queue's places by the queue itself, as docs/TESTING.md explains. It isn't part of ./check, since it needs valgrind,
-and takes some ten minutes. The last line is 'N passed, M failed'."""
+Each report has to be the right one. memcheck has to name no error and no lost memory. helgrind and drd may name only
+reads of a queue's places by the queue itself, as docs/TESTING.md explains. It isn't part of ./check, since it needs
+valgrind, and takes some ten minutes. The last line is 'N passed, M failed'."""
 import pathlib
 import shutil
 import sys
@@ -15,36 +13,22 @@ import xml.etree.ElementTree
 
 sys.dont_write_bytecode = True
 
-from support import (
-    TOP, ZSCHED, Count, equal_jobs, heavy_jobs, job, plan, recut, report_beside, run, take_no_words)
+from support import TOP, ZSCHED, Count, equal_jobs, heavy_jobs, job, plan, recut, report_beside, run, take_no_words
 
-PLANS = [
+PLANS = [TOP / "tests" / "plans" / f"{name}.json" for name in [
     "a_done_part_goes_on_again", "attempts_end_at_listed_ticks", "backoff_with_a_cap_on_tries", "collected_inputs",
     "collected_pairs_sides_and_lists", "fixed_runs_behind", "no_jobs", "resets_over_resets", "seven_jobs",
-    "seven_jobs_on_listed_ticks", "thirteen_jobs", "windows_wait_when_behind",
-]
-
+    "seven_jobs_on_listed_ticks", "thirteen_jobs", "windows_wait_when_behind"]]
 # The workers and grains under which each plan runs, and a number of jobs that makes several batches of each grain.
 CUTS = [(1, 1), (2, 1), (4, 100), (64, 10)]
 MANY = 250
-
 # The cuts of jobs with schedules of 998 nodes.
 HEAVY_CUTS = [(2, 1), (4, 3), (4, 20), (64, 10)]
-
 # The checkers with their words, and the cuts that can show errors: without a second worker no thread is started.
-TOOLS = {
-    "memcheck": (["--leak-check=full", "--show-leak-kinds=all"], CUTS),
-    "helgrind": ([], CUTS[1:]),
-    "drd": ([], CUTS[1:]),
-}
-
+TOOLS = {"memcheck": (["--leak-check=full", "--show-leak-kinds=all"], CUTS),
+         "helgrind": ([], CUTS[1:]), "drd": ([], CUTS[1:])}
 # The functions that read what another thread wrote with no lock between them.
 QUEUE = "crossbeam_queue::"
-
-
-def path_of(name):
-    """The path of a plan."""
-    return TOP / "tests" / "plans" / f"{name}.json"
 
 
 def cases(cuts):
@@ -52,8 +36,8 @@ def cases(cuts):
     found = [("a schedule that is none", plan([job(schedule="(recurs(1) && recurs(2)")]), (2, b""))]
     for workers, grain in cuts:
         told = f"{workers} workers, grain {grain}"
-        for name in PLANS:
-            found.append((f"{name}, {told}", recut(path_of(name).read_bytes(), workers, grain), (0, report_beside(path_of(name)))))
+        for path in PLANS:
+            found.append((f"{path.stem}, {told}", recut(path.read_bytes(), workers, grain), (0, report_beside(path))))
         text, report = equal_jobs([f"job{number}" for number in range(MANY)], workers, grain)
         found.append((f"{MANY} jobs, {told}", text, (0, report)))
     for workers, grain in HEAVY_CUTS:
@@ -62,22 +46,16 @@ def cases(cuts):
     return found
 
 
-def is_of_a_queue(error):
-    """Whether an error is an access to a queue's places, made by the queue. The first stack shows where it was made."""
-    if error.findtext("kind") not in ["Race", "ConflictingAccess"]:
-        return False
-    place = error.find("stack/frame/fn")
-    return place is not None and place.text.startswith(QUEUE)
-
-
 def errors_of(path):
-    """The kinds of the errors in a tool's file, and how many more are of a queue."""
+    """The kinds of the errors in a tool's file, and how many more are accesses to a queue's places, made by the queue,
+    as the first stack shows."""
     kinds, of_queues = [], 0
     for error in xml.etree.ElementTree.parse(path).getroot().iter("error"):
-        if is_of_a_queue(error):
+        kind, place = error.findtext("kind"), error.findtext("stack/frame/fn") or ""
+        if kind in ["Race", "ConflictingAccess"] and place.startswith(QUEUE):
             of_queues += 1
         else:
-            kinds.append(error.findtext("kind"))
+            kinds.append(kind)
     return kinds, of_queues
 
 

@@ -1,4 +1,4 @@
-"""What the tests of commands share: a folder, a run in this process, and the colours on a terminal."""
+"""What the tests of commands share: a folder, a run in this process or another, and the colours on a terminal."""
 import gc
 import io
 import os
@@ -18,6 +18,18 @@ class InFolder(unittest.TestCase):
         self.addCleanup(folder.cleanup)
         self.folder = pathlib.Path(folder.name)
 
+    def file(self, name, text):
+        """The path of a file of the folder, with this text."""
+        path = self.folder / name
+        path.write_bytes(text if isinstance(text, bytes) else text.encode())
+        return path
+
+    def script(self, name, text):
+        """The path of a program of the folder, which a shell runs."""
+        path = self.file(name, f"#!/bin/sh\n{text}\n")
+        path.chmod(0o755)
+        return path
+
 
 def run_here(main, *words, given=b""):
     """Runs the main function of a command in this process: status, standard output, standard error."""
@@ -32,6 +44,34 @@ def run_here(main, *words, given=b""):
             gc.enable()
     streams["stdout"].flush()
     return status, streams["stdout"].buffer.getvalue().decode(), streams["stderr"].getvalue()
+
+
+def process(*words, given=b"", folder=None, **variables):
+    """Runs a command in another process, with more variables: status, standard output, standard error."""
+    ended = subprocess.run([str(it) for it in words], input=given, capture_output=True, cwd=folder, check=False,
+                           env={**os.environ, **variables}, timeout=300)
+    return ended.returncode, ended.stdout.decode(), ended.stderr.decode()
+
+
+def output(words, **more):
+    """The output of a program that has to succeed."""
+    ended = subprocess.run([str(it) for it in words], capture_output=True, check=False, timeout=120, **more)
+    if ended.returncode:
+        said = (ended.stdout[-1000:] + ended.stderr[-2000:]).decode(errors="replace")
+        raise AssertionError(f"{words}: status {ended.returncode}: {said}")
+    return ended.stdout.decode()
+
+
+def output_of(test, ended, name=None):
+    """The output of a command that has to succeed with no line of errors."""
+    test.assertEqual(ended[::2], (0, ""), name)
+    return ended[1]
+
+
+def errors_of(test, ended, name=None, status=2):
+    """The errors of a command that has to fail with this status and without any output."""
+    test.assertEqual(ended[:2], (status, ""), name)
+    return ended[2]
 
 
 def judge_colours(test, words, stream, folder=None, **variables):

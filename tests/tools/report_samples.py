@@ -1,110 +1,15 @@
-"""Reports for the tests of zsched-report, and their lines of the summary, which were computed by hand from the
-reports' texts: busy is the sum of all ends less begins, waited that of all begins less the ends before them, both up
-to the horizon. A job's time to its end is that end less the begin of its first attempt; of n jobs in the order of their
-times, the unfinished ones last, p95 is that of job number 0.95 n, rounded up."""
+"""The reports in reports/ for tests of zsched-report; beside each is its summary, computed by hand from its text, and
+beside four their load. Busy is the sum of all ends less begins, waited that of all begins less the ends before them,
+both up to the horizon. A job's time to its end is that end less the begin of its first attempt; of n jobs in the order
+of their times, the unfinished ones last, p95 is that of job number 0.95 n, rounded up."""
+import pathlib
 
-RETRIED = """job a retry
-attempt 1 0..5 err 7
-step 1 out 0 next 5
-attempt 2 5..10 ok 1
-end succeeded 1 at 10 polls 3
-polls 3
-"""
-RUNNING = """job nightly-export retry
-attempt 1 0..700 err 500
-step 1 out 1000 next 1700
-attempt 2 1700..2400 err 500
-step 2 out 1000 next 3400
-attempt 3 3400..4100 err 500
-step 3 out 2000 next 6100
-attempt 4 6100..6800 err 500
-step 4 out 3000 next 9800
-attempt 5 9800.. running
-end unfinished at 10000 polls 9
-polls 9
-"""
-COARSE = """job probe-disk repeat
-attempt 1 0..250 ok 1
-step 1 out 0 next 550
-attempt 2 750..1000 ok 1
-step 2 out 1 next 1300
-attempt 3 1500..2000 ok 1
-step 3 out 2 next 2300
-attempt 4 3000..5000 ok 1
-step 4 out 3 next 5300
-end unfinished at 5000 polls 8
-job warm-cache retry
-attempt 1 500..750 err 5
-step 1 out (100,0) next 850
-attempt 2 1000..1250 err 5
-step 2 out (200,1) next 1450
-attempt 3 1500..3000 ok 1
-end succeeded 1 at 3000 polls 6
-polls 14
-"""
-NEVER = """job never retry
-end unfinished at 90000 polls 0
-job drain repeat
-attempt 1 0..20 ok 17
-step 1 out [] next 20
-attempt 2 20..40 ok 9
-step 2 out [17] next 40
-attempt 3 40..60 ok 0
-step 3 out [17,9] done
-end finished [17,9] at 60 polls 4
-polls 4
-"""
-WAITING = """job beat repeat
-attempt 1 0..100 ok 0
-step 1 out 0 next 1100
-attempt 2 1100..3400 ok 0
-step 2 out 1 next 3400
-attempt 3 3400..3500 ok 0
-step 3 out 2 next 4100
-end unfinished at 4000 polls 5
-job broken repeat
-attempt 1 50..60 ok 1
-step 1 out Left((0,[Right(1),Right(2)])) next 160
-attempt 2 160..170 err 9
-end failed 9 at 170 polls 4
-polls 9
-"""
-GREATEST = """job edge retry
-attempt 1 18446744073709551514..18446744073709551614 err 18446744073709551615
-step 1 out 18446744073709551615 next 18446744073709551615
-attempt 2 18446744073709551615.. running
-end unfinished at 18446744073709551615 polls 3
-polls 3
-"""
-REPORTS = {"retried": RETRIED, "running": RUNNING, "coarse": COARSE, "never": NEVER, "waiting": WAITING,
-           "greatest": GREATEST}
-
-# job, mode, ending, at, attempts, ok, err, busy, waited, longest wait
-SUMMARIES = {
-    "retried": ([["a", "retry", "succeeded 1", "10 ms", "2", "1", "1", "10 ms", "0 ms", "0 ms"]],
-                "1 job: 1 succeeded; 2 attempts; 3 polls", "most attempts at once: 1, first at 0 ms",
-                "time to the end: p50 10 ms, p95 10 ms, p99 10 ms"),
-    "running": ([["nightly-export", "retry", "unfinished", "10 s", "5", "0", "4", "3 s", "7 s", "3 s"]],
-                "1 job: 1 unfinished; 5 attempts; 9 polls", "most attempts at once: 1, first at 0 ms",
-                "time to the end: p50 unfinished, p95 unfinished, p99 unfinished"),
-    "coarse": ([["probe-disk", "repeat", "unfinished", "5 s", "4", "4", "0", "3 s", "2 s", "1 s"],
-                ["warm-cache", "retry", "succeeded 1", "3 s", "3", "1", "2", "2 s", "500 ms", "250 ms"]],
-               "2 jobs: 1 unfinished, 1 succeeded; 7 attempts; 14 polls", "most attempts at once: 2, first at 1.5 s",
-               "time to the end: p50 2.5 s, p95 unfinished, p99 unfinished"),
-    "never": ([["never", "retry", "unfinished", "1 min 30 s", "0", "0", "0", "0 ms", "0 ms", "0 ms"],
-               ["drain", "repeat", "finished [17,9]", "60 ms", "3", "3", "0", "60 ms", "0 ms", "0 ms"]],
-              "2 jobs: 1 unfinished, 1 finished; 3 attempts; 4 polls", "most attempts at once: 1, first at 0 ms",
-              "time to the end: p50 60 ms, p95 unfinished, p99 unfinished"),
-    "waiting": ([["beat", "repeat", "unfinished", "4 s", "3", "3", "0", "2.5 s", "1.5 s", "1 s"],
-                 ["broken", "repeat", "failed 9", "170 ms", "2", "1", "1", "20 ms", "100 ms", "100 ms"]],
-                "2 jobs: 1 unfinished, 1 failed; 5 attempts; 9 polls", "most attempts at once: 2, first at 50 ms",
-                "time to the end: p50 120 ms, p95 unfinished, p99 unfinished"),
-    "greatest": ([["edge", "retry", "unfinished", "213503982334 d 14 h 25 min 51.615 s", "2", "0", "1", "100 ms",
-                   "1 ms", "1 ms"]],
-                 "1 job: 1 unfinished; 2 attempts; 3 polls",
-                 "most attempts at once: 1, first at 213503982334 d 14 h 25 min 51.514 s",
-                 "time to the end: p50 unfinished, p95 unfinished, p99 unfinished"),
-}
+FOLDER = pathlib.Path(__file__).with_name("reports")
+REPORTS = {name: (FOLDER / f"{name}.txt").read_text()
+           for name in ["retried", "running", "coarse", "never", "waiting", "greatest"]}
+RETRIED, RUNNING, _, _, WAITING, GREATEST = REPORTS.values()
+SUMMARIES = {name: (FOLDER / f"{name}.summary").read_text() for name in REPORTS}
+LOADS = {name: (FOLDER / f"{name}.csv").read_text() for name in ["running", "coarse", "never", "waiting"]}
 
 # Texts that aren't reports, and the beginning of the error.
 NO_REPORTS = [

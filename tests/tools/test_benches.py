@@ -1,17 +1,17 @@
 """benches/: the results of zsched and of the baseline for the plans are those of the reference, and the commands run."""
 import contextlib
+import functools
 import io
 import json
 import os
-import pathlib
 import re
 import shutil
 import subprocess
 import sys
-import tempfile
 import unittest
 from xml.etree import ElementTree
 
+from commands import InFolder, errors_of, output_of, process
 from support import TOP
 
 BENCHES = TOP / "benches"
@@ -36,19 +36,11 @@ def told(*words):
         return bench.main(words), output.getvalue()
 
 
-def script(folder, name, text):
-    """A program of a few words of shell."""
-    path = pathlib.Path(folder) / name
-    path.write_text(f"#!/bin/sh\n{text}\n")
-    path.chmod(0o755)
-    return str(path)
-
-
-class Benches(unittest.TestCase):
+class Benches(InFolder):
     """The commands, with other programs in the place of zsched and the baseline if nothing is to be measured."""
 
     def setUp(self):
-        self.folder = self.enterContext(tempfile.TemporaryDirectory())
+        super().setUp()
         self.cat = shutil.which("cat")
 
     def test_zsched_answers_each_plan_as_the_reference(self):
@@ -69,7 +61,7 @@ class Benches(unittest.TestCase):
         words = ["--check", "--only", "resets", "--divisor", "10000", "--zsched", self.cat, "--baseline"]
         self.assertEqual(told(*words, self.cat), (0, "1 passed, 0 failed\n"))
         for shell in ["cat > /dev/null; echo other", "cat; echo more >&2"]:
-            status, output = told(*words, script(self.folder, "other", shell))
+            status, output = told(*words, str(self.script("other", shell)))
             self.assertEqual((status, output.splitlines()[1]), (1, "0 passed, 1 failed"))
 
     def test_a_run_prints_a_row(self):
@@ -77,26 +69,20 @@ class Benches(unittest.TestCase):
         status, output = told(*words, self.cat)
         self.assertEqual(status, 0)
         self.assertRegex(output.splitlines()[2], r"^\| `resets` \| 0\.0 \| .* \| yes \|$")
-        failing = script(self.folder, "failing", "exit 4")
-        status, output = told(*words, failing)
+        status, output = told(*words, str(self.script("failing", "exit 4")))
         self.assertEqual((status, output.splitlines()[-1]), (1, "bench.py: baseline ended with status 4 on resets.json"))
 
     def test_growth_is_drawn(self):
-        picture = os.path.join(self.folder, "growth.svg")
-        status, output = told("--growth", "--zsched", self.cat, "--baseline", self.cat, "--runs", "1", "--divisor",
-                              "1000", "--picture", picture)
+        picture, programs = str(self.folder / "growth.svg"), ["--zsched", self.cat, "--baseline", self.cat]
+        status, output = told("--growth", *programs, "--runs", "1", "--divisor", "1000", "--picture", picture)
         self.assertEqual((status, output.count("| Against |")), (0, 1))
         self.assertEqual(ElementTree.parse(picture).getroot().get("width"), str(4 * growth.COLUMN))
         self.assertAlmostEqual(growth.exponent([(size, 3 * size ** 2) for size in growth.up_to(1000)]), 2)
 
     def test_a_population_is_cut_run_and_joined(self):
-        def ended(*words):
-            found = subprocess.run([sys.executable, BENCHES / "population.py", *words], capture_output=True, text=True,
-                                   check=False)
-            return found.returncode, found.stdout, found.stderr
-
-        status, rows, errors = ended("--jobs", "250", "--part", "100", "--folder", self.folder)
-        self.assertEqual((status, errors, os.listdir(self.folder)), (0, "", []))
+        ended = functools.partial(process, sys.executable, BENCHES / "population.py")
+        rows = output_of(self, ended("--jobs", "250", "--part", "100", "--folder", self.folder))
+        self.assertEqual(os.listdir(self.folder), [])
         number = r"[\d,]+\.\d"
         found = re.findall(rf"^\| ([\w ]+) \|( {number} \|){{3}} [\d,]+ \|( {number} \|){{2}}$", rows, re.MULTILINE)
         self.assertEqual([row[0] for row in found], [
@@ -107,12 +93,11 @@ class Benches(unittest.TestCase):
         for text, errors in [("exit 4", r"^population.py: run ended with status 4\n$"),
                              ("cat > /dev/null; echo polls 0", "has other jobs .*\n.* join by the manifest ended with status 2\n$"),
                              (idle, "^population.py: the joined report isn't that of 1 jobs: .*polls 0")]:
-            status, _, found = ended("--jobs", "1", "--zsched", script(self.folder, "other", text))
+            status, _, found = ended("--jobs", "1", "--zsched", self.script("other", text))
             self.assertEqual(status, 1)
             self.assertRegex(found, errors)
         for wrong in [["--jobs", "0"], ["--part", "x"], ["plan.json"], ["--zsched", "/nowhere"]]:
-            status, output, found = ended(*wrong)
-            self.assertEqual((status, output, "population.py: error: " in found), (2, "", True))
+            self.assertIn("population.py: error: ", errors_of(self, ended(*wrong)))
 
     def test_each_plan_has_a_row_of_results(self):
         page = (BENCHES / "RESULTS.md").read_text()

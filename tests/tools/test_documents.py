@@ -68,16 +68,12 @@ class Documents(unittest.TestCase):
         self.assertEqual(report, sample.with_suffix(".json.stdout").read_text())
         self.assertEqual(program.run(program.find(), plan.encode(), 60), (0, report.encode(), b""))
 
-    def test_formats_shows_a_plan_and_its_report(self):
-        plan = re.search(r"```json\n(.*?)```", FORMATS, re.DOTALL).group(1)
-        report = re.search(r"```text\n(job .*?)```", FORMATS, re.DOTALL).group(1)
-        polls = report.split()[-1]
-        wanted = f"{report}polls {polls}\n".encode()
-        self.assertEqual(program.run(program.find(), plan.encode(), 60), (0, wanted, b""))
-
-    def test_formats_shows_a_report_as_json_lines(self):
-        report = re.search(r"```text\n(job .*?)```", FORMATS, re.DOTALL).group(1)
-        shown = re.search(r'```json\n(\{"type".*?)```', FORMATS, re.DOTALL).group(1)
-        made = []
-        lines.write_lines(io.BytesIO(f"{report}polls {report.split()[-1]}\n".encode()), made.append)
-        self.assertEqual("".join(made), shown)
+    def test_formats_shows_a_plan_and_its_report_also_as_json_lines(self):
+        plan, report, shown = (re.search(form, FORMATS, re.DOTALL)[1] for form in [
+            r"```json\n(.*?)```", r"```text\n(job .*?)```", r'```json\n(\{"type".*?)```'])
+        whole, made = f"{report}polls {report.split()[-1]}\n".encode(), []
+        with self.subTest("the program"):
+            self.assertEqual(program.run(program.find(), plan.encode(), 60), (0, whole, b""))
+        with self.subTest("JSON lines"):
+            lines.write_lines(io.BytesIO(whole), made.append)
+            self.assertEqual("".join(made), shown)

@@ -3,19 +3,17 @@ import contextlib
 import io
 import json
 import os
-import pathlib
 import random
 import re
 import resource
 import signal
 import subprocess
 import sys
-import tempfile
 import unittest
 import unittest.mock
 
 import faults as faults_table
-from commands import InFolder, judge_colours
+from commands import InFolder, errors_of, judge_colours, output_of, process
 from mistakes import MISTAKES
 from mutate import changed_plans
 from support import ONE_JOB, TOP, job, plan
@@ -29,30 +27,25 @@ PLACE = re.compile(r"^ *--> plan\.json:(\d+):(\d+)$", re.M)
 
 
 def split(marked):
-    """A plan without its sign, and the line and the column of the sign."""
+    """The bytes of a plan without its sign, and the line and the column of the sign."""
     before, behind = marked.split("»")
-    return before + behind, before.count("\n") + 1, len(before) - (before.rfind("\n") + 1) + 1
+    data = (before + behind).encode(errors="surrogateescape")
+    return data, before.count("\n") + 1, len(before) - (before.rfind("\n") + 1) + 1
 
 
-def told(data, status, line):
-    """What the command writes about a plan on which the program ended so: its status, output and errors."""
+def told(data, line):
+    """The errors that the command writes about a plan for which the program wrote this line."""
     look = explain.Look(data)
     look.start()
-    return told_of(look, status, line)
+    return told_of(look, 2, line)[2]
 
 
 def told_of(look, status, line):
-    """The same, after a look through the plan has begun."""
+    """What the command writes after a look through a plan on which the program ended so: status, output and errors."""
     output, errors = io.StringIO(), io.StringIO()
     with contextlib.redirect_stdout(output), contextlib.redirect_stderr(errors):
         ended = explain.tell("plan.json", look, status, line)
     return ended, output.getvalue(), errors.getvalue()
-
-
-def help_of(errors):
-    """The text of the help line, or nothing."""
-    found = re.search(r"^ *= help: (.*)$", errors, re.M)
-    return found[1] if found else ""
 
 
 class Mistakes(unittest.TestCase):
@@ -64,20 +57,20 @@ class Mistakes(unittest.TestCase):
     def test_each_mistake_is_shown_at_its_place(self):
         for name, marked, fault, word in MISTAKES:
             with self.subTest(name):
-                text, line, column = split(marked)
-                data = text.encode(errors="surrogateescape")
-                status, said, error = program.run(self.zsched, data)
-                self.assertEqual((status, said, error.decode()), (2, b"", f"zsched: {fault}\n"))
-                ended, output, errors = told(data, status, error.decode())
-                self.assertEqual((ended, output, errors.split("\n")[0]), (2, "", f"zsched: {fault}"))
+                data, line, column = split(marked)
+                said = f"zsched: {fault}\n"
+                self.assertEqual(program.run(self.zsched, data), (2, b"", said.encode()))
+                look = explain.Look(data)
+                look.start()
+                errors = errors_of(self, told_of(look, 2, said))
+                self.assertEqual(errors.split("\n")[0], f"zsched: {fault}")
                 self.assertEqual(PLACE.findall(errors), [(str(line), str(column))], errors)
-                self.assertIn(word, help_of(errors))
+                self.assertIn(word, "".join(re.findall(r"^ *= help: (.*)$", errors, re.M)))
 
     def test_the_caret_stands_below_the_place(self):
         for name, marked, fault, _ in MISTAKES:
             with self.subTest(name):
-                text, _, _ = split(marked)
-                _, _, errors = told(text.encode(errors="surrogateescape"), 2, f"zsched: {fault}\n")
+                errors = told(split(marked)[0], f"zsched: {fault}\n")
                 source, caret = re.search(r"^ *\d+ \|(.*)\n *\|( *\^+)", errors, re.M).groups()
                 behind = marked[marked.index("»") + 1:].split("\n")[0][:1]
                 if behind.isascii() and behind.isprintable():
@@ -90,25 +83,24 @@ class Mistakes(unittest.TestCase):
 
     def test_the_job_is_told_by_its_name(self):
         plan = ONE_JOB.replace(b'"recurs(3)"', b'"recur(3)"')
-        _, _, errors = told(plan, 2, "zsched: job 0: schedule: no term at byte 0\n")
-        self.assertIn('= job 0 is "a"\n', errors)
-        _, _, errors = told(ONE_JOB.replace(b'"name":"a",', b""), 2, "zsched: job 0: wrong shape\n")
-        self.assertNotIn("= job 0", errors)
+        self.assertIn('= job 0 is "a"\n', told(plan, "zsched: job 0: schedule: no term at byte 0\n"))
+        nameless = ONE_JOB.replace(b'"name":"a",', b"")
+        self.assertNotIn("= job 0", told(nameless, "zsched: job 0: wrong shape\n"))
 
     def test_what_a_terminal_obeys_is_not_written(self):
         plan = ONE_JOB.replace(b'"a"', '"\\u001b[31m\u202e"'.encode()).replace(b'"ms":5,"ok"', b'"ms":5,"\\u001b[2J"')
-        _, _, errors = told(plan, 2, "zsched: job 0: wrong shape\n")
+        errors = told(plan, "zsched: job 0: wrong shape\n")
         self.assertTrue(all(letter.isprintable() or letter == "\n" for letter in errors), errors)
         self.assertIn('= job 0 is "?[31m?"\n', errors)
 
     def test_tabs_and_line_ends_of_windows_are_shown_as_spaces(self):
         plan = b'{"horizon": 9,\r\n\t"jobs": [],\r\n\t"grain":\t0}\r\n'
-        _, _, errors = told(plan, 2, "zsched: plan: out of range\n")
+        errors = told(plan, "zsched: plan: out of range\n")
         self.assertIn(' --> plan.json:3:11\n  |\n3 |  "grain": 0}\n  |           ^ ', errors)
 
     def test_a_wide_letter_takes_two_columns(self):
         plan = '{"horizon": 9, "jobs": [{"名前": 1, "x" 2}]}'.encode()
-        _, _, errors = told(plan, 2, "zsched: plan is not JSON\n")
+        errors = told(plan, "zsched: plan is not JSON\n")
         self.assertIn('1 | {"horizon": 9, "jobs": [{"名前": 1, "x" 2}]}\n' + "  | " + " " * 39 + "^ ", errors)
 
 
@@ -232,9 +224,9 @@ class Large(unittest.TestCase):
 
     def told_of(self, marked):
         """The command's output for a plan, whose sign, if it has one, is at the reported place."""
-        text, _, column = split(marked) if "»" in marked else (marked, 0, 0)
-        self.assertTrue(self.SIZE <= len(text) <= program.MAX_BYTES, len(text))
-        look = explain.Look(text.encode())
+        data, _, column = split(marked) if "»" in marked else (marked.encode(), 0, 0)
+        self.assertTrue(self.SIZE <= len(data) <= program.MAX_BYTES, len(data))
+        look = explain.Look(data)
         ended, output, errors = told_of(look, *explain.refusal(self.zsched, look))
         self.assertEqual(PLACE.findall(errors), [("1", str(column))] if column else [], errors)
         return ended, output, errors.split("\n")[0]
@@ -274,96 +266,73 @@ class Use(InFolder):
         super().setUp()
         self.zsched = program.find()
         self.faulty = ONE_JOB.replace(b"recurs(3)", b"recurs(3s)")
-        (self.folder / "plan.json").write_bytes(self.faulty)
-        (self.folder / "good.json").write_bytes(ONE_JOB)
+        self.file("plan.json", self.faulty)
+        self.file("good.json", ONE_JOB)
 
-    def run_command(self, *arguments, text=b"", environment=None):
+    def run_command(self, *arguments, text=b"", **variables):
         """One run of the command: status, output and errors."""
-        ended = subprocess.run([sys.executable, COMMAND, *arguments], input=text, capture_output=True, cwd=self.folder,
-                               env={**os.environ, "ZSCHED": self.zsched, **(environment or {})}, check=False)
-        return ended.returncode, ended.stdout.decode(), ended.stderr.decode()
+        return process(sys.executable, COMMAND, *arguments, given=text, folder=self.folder,
+                       **{"ZSCHED": self.zsched, **variables})
 
     def test_a_plan_is_read_from_a_file_or_standard_input(self):
-        wanted = "\n".join([
-            "zsched: job 0: schedule: no term at byte 8",
-            " --> {}:1:72",
-            "  |",
-            "1 | {}",
-            "  | " + " " * 71 + "^ a number has no unit",
-            "  = help: write 3000: all times are milliseconds",
-            '  = job 0 is "a"', ""])
+        shown = [f"1 | {self.faulty.decode()[:100]} ..", "  | " + " " * 71 + "^ a number has no unit",
+                 "  = help: write 3000: all times are milliseconds", '  = job 0 is "a"', ""]
         for arguments, name in [(["plan.json"], "plan.json"), (["-"], "standard input"), ([], "standard input")]:
             with self.subTest(arguments):
-                found = self.run_command(*arguments, text=self.faulty)
-                source = self.faulty.decode()[:100] + " .."
-                self.assertEqual(found, (2, "", wanted.format(name, source)))
-
-    def test_a_plan_without_a_fault(self):
-        self.assertEqual(self.run_command("good.json"), (0, "good.json: no fault\n", ""))
+                lines = ["zsched: job 0: schedule: no term at byte 8", f" --> {name}:1:72", "  |", *shown]
+                self.assertEqual(self.run_command(*arguments, text=self.faulty), (2, "", "\n".join(lines)))
 
     def test_an_empty_plan(self):
-        status, output, errors = self.run_command()
-        self.assertEqual((status, output), (2, ""))
-        self.assertIn("--> standard input:1:1", errors)
+        self.assertIn("--> standard input:1:1", errors_of(self, self.run_command()))
 
     def test_a_plan_that_is_too_long(self):
-        (self.folder / "plan.json").write_bytes(b"{}\n" + b" " * 16777216)
-        status, _, errors = self.run_command("plan.json")
-        self.assertEqual((status, errors.split("\n")[0]), (2, "zsched: plan is longer than 16777216 bytes"))
+        self.file("plan.json", b"{}\n" + b" " * 16777216)
+        errors = errors_of(self, self.run_command("plan.json"))
+        self.assertEqual(errors.split("\n")[0], "zsched: plan is longer than 16777216 bytes")
         self.assertIn("--> plan.json:2:16777214\n", errors)
 
-    def test_a_file_that_cannot_be_read(self):
-        for name, text in [("none.json", "No such file or directory"), (".", "Is a directory")]:
-            self.assertEqual(self.run_command(name), (3, "", f"zsched-explain: {name}: {text}\n"))
-
     def test_standard_output_that_is_full(self):
-        with open("/dev/full", "w") as full:
-            ended = subprocess.run([sys.executable, COMMAND, "good.json", "--zsched", self.zsched], cwd=self.folder,
-                                   stdout=full, stderr=subprocess.PIPE, check=False)
-        wanted = b"zsched-explain: standard output: No space left on device\n"
-        self.assertEqual((ended.returncode, ended.stderr), (3, wanted))
+        ended = process("sh", "-c", f"{sys.executable} {COMMAND} good.json --zsched {self.zsched} > /dev/full",
+                        folder=self.folder)
+        self.assertEqual(ended, (3, "", "zsched-explain: standard output: No space left on device\n"))
 
-    def test_a_program_that_is_not_there(self):
-        for arguments, environment in [(["--zsched", "/none"], {}), ([], {"ZSCHED": "/none"})]:
-            with self.subTest(arguments):
-                status, output, errors = self.run_command("plan.json", *arguments, environment=environment)
-                self.assertEqual((status, output, errors), (1, "", "zsched-explain: no program at /none\n"))
-
-    def test_the_programs_other_statuses_are_kept(self):
-        for text, wanted in [("echo zsched: out of memory >&2; exit 4", 4), ("kill -9 $$", 137)]:
-            other = self.folder / "other"
-            other.write_text(f"#!/bin/sh\n{text}\n")
-            other.chmod(0o755)
-            status, output, errors = self.run_command("plan.json", "--zsched", str(other))
-            self.assertEqual((status, output, errors), (wanted, "", "zsched: out of memory\n" if wanted == 4 else ""))
+    def test_how_it_ends(self):
+        failing = self.script("failing", "echo zsched: out of memory >&2; exit 4")
+        missing = 1, "", "zsched-explain: no program at /none\n"
+        for name, words, variables, wanted in [
+                ("a plan without a fault", ["good.json"], {}, (0, "good.json: no fault\n", "")),
+                ("no file", ["none.json"], {}, (3, "", "zsched-explain: none.json: No such file or directory\n")),
+                ("a folder", ["."], {}, (3, "", "zsched-explain: .: Is a directory\n")),
+                ("no program", ["plan.json", "--zsched", "/none"], {}, missing),
+                ("no program", ["plan.json"], {"ZSCHED": "/none"}, missing),
+                ("another status", ["plan.json", "--zsched", failing], {}, (4, "", "zsched: out of memory\n")),
+                ("killed", ["plan.json", "--zsched", self.script("killed", "kill -9 $$")], {}, (137, "", ""))]:
+            with self.subTest(name, words=words):
+                self.assertEqual(self.run_command(*words, **variables), wanted)
 
     def test_a_look_is_given_up_where_the_plan_has_no_fault(self):
-        other = self.folder / "other"
-        other.write_text("#!/bin/sh\nexit 0\n")
-        other.chmod(0o755)
+        other = self.script("other", "exit 0")
         plan = b"[" * 50 + b'[{"a":1,"b":2}' + b',{"a":1,"b":2}' * 10**6 + b"]" * 51
-        self.assertEqual(self.run_command("--zsched", str(other), text=plan), (0, "standard input: no fault\n", ""))
+        self.assertEqual(self.run_command("--zsched", other, text=plan), (0, "standard input: no fault\n", ""))
 
     def test_words_that_it_does_not_take(self):
         for arguments in [["--nothing"], ["plan.json", "good.json"], ["--zsched"]]:
-            status, output, errors = self.run_command(*arguments)
-            self.assertEqual((status, output), (2, ""), errors)
+            errors = errors_of(self, self.run_command(*arguments), arguments)
             self.assertTrue(errors.startswith("zsched-explain: "), errors)
 
     def test_the_help_names_the_statuses(self):
-        status, output, errors = self.run_command("--help")
-        self.assertEqual((status, errors), (0, ""))
+        output = output_of(self, self.run_command("--help"))
         for word in ["PLAN.json", "--zsched", "--all", "--most", "--color", "--version", "FILE:LINE:COLUMN",
                      "exit status", "no fault"]:
             self.assertIn(word, output)
 
     def test_colours_are_those_that_were_asked_for(self):
-        _, _, plain = self.run_command("plan.json")
+        plain = errors_of(self, self.run_command("plan.json"))
         for words, environment, is_painted in [
                 (["--color", "always"], {}, True), (["--color=always"], {"NO_COLOR": "1"}, True),
                 (["--color", "never"], {}, False), ([], {}, False)]:
             with self.subTest(words):
-                _, _, errors = self.run_command("plan.json", *words, environment=environment)
+                errors = errors_of(self, self.run_command("plan.json", *words, **environment))
                 self.assertEqual("\x1b[" in errors, is_painted)
                 self.assertEqual(re.sub(r"\x1b\[[0-9;]*m", "", errors), plain)
 
@@ -383,23 +352,21 @@ class Use(InFolder):
 
     def test_a_plan_of_many_attempts_gets_a_warning_before_it_is_run(self):
         many = plan([job("a", "forever", script='"script":[{"ms":5,"err":7}]')], '"horizon":999999999999999')
-        (self.folder / "many.json").write_bytes(many)
+        self.file("many.json", many)
         status, output, errors = self.run_command("many.json")
         self.assertEqual((status, output), (0, "many.json: no fault\n"))
         self.assertIn("zsched-explain: warning: its attempts may be 2.0e+14, more than 100000000", errors)
-        (self.folder / "many.json").write_bytes(many.replace(b'"mode":"retry"', b'"mode":"retries"'))
-        status, output, errors = self.run_command("many.json")
-        self.assertEqual((status, output), (2, ""))
-        self.assertIn("zsched: job 0: out of range\n", errors)
+        self.file("many.json", many.replace(b'"mode":"retry"', b'"mode":"retries"'))
+        self.assertIn("zsched: job 0: out of range\n", errors_of(self, self.run_command("many.json")))
         jobs = [job(name, schedule, script='"script":[{"ms":5,"err":7}]')
                 for name, schedule in [("a", "forever"), ("b", "forevr"), ("c", "forevar")]]
-        (self.folder / "many.json").write_bytes(plan(jobs, '"horizon":999999999999999'))
-        status, output, errors = self.run_command("--all", "many.json")
-        self.assertEqual((status, output, errors.splitlines()[-1]), (2, "", "2 faults"))
+        self.file("many.json", plan(jobs, '"horizon":999999999999999'))
+        errors = errors_of(self, self.run_command("--all", "many.json"))
+        self.assertEqual(errors.splitlines()[-1], "2 faults")
         self.assertEqual(self.run_command("good.json")[2], "")
 
 
-class Alike(unittest.TestCase):
+class Alike(InFolder):
     """Of a plan's jobs that are alike only one is run: it has the fault of the whole plan."""
 
     def jobs(self, count, schedule="(exponential({}) && recurs(3))"):
@@ -435,7 +402,7 @@ class Alike(unittest.TestCase):
     def test_the_fault_is_that_of_the_whole_plan(self):
         zsched = program.find()
         for name, marked, fault, _ in MISTAKES:
-            found = re.search(r'"jobs": \[\n    (.*)\n  \]\n\}\n$', split(marked)[0], re.S)
+            found = re.search(r'"jobs": \[\n    (.*)\n  \]\n\}\n$', split(marked)[0].decode(errors="replace"), re.S)
             if not found or not fault.startswith("job 0: "):
                 continue
             data = plan([*self.jobs(9), found[1], *self.jobs(18)[9:]])
@@ -448,22 +415,20 @@ class Alike(unittest.TestCase):
                     self.assertEqual(explain.fault_of_fewer(zsched, data), whole)
 
     def test_a_program_that_takes_long_runs_fewer_jobs(self):
-        script = """#!/bin/sh
-case "$(cat)" in *'"name":"j5"'*) exec sleep 60;; esac
-echo "zsched: job 1: wrong shape" >&2
-exit 2
-"""
-        with tempfile.TemporaryDirectory() as folder:
-            zsched = pathlib.Path(folder) / "zsched"
-            zsched.write_text(script)
-            zsched.chmod(0o755)
-            with unittest.mock.patch.object(explain, "PATIENCE", 0.2):
-                look = explain.Look(plan([*self.jobs(20), "7"]))
-                self.assertEqual(explain.refusal(str(zsched), look), (2, "zsched: job 20: wrong shape\n"))
+        zsched = self.script("zsched", """case "$(cat)" in *'"name":"j5"'*) exec sleep 60;; esac
+            echo "zsched: job 1: wrong shape" >&2
+            exit 2""")
+        with unittest.mock.patch.object(explain, "PATIENCE", 0.2):
+            look = explain.Look(plan([*self.jobs(20), "7"]))
+            self.assertEqual(explain.refusal(str(zsched), look), (2, "zsched: job 20: wrong shape\n"))
 
 
-class All(unittest.TestCase):
+class All(InFolder):
     """All faults of a plan in one run."""
+
+    def faults(self, data, most):
+        """The faults of a plan, each with its line and its place."""
+        return list(all_faults.all_faults(lambda text: explain.outcome(program.find(), text), data, most))
 
     def places(self, marked, most=100):
         """Compares the faults of a plan with its signs, one for each, and returns the program's lines."""
@@ -472,32 +437,13 @@ class All(unittest.TestCase):
         for part in parts[:-1]:
             here += len(part)
             wanted.add(here)
-        found = list(all_faults.all_faults(lambda text: explain.outcome(program.find(), text), data, most))
+        found = self.faults(data, most)
         self.assertEqual({it.cause.at for _, it in found}, wanted, [it.cause for _, it in found])
         self.assertTrue(all(it.text == data.decode() for _, it in found))
         return [line.strip().removeprefix("zsched: ") for line, _ in found]
 
     def test_each_fault_has_its_place(self):
-        lines = self.places("""{
-  "horizon": 1000,
-  »"worker": 4,
-  "grain": »0,
-  »"more": {"a": [1,
-    2]},
-  "workers": »65,
-  "jobs": [
-    {"name": "a", "mode": "retry", "schedule": "recurs(3»s)", "script": [{"ms": 5, "err": 7}]},
-    {"name": "b", "mode": »"loop", "schedule": "recurs(5)", "script": [{"ms": 5, "err": 7}]},
-    »7,
-    {"name": "c",
-     "mode": "retry", "schedule": "recurs(5)",
-     "script": »[]}, {"name": "d»d d", "mode": "retry", "schedule": "recurs(5)", "script": [{"ms": 5, "err": 7}]},
-    {"name": "e", "mode": "retry", "schedule": "recurs(5)", "script": [{"ms": 5, "err": 7}]},
-    {"name": »"e", "mode": "retry", "schedule": "recurs(5)", "script": [{"ms": 5, "err": 7}]}
-  ],
-  »"last": 1
-}
-""".replace("d»d d", "d»\u00e9"))
+        lines = self.places((TOP / "tests" / "tools" / "many_faults.txt").read_text())
         self.assertEqual(lines[:4], ["plan: unknown key"] * 3 + ["plan: out of range"])
         self.assertEqual(lines[-1], "job 6: name used before")
 
@@ -511,25 +457,18 @@ class All(unittest.TestCase):
     def test_each_mistake_of_the_table_is_found_first(self):
         for name, marked, fault, _ in MISTAKES[::7]:
             with self.subTest(name):
-                text, _, _ = split(marked)
-                data = text.encode(errors="surrogateescape")
-                faults = list(all_faults.all_faults(lambda text: explain.outcome(program.find(), text), data, 10))
-                self.assertEqual(faults[0][0], f"zsched: {fault}\n")
-                self.assertEqual(faults[0][1].cause.at, marked.index("»"))
+                line, found = self.faults(split(marked)[0], 10)[0]
+                self.assertEqual((line, found.cause.at), (f"zsched: {fault}\n", marked.index("»")))
 
     def test_many_faults_end_at_the_number_that_was_given(self):
-        jobs = ", ".join(["7"] * 12)
-        with tempfile.TemporaryDirectory() as folder:
-            place = pathlib.Path(folder) / "plan.json"
-            place.write_text(f'{{"horizon": 9, "jobs": [{jobs}]}}')
-            for words, shown, last in [([], 1, "help: "), (["--all"], 10, "10 faults; there are more"),
-                                       (["--all", "--most", "3"], 3, "3 faults; there are more"),
-                                       (["--all", "--most", "12"], 12, "12 faults")]:
-                with self.subTest(words):
-                    ended = subprocess.run([sys.executable, COMMAND, place, *words], capture_output=True, text=True,
-                                           env={**os.environ, "ZSCHED": program.find()}, check=False)
-                    self.assertEqual((ended.returncode, ended.stdout, ended.stderr.count("--> ")), (2, "", shown))
-                    self.assertIn(last, ended.stderr.splitlines()[-1])
+        place = self.file("plan.json", f'{{"horizon": 9, "jobs": [{", ".join(["7"] * 12)}]}}')
+        for words, shown, last in [([], 1, "help: "), (["--all"], 10, "10 faults; there are more"),
+                                   (["--all", "--most", "3"], 3, "3 faults; there are more"),
+                                   (["--all", "--most", "12"], 12, "12 faults")]:
+            with self.subTest(words):
+                errors = errors_of(self, process(sys.executable, COMMAND, place, *words, ZSCHED=program.find()))
+                self.assertEqual(errors.count("--> "), shown)
+                self.assertIn(last, errors.splitlines()[-1])
 
 
 class Sizes(unittest.TestCase):
@@ -580,4 +519,4 @@ class Sizes(unittest.TestCase):
         for file in [*TOP.glob("examples/*.json"), *TOP.glob("tests/plans/*.json")]:
             self.assertIsNone(plan_size.warning(file.read_bytes()), file.name)
         for name, marked, _, _ in MISTAKES:
-            self.assertIsNone(plan_size.warning(split(marked)[0].encode(errors="surrogateescape")), name)
+            self.assertIsNone(plan_size.warning(split(marked)[0]), name)

@@ -13,7 +13,7 @@ import unittest
 from unittest import mock
 
 import support
-from commands import InFolder
+from commands import InFolder, errors_of, process
 from zsched_tools import join, processes
 from zsched_tools.command import Refused
 from zsched_tools.split import write_parts
@@ -26,7 +26,7 @@ JOBS = [f"job-{number}" for number in range(3 * PARTS - 1)]
 
 def report_of(names):
     """The report of `support.job` under some names."""
-    return "".join(support.BLOCK.format(name) for name in names) + f"polls {3 * len(names)}\n"
+    return support.equal_jobs(names, 1, 1)[1].decode()
 
 
 def make_population(folder, names=JOBS, more=""):
@@ -54,9 +54,8 @@ class Known(InFolder):
 
     def joined(self):
         """The command's status, output and errors, without folders."""
-        ended = subprocess.run([sys.executable, TOOL, "join", self.folder / "manifest"], capture_output=True, text=True,
-                               check=False)
-        return ended.returncode, ended.stdout, ended.stderr.replace(f"{self.folder}/", "").removeprefix("zsched-report: ")
+        status, out, errors = process(sys.executable, TOOL, "join", self.folder / "manifest")
+        return status, out, errors.replace(f"{self.folder}/", "").removeprefix("zsched-report: ")
 
     def refused(self):
         """The error for rejected parts, in this process; None if they are accepted."""
@@ -102,8 +101,7 @@ class Known(InFolder):
             with self.subTest(endings):
                 for ending in endings:
                     self.swap(self.file(1, ending), self.file(3, ending))
-                status, out, said = self.joined()
-                self.assertEqual((status, out), (2, ""))
+                said = errors_of(self, self.joined())
                 self.assertTrue(said.startswith("part-000001."), said)
                 for ending in endings:
                     self.swap(self.file(1, ending), self.file(3, ending))
@@ -121,8 +119,7 @@ class Known(InFolder):
             self.folder = make_population(self.top / f"twice-{len(endings)}")
             for ending in endings:
                 self.file(2, ending).write_bytes(self.file(1, ending).read_bytes())
-            status, out, said = self.joined()
-            self.assertEqual((status, out), (2, ""))
+            said = errors_of(self, self.joined())
             self.assertTrue(said.startswith("part-000002."), said)
             self.folder = folder
 
@@ -158,8 +155,7 @@ class Known(InFolder):
                         "".join(lines[:2] + lines[3:]), "".join(lines[:3] + lines[2:]),
                         "".join(lines[:2] + [lines[3], lines[2]] + lines[4:])]:
             path.write_text(changed)
-            status, out, said = self.joined()
-            self.assertEqual((status, out), (2, ""))
+            said = errors_of(self, self.joined())
             self.assertTrue(said.startswith("manifest: "), said)
 
     def test_a_manifest_of_parts_in_another_order_with_its_own_sum_is_refused(self):

@@ -26,151 +26,27 @@ import answers
 import generator
 import reference
 from answers import BINDINGS, Flaky, ran
-from support import TOP, tree
+from commands import errors_of, output_of, process
+from support import TOP, shown, steps_of, tree
 from zsched_tools import program
 
 MAKE = TOP / "tools" / "make-library"
-REQUESTS = 2000
-SCHEDULES = 2000
-MOST_STEPS = 40
-REFUSED = 200
-REFUSED_STEPS = 60
-UNDER_VALGRIND = 60
+HERE = TOP / "tests" / "tools"
+REQUESTS = SCHEDULES = 2000
+MOST_STEPS, UNDER_VALGRIND = 40, 60
+REFUSED, REFUSED_STEPS = 200, 60
 UNTOUCHED = "aa"
 WRAPPED = ["-Wl,--wrap=malloc,--wrap=realloc,--wrap=free", "-lpthread"]
 # The folders in which Debian's packages put the sources of crates.
 CRATES = pathlib.Path("/usr/share/cargo/registry")
-STRICT = ["-std=gnu11", "-Wall", "-Wextra", "-Werror", "-pedantic"]
+STRICT = ["-std=gnu11", *answers.STRICT]
+# What checks at run time that nothing is read or written beside what is given.
+WATCHED = ["-g", "-fsanitize=address,undefined", "-fno-sanitize-recover=all"]
 # A short program of Java isn't worth much compiling.
 QUICK = ["-XX:TieredStopAtLevel=1", "-XX:+UseSerialGC"]
 NUMBERS = {"no term": 11, "too big": 12, "number too large": 13, "factor is 0": 14, "no kind": 15, "window is 0": 16}
 SPOILT = [generator.no_term, generator.too_big, generator.big_number, generator.zero_factor, generator.no_kind,
           generator.zero_window]
-# Steps of the binding for Java over a state.
-STEPS = '''
-import java.util.Arrays;
-import zsched.Schedule;
-import zsched.Stepper;
-
-public final class Steps {
-    private static final String TEXT = "(exponential(10) && recurs(3))";
-
-    private static void refused(Runnable call) {
-        try {
-            call.run();
-        } catch (Schedule.Fault fault) {
-            System.out.println(fault.number + " " + fault.getMessage());
-        }
-    }
-
-    public static void main(String[] words) throws Exception {
-        Stepper stepper = new Stepper(TEXT);
-        System.out.println(stepper.after(3, 0));
-        refused(() -> stepper.after(2, 0));
-        Stepper again = Stepper.resume(TEXT, stepper.state());
-        System.out.println(again.after(13, 0));
-        System.out.println(Arrays.toString(Arrays.copyOfRange(again.state(), 1, again.state().length)));
-        refused(() -> Stepper.resume(TEXT, new long[1]));
-        refused(() -> Stepper.resume("(exponential(10) && recurs(4))", stepper.state()));
-        refused(() -> new Stepper("forever.collectAll"));
-        refused(() -> new Stepper("?"));
-        System.out.println(new Stepper("spaced(18446744073709551615)").after(1, 0).waitFrom(1));
-        System.out.println(Schedule.version());
-        hidden("recurs(2)");
-        hidden("recurs(2).collectAll");
-    }
-
-    private static void hidden(String text) throws Exception {
-        int[] attempts = {0};
-        try {
-            Schedule.retry(text, error -> 1 / (attempts[0] - 2), () -> {
-                attempts[0]++;
-                throw new java.io.IOException("attempt " + attempts[0]);
-            });
-        } catch (java.io.IOException error) {
-            System.out.println(error.getMessage() + ", and " + error.getSuppressed()[0].getMessage());
-        }
-    }
-}
-'''
-# Retries of the binding for Node, and steps that fail.
-NODE_RETRIES = """
-const { Fault, Schedule, Stepper, check, retry } = require('./zsched.js');
-const failing = (times, text) => { let left = times; return () => { if (left-- > 0) throw new Error(text); return text; }; };
-const refused = (call) => { try { call(); } catch (fault) { console.log(`${fault.message}, ${fault.number} ${fault.at}`); } };
-(async () => {
-  let attempts = 0;
-  const third = failing(2, 'third');
-  const found = await retry('(linear(2) && recurs(5)).collectAll', async () => { attempts += 1; return third(); });
-  console.log(found, 'after', attempts);
-  await retry('(spaced(1) && recurs(3))', failing(9, '4th')).catch((error) => console.log(`${error.message}, given up`));
-  await retry('spaced(1)', failing(9, 'mine'), { inputOf: (error) => error.code })
-    .catch((error) => console.log(`${error.message}, ${error.notTriedAgain}`));
-  const control = new AbortController();
-  setTimeout(() => control.abort(new Error('stopped')), 20);
-  await retry('spaced(100000)', failing(9, 'mine'), { signal: control.signal }).catch((error) => console.log(error.message));
-  const late = new AbortController();
-  await retry('spaced(100000)', async () => { late.abort(new Error('stopped late')); throw new Error('mine'); }, { signal: late.signal })
-    .catch((error) => console.log(error.message));
-  try { new Schedule('recurs(3)', [1n, 2n, 3n]); } catch (error) { console.log(error.message); }
-  refused(() => check('?'));
-  const stepper = new Stepper('(exponential(10) && recurs(3))');
-  stepper.after(1, 2);
-  refused(() => stepper.after(0));
-  refused(() => new Stepper('(exponential(10) && recurs(4))', stepper.state));
-  refused(() => new Stepper('recurs(3)', stepper.state));
-  refused(() => new Stepper('forever.collectAll'));
-  console.log(String(new Stepper('(exponential(10) && recurs(3))', stepper.state).state));
-})();
-"""
-# Steps of the binding for Go over a program.
-GO_STEPS = """
-package zsched
-
-import (
-	"errors"
-	"testing"
-)
-
-const policy = "(exponential(10) && recurs(3))"
-
-func number(err error) uint32 {
-	var fault *Fault
-	if !errors.As(err, &fault) {
-		return 0
-	}
-	return fault.Number
-}
-
-func TestSteps(t *testing.T) {
-	stepper, err := NewStepper(policy)
-	if err != nil {
-		t.Fatal(err)
-	}
-	first, err := stepper.After(3, 0)
-	if err != nil || first.Next != 13 {
-		t.Fatal(first, err)
-	}
-	if _, err := stepper.After(2, 0); number(err) != 3 {
-		t.Fatal(err)
-	}
-	again, err := Resume(policy, stepper.State())
-	if err != nil {
-		t.Fatal(err)
-	}
-	if second, err := again.After(13, 0); err != nil || second.Next != 33 || second.Output != "(20,1)" {
-		t.Fatal(second, err)
-	}
-	for _, text := range []string{"(exponential(10) && recurs(4))", "recurs(3)"} {
-		if _, err := Resume(text, stepper.State()); number(err) != OtherState || err.Error() != "the state of another program" {
-			t.Fatal(text, err)
-		}
-	}
-	if _, err := NewStepper("forever.collectAll"); number(err) != KeepsList {
-		t.Fatal(err)
-	}
-}
-"""
 # Schedules of the greatest depth.
 DEEPEST = ["(forever && " * 63 + "forever" + ")" * 63, "(" * 63 + "forever" + " || elapsed)" * 63,
            "(recurs(0) andThenEither " * 63 + "forever" + ")" * 63, "forever" + ".map(+ 1)" * 63, "forever" + ".collectAll" * 63,
@@ -329,15 +205,6 @@ def requests():
     return [(it, it.wanted()) for it in made]
 
 
-def compare(test, line, wanted, weight, request):
-    """Compares a line with the expected result of a request."""
-    words, visits = line.split(), wanted.split()
-    if "*" in visits:
-        test.assertIn(int(words[3]), range(1, weight + 1), request)
-        words[3] = "*"
-    test.assertEqual(words, visits, request)
-
-
 class FromC(unittest.TestCase):
     """A program in C that calls the library."""
 
@@ -353,7 +220,16 @@ class FromC(unittest.TestCase):
 
     def compare(self, line, wanted, weight, request):
         """Compares one line with the expected result of a request."""
-        compare(self, line, wanted, weight, request)
+        words, visits = line.split(), wanted.split()
+        if "*" in visits:
+            self.assertIn(int(words[3]), range(1, weight + 1), request)
+            words[3] = "*"
+        self.assertEqual(words, visits, request)
+
+    def judge_requests(self, words, requests):
+        """Compares the results of requests with the expected ones, which are worked out here."""
+        for request, line in zip(requests, called(words, requests), strict=True):
+            self.compare(line, *request.wanted(), shown(str(request)))
 
     def test_two_thousand_requests_are_answered_as_the_reference_does(self):
         numbers = {wanted.split()[0] for wanted, _ in self.wanted}
@@ -361,7 +237,7 @@ class FromC(unittest.TestCase):
         self.judge(called([path("caller"), "answer"], self.requests))
 
     def test_nothing_is_read_or_written_beside_what_is_given(self):
-        compile_caller("watched", "-g", "-fsanitize=address,undefined", "-fno-sanitize-recover=all")
+        compile_caller("watched", *WATCHED)
         self.judge(called([path("watched"), "answer"], self.requests))
         self.judge_steps([path("watched"), "answer"])
         self.judge_bounds([path("watched"), "answer"])
@@ -381,12 +257,15 @@ class FromC(unittest.TestCase):
         # It prints the results of one thread, once four threads returned the same.
         self.judge_steps([path("caller"), "threads"])
 
-    def test_each_request_for_memory_of_a_step_may_be_refused(self):
-        requests = [it for it in self.requests if it.pairs and b"collectAll" not in it.text][:REFUSED_STEPS]
-        for way in ["state", "program"]:
-            found = [int(line) for line in called([path("caller"), "refuse", way], requests)]
-            self.assertEqual(len(found), REFUSED_STEPS)
-            self.assertGreater(sum(found), 2 * REFUSED_STEPS)
+    def test_each_request_for_memory_may_be_refused(self):
+        flat = [it for it in self.requests if it.pairs and b"collectAll" not in it.text][:REFUSED_STEPS]
+        for way, requests in [([], self.requests[:REFUSED]), (["state"], flat), (["program"], flat)]:
+            with self.subTest(way):
+                found = [int(line) for line in called([path("caller"), "refuse", *way], requests)]
+                self.assertEqual(len(found), REFUSED_STEPS if way else REFUSED)
+                self.assertGreater(sum(found), 2 * len(found))
+        bounds = [f".{text.encode().hex()} b 5" for text in BOUNDS]
+        self.assertGreater(min(map(int, called([path("caller"), "refuse"], bounds))), 2)
 
     def test_a_schedule_that_keeps_a_list_has_no_state(self):
         requests = [Request(text, 5, [(1, 0)]) for text in [b"forever.collectAll", b"(recurs(1) && elapsed.collectAll).map(_1)"]]
@@ -424,13 +303,8 @@ class FromC(unittest.TestCase):
         wanted = [f"{number} 0 0 0 0 0 0 0 {at}" for number, at in (wanted.split() for _, wanted in faults)]
         self.assertEqual(called([path("caller"), "answer"], [f".{it.text.hex()} b 1000" for it, _ in faults]), wanted)
 
-    def test_each_request_for_memory_of_bounds_may_be_refused(self):
-        found = [int(line) for line in called([path("caller"), "refuse"], [f".{text.encode().hex()} b 5" for text in BOUNDS])]
-        self.assertGreater(min(found), 2)
-
+    @unittest.skipIf(shutil.which("valgrind") is None, "valgrind isn't on this machine")
     def test_valgrind_finds_no_error_and_no_lost_memory(self):
-        if not shutil.which("valgrind"):
-            self.skipTest("valgrind isn't on this machine")
         words = ["valgrind", "--quiet", "--error-exitcode=9", "--leak-check=full", "--show-leak-kinds=all"]
         self.judge(called([*words, path("caller"), "answer"], self.requests[:UNDER_VALGRIND]), UNDER_VALGRIND)
         self.judge_bounds([*words, path("caller"), "answer"])
@@ -440,24 +314,16 @@ class FromC(unittest.TestCase):
 
     def test_the_deepest_schedules_need_no_more_stack_than_the_header_says(self):
         header, caller = (TOP / "include" / "zsched.h").read_text(), (TOP / "tests" / "library.c").read_text()
-        stack = re.search(r"define STACK .(\d+) . 1024", caller)[1]
-        self.assertIn(f" {stack} KiB of stack are free", header)
-        stack = re.search(r"define BOUNDS_STACK .(\d+) . 1024", caller)[1]
-        self.assertIn(f"for zs_bounds {stack} KiB", header)
+        for name, words in [("STACK", " {} KiB of stack are free"), ("BOUNDS_STACK", "for zs_bounds {} KiB")]:
+            stack = re.search(rf"define {name} .(\d+) . 1024", caller)[1]
+            self.assertIn(words.format(stack), header)
         requests = [Request(text.encode(), 40, [(1, 5), (5, 7), (9, 9)]) for text in DEEPEST]
-        for request, line in zip(requests, called([path("caller"), "threads"], requests), strict=True):
-            self.compare(line, *request.wanted(), request)
+        self.judge_requests([path("caller"), "threads"], requests)
         bounded = called([path("caller"), "threads"], [f".{text.encode().hex()} b 9" for text in DEEPEST])
         self.assertEqual([line.split()[0] for line in bounded], ["0"] * len(DEEPEST))
         flat = [request for request in requests if b"collectAll" not in request.text]
         for way in ["state", "program"]:
-            for request, line in zip(flat, called([path("caller"), "threads", way], flat), strict=True):
-                self.compare(line, *request.wanted(), request)
-
-    def test_each_request_for_memory_may_be_refused(self):
-        found = [int(line) for line in called([path("caller"), "refuse"], self.requests[:REFUSED])]
-        self.assertEqual(len(found), REFUSED)
-        self.assertGreater(sum(found), 2 * REFUSED)
+            self.judge_requests([path("caller"), "threads", way], flat)
 
     def test_long_texts_long_lists_and_many_words_are_taken(self):
         many_words = tree(400).replace("forever", "fixed(7)").encode()
@@ -465,34 +331,17 @@ class FromC(unittest.TestCase):
                     Request(b"recurs(9000)", 5, [(number, 0) for number in range(5000)]),
                     Request(many_words, 40, [(1, 0), (9, 0)])]
         for words in [[], ["state"], ["program"]]:
-            lines = called([path("caller"), "answer", *words], requests)
-            for request, line in zip(requests, lines, strict=True):
-                self.compare(line, *request.wanted(), str(request)[:60])
+            self.judge_requests([path("caller"), "answer", *words], requests)
 
     def test_a_step_visits_a_part_twice_where_it_resets(self):
         requests = [Request(b"elapsed.resetWhen(>= 5)", 1, pairs) for pairs in [[(1, 0)], [(1, 0), (5, 0)], [(1, 0), (6, 0)]]]
-        lines = called([path("caller"), "answer"], requests)
-        self.assertEqual(lines, ["0 1 1 2 0 .30", "0 5 1 2 0 .34", "0 6 1 3 0 .30"])
+        wanted = ["0 1 1 2 0 .30", "0 5 1 2 0 .34", "0 6 1 3 0 .30"]
+        self.assertEqual(called([path("caller"), "answer"], requests), wanted)
 
+    @unittest.skipIf(shutil.which("c++") is None, "c++ isn't on this machine")
     def test_the_header_is_one_of_cpp_too(self):
-        if not shutil.which("c++"):
-            self.skipTest("c++ isn't on this machine")
-        words = ["c++", "-x", "c++", "-std=c++11", "-Wall", "-Wextra", "-Werror", "-pedantic", "-fsyntax-only", "-"]
-        subprocess.run([*words, "-I", TOP / "include"], input=b'#include "zsched.h"\n', check=True)
-
-
-def steps_of(report):
-    """The steps of each job of a report: moment, input, output, and the next moment or None."""
-    jobs = []
-    for line in report.decode().splitlines():
-        words = line.split()
-        if words[0] == "job":
-            jobs.append([])
-        elif words[0] == "attempt" and words[-1] != "running":
-            moment, value = int(words[2].partition("..")[2]), int(words[4])
-        elif words[0] == "step":
-            jobs[-1].append((moment, value, words[3], None if words[4] == "done" else int(words[5])))
-    return jobs
+        words = ["c++", "-x", "c++", "-std=c++11", *answers.STRICT, "-fsyntax-only", "-I", TOP / "include", "-"]
+        subprocess.run(words, input=b'#include "zsched.h"\n', check=True)
 
 
 class FromPython(unittest.TestCase):
@@ -525,7 +374,7 @@ class FromPython(unittest.TestCase):
             status, report, _ = program.run(zsched, generator.json_text(chance, plan).encode())
             # A schedule at a limit may be made past it.
             jobs = plan["jobs"] if status == 0 else []
-            for job, steps in zip(jobs, steps_of(report), strict=True):
+            for job, steps in zip(jobs, steps_of(report.decode()), strict=True):
                 self.replay(job["schedule"], steps)
                 done += bool(steps)
         self.assertGreaterEqual(done, SCHEDULES)
@@ -533,11 +382,14 @@ class FromPython(unittest.TestCase):
     def test_a_text_that_is_no_schedule_is_told_with_its_place(self):
         faults = [("recurs(1) && recurs(2)", 11, 10, "no term at byte 10"), ("exponential(1, 0)", 14, 0, "factor is 0"),
                   ("recurs(18446744073709551616)", 13, 7, "number too large at byte 7"), ("windowed(0)", 16, 0, "window is 0"),
-                  ("recurs(1).map(_1)", 15, 0, "no kind"), ("forever" + ".map(+ 1)" * 64, 12, 0, "too big")]
-        for text, number, at, words in faults:
-            with self.assertRaises(self.zsched.ScheduleFault) as caught:
-                self.zsched.check(text)
-            self.assertEqual((caught.exception.number, caught.exception.at, str(caught.exception)), (number, at, words))
+                  ("recurs(1).map(_1)", 15, 0, "no kind"), ("forever" + ".map(+ 1)" * 64, 12, 0, "too big"),
+                  ("?", 11, 0, "no term at byte 0"), ("forever.", 11, 8, "no term at byte 8")]
+        for text, *wanted in faults:
+            for call in [self.zsched.check, lambda text: self.zsched.bounds(text, 9)]:
+                with self.assertRaises(self.zsched.ScheduleFault) as caught:
+                    call(text)
+                fault = caught.exception
+                self.assertEqual([fault.text, fault.number, fault.at, str(fault)], [text, *wanted])
 
     def test_bounds_of_policies_are_those_that_were_worked_out_by_hand(self):
         for text, numbers in BOUNDS.items():
@@ -562,11 +414,7 @@ class FromPython(unittest.TestCase):
             self.assertFalse(self.zsched.bounds(text, steps).within(most, most), text)
         self.assertTrue(self.zsched.bounds("recurs(5)", 6).within(6, 0))
 
-    def test_bounds_are_refused_as_other_calls_refuse(self):
-        for text, number, at in [("?", 11, 0), ("forever.", 11, 8), ("windowed(0)", 16, 0), ("forever" + ".map(+ 1)" * 64, 12, 0)]:
-            with self.assertRaises(self.zsched.ScheduleFault) as caught:
-                self.zsched.bounds(text, 9)
-            self.assertEqual((caught.exception.text, caught.exception.number, caught.exception.at), (text, number, at))
+    def test_numbers_of_steps_that_bounds_take(self):
         for error, steps in [(OverflowError, -1), (OverflowError, 2 ** 64), (TypeError, 9.0), (TypeError, None)]:
             with self.assertRaises(error):
                 self.zsched.bounds("recurs(1)", steps)
@@ -574,46 +422,39 @@ class FromPython(unittest.TestCase):
         self.assertEqual(self.zsched.bounds("recurs(1)", 2 ** 64 - 1), (2, 2, 2, 0, 0))
 
     def test_a_step_that_is_refused_leaves_the_schedule(self):
-        schedule = self.zsched.Schedule("recurs(1)")
-        self.assertEqual(schedule.after(5, 7), (5, "0", 1))
-        for error, moment, value in [(ValueError, 4, 7), (OverflowError, -1, 7), (OverflowError, 5, 2 ** 64), (TypeError, 5.0, 7)]:
-            with self.assertRaises(error):
-                schedule.after(moment, value)
-        self.assertEqual(schedule.seen, [(5, 7)])
-        self.assertEqual(schedule.after(5, 2 ** 64 - 1), (None, "1", 1))
+        for kind, seen, first, second in [(self.zsched.Schedule, lambda it: it.seen, [], [(5, 7)]),
+                                          (self.zsched.Stepper, lambda it: it.state[1:], [0, 0, 0], [5, 0, 1])]:
+            with self.subTest(kind):
+                made = kind("recurs(1)")
+                self.assertEqual(seen(made), first)
+                self.assertEqual(made.after(5, 7), (5, "0", 1))
+                for error, moment, value in [(ValueError, 4, 7), (OverflowError, -1, 7), (OverflowError, 5, 2 ** 64),
+                                             (TypeError, 5.0, 7)]:
+                    with self.assertRaises(error):
+                        made.after(moment, value)
+                self.assertEqual(seen(made), second)
+                self.assertEqual(made.after(5, 2 ** 64 - 1), (None, "1", 1))
 
-    def test_a_saved_schedule_goes_on(self):
-        schedule = self.zsched.Schedule("(exponential(10) && recurs(3))")
-        schedule.after(1, 2)
-        again = self.zsched.Schedule.load(schedule.save())
-        self.assertEqual((again.text, again.seen), (schedule.text, [(1, 2)]))
-        self.assertEqual(again.after(12, 2), schedule.after(12, 2))
-        for saved in ["", "{}", "[]", '{"schedule":"recurs(","seen":[]}', '{"schedule":"recurs(1)","seen":[[2,1],[1,1]]}',
-                      '{"schedule":"recurs(1)","seen":[[1]]}', '{"schedule":"recurs(1)","seen":[[-1,0]]}', '{"schedule":1,"seen":[]}']:
-            with self.assertRaises(ValueError, msg=saved):
-                self.zsched.Schedule.load(saved)
-
-    def test_a_step_over_a_state_that_is_refused_leaves_it(self):
-        stepper = self.zsched.Stepper("recurs(1)")
-        self.assertEqual(stepper.state[1:], [0, 0, 0])
-        self.assertEqual(stepper.after(5, 7), (5, "0", 1))
-        for error, moment, value in [(ValueError, 4, 7), (OverflowError, -1, 7), (OverflowError, 5, 2 ** 64), (TypeError, 5.0, 7)]:
-            with self.assertRaises(error):
-                stepper.after(moment, value)
-        self.assertEqual(stepper.state[1:], [5, 0, 1])
-        self.assertEqual(stepper.after(5, 2 ** 64 - 1), (None, "1", 1))
-
-    def test_a_saved_state_goes_on(self):
-        stepper = self.zsched.Stepper("(exponential(10) && recurs(3))")
-        stepper.after(1, 2)
-        again = self.zsched.Stepper.load(stepper.save())
-        self.assertEqual((again.text, again.state[1:]), (stepper.text, [1, 10, 20, 0, 1]))
-        self.assertEqual(again.after(12, 2), stepper.after(12, 2))
-        for saved in ["", "{}", "[]", '{"schedule":"recurs(","state":[]}', '{"schedule":"recurs(1)","state":[1]}',
-                      '{"schedule":"recurs(1)","state":[1,-1]}', '{"schedule":"forever.collectAll","state":[1,1]}',
-                      stepper.save().replace("recurs(3)", "recurs(4)")]:
-            with self.assertRaises(ValueError, msg=saved):
-                self.zsched.Stepper.load(saved)
+    def test_what_is_saved_goes_on(self):
+        for kind, seen, wanted, wrong in [
+                (self.zsched.Schedule, lambda it: it.seen, [(1, 2)],
+                 ['{"schedule":"recurs(","seen":[]}', '{"schedule":"recurs(1)","seen":[[2,1],[1,1]]}',
+                  '{"schedule":"recurs(1)","seen":[[1]]}', '{"schedule":"recurs(1)","seen":[[-1,0]]}',
+                  '{"schedule":1,"seen":[]}']),
+                (self.zsched.Stepper, lambda it: it.state[1:], [1, 10, 20, 0, 1],
+                 ['{"schedule":"recurs(","state":[]}', '{"schedule":"recurs(1)","state":[1]}',
+                  '{"schedule":"recurs(1)","state":[1,-1]}', '{"schedule":"forever.collectAll","state":[1,1]}'])]:
+            with self.subTest(kind):
+                made = kind("(exponential(10) && recurs(3))")
+                made.after(1, 2)
+                again = kind.load(made.save())
+                self.assertEqual((again.text, seen(again)), (made.text, wanted))
+                self.assertEqual(again.after(12, 2), made.after(12, 2))
+                for saved in ["", "{}", "[]", *wrong]:
+                    with self.assertRaises(ValueError, msg=saved):
+                        kind.load(saved)
+        with self.assertRaises(ValueError):
+            self.zsched.Stepper.load(made.save().replace("recurs(3)", "recurs(4)"))
 
     def test_faults_and_schedules_pass_between_processes(self):
         with concurrent.futures.ProcessPoolExecutor(1, multiprocessing.get_context("spawn")) as pool:
@@ -648,13 +489,16 @@ class FromPython(unittest.TestCase):
             self.assertEqual(self.zsched.calls.library().zs_fault_text(13, 1234, room, size), len(text))
             self.assertEqual(room.value, text[:size].ljust(len(text) + 3, b"-"))
 
-    def test_a_long_output_of_a_state_is_whole(self):
+    def test_a_long_output_is_whole(self):
         text = "recurs(18446744073709551615)"
         for _ in range(7):
             text = f"({text} && {text})"
         answer, wanted = self.zsched.Stepper(text).after(3), self.zsched.Schedule(text).after(3)
         self.assertEqual(answer, wanted)
         self.assertGreater(len(answer.output), 256)
+        schedule = self.zsched.Schedule("forever.collectAll")
+        outputs = [schedule.after(number).output for number in range(200)]
+        self.assertEqual(outputs[-1], "[" + ",".join(map(str, range(199))) + "]")
 
     def test_the_state_after_many_steps_is_as_long_as_before(self):
         text = "(windowed(7) || fibonacci(3)).resetWhen(_1 >= 1000)"
@@ -664,26 +508,17 @@ class FromPython(unittest.TestCase):
             answer = stepper.after(number)
         self.assertEqual((len(stepper.state), answer.output.partition(",")[0]), (size, "(999"))
 
-    def test_a_long_output_is_whole(self):
-        schedule = self.zsched.Schedule("forever.collectAll")
-        for number in range(200):
-            answer = schedule.after(number)
-        self.assertEqual(answer.output, "[" + ",".join(map(str, range(199))) + "]")
-
     def test_threads_may_call_at_once(self):
-        found = []
+        together = threading.Barrier(4)
 
-        def work():
+        def work(_):
+            together.wait(60)
             schedule = self.zsched.Schedule("fibonacci(10)")
-            found.append([schedule.after(number).output for number in range(60)])
-        threads = [threading.Thread(target=work) for _ in range(4)]
-        for thread in threads:
-            thread.start()
-        for thread in threads:
-            thread.join()
-        self.assertEqual(len(found), 4)
+            return [schedule.after(number).output for number in range(60)]
+        with concurrent.futures.ThreadPoolExecutor(4) as pool:
+            found = list(pool.map(work, range(4)))
         self.assertEqual(found[0][:5], ["10", "10", "20", "30", "50"])
-        self.assertTrue(all(one == found[0] for one in found))
+        self.assertEqual(found, [found[0]] * 4)
 
 
 class Clock:
@@ -719,23 +554,19 @@ class Refusing:
         return value
 
 
+@unittest.skipIf(shutil.which("go") is None, "go (of the package golang-go) isn't on this machine")
 class FromGo(unittest.TestCase):
     """The binding for Go."""
 
     def test_the_example_waits_for_its_server(self):
-        if not shutil.which("go"):
-            self.skipTest("go (of the package golang-go) isn't on this machine")
         environment = answers.go_environment(folder)
         ran(["go", "vet", "./..."], BINDINGS / "go", **environment)
         ran(["go", "build", "-o", path("go-example"), "./example"], BINDINGS / "go", **environment)
         self.assertEqual(ran([path("go-example")], TOP, **environment), "ready after 4 attempts\n")
 
     def test_the_words_of_another_schedule_are_an_error(self):
-        if not shutil.which("go"):
-            self.skipTest("go (of the package golang-go) isn't on this machine")
-        tests = path("go")
-        shutil.copytree(BINDINGS / "go", tests)
-        (tests / "steps_test.go").write_text(GO_STEPS)
+        tests = shutil.copytree(BINDINGS / "go", path("go"))
+        shutil.copy(HERE / "steps_test.go", tests)
         said = ran(["go", "test", "-count=1", "-v", "."], tests, **answers.go_environment(folder))
         self.assertIn("--- PASS: TestSteps", said)
 
@@ -754,7 +585,7 @@ class FromNode(unittest.TestCase):
         self.assertEqual(ran(["node", "example.js"], BINDINGS / "node", **self.environment), "ready after 4 attempts\n")
 
     def test_retries_end_as_they_should(self):
-        said = ran(["node", "-e", NODE_RETRIES], BINDINGS / "node", **self.environment)
+        said = ran(["node", "-e", (HERE / "retries.js").read_text()], BINDINGS / "node", **self.environment)
         lines = said.splitlines()
         self.assertEqual(lines[:-1], [
             "third after 3", "4th, given up", "mine, TypeError: Cannot convert undefined to a BigInt", "stopped",
@@ -773,27 +604,24 @@ class Retries(unittest.TestCase):
         self.clock = Clock()
         self.retrying = lambda text, **more: zsched.retrying(text, clock=self.clock, **{"sleep": self.clock.sleep, **more})
 
-    def test_a_function_is_tried_until_it_answers(self):
-        told = []
-        by = self.retrying("(exponential(10) && recurs(5))", before_sleep=lambda *words: told.append(words[1:]))
-        self.assertEqual(by(Refusing(self.clock, 3))(value=7), 7)
-        self.assertEqual(self.clock.slept, [0.01, 0.02, 0.04])
-        self.assertEqual(told, [(1, 0.01), (2, 0.02), (3, 0.04)])
-
-    def test_the_last_error_goes_on_its_way(self):
-        with self.assertRaisesRegex(OSError, "^7 left$"):
-            self.retrying("(spaced(30) && recurs(2))")(Refusing(self.clock, 10))()
-        self.assertEqual(self.clock.slept, [0.03, 0.03])
-
-    def test_other_errors_are_not_kept_back(self):
-        with self.assertRaisesRegex(KeyError, "left"):
-            self.retrying("spaced(30)", on=(OSError, EOFError))(Refusing(self.clock, 10, KeyError))()
-        self.assertEqual(self.clock.slept, [])
-
-    def test_the_input_is_that_of_the_error(self):
-        effect = Refusing(self.clock, 10)
-        with self.assertRaisesRegex(OSError, "^7 left$"):
-            self.retrying("spaced(30).whileInput(> 7)", input_of=lambda error: int(str(error)[0]))(effect)()
+    def test_a_function_is_tried_until_the_schedule_is_done(self):
+        digit = lambda error: int(str(error)[0])
+        for name, text, more, times, error, wanted, slept in [
+                ("it returns", "(exponential(10) && recurs(5))", {}, 3, OSError, None, [0.01, 0.02, 0.04]),
+                ("a list", "(linear(10) && recurs(5)).collectAll", {}, 3, OSError, None, [0.01, 0.02, 0.03]),
+                ("the last error", "(spaced(30) && recurs(2))", {}, 10, OSError, "^7 left$", [0.03, 0.03]),
+                ("another error", "spaced(30)", {"on": (OSError, EOFError)}, 10, KeyError, "left", []),
+                ("its input", "spaced(30).whileInput(> 7)", {"input_of": digit}, 10, OSError, "^7 left$", [0.03] * 2)]:
+            with self.subTest(name):
+                self.clock.slept, told = [], []
+                by = self.retrying(text, before_sleep=lambda *words: told.append(words[1:]), **more)
+                tried = by(Refusing(self.clock, times, error))
+                if wanted:
+                    with self.assertRaisesRegex(error, wanted):
+                        tried()
+                else:
+                    self.assertEqual(tried(value=7), 7)
+                self.assertEqual((self.clock.slept, told), (slept, list(enumerate(slept, 1))))
 
     def test_it_is_a_loop_too(self):
         effect, numbers = Refusing(self.clock, 2), []
@@ -860,10 +688,6 @@ class Retries(unittest.TestCase):
         self.assertEqual((attempt.number, len(self.clock.slept), self.clock.slept[-1]), (5001, 5000, 0.007))
         self.assertEqual(len(run.schedule.state), len(self.zsched.Stepper("(linear(1) || spaced(7))").state))
 
-    def test_a_schedule_that_collects_is_followed_by_its_list(self):
-        self.assertEqual(self.retrying("(linear(10) && recurs(5)).collectAll")(Refusing(self.clock, 3))(), "done")
-        self.assertEqual(self.clock.slept, [0.01, 0.02, 0.03])
-
     def test_one_may_serve_many_calls(self):
         by = self.retrying("(spaced(10) && recurs(1))")
         for _ in range(3):
@@ -881,16 +705,11 @@ class Examples(unittest.TestCase):
     """The example of each binding, which really waits, and the program that makes the library."""
 
     def test_the_example_in_c_waits_for_its_server(self):
-        source = BINDINGS / "c" / "example.c"
-        for standard in ["c99", "gnu17"]:
-            ran(["cc", f"-std={standard}", "-Wall", "-Wextra", "-Werror", "-pedantic", "-I", TOP / "include", "-o", path("example"),
-                 source, folder / "libzsched.a", "-lpthread"], TOP)
-            self.assertEqual(ran([path("example")], TOP), "ready after 4 attempts\n")
-
-    def test_the_example_in_c_touches_nothing_beside_its_words(self):
-        ran(["cc", *STRICT, "-g", "-fsanitize=address,undefined", "-fno-sanitize-recover=all", "-I", TOP / "include", "-o",
-             path("watched-example"), BINDINGS / "c" / "example.c", folder / "libzsched.a", "-lpthread"], TOP)
-        self.assertEqual(ran([path("watched-example")], TOP), "ready after 4 attempts\n")
+        for name, words in [("c99", ["-std=c99"]), ("gnu17", ["-std=gnu17"]), ("watched", ["-std=gnu11", *WATCHED])]:
+            with self.subTest(name):
+                ran(["cc", *answers.STRICT, *words, "-I", TOP / "include", "-o", path(f"example-{name}"),
+                     BINDINGS / "c" / "example.c", folder / "libzsched.a", "-lpthread"], TOP)
+                self.assertEqual(ran([path(f"example-{name}")], TOP), "ready after 4 attempts\n")
 
     def test_the_example_in_python_waits_for_its_server(self):
         said = ran([sys.executable, "-B", "example.py"], BINDINGS / "python")
@@ -946,9 +765,8 @@ class Examples(unittest.TestCase):
         self.assertEqual(said, 'Ok("ready") after 4 attempts\n')
 
     def test_the_example_in_java_waits_for_its_server(self):
-        path("Steps.java").write_text(STEPS)
         try:
-            classes = answers.java_classes(pathlib.Path(room.name), "Example.java", path("Steps.java"))
+            classes = answers.java_classes(pathlib.Path(room.name), "Example.java", HERE / "Steps.java")
         except answers.Missing as fault:
             self.skipTest(str(fault))
         words = ["java", *QUICK, "-cp", f"{answers.JNA}:{classes}", f"-Djna.library.path={folder}"]
@@ -961,16 +779,12 @@ class Examples(unittest.TestCase):
         self.assertEqual(ran([*words, "Steps"], BINDINGS / "java").splitlines(), wanted)
 
     def test_make_library_tells_what_it_does_and_refuses_other_words(self):
-        said = ran([MAKE, "--help"], TOP)
-        self.assertIn("Exit status: 0", said)
-        ended = subprocess.run([MAKE, "other"], capture_output=True, text=True)
-        self.assertEqual((ended.returncode, ended.stdout), (2, ""))
-        self.assertIn("make-library: error:", ended.stderr)
+        self.assertIn("Exit status: 0", output_of(self, process(MAKE, "--help")))
+        self.assertIn("make-library: error:", errors_of(self, process(MAKE, "other")))
 
     def test_make_library_says_that_it_needs_the_toolchain(self):
-        ended = subprocess.run([sys.executable, MAKE], capture_output=True, text=True, env={"PATH": room.name})
-        wanted = "make-library: the Rattle toolchain (the command 'rt') isn't on this machine\n"
-        self.assertEqual((ended.returncode, ended.stdout, ended.stderr), (2, "", wanted))
+        said = "make-library: the Rattle toolchain (the command 'rt') isn't on this machine\n"
+        self.assertEqual(process(sys.executable, MAKE, PATH=room.name), (2, "", said))
 
 
 if __name__ == "__main__":

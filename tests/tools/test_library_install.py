@@ -13,6 +13,7 @@ import sys
 import unittest
 
 from answers import Flaky
+from commands import output
 from support import TOP
 from test_library import made_library, path, version_number
 
@@ -22,33 +23,8 @@ ABI = (TOP / "include" / "zsched.abi").read_text()
 DEBIAN = [tool for tool in ["dpkg", "dpkg-deb", "objdump", "strip"] if shutil.which(tool) is None]
 MISSING = [tool for tool in ["cargo", "git"] if shutil.which(tool) is None]
 PYTHON = "/usr/bin/python3"
-# A service in C: it retries a call until it succeeds, by the state of a schedule, and prints the moments.
-SERVICE = r'''
-#include <stdio.h>
-#include <string.h>
-#include <zsched.h>
-
-int main(void)
-{
-    const char *text = "(exponential(100) && recurs(5))";
-    uint64_t state[8], at, moment = 0;
-    zs_reply reply;
-    if (zs_version() != ZS_VERSION_NUMBER || zs_begin((const uint8_t *)text, strlen(text), state, 8, &at))
-        return 1;
-    while (zs_step((const uint8_t *)text, strlen(text), state, 8, moment, 503, &reply, NULL, 0) == ZS_NEXT)
-        printf("%llu ", (unsigned long long)(moment = reply.next));
-    return 0;
-}
-'''
-CMAKE = """\
-cmake_minimum_required(VERSION 3.13)
-project(service C)
-find_package(zsched 0.2 REQUIRED)
-add_executable(shared service.c)
-target_link_libraries(shared zsched::zsched)
-add_executable(static service.c)
-target_link_libraries(static zsched::static)
-"""
+# The folder of a service in C.
+SERVICE = TOP / "tests" / "tools" / "service"
 CLIENT = """
 import sys, urllib.error, urllib.request, zsched
 fetch = zsched.retrying("(spaced(10) && recurs(5))", on=urllib.error.HTTPError)(urllib.request.urlopen)
@@ -64,16 +40,6 @@ int main(void) {{
 }}
 """
 
-# A toolchain that proves nothing: each call adds a line to the file that RAN names, and makes an archive if one is needed.
-TOOL = """#!/bin/sh
-echo "$(basename "$0") $1 $PWD $*" >> "$RAN"
-case "$1" in
-  version) echo kit ;;
-  lib) mkdir -p out && cp "$ARCHIVE" out/libzs_c.a ;;
-  build) until [ "$1" = -o ]; do shift; done; cp "$ARCHIVE" "$2" ;;
-esac
-"""
-
 folder = None
 
 
@@ -81,14 +47,6 @@ def setUpModule():
     """Builds the library. What is built of it is removed at the end."""
     global folder
     folder = made_library()
-
-
-def output(words, **more):
-    """The output of a program that has to succeed."""
-    ended = subprocess.run([str(it) for it in words], capture_output=True, text=True, check=False, timeout=120, **more)
-    if ended.returncode:
-        raise AssertionError(f"{words}: status {ended.returncode}: {ended.stdout[-1000:]}{ended.stderr[-2000:]}")
-    return ended.stdout
 
 
 def lines_of(word):
@@ -164,8 +122,7 @@ class Made(unittest.TestCase):
         """The environment of a toolchain that proves nothing."""
         for name in ["bin/rt", "bin/rattle"]:
             (place / name).parent.mkdir(parents=True, exist_ok=True)
-            (place / name).write_text(TOOL)
-            (place / name).chmod(0o755)
+            shutil.copy(TOP / "tests" / "tools" / "archiver.sh", place / name)
         (place / "c").mkdir()
         names = [line.split()[1] for line in lines_of("function")]
         path("object.c").write_text("".join(f"int {name}(void) {{ return 0; }}\n" for name in names))
@@ -240,7 +197,6 @@ class Installed(unittest.TestCase):
         cls.root = path("root")
         output([TOP / "tools/install-library", "--library", folder, "--destdir", cls.root, "--prefix", "/usr",
                 "--libdir", "lib/zs"])
-        path("service.c").write_text(SERVICE)
 
     def judge(self, program):
         """Runs a program over the installed library."""
@@ -258,17 +214,14 @@ class Installed(unittest.TestCase):
         env = {**os.environ, "PKG_CONFIG_LIBDIR": str(self.root / "usr/lib/zs/pkgconfig"), "PKG_CONFIG_SYSROOT_DIR": str(self.root)}
         self.assertEqual(output(["pkg-config", "--modversion", "zsched"], env=env).strip(), VERSION)
         flags = output(["pkg-config", "--cflags", "--libs", "zsched"], env=env).split()
-        output(["cc", "-o", path("service"), path("service.c"), *flags])
+        output(["cc", "-o", path("service"), SERVICE / "service.c", *flags])
         self.judge(path("service"))
 
     def test_cmake_finds_it(self):
         if not shutil.which("cmake"):
             self.skipTest("cmake isn't installed")
-        source, build = path("source"), path("build")
-        source.mkdir()
-        (source / "service.c").write_text(SERVICE)
-        (source / "CMakeLists.txt").write_text(CMAKE)
-        output(["cmake", "-S", source, "-B", build, f"-DCMAKE_PREFIX_PATH={self.root}/usr",
+        build = path("build")
+        output(["cmake", "-S", SERVICE, "-B", build, f"-DCMAKE_PREFIX_PATH={self.root}/usr",
                 f"-Dzsched_DIR={self.root}/usr/lib/zs/cmake/zsched"])
         output(["cmake", "--build", build])
         self.judge(build / "shared")
@@ -338,9 +291,9 @@ class Packages(unittest.TestCase):
         self.assertEqual(len(server.moments), 3)
 
     def test_a_service_in_c_is_built_from_there(self):
-        path("packaged.c").write_text(SERVICE)
         library = next(self.root.rglob("libzsched.a")).parent
-        output(["cc", "-o", path("packaged"), path("packaged.c"), "-I", self.root / "usr/include", "-L", library, "-lzsched"])
+        output(["cc", "-o", path("packaged"), SERVICE / "service.c", "-I", self.root / "usr/include", "-L", library,
+                "-lzsched"])
         self.assertEqual(output([path("packaged")], env={"LD_LIBRARY_PATH": str(library)}), "100 300 700 1500 3100 ")
 
 

@@ -32,11 +32,6 @@ def told_definitions(crate, cell):
                 yield *place, word if dot else None if place[1] == name else name
 
 
-def is_defined(word, text):
-    """Whether a text of definitions defines a word: on a separate line, as a constructor or as a field."""
-    return re.search(rf"^ *(?:(?:pub|abbrev|unfoldable|record|data) )*{re.escape(word)}\b", text, re.M) is not None
-
-
 class Guarantees(unittest.TestCase):
     """The tables of the page, and what else it names."""
 
@@ -75,7 +70,9 @@ class Guarantees(unittest.TestCase):
                         continue
                     path = TOP / "crates" / where / "specs" / f"{file}.antt"
                     self.assertTrue(path.is_file(), "no such file")
-                    self.assertTrue(word is None or is_defined(word, path.read_text()), "no such definition")
+                    # A definition is on a separate line, as a constructor or as a field.
+                    form = rf"^ *(?:(?:pub|abbrev|unfoldable|record|data) )*{re.escape(word or '')}\b"
+                    self.assertTrue(word is None or re.search(form, path.read_text(), re.M), "no such definition")
 
     def test_each_edit_stands_behind_a_call(self):
         for crate, edits in self.edits.items():

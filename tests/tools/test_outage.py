@@ -2,20 +2,16 @@
 certificate, wrong scenarios, and the files."""
 import io
 import json
-import pathlib
 import random
 import re
-import stat
-import subprocess
 import sys
-import tempfile
 import time
 import unittest
 from unittest import mock
 
 import reference
 from browser import CHROMIUM, inside, opened
-from commands import InFolder, run_here
+from commands import InFolder, errors_of, output_of, process, run_here
 from support import TOP
 from zsched_tools import certificate, curve, curve_page, curve_picture, drawn, outage, outage_command, scenario
 from zsched_tools import program as zsched
@@ -40,31 +36,8 @@ EXAMPLE = TOP / "examples" / "three_clients_in_an_outage.json"
 SMALL_PLAN = EXAMPLE.read_text()
 SMALL_REPORT = EXAMPLE.with_suffix(".json.stdout").read_text()
 # Second 1: three attempts begin at 1000 and two at 1700; c0 ends at 1200, two end at 1300, and two run until 2000.
-SMALL_CURVE = """second,begun,ok,err,running
-0,3,0,3,0
-1,5,1,2,2
-2,2,1,3,0
-3,1,1,0,0
-"""
-SMALL_TABLE = """3 clients 2 a second; down from 0 s to 1 s; serves 1 a second from 1 s; until 5 s; seed 0
-
-                         steady
-attempts                     11
-  of a client, mean         3.7
-  of a client, greatest       4
-peak, attempts a second       5
-  in the second from        1 s
-peak after 1 s                5
-  in the second from        1 s
-time to success, p50      2.1 s
-  p95                     2.3 s
-  p99                     2.3 s
-  greatest                2.3 s
-last success at           3.3 s
-gave up                       0
-unfinished                    0
-passes                        3
-"""
+SMALL_CURVE, SMALL_TABLE = ((TOP / "tests" / "tools" / "reports" / name).read_text()
+                            for name in ["outage.csv", "outage.table"])
 
 
 def changed(**parts):
@@ -107,8 +80,7 @@ class ByHand(WithFiles):
     """The small scenario, all of which was computed by hand."""
 
     def test_all_that_is_written(self):
-        status, out, err = tool(SMALL, "-o", self.folder / "out")
-        self.assertEqual((status, out, err), (0, SMALL_TABLE, ""))
+        self.assertEqual(tool(SMALL, "-o", self.folder / "out"), (0, SMALL_TABLE, ""))
         found = {name: data.decode() for name, data in self.files("out").items()}
         self.assertEqual(found, {"steady.json": SMALL_PLAN, "steady.report": SMALL_REPORT, "steady.csv": SMALL_CURVE})
 
@@ -183,8 +155,7 @@ class Budgets(unittest.TestCase):
         self.assertEqual(bucket.tokens, 4000)
 
     def test_the_table_has_those_who_ran_out(self):
-        status, out, _ = tool(self.given({"like": "grpc", "tokens": 4}, "2s"))
-        self.assertEqual(status, 0)
+        out = output_of(self, tool(self.given({"like": "grpc", "tokens": 4}, "2s")))
         self.assertRegex(out, r"a budget like grpc's; (.|\n)*\ngave up +3\n  out of budget +3\n")
 
 
@@ -277,49 +248,40 @@ class Certificates(WithFiles):
         clients = certificate.certified(read(SMALL), self.WANTED, [SMALL_REPORT.encode()])
         self.assertEqual([client.ending for client in clients], self.WANTED)
 
-    def test_another_ending(self):
-        self.assertEqual(self.refused(SMALL_REPORT.replace("end succeeded 200 at 2600", "end failed 503 at 2600")),
-                         "job c1: simulated succeeded 200 at 2600 after 4 attempts; the report has failed 503 at 2600 "
-                         "after 4 attempts")
-
-    def test_another_number_of_attempts(self):
-        less = SMALL_REPORT.replace("attempt 2 500..600 err 503\nstep 2 out 1 next 1000\n", "")
-        self.assertEqual(self.refused(less), "job c0: simulated succeeded 200 at 1200 after 3 attempts; the report has "
-                                             "succeeded 200 at 1200 after 2 attempts")
-
-    def test_an_attempt_at_a_moment_at_which_it_ends_otherwise(self):
-        # c1 begins at 900, while the service is down, and ends as if it were full.
-        moved = SMALL_REPORT.replace("attempt 2 1000..1300", "attempt 2 900..1200")
-        self.assertEqual(self.refused(moved), "job c1, attempt 2, which begins at 900: simulated 100 ms, err 503; the "
-                                              "report has 300 ms, err 429")
-
-    def test_an_attempt_that_is_served_too_early(self):
-        # c2 is served at 2400, in the second of c1, and its last attempt isn't there.
+    def test_reports_of_other_runs(self):
         early = SMALL_REPORT.replace("attempt 3 2400..2700 err 429\nstep 3 out 2 next 3100\n"
                                      "attempt 4 3100..3300 ok 200\nend succeeded 200 at 3300",
                                      "attempt 3 2400..2600 ok 200\nend succeeded 200 at 2600")
-        wanted = self.WANTED[:2] + [Ending("succeeded", 200, 2600, 3)]
-        self.assertEqual(self.refused(early, wanted), "job c2: simulated unfinished; the report has succeeded 200 "
-                                                      "at 2600 after 3 attempts")
+        for name, report, wanted, said in [
+                ("another ending", SMALL_REPORT.replace("end succeeded 200 at 2600", "end failed 503 at 2600"), None,
+                 "job c1: simulated succeeded 200 at 2600 after 4 attempts; the report has failed 503 at 2600 after "
+                 "4 attempts"),
+                ("one less", SMALL_REPORT.replace("attempt 2 500..600 err 503\nstep 2 out 1 next 1000\n", ""), None,
+                 "job c0: simulated succeeded 200 at 1200 after 3 attempts; the report has succeeded 200 at 1200 after "
+                 "2 attempts"),
+                # c1 begins at 900, while the service is down, and ends as if it were full.
+                ("another moment", SMALL_REPORT.replace("attempt 2 1000..1300", "attempt 2 900..1200"), None,
+                 "job c1, attempt 2, which begins at 900: simulated 100 ms, err 503; the report has 300 ms, err 429"),
+                # c2 is served at 2400, in the second of c1, and its last attempt isn't there.
+                ("too early", early, self.WANTED[:2] + [Ending("succeeded", 200, 2600, 3)],
+                 "job c2: simulated unfinished; the report has succeeded 200 at 2600 after 3 attempts")]:
+            with self.subTest(name):
+                self.assertEqual(self.refused(report, wanted), said)
 
     def test_jobs_that_lack_or_have_other_names(self):
         self.assertIn("has 2 jobs, and 3 clients", self.refused(SMALL_REPORT.partition("\njob c2")[0] + "\npolls 14\n"))
         self.assertIn("has job x, but c1 is expected", self.refused(SMALL_REPORT.replace("job c1", "job x")))
 
     def test_the_command_ends_with_status_1(self):
-        changing = self.folder / "zsched"
         other = "s/^end succeeded 200 at 3300/end failed 503 at 3300/"
-        changing.write_text(f'#!/bin/sh\n{zsched.find()} | sed "{other}"\n')
-        changing.chmod(stat.S_IRWXU)
-        status, out, err = tool(SMALL, program=changing)
-        self.assertEqual((status, out), (1, ""))
-        self.assertEqual(err, "zsched-outage: policy steady: job c2: simulated succeeded 200 at 3300 after 4 attempts; "
-                              "the report has failed 503 at 3300 after 4 attempts\n")
+        changing = self.script("zsched", f'{zsched.find()} | sed "{other}"')
+        said = ("zsched-outage: policy steady: job c2: simulated succeeded 200 at 3300 after 4 attempts; the report "
+                "has failed 503 at 3300 after 4 attempts\n")
+        self.assertEqual(tool(SMALL, program=changing), (1, "", said))
 
     def test_a_scenario_that_does_not_settle_names_its_clients(self):
-        status, out, err = tool(SMALL, "--passes", 1)
-        self.assertEqual((status, out, err), (1, "", "zsched-outage: policy steady: doesn't settle in 1 passes; 2 "
-                                                     "clients are open: c1, c2\n"))
+        said = "zsched-outage: policy steady: doesn't settle in 1 passes; 2 clients are open: c1, c2\n"
+        self.assertEqual(tool(SMALL, "--passes", 1), (1, "", said))
 
     def test_more_attempts_than_a_script_has_entries(self):
         status, _, err = tool(changed(windows=[{"from": 0, "to": 900000, "is": "down"}], horizon="1h"))
@@ -378,8 +340,7 @@ class Files(WithFiles):
 
     def made(self, folder, given):
         here = self.folder / folder
-        status, out, err = tool(given, "-o", here / "out", "--svg", here / "p.svg", "--html", here / "p.html")
-        self.assertEqual((status, err), (0, ""))
+        out = output_of(self, tool(given, "-o", here / "out", "--svg", here / "p.svg", "--html", here / "p.html"))
         return {**self.files(folder), "table": out.encode()}
 
     def test_the_same_seed_gives_the_same_bytes(self):
@@ -496,26 +457,24 @@ class Curves(unittest.TestCase):
 
 
 @unittest.skipIf(CHROMIUM is None, "chromium isn't installed (Debian: chromium)")
-class Browser(unittest.TestCase):
+class Browser(InFolder):
     """The page in a browser."""
 
     def test_long_names_leave_all_figures_in_sight(self):
         names = ["W" * 64, "a-policy-with-" + "long-" * 10]
         given = changed(policies=dict.fromkeys(names, "spaced(400)"))
         figures = {name: simulated(given, name)[-1] for name in names}
-        with tempfile.TemporaryDirectory() as folder:
-            (pathlib.Path(folder) / "page.html").write_text("".join(curve_page.curve_page(read(given), figures)))
-            frames = pathlib.Path(folder) / "frames.html"
-            widths = [360, 400, 1280]
-            frames.write_text("<!doctype html>" + "".join(
-                f'<iframe width="{width}" height="1500" src="page.html"></iframe>' for width in widths) + """
+        self.file("page.html", "".join(curve_page.curve_page(read(given), figures)))
+        widths = [360, 400, 1280]
+        frames = self.file("frames.html", "<!doctype html>" + "".join(
+            f'<iframe width="{width}" height="1500" src="page.html"></iframe>' for width in widths) + """
 <p id="found"></p><script>
 onload = () => { document.getElementById("found").textContent = [...document.querySelectorAll("iframe")].map(frame => {
   const page = frame.contentDocument, table = page.querySelector(".table").getBoundingClientRect();
   const cells = [...page.querySelectorAll("td")].map(it => it.getBoundingClientRect());
   return `${frame.width} ${cells.length} ${cells.filter(it => it.right > table.right + 1).length}`;
 }).join(); };</script>""")
-            found = inside(opened(f"file://{frames}", 1700, ["--allow-file-access-from-files"]), "found")
+        found = inside(opened(f"file://{frames}", 1700, ["--allow-file-access-from-files"]), "found")
         self.assertEqual(found, ",".join(f"{width} 30 0" for width in widths))
 
 
@@ -566,8 +525,7 @@ class Faults(unittest.TestCase):
                 self.assertIn(old, json.dumps(SMALL))
                 text = json.dumps(SMALL).replace(old, new, 1)
                 at = text.index(place.replace("¦", "")) + place.index("¦")
-                status, out, err = tool(None, text=text.encode())
-                self.assertEqual((status, out), (2, ""))
+                err = errors_of(self, tool(None, text=text.encode()))
                 self.assertRegex(err, rf"^zsched-outage: standard input:1:{at + 1}: ")
                 self.assertIn(cause, err.partition("\n")[0])
                 self.assertIn(help, err)
@@ -610,9 +568,8 @@ class Command(WithFiles):
         for words in [["--passes", "0"], ["--nothing"], ["--color", "blue"]]:
             self.assertEqual(tool(SMALL, *words)[0], 2, words)
         self.assertEqual(tool(SMALL, program="/nowhere")[0], 2)
-        ended = subprocess.run([sys.executable, TOOL, self.folder / "none.json"], capture_output=True, check=False)
-        self.assertEqual((ended.returncode, ended.stderr.decode()),
-                         (3, f"zsched-outage: {self.folder}/none.json: No such file or directory\n"))
+        self.assertEqual(process(sys.executable, TOOL, self.folder / "none.json"),
+                         (3, "", f"zsched-outage: {self.folder}/none.json: No such file or directory\n"))
 
     def test_colours_only_where_they_are_wanted(self):
         self.assertNotIn("\x1b", tool(SMALL)[1])

@@ -2,6 +2,7 @@
 
 The manual page is laid out by mandoc, and the package is made by dpkg-deb, objdump and strip; what needs one that isn't
 installed is skipped."""
+import calendar
 import hashlib
 import os
 import pathlib
@@ -12,7 +13,8 @@ import sys
 import tempfile
 import unittest
 
-from support import ONE_JOB, ONE_REPORT, TOP
+from commands import errors_of, output, process
+from support import ONE_JOB, ONE_REPORT, TOP, run
 from zsched_tools import program
 
 TOOLS = sorted(file.name for file in (TOP / "tools").glob("zsched-*"))
@@ -23,16 +25,10 @@ BOUNDS = program.find_bounds()
 FORMATS = (TOP / "docs" / "FORMATS.md").read_text()
 MISSING = [tool for tool in ["dpkg", "dpkg-deb", "objdump", "strip"] if shutil.which(tool) is None]
 EPOCH = "1800000000"
+# The version of the changelog, and its date.
+HEADING = re.search(r"^## (\S+) \((\d+)-(\d+)-(\d+)\)$", (TOP / "CHANGELOG.md").read_text(), re.M)
 OUTAGE = (b'{"horizon":"9s","clients":{"number":3},"windows":[{"from":0,"to":"1s","is":"down"}],'
           b'"policies":{"backoff":"exponential(100)"}}')
-
-
-def output(words, **more):
-    """The output of a program that has to succeed."""
-    ended = subprocess.run(words, capture_output=True, check=False, timeout=60, **more)
-    if ended.returncode:
-        raise AssertionError(f"{words}: status {ended.returncode}: {ended.stderr.decode()}")
-    return ended.stdout.decode()
 
 
 class Versions(unittest.TestCase):
@@ -41,17 +37,13 @@ class Versions(unittest.TestCase):
     def test_changelog_and_manual_page_have_the_version(self):
         version = (TOP / "VERSION").read_text()
         self.assertRegex(version, r"^\d+\.\d+\.\d+\n$")
-        heading = re.search(r"^## (\S+) \((\d+)-(\d+)-(\d+)\)$", (TOP / "CHANGELOG.md").read_text(), re.M)
-        self.assertEqual(heading[1], version.strip())
+        self.assertEqual(HEADING[1], version.strip())
         for page in MANUALS:
             self.assertEqual(re.findall(r"^This page is that of version (\S+)\.$", page.read_text(), re.M),
                              [version.strip()], page.name)
 
     def test_manual_page_has_the_date_of_the_version(self):
-        heading = re.search(r"^## \S+ \((\d+)-(\d+)-(\d+)\)$", (TOP / "CHANGELOG.md").read_text(), re.M)
-        months = ["January", "February", "March", "April", "May", "June", "July", "August", "September", "October",
-                  "November", "December"]
-        day = f"{months[int(heading[2]) - 1]} {int(heading[3])}, {heading[1]}"
+        day = f"{calendar.month_name[int(HEADING[3])]} {int(HEADING[4])}, {HEADING[2]}"
         self.assertTrue(MANUAL.startswith(f".Dd {day}\n"), day)
 
 
@@ -69,11 +61,10 @@ class Manual(unittest.TestCase):
     def test_names_every_word_of_plans_and_schedules(self):
         grammar = FORMATS.split("### Grammar")[1].split("### Limits")[0]
         forms = re.findall(r"^\| `(.+?)` \|", grammar, re.M)
-        self.assertGreater(len(forms), 20)
         keys = re.findall(r"^\| `(\w+)` \| (?:document|job|entry) \|", FORMATS, re.M)
-        self.assertEqual(len(keys), 13)
-        words = set(keys) | {word for form in forms for word in re.findall(r"[a-z]\w+", form)}
-        for word in sorted(words | {"_1", "_2", "size", "merge", "as"}):
+        self.assertTrue(len(forms) > 20 and len(keys) == 13, (forms, keys))
+        words = {*keys, "_1", "_2", "size", "merge", "as", *re.findall(r"[a-z]\w+", " ".join(forms))}
+        for word in sorted(words):
             self.assertRegex(MANUAL, rf"(?<![A-Za-z]){word}(?![A-Za-z])", word)
 
     def test_names_every_status_and_every_tool(self):
@@ -122,8 +113,8 @@ class Package(unittest.TestCase):
 
     def members(self):
         """Each member's permissions, owner and path."""
-        listed = output(["dpkg-deb", "-c", self.package]).splitlines()
-        return [(line.split()[0], line.split()[1], line.split()[5].removeprefix(".")) for line in listed]
+        listed = map(str.split, output(["dpkg-deb", "-c", self.package]).splitlines())
+        return [(words[0], words[1], words[5].removeprefix(".")) for words in listed]
 
     def test_control_has_the_version_and_needs_the_c_library_alone(self):
         fields = dict(re.findall(r"^(\S+): (.*)$", output(["dpkg-deb", "-f", self.package]), re.M))
@@ -156,19 +147,14 @@ class Package(unittest.TestCase):
                 self.assertEqual(mode, {"d": "drwxr-xr-x", "l": "lrwxrwxrwx"}.get(mode[0], of_file))
 
     def test_everything_is_there(self):
-        wanted = ["usr/bin/zsched", "usr/share/man/man1/zsched.1.gz", "usr/share/zsched/plan.schema.json",
-                  "usr/share/doc/zsched/copyright", "usr/share/doc/zsched/changelog.gz"]
-        wanted += [f"usr/share/doc/zsched/{file.name}" for file in [TOP / "CHANGELOG.md", *TOP.glob("docs/*.md")]]
-        wanted += [f"usr/bin/{tool}" for tool in TOOLS] + [f"usr/share/man/man1/{tool}.1.gz" for tool in TOOLS]
-        wanted += [f"usr/share/zsched/zsched_tools/{file.name}" for file in TOP.glob("tools/zsched_tools/*.*")]
-        wanted += ["usr/share/zsched/VERSION"]
-        if POPULATION:
-            wanted += ["usr/bin/zsched-population", "usr/share/man/man1/zsched-population.1.gz",
-                       "usr/share/zsched/population.schema.json"]
-        if BOUNDS:
-            wanted += ["usr/bin/zsched-bounds", "usr/share/man/man1/zsched-bounds.1.gz"]
-        wanted += ["usr/share/zsched/play.html"]
-        wanted += [f"usr/share/doc/zsched/examples/{file.name}" for file in TOP.glob("examples/*.json*")]
+        papers = [f"usr/share/doc/zsched/{file.name}" for file in [TOP / "CHANGELOG.md", *TOP.glob("docs/*.md")]]
+        wanted = ["usr/share/zsched/plan.schema.json", "usr/share/zsched/VERSION", "usr/share/zsched/play.html",
+                  "usr/share/doc/zsched/copyright", "usr/share/doc/zsched/changelog.gz", *papers,
+                  *(f"usr/share/zsched/zsched_tools/{file.name}" for file in TOP.glob("tools/zsched_tools/*.*")),
+                  *(f"usr/share/doc/zsched/examples/{file.name}" for file in TOP.glob("examples/*.json*")),
+                  *["usr/share/zsched/population.schema.json"] * bool(POPULATION)]
+        programs = ["zsched", *TOOLS, *["zsched-population"] * bool(POPULATION), *["zsched-bounds"] * bool(BOUNDS)]
+        wanted += [path for name in programs for path in (f"usr/bin/{name}", f"usr/share/man/man1/{name}.1.gz")]
         self.assertEqual([path for path in wanted if not (self.root / path).is_file()], [])
         self.assertEqual([path for path in self.root.rglob("*") if path.suffix == ".pyc"], [])
 
@@ -206,8 +192,7 @@ class Package(unittest.TestCase):
 
     @unittest.skipIf(os.geteuid() != 0, "only root may change the root folder")
     def test_the_program_runs_where_only_the_c_library_is(self):
-        libraries = re.findall(r"(/\S+) \(0x", output(["ldd", self.root / "usr/bin/zsched"]))
-        for library in libraries:
+        for library in re.findall(r"(/\S+) \(0x", output(["ldd", self.root / "usr/bin/zsched"])):
             place = self.root / library.removeprefix("/")
             place.parent.mkdir(parents=True, exist_ok=True)
             shutil.copy(library, place)
@@ -215,22 +200,19 @@ class Package(unittest.TestCase):
         self.assertEqual(output(["chroot", self.root, "/usr/bin/zsched"], input=ONE_JOB).encode(), ONE_REPORT)
 
     def test_each_tool_runs_from_there_as_from_the_tree(self):
-        asked = [("--help",), ("--nothing",), ("--version",)]
         for tool in TOOLS:
-            for words in asked:
+            for words in ["--help", "--nothing", "--version"]:
                 with self.subTest(tool, words=words):
-                    here, there = (subprocess.run([folder / tool, *words], capture_output=True, check=False, timeout=30,
-                                                  stdin=subprocess.DEVNULL, env=self.environment)
+                    here, there = (run([folder / tool, words], b"", self.environment, 30)
                                    for folder in [TOP / "tools", self.root / "usr/bin"])
-                    self.assertEqual((there.returncode, there.stdout, there.stderr),
-                                     (here.returncode, here.stdout, here.stderr))
+                    self.assertIsNotNone(here[0])
+                    self.assertEqual(there, here)
 
     def test_the_tools_find_the_program_beside_them(self):
         for words, text, wanted in self.runs_of_tools():
             with self.subTest(words[0]):
-                ended = subprocess.run([self.root / "usr/bin" / words[0], *words[1:]], input=text, capture_output=True,
-                                       check=False, timeout=30, env=self.environment)
-                self.assertRegex(ended.stdout.decode() + ended.stderr.decode(), wanted)
+                _, said, errors = run([self.root / "usr/bin" / words[0], *words[1:]], text, self.environment, 30)
+                self.assertRegex((said + errors).decode(), wanted)
 
     def runs_of_tools(self):
         """Runs of the tools that exist: the words, standard input, and a pattern of the output."""
@@ -248,7 +230,6 @@ class Package(unittest.TestCase):
         for words, wanted in [(["--zsched", "/nowhere"], r"make-deb: no program at /nowhere\n"),
                               (["--zsched", sys.executable, "--out", "/nowhere"], r"make-deb: .+\n")]:
             with self.subTest(words):
-                ended = subprocess.run([TOP / "tools" / "make-deb", *words], capture_output=True, check=False)
-                self.assertEqual((ended.returncode, ended.stdout), (2, b""))
-                self.assertRegex(ended.stderr.decode(), wanted)
-                self.assertEqual(ended.stderr.count(b"\n"), 1)
+                errors = errors_of(self, process(TOP / "tools" / "make-deb", *words))
+                self.assertRegex(errors, wanted)
+                self.assertEqual(errors.count("\n"), 1)

@@ -5,12 +5,11 @@ import json
 import os
 import random
 import shutil
-import subprocess
 import sys
 from unittest import mock
 
 import support
-from commands import InFolder
+from commands import InFolder, errors_of, process
 from measured import measured
 from zsched_tools import manifest, plan_text
 from zsched_tools import program as zsched
@@ -31,18 +30,15 @@ LINES = '{"horizon":1e3,"workers":1.0}\n' + "".join(f"{job}\n" for job in JOBS)
 
 def tool(*words):
     """Runs the command: status, standard output, standard error."""
-    ended = subprocess.run([sys.executable, TOOL, *map(str, words)], capture_output=True, check=False)
-    return ended.returncode, ended.stdout.decode(), ended.stderr.decode()
+    return process(sys.executable, TOOL, *words)
 
 
 class WithPlans(InFolder):
     """Tests that cut and join plans."""
 
-    def plan(self, text, name="plan"):
+    def plan(self, text):
         """A plan's file."""
-        path = self.folder / name
-        path.write_bytes(text if isinstance(text, bytes) else text.encode())
-        return path
+        return self.file("plan", text)
 
     def parts(self, text, most, is_lines=False):
         """The texts of a plan's parts, in the order of their names."""
@@ -97,11 +93,8 @@ class Parts(WithPlans):
         self.assertEqual(sorted(path.name for path in (self.folder / "p").iterdir()), ["manifest", "part-000001.json"])
 
     def test_a_large_plan_takes_little_memory(self):
-        path = self.folder / "large"
-        with open(path, "w", encoding="ascii") as file:
-            file.write('{"horizon":1000}\n')
-            file.writelines(f'{{"name":"job-{number:07}","mode":"retry","schedule":"recurs(3)",{support.SCRIPT}}}\n'
-                            for number in range(60_000))
+        path = self.plan('{"horizon":1000}\n' + "".join(
+            f"{support.job(f'job-{number:07}')}\n" for number in range(60_000)))
         status, kilobytes, _ = measured(TOOL, "split", 10_000, "--lines", path, "-o", self.folder / "p", out=os.devnull)
         self.assertEqual((status, len(list((self.folder / "p").iterdir()))), (0, 7))
         self.assertLess(kilobytes, 40_000)
@@ -213,26 +206,23 @@ NO_LINES = [
 class Refusals(WithPlans):
     """The error for a rejected plan has file and line, and no file is written."""
 
-    def fault(self, text, is_lines):
-        """The error for a plan, without its name."""
+    def refuse(self, text, is_lines, beginning):
+        """The error for a plan begins so, after the plan's name."""
         path = self.plan(text)
         with self.assertRaises(Refused) as caught:
             write_parts(path, is_lines, 2, self.folder / "parts")
         self.assertEqual([it.name for it in self.folder.iterdir()], ["plan"])
-        told = str(caught.exception)
-        self.assertTrue(told.startswith(f"{path}: "), told)
-        return told.removeprefix(f"{path}: ")
+        self.assertTrue(str(caught.exception).startswith(f"{path}: {beginning}"), caught.exception)
 
     def test_what_is_no_plan(self):
         for is_lines, table in [(False, NO_PLANS), (True, NO_LINES)]:
             for text, beginning in table:
                 with self.subTest(text[:80]):
-                    told = self.fault(text, is_lines)
-                    self.assertTrue(told.startswith(beginning), told)
+                    self.refuse(text, is_lines, beginning)
 
     def test_a_plan_cut_anywhere(self):
         for end in range(len(WHOLE.rstrip())):
-            self.assertTrue(self.fault(WHOLE[:end], False).startswith("line "))
+            self.refuse(WHOLE[:end], False, "line ")
 
     def test_a_part_that_no_run_would_take(self):
         job = '{"name":"%d","x":"' + "x" * 6_000_000 + '"}'
@@ -243,13 +233,12 @@ class Refusals(WithPlans):
         self.assertEqual(len(self.parts(text, 2)), 2)
 
     def test_the_command_tells_the_place_and_ends_with_2(self):
-        path = self.plan('{"jobs":[\n7]}')
-        said = "line 2: the job that begins here isn't an object with a name"
-        self.assertEqual(tool("split", 5, path, "-o", self.folder / "p"), (2, "", f"zsched-plan: {path}: {said}\n"))
-        self.assertEqual(tool("split", 5, self.folder / "none", "-o", self.folder / "p"),
-                         (3, "", f"zsched-plan: {self.folder / 'none'}: No such file or directory\n"))
-        self.assertEqual(tool("split", 5, "/dev/null", "-o", self.folder / "p"),
-                         (2, "", "zsched-plan: /dev/null: is not a regular file, and a plan may be read twice\n"))
+        for path, status, said in [
+                (self.plan('{"jobs":[\n7]}'), 2, "line 2: the job that begins here isn't an object with a name"),
+                (self.folder / "none", 3, "No such file or directory"),
+                ("/dev/null", 2, "is not a regular file, and a plan may be read twice")]:
+            ended = tool("split", 5, path, "-o", self.folder / "p")
+            self.assertEqual(ended, (status, "", f"zsched-plan: {path}: {said}\n"))
         self.assertEqual([it.name for it in self.folder.iterdir()], ["plan"])
 
     def test_folders_that_have_something_are_left_alone(self):
@@ -268,16 +257,13 @@ class Refusals(WithPlans):
         for number, (target, said) in enumerate([("> /dev/full", "No space left on device"),
                                                  (">&-", "standard output is closed")]):
             command = f"{sys.executable} {TOOL} split 5 {path} -o {self.folder / str(number)} {target}"
-            ended = subprocess.run(["bash", "-c", command], capture_output=True, text=True, check=False)
-            self.assertEqual((ended.returncode, ended.stderr), (3, f"zsched-plan: {said}\n"))
+            self.assertEqual(process("bash", "-c", command)[::2], (3, f"zsched-plan: {said}\n"))
 
     def test_wrong_words_end_with_2(self):
         path = self.plan('{"jobs":[]}')
         for words in [[], ["split"], ["split", 0, path, "-o", "p"], ["split", 10_001, path, "-o", "p"],
                       ["split", "1.5", path, "-o", "p"], ["split", "٣", path, "-o", "p"], ["split", 5, path]]:
-            status, out, errors = tool(*words)
-            self.assertEqual((status, out), (2, ""))
-            self.assertIn("usage: zsched-plan", errors)
+            self.assertIn("usage: zsched-plan", errors_of(self, tool(*words)))
 
 
 SCHEDULES = ["recurs(%d)", "spaced(%d)", "fixed(%d)", "exponential(%d)", "fibonacci(%d)", "linear(%d)", "windowed(1%d)",
@@ -326,17 +312,15 @@ class Whole(WithPlans):
         for seed in range(RANDOM_PLANS):
             rng = random.Random(seed)
             folder = self.folder / str(seed)
-            whole = self.plan(random_plan(rng), f"{seed}.json")
+            whole = self.file(f"{seed}.json", random_plan(rng))
             write_parts(whole, False, rng.randint(1, 8), folder)
-            out = io.BytesIO()
+            joined, known = io.BytesIO(), io.BytesIO()
             reports = self.reports(sorted(folder.glob("*.json")))
-            write_joined(reports, out.write)
-            wanted = self.reports([whole])[0].read_bytes()
-            self.assertEqual(out.getvalue(), wanted, f"seed {seed}")
+            write_joined(reports, joined.write)
             for report in reports:
                 support.write_digest(report)
-            known = io.BytesIO()
             write_known(folder / "manifest", known.write)
-            self.assertEqual(known.getvalue(), wanted, f"seed {seed}")
+            wanted = self.reports([whole])[0].read_bytes()
+            self.assertEqual((joined.getvalue(), known.getvalue()), (wanted, wanted), f"seed {seed}")
             attempts += wanted.count(b"\nattempt ")
         self.assertGreater(attempts, 10 * RANDOM_PLANS)

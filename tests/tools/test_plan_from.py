@@ -2,15 +2,13 @@
 import contextlib
 import importlib.util
 import json
-import os
-import subprocess
 import sys
 import unittest
 from unittest import mock
 
 import mistakes
 import support
-from commands import InFolder, run_here
+from commands import InFolder, errors_of, process, run_here
 from zsched_tools import importing, placed, plan_command, policy_file, policy_plan
 from zsched_tools import program as zsched
 from zsched_tools.command import Refused
@@ -70,15 +68,13 @@ class Imported(InFolder):
 
     def made(self, name, text, *words):
         """Runs the command on a file, here: status, standard output, standard error."""
-        (self.folder / name).write_bytes(text if isinstance(text, bytes) else text.encode())
+        self.file(name, text)
         with contextlib.chdir(self.folder):
             return run_here(plan_command.main, "zsched-plan", "from", name, *words)
 
     def told(self, *words, **environment):
         """Runs the command as a separate process: status, standard output, standard error."""
-        ended = subprocess.run([sys.executable, TOOL, "from", *words], cwd=self.folder, capture_output=True, check=False,
-                               timeout=60, env={**os.environ, **environment})
-        return ended.returncode, ended.stdout.decode(), ended.stderr.decode()
+        return process(sys.executable, TOOL, "from", *words, folder=self.folder, **environment)
 
     def jobs(self, text, *words):
         """The jobs of a log, without the keys that all of them have, and what the command reports."""
@@ -154,8 +150,7 @@ polls 5
                                  (2, "", f"zsched-plan: log.csv:{said}\n"))
 
     def test_a_wrong_schedule_is_shown_at_its_place(self):
-        status, out, errors = self.made("log.csv", LOG, "--schedule", "(recurs(3) && spaced(x))")
-        self.assertEqual((status, out), (2, ""))
+        errors = errors_of(self, self.made("log.csv", LOG, "--schedule", "(recurs(3) && spaced(x))"))
         self.assertTrue(errors.startswith("zsched-plan: --schedule:1:22: a number is missing here\n"), errors)
         self.assertIn("\n  |                      ^\n", errors)
 
@@ -257,8 +252,7 @@ class Faults(Imported):
         for before, after, line, column, what, size in table:
             with self.subTest(name, after=after):
                 self.assertEqual(text.count(before), 1, before)
-                status, out, errors = self.made(name, text.replace(before, after))
-                self.assertEqual((status, out), (2, ""))
+                errors = errors_of(self, self.made(name, text.replace(before, after)))
                 first, _, source, mark, *_ = errors.split("\n")
                 self.assertEqual(first, f"zsched-plan: {name}:{line}:{column}: {what}")
                 self.assertEqual(source, f"{line} | {text.replace(before, after).splitlines()[line - 1]}".rstrip())
@@ -301,8 +295,8 @@ class Faults(Imported):
                 ("p.toml", b"a = 1\nb = '\xff'", "p.toml:2: the text is not UTF-8"),
                 ("p.toml", "a = " + "[" * 5000, "p.toml:1:1: this is nested too deeply")]:
             with self.subTest(said):
-                status, out, errors = self.made(name, text)
-                self.assertEqual((status, out, errors.split("\n")[0]), (2, "", f"zsched-plan: {said}"))
+                errors = errors_of(self, self.made(name, text))
+                self.assertEqual(errors.split("\n")[0], f"zsched-plan: {said}")
         self.assertEqual(self.made("p.toml", "", "--schedule", "x")[0], 2)
         self.assertEqual(self.made("p.toml", TOML, "--until", "soon")[0], 2)
 
@@ -322,8 +316,8 @@ class Faults(Imported):
         self.assertEqual(caught.exception.args[0].what, "the file has more than 1000 values")
 
     def test_without_pyyaml(self):
-        (self.folder / "yaml.py").write_text("raise ImportError\n")
-        (self.folder / "p.yaml").write_text(YAML)
+        self.file("yaml.py", "raise ImportError\n")
+        self.file("p.yaml", YAML)
         self.assertEqual(self.told("p.yaml", PYTHONPATH=str(self.folder)),
                          (3, "", f"zsched-plan: {policy_file.NO_YAML}\n"))
 

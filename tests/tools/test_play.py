@@ -4,18 +4,17 @@ The browser is chromium, if it is installed. What the page does with typed text 
 import http.client
 import json
 import os
-import pathlib
 import re
 import signal
 import socket
 import subprocess
-import tempfile
 import threading
 import unittest
 import unittest.mock
 import urllib.parse
 
 from browser import CHROMIUM, inside, opened
+from commands import InFolder, errors_of, output_of, process
 from support import ONE_JOB, TOP, run
 from test_page import TIMES
 from zsched_tools import duration_text, durations, play, program
@@ -102,7 +101,7 @@ class Served(unittest.TestCase):
         return json.loads(body)
 
 
-class Answers(Served):
+class Answers(Served, InFolder):
     """The server's responses."""
 
     def test_the_report_is_that_of_the_program(self):
@@ -118,16 +117,11 @@ class Answers(Served):
                 '"steps_seen":4}')
         three = json.loads(question())
         three["jobs"] = [{**three["jobs"][0], "name": f"j{number}", "schedule": f"recurs({number})"} for number in range(3)]
-        with tempfile.TemporaryDirectory() as folder:
-            bounds = pathlib.Path(folder) / "zsched-bounds"
-            for ending, plan, wanted in [
-                    ("exit 0", question(), {"recurs(3)": "4 attempts, always; no waits"}),
-                    ("exit 4", question(), {}),
-                    ("exit 0", json.dumps(three).encode(), {})]:
-                bounds.write_text(f"#!/bin/sh\ncat > /dev/null\necho '{line}'\n{ending}\n")
-                bounds.chmod(0o700)
-                with self.subTest(ending, jobs=len(json.loads(plan)["jobs"])):
-                    self.assertEqual(play.answer(self.zsched, plan, 10, str(bounds))["bounds"], wanted)
+        for ending, plan, wanted in [("exit 0", question(), {"recurs(3)": "4 attempts, always; no waits"}),
+                                     ("exit 4", question(), {}), ("exit 0", json.dumps(three).encode(), {})]:
+            bounds = self.script("zsched-bounds", f"cat > /dev/null\necho '{line}'\n{ending}")
+            with self.subTest(ending, jobs=len(json.loads(plan)["jobs"])):
+                self.assertEqual(play.answer(self.zsched, plan, 10, str(bounds))["bounds"], wanted)
         self.assertEqual(play.answer(self.zsched, question(), 10)["bounds"], {})
 
     @unittest.skipIf(program.find_bounds() is None, "zsched_bounds isn't built")
@@ -147,13 +141,12 @@ class Answers(Served):
                 self.assertEqual(text[fault["at"]:fault["at"] + fault["size"]], marked)
                 self.assertIn(word, fault["cause"] + fault["help"])
 
-    def test_the_place_of_an_end_that_comes_too_soon_is_behind_it(self):
-        fault = self.asked(question("(recurs(3) && forever"))["fault"]
-        self.assertEqual((fault["at"], fault["size"]), (21, 1))
-
-    def test_the_place_counts_the_text_and_not_its_escapes(self):
-        fault = self.asked(question().replace(b"recurs(3)", b"(recurs(\\u0033) \\u0026 forever)"))["fault"]
-        self.assertEqual((fault["at"], fault["size"], fault["help"]), (11, 1, "write &&"))
+    def test_a_place_is_behind_an_end_that_comes_too_soon_and_counts_no_escapes(self):
+        for schedule, place, help in [(b"(recurs(3) && forever", (21, 1), ") is missing"),
+                                      (b"(recurs(\\u0033) \\u0026 forever)", (11, 1), "write &&")]:
+            with self.subTest(schedule):
+                fault = self.asked(question().replace(b"recurs(3)", schedule))["fault"]
+                self.assertEqual(((fault["at"], fault["size"]), fault["help"]), (place, help))
 
     def test_another_fault_has_its_cause(self):
         for data, text, word in [(question(horizon="1000000000000000"), "plan: out of range", "milliseconds"),
@@ -166,9 +159,8 @@ class Answers(Served):
                 self.assertIn(word, fault["cause"] + fault["help"])
 
     def test_a_long_report_is_cut(self):
-        with unittest.mock.patch.object(play, "LONGEST_REPORT", 1000):
-            with unittest.mock.patch.object(play, "LONGEST_SHOWN", 500):
-                answer = play.answer(self.zsched, question("forever"), 10)
+        with unittest.mock.patch.multiple(play, LONGEST_REPORT=1000, LONGEST_SHOWN=500):
+            answer = play.answer(self.zsched, question("forever"), 10)
         _, report, _ = run(self.zsched, question("forever"))
         self.assertEqual((answer["size"], answer["isCut"]), (len(report), True))
         self.assertLessEqual(len(answer["report"]), 500)
@@ -195,54 +187,41 @@ class Requests(Served):
         status, headers, body = self.request("HEAD", "/")
         self.assertEqual((status, headers["Content-Length"], body), (200, str(len(PAGE.encode()) + 3), b""))
 
-    def test_localhost_is_its_own_name(self):
-        self.assertEqual(self.request("GET", "/", Host=f"localhost:{self.port}")[0], 200)
+    def cases(self):
+        """Requests: what they show, method, path, body, headers and the status of the response."""
+        own, page, report = f"127.0.0.1:{self.port}", ("GET", "/"), ("POST", "/report")
+        yield "localhost is its name too", *page, None, {"Host": f"localhost:{self.port}"}, 200
+        for host in ["zsched.example", f"zsched.example:{self.port}", "127.0.0.1", "127.0.0.1:1", f"{own}.example", "",
+                     None]:
+            yield from (("another host", *words, ONE_JOB, {"Host": host}, 421) for words in [page, report])
+        for origin in ["http://zsched.example", "null", f"https://{own}"]:
+            yield "another origin", *report, ONE_JOB, {"Origin": origin}, 403
+        yield "the same origin", *report, ONE_JOB, {"Origin": f"http://{own}"}, 200
+        for words in [("POST", "/"), *((method, path) for method in ["PUT", "DELETE", "PATCH", "OPTIONS", "TRACE"]
+                                       for path in ["/", "/report"])]:
+            yield "another method", *words, b"{}", {}, 405
+        yield from [("another method", "GET", "/report", None, {}, 405), ("another method", "BREW", "/", None, {}, 501)]
+        for path in ["/play.html", "/../play.py", "/report/", "/report.json", "/index.html", "/%2e%2e/"]:
+            yield from [("another path", "GET", path, None, {}, 404), ("another path", "POST", path, b"{}", {}, 404)]
+        for size, wanted in [(16777217, 413), (16777216, 200)]:
+            yield "a long plan", *report, b" " * size, {}, wanted
+        for length, wanted in [(None, 411), ("ten", 400), ("-1", 400), ("1_0", 400), ("1" * 19, 400), ("1" * 18, 413)]:
+            yield "a length", *report, None, {"Content_Length": length}, wanted
+        yield "a body in chunks", *report, None, {"Transfer_Encoding": "chunked"}, 411
 
-    def test_refuses_another_host(self):
-        own = f"127.0.0.1:{self.port}"
-        others = ["zsched.example", f"zsched.example:{self.port}", "127.0.0.1", "127.0.0.1:1", f"{own}.example", ""]
-        for host in [*others, None]:
-            for method, path in [("GET", "/"), ("POST", "/report")]:
-                with self.subTest(host=host, method=method):
-                    self.assertEqual(self.request(method, path, ONE_JOB, Host=host)[0], 421)
+    def test_requests_that_are_taken_and_refused(self):
+        for name, method, path, body, headers, wanted in self.cases():
+            with self.subTest(name, method=method, path=path, headers=headers, size=len(body or b"")):
+                status, said, _ = self.request(method, path, body, **headers)
+                self.assertEqual(status, wanted)
+                if status == 405:
+                    self.assertEqual(said["Allow"], "GET, HEAD" if path == "/" else "POST")
 
     def test_refuses_two_hosts(self):
         with socket.create_connection(("127.0.0.1", self.port), timeout=30) as line:
             own = f"Host: 127.0.0.1:{self.port}\r\n"
             line.sendall(f"GET / HTTP/1.1\r\n{own}{own}\r\n".encode())
             self.assertTrue(line.recv(100).startswith(b"HTTP/1.0 421 "))
-
-    def test_refuses_a_plan_of_another_origin(self):
-        for origin, wanted in [("http://zsched.example", 403), ("null", 403), (f"https://127.0.0.1:{self.port}", 403),
-                               (f"http://127.0.0.1:{self.port}", 200)]:
-            with self.subTest(origin):
-                self.assertEqual(self.request("POST", "/report", ONE_JOB, Origin=origin)[0], wanted)
-
-    def test_refuses_other_methods(self):
-        for method in ["PUT", "DELETE", "PATCH", "OPTIONS", "TRACE"]:
-            for path, allowed in [("/", "GET, HEAD"), ("/report", "POST")]:
-                with self.subTest(method=method, path=path):
-                    status, headers, _ = self.request(method, path, b"{}")
-                    self.assertEqual((status, headers["Allow"]), (405, allowed))
-        self.assertEqual(self.request("POST", "/", b"{}")[0], 405)
-        self.assertEqual(self.request("GET", "/report")[0], 405)
-        self.assertEqual(self.request("BREW", "/")[0], 501)
-
-    def test_refuses_other_paths(self):
-        for path in ["/play.html", "/../play.py", "/report/", "/report.json", "/index.html", "/%2e%2e/"]:
-            with self.subTest(path):
-                self.assertEqual(self.request("GET", path)[0], 404)
-                self.assertEqual(self.request("POST", path, b"{}")[0], 404)
-
-    def test_refuses_a_plan_that_is_too_long(self):
-        self.assertEqual(self.request("POST", "/report", b" " * 16777217)[0], 413)
-        self.assertEqual(self.request("POST", "/report", b" " * 16777216)[0], 200)
-
-    def test_refuses_a_length_that_is_none(self):
-        for length, wanted in [(None, 411), ("ten", 400), ("-1", 400), ("1_0", 400), ("1" * 19, 400), ("1" * 18, 413)]:
-            with self.subTest(length):
-                self.assertEqual(self.request("POST", "/report", Content_Length=length)[0], wanted)
-        self.assertEqual(self.request("POST", "/report", Transfer_Encoding="chunked")[0], 411)
 
     def test_a_browser_that_goes_away_does_no_harm(self):
         with socket.create_connection(("127.0.0.1", self.port), timeout=30) as line:
@@ -255,7 +234,7 @@ class Requests(Served):
             socket.create_connection(("127.0.0.2", self.port), timeout=5)
 
 
-class Stopped(unittest.TestCase):
+class Stopped(InFolder):
     """A run that takes too long or too much memory."""
 
     def fault(self, seconds):
@@ -263,9 +242,8 @@ class Stopped(unittest.TestCase):
         server = play.Server(0, program.find(), seconds)
         thread = threading.Thread(target=server.serve_forever)
         thread.start()
-        self.addCleanup(thread.join)
-        self.addCleanup(server.server_close)
-        self.addCleanup(server.shutdown)
+        for clean in [thread.join, server.server_close, server.shutdown]:
+            self.addCleanup(clean)
         connection = http.client.HTTPConnection("127.0.0.1", server.server_port, timeout=30)
         connection.request("POST", "/report", question("forever", horizon="99999998"))
         fault = json.loads(connection.getresponse().read())["fault"]
@@ -289,55 +267,46 @@ class Stopped(unittest.TestCase):
 
     def test_a_program_that_maps_terabytes_limits_its_memory_itself(self):
         found = []
-        with tempfile.TemporaryDirectory() as folder:
-            zsched = pathlib.Path(folder) / "zsched"
-            for line in ["", "# AddressSanitizer"]:
-                zsched.write_text(f'#!/bin/sh\n{line}\ncat > /dev/null\necho "$ASAN_OPTIONS"\n')
-                zsched.chmod(0o755)
-                with unittest.mock.patch.object(play.resource, "prlimit") as limit:
-                    status, report, _, _ = play.run(str(zsched), b"", 10)
-                found.append((status, report, limit.called))
+        for line in ["", "# AddressSanitizer"]:
+            zsched = self.script("zsched", f'{line}\ncat > /dev/null\necho "$ASAN_OPTIONS"')
+            with unittest.mock.patch.object(play.resource, "prlimit") as limit:
+                status, report, _, _ = play.run(str(zsched), b"", 10)
+            found.append((status, report, limit.called))
         self.assertEqual(found, [(0, b"\n", True), (0, b"hard_rss_limit_mb=1024\n", False)])
 
 
 class CommandLine(unittest.TestCase):
     """The words of the command line."""
 
-    def ended(self, *words, **environment):
+    def ended(self, *words):
         """A run that ends immediately: its status, output and errors."""
-        return run([str(TOOL), *words], b"", {**os.environ, **environment}, seconds=20)
+        return process(TOOL, *words)
 
     def test_help_names_what_it_takes_and_its_statuses(self):
-        status, output, errors = self.ended("--help")
-        self.assertEqual((status, errors), (0, b""))
-        for word in [b"--port", b"--zsched", b"--version", b"--color", b"8642", b"tatus 0", b"tatus 2"]:
+        output = output_of(self, self.ended("--help"))
+        for word in ["--port", "--zsched", "--version", "--color", "8642", "tatus 0", "tatus 2"]:
             self.assertIn(word, output)
 
     def test_refuses_what_is_no_port(self):
         for word in ["65536", "-1", "http", "1.5", "99999999999"]:
             with self.subTest(word):
-                status, output, errors = self.ended(f"--port={word}")
-                self.assertEqual((status, output), (2, b""))
-                self.assertIn(b"is not a port", errors)
+                self.assertIn("is not a port", errors_of(self, self.ended(f"--port={word}")))
 
     def test_a_port_that_is_taken_is_told(self):
         with socket.socket() as taken:
             taken.bind(("127.0.0.1", 0))
             taken.listen()
             port = taken.getsockname()[1]
-            status, output, errors = self.ended("--port", str(port), "--zsched", program.find())
-        self.assertEqual((status, output), (2, b""))
-        self.assertRegex(errors.decode(), rf"^zsched-play: port {port}: .+\n$")
+            errors = errors_of(self, self.ended("--port", str(port), "--zsched", program.find()))
+        self.assertRegex(errors, rf"^zsched-play: port {port}: .+\n$")
 
     def test_a_program_that_is_not_there_is_told(self):
-        status, output, errors = self.ended("--zsched", "/nowhere")
-        self.assertEqual((status, output, errors), (2, b"", b"zsched-play: no program at /nowhere\n"))
+        self.assertEqual(self.ended("--zsched", "/nowhere"), (2, "", "zsched-play: no program at /nowhere\n"))
 
     def test_ends_at_once_when_it_is_told_to(self):
         for number in [signal.SIGINT, signal.SIGTERM]:
-            words = [TOOL, "--port", "0", "--zsched", program.find()]
-            pipes = {"stdout": subprocess.PIPE, "stderr": subprocess.PIPE}
-            with self.subTest(number), subprocess.Popen(words, **pipes) as server:
+            words, pipe = [TOOL, "--port", "0", "--zsched", program.find()], subprocess.PIPE
+            with self.subTest(number), subprocess.Popen(words, stdout=pipe, stderr=pipe) as server:
                 server.stdout.readline()
                 server.send_signal(number)
                 try:
@@ -353,9 +322,9 @@ class Browser(Served):
 
     def test_shows_what_the_program_gives(self):
         document = opened(self.url)
-        self.assertIn("comes from zsched itself", inside(document, "engine"))
-        self.assertIn("gives up with 503 after 11 attempts, 13.54 s; longest wait 2 s", inside(document, "state"))
-        self.assertIn("end failed 503 at 13540 polls 22", inside(document, "report"))
+        for name, words in [("engine", "comes from zsched itself"), ("report", "end failed 503 at 13540 polls 22"),
+                            ("state", "gives up with 503 after 11 attempts, 13.54 s; longest wait 2 s")]:
+            self.assertIn(words, inside(document, name))
         self.assertNotIn('class="fault shown"', document)
 
     def test_shows_a_fault_as_the_program_and_its_rules_tell_it(self):

@@ -5,12 +5,13 @@ import random
 import re
 import signal
 import subprocess
-import tempfile
 import unittest
 
 import faults
 import generator
 import reference
+import support
+from commands import InFolder, errors_of, process
 from zsched_tools.program import find_population as find
 
 BLOCK = 10000
@@ -54,13 +55,12 @@ def both(chance, tree):
 
 
 @unittest.skipUnless(find(), "zsched_population isn't built")
-class Population(unittest.TestCase):
+class Population(InFolder):
     """Runs over the built program."""
 
     def ends(self, data, status, output, text="", **more):
         """A run on these bytes ends with this status, these bytes and this text."""
-        run = subprocess.run([find()], input=data, capture_output=True, timeout=100, check=False, **more)
-        self.assertEqual((run.returncode, run.stdout, run.stderr.decode()), (status, output, text))
+        self.assertEqual(support.run(find(), data, seconds=100, **more), (status, output, text.encode()))
 
     def refuses(self, data, text, written=b""):
         """A run ends with status 2 and this text, after it wrote these bytes."""
@@ -149,18 +149,13 @@ class Population(unittest.TestCase):
 
     def test_broken_streams_end_it(self):
         lines = joined([HEAD, *map(job, names(BLOCK + 1))])
-        with tempfile.TemporaryDirectory() as folder:
-            path = f"{folder}/lines"
-            with open(path, "wb") as file:
-                file.write(lines)
-            for words, status, text in [
-                ('"$0" < "$1" > /dev/full', 3, "write failed after 0 bytes"),
-                ('"$0" < "$1" >&-', 3, "write failed after 0 bytes"),
-                ('"$0" < . > /dev/null', 3, "read failed"),
-                ('"$0" <&- > /dev/null', 3, "read failed")]:
-                with self.subTest(words=words):
-                    run = subprocess.run(["sh", "-c", words, find(), path], cwd=folder, capture_output=True, check=False)
-                    self.assertEqual((run.returncode, run.stderr.decode()), (status, f"zsched-population: {text}\n"))
+        path = self.file("lines", lines)
+        for words, text in [('"$0" < "$1" > /dev/full', "write failed after 0 bytes"),
+                            ('"$0" < "$1" >&-', "write failed after 0 bytes"),
+                            ('"$0" < . > /dev/null', "read failed"), ('"$0" <&- > /dev/null', "read failed")]:
+            with self.subTest(words=words):
+                ended = process("sh", "-c", words, find(), path, folder=self.folder)
+                self.assertEqual(ended[::2], (3, f"zsched-population: {text}\n"))
 
     def test_what_was_sent_is_counted_over_all_blocks(self):
         whole = report(names(BLOCK + 10), 3 * (BLOCK + 10))
@@ -192,6 +187,5 @@ class Population(unittest.TestCase):
 
     def test_want_of_memory_is_told(self):
         lines = joined([HEAD, *(job(f"j{number}", script=SCRIPT * 500) for number in range(3000))])
-        run = subprocess.run(["sh", "-c", 'ulimit -v 40000; exec "$0"', find()], input=lines, capture_output=True, check=False)
-        self.assertEqual((run.returncode, run.stdout), (4, b""))
-        self.assertRegex(run.stderr.decode(), r"\Azsched-population: (line \d+: )?out of memory\n\Z")
+        ended = process("sh", "-c", 'ulimit -v 40000; exec "$0"', find(), given=lines)
+        self.assertRegex(errors_of(self, ended, status=4), r"\Azsched-population: (line \d+: )?out of memory\n\Z")

@@ -7,7 +7,7 @@ import types
 import unittest
 
 import zio_model as zio
-from support import TOP
+from support import TOP, steps_of
 from zsched_tools import program
 
 PAGE = (TOP / "docs" / "RECIPES.md").read_text()
@@ -32,17 +32,16 @@ def parts_of(row, letters):
     seen = zio.both(zio.linear(3), zio.identity())
     s = part(seen.map(lambda out: 2 * out[1]), "(linear(3) && identity).map(_2).map(* 2)")
     if row == "`s.forever`":
-        both = zio.both(zio.recurs(k), zio.spaced(7))
-        s = part(both.map(lambda out: 77), f"(recurs({k}) && spaced(7)).map(as 77)")
+        s = part(zio.both(zio.recurs(k), zio.spaced(7)).map(lambda out: 77), f"(recurs({k}) && spaced(7)).map(as 77)")
     if row == "`s.addDelay(_ => d)`":
         s = part(zio.recurs(k), f"recurs({k})")
     a = part(zio.both(zio.spaced(4), zio.recurs(2)).map(lambda out: out[1]), "(spaced(4) && recurs(2)).map(_2)")
     return s, a, part(zio.exponential(5), "exponential(5)")
 
 
-def constructors(v):
-    """ZIO's schedule of each row of the first table that says 'the same'."""
-    n, k = v.N, v.k
+def definitions(v):
+    """ZIO's schedule of each row of the tables that says 'the same'."""
+    s, a, b, n, k = v.s, v.a, v.b, v.N, v.k
     return {
         "`Schedule.forever`, `Schedule.count`": zio.forever(),
         "`Schedule.recurs(k)`": zio.recurs(k),
@@ -66,13 +65,6 @@ def constructors(v):
         "`Schedule.succeed(N)`": zio.forever().map(lambda out: n),
         "`Schedule.fromFunction(_ * N)`": zio.identity().map(lambda x: x * n),
         "`Schedule.unfold(N)(_ + 1)`": zio.unfold(n, lambda x: x + 1),
-    }
-
-
-def operators(v):
-    """ZIO's schedule of each row of the second table that says 'the same'."""
-    s, a, b, n, k = v.s, v.a, v.b, v.N, v.k
-    return {
         "`a && b`, `a zip b`, `a <*> b` (`both`)": zio.both(a, b),
         "`a <* b`, `a zipLeft b`": zio.both(a, b).map(lambda out: out[0]),
         "`a *> b`, `a zipRight b`": zio.both(a, b).map(lambda out: out[1]),
@@ -101,11 +93,6 @@ def operators(v):
     }
 
 
-def definitions(v):
-    """ZIO's schedule of each row that says 'the same'."""
-    return {**constructors(v), **operators(v)}
-
-
 def rows_of_the_tables():
     """The rows of the tables for ZIO's schedules: the name in ZIO, the text here, and the remark."""
     for line in TABLES.split("### Effects")[0].splitlines():
@@ -122,23 +109,8 @@ def text_with(text, letters, s, a, b):
 
 def script_of(chance, key):
     """A script at random whose outcomes never end the job."""
-    size = chance.randrange(1, 9)
     times, values = [1, 1, 2, 3, 9, 60], [0, 1, 3, 5, 6, 8, 9, 10]
-    return [{"ms": chance.choice(times), key: chance.choice(values)} for _ in range(size)]
-
-
-def steps_of(report):
-    """For each job of a report the moments, inputs, outputs and next moments of its steps."""
-    jobs = []
-    for line in report.splitlines():
-        words = line.split()
-        if words[0] == "job":
-            jobs.append([])
-        elif words[0] == "attempt" and words[-1] != "running":
-            ended = int(words[2].split("..")[1]), int(words[4])
-        elif words[0] == "step":
-            jobs[-1].append((*ended, words[3], None if words[-1] == "done" else int(words[-1])))
-    return jobs
+    return [{"ms": chance.choice(times), key: chance.choice(values)} for _ in range(chance.randrange(1, 9))]
 
 
 def first_difference(schedule, steps):
@@ -216,11 +188,9 @@ class Recipes(unittest.TestCase):
         jobs = [{"name": f"j{number}", "mode": "retry", "schedule": example["jobs"][0]["schedule"],
                  "script": [{"ms": chance.choice(times), "err": 1} for _ in range(30)] + [{"ms": 1, "ok": 0}]}
                 for number in range(100)]
-        plan = json.dumps({"horizon": 1000000, "jobs": jobs}).encode()
-        status, report, _ = program.run(program.find(), plan, 60)
-        self.assertEqual(status, 0)
+        status, report, _ = program.run(program.find(), json.dumps({"horizon": 1000000, "jobs": jobs}).encode(), 60)
         found = steps_of(report.decode())
-        self.assertEqual([len(steps) for steps in found], [30] * 100)
+        self.assertEqual((status, [len(steps) for steps in found]), (0, [30] * 100))
         self.assertEqual([first_difference(schedule, steps) for steps in found], [None] * 100)
 
 
@@ -253,8 +223,7 @@ class ForZio(unittest.TestCase):
                     schedules.append((f"{name} with {numbers}", definitions(models)[name]))
                     jobs.append({"name": f"j{len(jobs)}", "mode": mode, "schedule": text_with(text, letters, s, a, b),
                                  "script": script_of(chance, key)})
-        plan = json.dumps({"horizon": HORIZON, "jobs": jobs}).encode()
-        status, report, errors = program.run(zsched, plan, 60)
+        status, report, errors = program.run(zsched, json.dumps({"horizon": HORIZON, "jobs": jobs}).encode(), 60)
         self.assertEqual((status, errors), (0, b""))
         found = steps_of(report.decode())
         self.assertEqual(len(found), len(jobs))

@@ -13,9 +13,14 @@ import hostile_plans
 import reference
 from commands import InFolder
 from generator import plan_of
-from support import plans_with_reports, report_beside
+from support import job, plan, plans_with_reports, report_beside
 
 REFERENCE = pathlib.Path(reference.__file__).resolve()
+
+
+def plan_of_one(schedule, *entries):
+    """A plan of one repeat."""
+    return plan([job("a", schedule, "repeat", f'"script":{json.dumps(entries)}')], '"horizon":100')
 
 
 class TheReference(unittest.TestCase):
@@ -89,9 +94,3 @@ class TheComparer(InFolder):
 
     def test_odd_bytes_are_made_small_too(self):
         self.assertEqual(compare.small(lambda text: b"x" in text, b"[[[[aaaaaxaaaa"), b"x")
-
-
-def plan_of_one(schedule, *entries):
-    """A plan of one repeat."""
-    job = {"name": "a", "mode": "repeat", "schedule": schedule, "script": list(entries)}
-    return json.dumps({"horizon": 100, "jobs": [job]}).encode()

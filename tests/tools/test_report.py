@@ -1,24 +1,22 @@
 """zsched-report: JSON lines and back, the summary, pictures, pages, and one report of many."""
+import collections
 import io
 import json
 import math
 import multiprocessing
 import os
-import pathlib
 import random
 import re
-import subprocess
 import sys
-import tempfile
 import unittest
-import xml.etree.ElementTree
 from unittest import mock
+from xml.etree import ElementTree
 
 import support
-from commands import run_here
+from commands import InFolder, errors_of, output_of, process, run_here
 from measured import measured
-from report_samples import (GREATEST, NO_REPORTS, REPORTS, RETRIED, RUNNING, SUMMARIES, WAITING, long_report,
-                            random_report, wide_report)
+from report_samples import (FOLDER, GREATEST, LOADS, NO_REPORTS, REPORTS, RETRIED, RUNNING, SUMMARIES, WAITING,
+                            long_report, random_report, wide_report)
 from zsched_tools import columns, lines, load, progress, report_command
 from zsched_tools import summary as summary_tool
 from zsched_tools.axis import Scale, View
@@ -34,22 +32,19 @@ TOOL = support.TOP / "tools" / "zsched-report"
 FORMS = ["lines", "summary", "svg", "html"]
 
 
-def process(*words, text=""):
+def apart(*words, text=""):
     """Runs the command in another process: status, standard output, standard error."""
-    ended = subprocess.run([sys.executable, TOOL, *words], input=text.encode("latin-1"), capture_output=True,
-                           check=False)
-    return ended.returncode, ended.stdout.decode(), ended.stderr.decode()
+    return process(sys.executable, TOOL, *words, given=text.encode("latin-1"))
+
+
+def of_shell(command):
+    """The same of a command line in which TOOL is the command."""
+    return process("bash", "-c", command.replace("TOOL", f"{sys.executable} {TOOL}"))
 
 
 def tool(*words, text=""):
     """Runs the command in this process."""
     return run_here(report_command.main, TOOL.name, *words, given=text.encode("latin-1"))
-
-
-def known_reports():
-    """The reports of the repository, by name."""
-    files = sorted([*support.TOP.glob("examples/*.stdout"), *support.TOP.glob("tests/plans/*.stdout")])
-    return {file.name: file.read_text() for file in files}
 
 
 def lines_of(text):
@@ -66,20 +61,27 @@ def report_of(text):
     return "".join(out)
 
 
+def outcome(work):
+    """What a function writes, and the error if it rejects its text."""
+    out, fault = [], None
+    try:
+        work(out.append)
+    except Refused as refused:
+        fault = str(refused)
+    return "".join(out), fault
+
+
 def fault_of(work, text):
     """The error for a rejected text; None for an accepted one."""
-    try:
-        work(text)
-    except Refused as refused:
-        return str(refused)
-    return None
+    return outcome(lambda _: work(text))[1]
 
 
-class JsonLines(unittest.TestCase):
+class JsonLines(InFolder):
     """The JSON lines of a report hold all of its data."""
 
     def test_each_known_report_is_made_again_byte_for_byte(self):
-        known = known_reports()
+        files = [*support.TOP.glob("examples/*.stdout"), *support.TOP.glob("tests/plans/*.stdout")]
+        known = {file.name: file.read_text() for file in sorted(files)}
         self.assertGreater(len(known), 60)
         # Plans that differ by their workers alone have one report.
         for text, name in {text: name for name, text in {**known, **REPORTS}.items()}.items():
@@ -87,15 +89,7 @@ class JsonLines(unittest.TestCase):
                 self.assertTrue(report_of(lines_of(text)) == text)
 
     def test_each_record_is_one_object(self):
-        objects = [json.loads(line) for line in lines_of(RETRIED).splitlines()]
-        self.assertEqual(objects, [
-            {"type": "attempt", "job": "a", "mode": "retry", "attempt": 1, "begin": 0, "end": 5, "outcome": "err",
-             "value": 7, "waited": None, "out": "0", "next": 5},
-            {"type": "attempt", "job": "a", "mode": "retry", "attempt": 2, "begin": 5, "end": 10, "outcome": "ok",
-             "value": 1, "waited": 0, "out": None, "next": None},
-            {"type": "end", "job": "a", "mode": "retry", "ending": "succeeded", "value": 1, "out": None, "at": 10,
-             "polls": 3},
-            {"type": "total", "polls": 3}])
+        self.assertEqual(lines_of(RETRIED), (FOLDER / "retried.jsonl").read_text())
 
     def test_greatest_numbers_are_exact(self):
         first, second, _, _ = [json.loads(line) for line in lines_of(GREATEST).splitlines()]
@@ -104,12 +98,9 @@ class JsonLines(unittest.TestCase):
         self.assertEqual((second["begin"], second["end"], second["waited"]), (2**64 - 1, None, 1))
 
     def test_the_command_reads_a_file_or_standard_input(self):
-        with tempfile.NamedTemporaryFile("w") as file:
-            file.write(WAITING)
-            file.flush()
-            self.assertEqual(process("lines", file.name), (0, lines_of(WAITING), ""))
-        self.assertEqual(process("lines", text=WAITING), (0, lines_of(WAITING), ""))
-        self.assertEqual(process("from-lines", text=lines_of(WAITING)), (0, WAITING, ""))
+        self.assertEqual(apart("lines", self.file("report", WAITING)), (0, lines_of(WAITING), ""))
+        self.assertEqual(apart("lines", text=WAITING), (0, lines_of(WAITING), ""))
+        self.assertEqual(apart("from-lines", text=lines_of(WAITING)), (0, WAITING, ""))
 
     def test_other_white_space_and_another_order_of_keys_are_the_same_lines(self):
         others = "".join(json.dumps(json.loads(line), sort_keys=True) + "\n" for line in lines_of(WAITING).splitlines())
@@ -138,17 +129,14 @@ class JsonLines(unittest.TestCase):
                              f"ends after line {count}, without its last line, of type total")
 
     def test_a_long_report_takes_little_memory_and_time(self):
-        with tempfile.TemporaryDirectory() as folder:
-            path = pathlib.Path(folder) / "long"
-            path.write_text(long_report(50_000))
-            status, kilobytes, seconds = measured(TOOL, "lines", path, out=path.with_suffix(".lines"))
-            self.assertEqual(path.with_suffix(".lines").read_bytes().count(b"\n"), 50_002)
-        self.assertEqual(status, 0)
+        out = self.folder / "lines"
+        status, kilobytes, seconds = measured(TOOL, "lines", self.file("long", long_report(50_000)), out=out)
+        self.assertEqual((status, out.read_bytes().count(b"\n")), (0, 50_002))
         self.assertLess(kilobytes, 40_000)
         self.assertLess(seconds, 10)
 
 
-class Refusals(unittest.TestCase):
+class Refusals(InFolder):
     """A text that isn't a whole report is rejected, with the line's number."""
 
     def test_a_report_cut_after_each_line(self):
@@ -180,66 +168,49 @@ class Refusals(unittest.TestCase):
 
     def test_the_command_tells_the_place_and_ends_with_2(self):
         cut = WAITING[:WAITING.index("end failed")]
-        with tempfile.NamedTemporaryFile("w") as file:
-            file.write(cut)
-            file.flush()
-            for form in FORMS:
-                for words, text, place in [([file.name], "", file.name), ([], cut, "standard input")]:
-                    status, out, errors = process(form, *words, text=text)
-                    self.assertEqual((status, errors),
-                                     (2, f"zsched-report: {place}: ends after line 12, but an end is expected, "
-                                         "and there is no last line 'polls TOTAL'\n"))
-                    self.assertEqual(out, "" if form != "lines" else "".join(
-                        line + "\n" for line in lines_of(WAITING).splitlines()[:-2]))
+        file = self.file("cut", cut)
+        for form in FORMS:
+            written = "".join(lines_of(WAITING).splitlines(keepends=True)[:-2]) if form == "lines" else ""
+            for words, text, place in [([file], "", file), ([], cut, "standard input")]:
+                said = "ends after line 12, but an end is expected, and there is no last line 'polls TOTAL'"
+                self.assertEqual(apart(form, *words, text=text), (2, written, f"zsched-report: {place}: {said}\n"))
 
     def test_bytes_that_are_no_text_are_refused(self):
         for form in FORMS:
-            status, out, errors = tool(form, text="\xff\x00\n")
-            self.assertEqual((status, out), (2, ""))
+            errors = errors_of(self, tool(form, text="\xff\x00\n"))
             self.assertTrue(errors.startswith("zsched-report: standard input: line 1 isn't a line of a report"), errors)
 
     def test_a_file_that_is_not_there_ends_with_3(self):
         for words in [*([form, "/nowhere/x"] for form in FORMS), ["join", "/nowhere/x"]]:
-            self.assertEqual(process(*words), (3, "", "zsched-report: /nowhere/x: No such file or directory\n"))
+            self.assertEqual(apart(*words), (3, "", "zsched-report: /nowhere/x: No such file or directory\n"))
 
     def test_a_reader_that_goes_away_ends_it_quietly_but_for_join(self):
-        with tempfile.NamedTemporaryFile("w") as file:
-            file.write(long_report(20_000))
-            file.flush()
-            for form, status, said in [("lines", 141, b""), ("load --every 10ms", 141, b""),
-                                       ("join", 3, b"zsched-report: the reader of standard output closed it\n")]:
-                command = f"{sys.executable} {TOOL} {form} {file.name} | head -n 1 > {os.devnull}; exit ${{PIPESTATUS[0]}}"
-                ended = subprocess.run(["bash", "-c", command], capture_output=True, check=False)
-                self.assertEqual((ended.returncode, ended.stderr), (status, said), form)
+        file = self.file("long", long_report(20_000))
+        for form, status, said in [("lines", 141, ""), ("load --every 10ms", 141, ""),
+                                   ("join", 3, "zsched-report: the reader of standard output closed it\n")]:
+            ended = of_shell(f"TOOL {form} {file} | head -n 1 > {os.devnull}; exit ${{PIPESTATUS[0]}}")
+            self.assertEqual(ended[::2], (status, said), form)
 
     def test_an_output_that_takes_nothing_ends_it_with_3_and_one_line(self):
-        with tempfile.NamedTemporaryFile("w") as file:
-            file.write(long_report(2_000))
-            file.flush()
-            for form in ["lines", "load", "join"]:
-                for target, said in [("> /dev/full", "No space left on device"), (">&-", "standard output is closed")]:
-                    ended = subprocess.run(["bash", "-c", f"{sys.executable} {TOOL} {form} {file.name} {target}"],
-                                           capture_output=True, text=True, check=False)
-                    self.assertEqual((ended.returncode, ended.stderr), (3, f"zsched-report: {said}\n"), f"{form} {target}")
+        file = self.file("long", long_report(2_000))
+        for form in ["lines", "load", "join"]:
+            for target, said in [("> /dev/full", "No space left on device"), (">&-", "standard output is closed")]:
+                ended = of_shell(f"TOOL {form} {file} {target}")
+                self.assertEqual(ended[::2], (3, f"zsched-report: {said}\n"), f"{form} {target}")
 
     def test_no_python_and_an_old_one_are_told_in_one_line(self):
         for name in ["zsched-report", "zsched-plan"]:
             path = TOOL.with_name(name)
-            ended = subprocess.run(["/bin/sh", path, "--help"], env={"PATH": "/nowhere"}, capture_output=True, text=True,
-                                   check=False)
             said = f"{name}: needs Python 3.11 or later, and "
-            self.assertEqual((ended.returncode, ended.stdout, ended.stderr),
+            self.assertEqual(process("/bin/sh", path, "--help", PATH="/nowhere"),
                              (3, "", f"{said}there is no python3 on this machine\n"))
             inside = f"import sys; sys.version_info, __file__ = (3, 10, 4), {str(path)!r}; exec(open(__file__).read())"
-            ended = subprocess.run([sys.executable, "-c", inside], capture_output=True, text=True, check=False)
-            self.assertEqual((ended.returncode, ended.stdout, ended.stderr), (3, "", f"{said}this is Python 3.10\n"))
-            self.assertEqual(subprocess.run([path, "--help"], capture_output=True, check=False).returncode, 0)
+            self.assertEqual(process(sys.executable, "-c", inside), (3, "", f"{said}this is Python 3.10\n"))
+            self.assertEqual(process(path, "--help")[0], 0)
 
     def test_wrong_words_end_with_2(self):
         for words in [[], ["picture"], ["svg", "a", "b"], ["lines", "--title", "x"], ["join"]]:
-            status, out, errors = process(*words)
-            self.assertEqual((status, out), (2, ""), words)
-            self.assertIn("usage: zsched-report", errors)
+            self.assertIn("usage: zsched-report", errors_of(self, apart(*words), words))
 
 
 class Terminal(unittest.TestCase):
@@ -269,16 +240,9 @@ class Summary(unittest.TestCase):
     """The table with a line a job."""
 
     def test_six_reports_by_hand(self):
-        self.assertEqual(len(SUMMARIES), 6)
-        for name, (rows, total, crowd, times) in SUMMARIES.items():
+        for name, wanted in SUMMARIES.items():
             with self.subTest(name):
-                status, out, errors = tool("summary", text=REPORTS[name])
-                self.assertEqual((status, errors), (0, ""))
-                told = out.splitlines()
-                cells = [re.split(r"\s{2,}", line) for line in told[:len(rows) + 1]]
-                self.assertEqual(cells, [["job", "mode", "ending", "at", "attempts", "ok", "err", "busy", "waited",
-                                          "longest wait"], *rows])
-                self.assertEqual(told[len(rows) + 1:], ["", total, crowd, times])
+                self.assertEqual(tool("summary", text=REPORTS[name]), (0, wanted, ""))
 
     def test_columns_stand_under_each_other(self):
         told = tool("summary", text=WAITING)[1].splitlines()
@@ -286,13 +250,12 @@ class Summary(unittest.TestCase):
         self.assertEqual({line.index(" repeat ") for line in told[1:3]}, {told[0].index(" mode ")})
 
     def test_a_report_without_jobs(self):
-        self.assertEqual(process("summary", text="polls 0\n"), (0, "0 jobs; 0 attempts; 0 polls\n", ""))
+        self.assertEqual(apart("summary", text="polls 0\n"), (0, "0 jobs; 0 attempts; 0 polls\n", ""))
 
     def test_an_output_that_is_long_is_cut(self):
         out = "[" + ",".join(["1"] * 500) + "]"
         text = f"job a repeat\nattempt 1 0..5 ok 1\nstep 1 out {out} done\nend finished {out} at 5 polls 2\npolls 2\n"
         self.assertLess(max(map(len, tool("summary", text=text)[1].splitlines())), 140)
-
 
     def test_tables_are_sorted_as_chosen(self):
         names = {order: [line.split()[0] for line in tool("summary", "--sort", order, text=WAITING)[1].splitlines()[1:3]]
@@ -319,33 +282,16 @@ class Summary(unittest.TestCase):
     def test_wrong_times_are_refused(self):
         for words in [["summary", "--within", "x"], ["summary", "--sort", "x"], ["load", "--every", "0"],
                       ["load", "--every", "1.5ms"], ["load", "--csv", "--svg"]]:
-            status, out, errors = tool(*words, text=RETRIED)
-            self.assertEqual((status, out), (2, ""))
-            self.assertIn("usage: zsched-report", errors)
+            self.assertIn("usage: zsched-report", errors_of(self, tool(*words, text=RETRIED)))
 
 
 class Load(unittest.TestCase):
     """The begins and ends in each step of time."""
 
-    # Computed by hand from the reports' texts: first moment of the step, begun, ok, err, running, waiting.
-    LOADS = {
-        "running": [[0, 1, 0, 1, 0, 1], [1000, 1, 0, 0, 1, 0], [2000, 0, 0, 1, 0, 1], [3000, 1, 0, 0, 1, 0],
-                    [4000, 0, 0, 1, 0, 1], [5000, 0, 0, 0, 0, 1], [6000, 1, 0, 1, 0, 1], [7000, 0, 0, 0, 0, 1],
-                    [8000, 0, 0, 0, 0, 1], [9000, 1, 0, 0, 1, 0]],
-        "coarse": [[0, 3, 1, 1, 1, 1], [1000, 3, 1, 1, 2, 0], [2000, 0, 1, 0, 1, 1], [3000, 1, 1, 0, 1, 0],
-                   [4000, 0, 0, 0, 1, 0], [5000, 0, 1, 0, 0, 1]],
-        "never": [[0, 3, 3, 0, 0, 0]],
-        "waiting": [[0, 3, 2, 1, 0, 1], [1000, 1, 0, 0, 1, 0], [2000, 0, 0, 0, 1, 0], [3000, 1, 2, 0, 0, 1]],
-    }
-
     def test_four_loads_by_hand(self):
-        for name, rows in self.LOADS.items():
+        for name, wanted in LOADS.items():
             with self.subTest(name):
-                status, out, errors = tool("load", "--csv", text=REPORTS[name])
-                self.assertEqual((status, errors), (0, ""))
-                told = out.splitlines()
-                self.assertEqual(told[0], "from_ms,begun,ok,err,running,waiting")
-                self.assertEqual([list(map(int, line.split(","))) for line in told[1:]], rows)
+                self.assertEqual(tool("load", "--csv", text=REPORTS[name]), (0, wanted, ""))
 
     def test_the_table_has_the_same_figures_and_their_sums(self):
         status, out, _ = tool("load", "--every", "2.5s", text=REPORTS["coarse"])
@@ -353,7 +299,8 @@ class Load(unittest.TestCase):
             ["from", "begun", "ok", "err", "running", "waiting"], ["0", "ms", "6", "3", "2", "1", "1"],
             ["2.5", "s", "1", "1", "0", "1", "0"], ["5", "s", "0", "1", "0", "0", "1"], [],
             ["7", "attempts:", "5", "ok,", "2", "err,", "0", "running", "at", "the", "horizon"]]))
-        self.assertEqual(process("load", text="polls 0\n"), (0, "0 attempts: 0 ok, 0 err, 0 running at the horizon\n", ""))
+        said = "0 attempts: 0 ok, 0 err, 0 running at the horizon\n"
+        self.assertEqual(apart("load", text="polls 0\n"), (0, said, ""))
 
     def test_too_many_steps_are_refused(self):
         self.assertEqual(tool("load", "--every", "1ms", text=long_report(20_000)),
@@ -372,35 +319,28 @@ class Load(unittest.TestCase):
 
     def test_the_picture_has_all_figures_and_nothing_outside(self):
         for text in [wide_report(300, 4), RUNNING, GREATEST, "polls 0\n"]:
-            status, out, errors = tool("load", "--svg", "--every", "50ms", "--title", "A & B", text=text)
-            self.assertEqual((status, errors), (0, ""))
-            root = xml.etree.ElementTree.fromstring(out)
-            found = [it.text for it in root.iter(f"{SVG}title")]
-            self.assertEqual(sum(int(re.search(r"(\d+) begun", it)[1]) for it in found), text.count("\nattempt "))
+            root = drawn_by(self, "load", "--svg", "--every", "50ms", "--title", "A & B", text=text)
+            found = [re.search(r"(\d+) begun", it.text) for it in root.iter(f"{SVG}title")]
+            self.assertEqual(sum(int(it[1]) for it in found), text.count("\nattempt "))
             nothing_outside(self, root)
 
 
-class Fast(unittest.TestCase):
+class Fast(InFolder):
     """Pieces of a report, read by columns, are what a Reader makes of its lines."""
 
     def lines_of_reader(self, text):
         """The JSON lines of a report, record by record, and the error."""
-        out = []
-        try:
-            for job, record in records(io.StringIO(text)):
-                out.append(lines.json_line(job, record) + "\n")
-        except Refused as refused:
-            return "".join(out), str(refused)
-        return "".join(out), None
+        return outcome(lambda write: [write(lines.json_line(*it) + "\n") for it in records(io.StringIO(text))])
 
     def lines_of_pieces(self, text):
         """The same by pieces."""
+        return outcome(lambda write: lines.write_lines(io.BytesIO(text.encode("latin-1")), write))
+
+    def both(self, text, **options):
+        """The lines of the summary and the rows of the load of a report."""
         out = []
-        try:
-            lines.write_lines(io.BytesIO(text.encode("latin-1")), out.append)
-        except Refused as refused:
-            return "".join(out), str(refused)
-        return "".join(out), None
+        write_summary(io.BytesIO(text.encode()), out.append, Options(**options))
+        return "".join(out), list(load.read(io.BytesIO(text.encode()), 100).rows())
 
     def texts(self):
         """Reports, and texts that aren't reports."""
@@ -445,54 +385,44 @@ class Fast(unittest.TestCase):
 
     def test_summary_and_load_of_a_job_in_many_pieces(self):
         for text in [long_report(500), RUNNING, WAITING]:
-            whole = [], load.read(io.BytesIO(text.encode()), 100)
-            write_summary(io.BytesIO(text.encode()), whole[0].append, Options(within=500))
+            whole = self.both(text, within=500)
             with mock.patch.object(columns, "PIECE", 90):
-                cut = [], load.read(io.BytesIO(text.encode()), 100)
-                write_summary(io.BytesIO(text.encode()), cut[0].append, Options(within=500))
-            self.assertEqual((cut[0], list(cut[1].rows())), (whole[0], list(whole[1].rows())))
+                self.assertEqual(self.both(text, within=500), whole)
 
     def figures_of_reader(self, text, every):
         """The figures of the summary, job by job, and the rows of the load, from a Reader's records."""
-        jobs, steps, attempts = [], {}, []
-
-        def count(place, moment, number=1):
-            """Adds to a column of the load."""
-            steps.setdefault(moment // every, [0] * 5)[place] += number
+        jobs, steps, attempts = [], collections.defaultdict(lambda: [0] * 5), []
         for job, record in records(io.StringIO(text)):
             if isinstance(record, Attempt):
                 attempts.append(record)
-                count(0, record.begin)
-                count(3, record.begin)
-                if len(attempts) == 1:
-                    count(4, record.begin)
+                for place in [0, 3, *[4] * (len(attempts) == 1)]:
+                    steps[record.begin // every][place] += 1
                 if record.end is not None:
-                    count(1 if record.outcome == "ok" else 2, record.end)
-                    count(3, record.end, -1)
+                    steps[record.end // every][1 if record.outcome == "ok" else 2] += 1
+                    steps[record.end // every][3] -= 1
             elif isinstance(record, Ending):
                 busy = [(record.at if it.end is None else it.end) - it.begin for it in attempts]
                 waits = [it.waited for it in attempts[1:]]
                 if attempts and attempts[-1].end is not None:
                     waits.append(record.at - attempts[-1].end)
                 if attempts and record.how != "unfinished":
-                    count(4, record.at, -1)
-                ok = sum(it.outcome == "ok" for it in attempts)
-                err = sum(it.outcome == "err" for it in attempts)
+                    steps[record.at // every][4] -= 1
+                outcomes = [it.outcome for it in attempts]
                 jobs.append([job.name, job.mode, " ".join(filter(None, [record.how, record.result()])), duration(record.at),
-                             str(len(attempts)), str(ok), str(err),
+                             *map(str, [len(attempts), outcomes.count("ok"), outcomes.count("err")]),
                              *map(duration, [sum(busy), sum(waits), max(waits, default=0)])])
                 attempts = []
         rows, running, open_ = [], 0, 0
         for step in range(min(steps), max(steps) + 1):
-            begun, ok, err, changed, joined = steps.get(step, [0] * 5)
+            begun, ok, err, changed, joined = steps[step]
             running, open_ = running + changed, open_ + joined
             rows.append([step * every, begun, ok, err, running, open_ - running])
         return jobs, rows
 
     def repeated(self, rng, text, jobs):
         """A report of `jobs` jobs, each with the lines of one of a report's."""
-        bodies = [part.partition(" ")[2] for part in ("\n" + text[:text.rindex("polls ", 0, -1)]).split("\njob ")[1:]]
-        bodies = [body.rstrip("\n") + "\n" for body in bodies]
+        parts = ("\n" + text[:text.rindex("polls ", 0, -1)]).split("\njob ")[1:]
+        bodies = [part.partition(" ")[2].rstrip("\n") + "\n" for part in parts]
         made = [f"job r{number} {rng.choice(bodies)}" for number in range(jobs)]
         polls = sum(int(it) for it in re.findall(r"^end .* polls (\d+)$", "".join(made), re.M))
         return "".join(made) + f"polls {polls}\n"
@@ -536,13 +466,10 @@ class Fast(unittest.TestCase):
                 text = text if kinds == 40 else self.repeated(rng, text, 40)
                 jobs, rows = self.figures_of_reader(text, 100)
                 with mock.patch.object(columns, "PIECE", length), mock.patch.object(columns, "_shown_slowly") as slow:
-                    out = []
-                    write_summary(io.BytesIO(text.encode()), out.append)
-                    found = load.read(io.BytesIO(text.encode()), 100)
+                    summary, found = self.both(text)
                 slow.assert_not_called()
-                cells = [re.split(r"\s{2,}", line) for line in "".join(out).splitlines()[1:41]]
-                self.assertEqual(cells, jobs)
-                self.assertEqual(list(found.rows()), rows)
+                self.assertEqual([re.split(r"\s{2,}", line) for line in summary.splitlines()[1:41]], jobs)
+                self.assertEqual(found, rows)
                 self.assertEqual(self.lines_of_pieces(text), self.lines_of_reader(text))
 
     def test_a_table_of_many_lines_is_written_by_several_processes(self):
@@ -550,27 +477,22 @@ class Fast(unittest.TestCase):
         for sort in [None, "name", "end", "attempts"]:
             found = []
             for many, at_once in [(10**6, 10**6), (10, 7)]:
-                out = []
-                with mock.patch.object(summary_tool, "MANY_LINES", many), \
-                        mock.patch.object(summary_tool, "LINES_AT_ONCE", at_once), \
+                with mock.patch.multiple(summary_tool, MANY_LINES=many, LINES_AT_ONCE=at_once), \
                         mock.patch.object(columns, "PIECE", 3000):
-                    write_summary(io.BytesIO(text.encode()), out.append, Options(sort))
-                found.append("".join(out))
+                    found.append(self.both(text, sort=sort)[0])
             self.assertEqual(found[0], found[1])
             self.assertEqual(found[0].count("\n"), 305)
 
     def test_the_forms_keep_up_with_the_program(self):
         text = wide_report(800, 60)
-        with tempfile.TemporaryDirectory() as folder:
-            path = pathlib.Path(folder) / "report"
-            path.write_text(text)
-            once = measured(TOOL, "from-lines", os.devnull, out=os.devnull)[2]
-            for form in [["lines"], ["summary", "--one-line"], ["load"]]:
-                status, kilobytes, seconds = measured(TOOL, *form, path, out=os.devnull)
-                self.assertEqual(status, 0)
-                self.assertLess(kilobytes, 60_000)
-                # Line by line took over one second a megabyte on the slowest machine that was seen.
-                self.assertLess(seconds - once, 0.4 * len(text) / 1e6)
+        path = self.file("report", text)
+        once = measured(TOOL, "from-lines", os.devnull, out=os.devnull)[2]
+        for form in [["lines"], ["summary", "--one-line"], ["load"]]:
+            status, kilobytes, seconds = measured(TOOL, *form, path, out=os.devnull)
+            self.assertEqual(status, 0)
+            self.assertLess(kilobytes, 60_000)
+            # Line by line took over one second a megabyte on the slowest machine that was seen.
+            self.assertLess(seconds - once, 0.4 * len(text) / 1e6)
 
 
 SVG = "{http://www.w3.org/2000/svg}"
@@ -578,21 +500,18 @@ SVG = "{http://www.w3.org/2000/svg}"
 
 def corners(element, size):
     """The places that an element covers, by its numbers alone. A text counts as 0.55 of its size a letter."""
-    def number(name):
-        """A number of the element; 0 if it has none."""
-        return float(element.get(name, "0"))
+    number = lambda name: float(element.get(name, "0"))
     kind = element.tag.removeprefix(SVG)
     if kind == "rect":
-        yield number("x"), number("y")
-        yield number("x") + number("width"), number("y") + number("height")
+        x, y = number("x"), number("y")
+        yield from [(x, y), (x + number("width"), y + number("height"))]
     elif kind == "circle":
-        yield number("cx") - number("r"), number("cy") - number("r")
-        yield number("cx") + number("r"), number("cy") + number("r")
+        x, y, r = number("cx"), number("cy"), number("r")
+        yield from [(x - r, y - r), (x + r, y + r)]
     elif kind == "text":
-        width = 0.55 * size * len(element.text)
+        width, y = 0.55 * size * len(element.text), number("y")
         left = number("x") - {"middle": width / 2, "end": width}.get(element.get("text-anchor"), 0)
-        yield left, number("y") - size
-        yield left + width, number("y") + size / 4
+        yield from [(left, y - size), (left + width, y + size / 4)]
     elif kind == "path":
         yield from path_places(element.get("d"))
 
@@ -622,12 +541,32 @@ def sizes(root):
 
 def picture_of(text, chosen=(), title="", view=View()):
     """The picture of a report, read as XML."""
-    return xml.etree.ElementTree.fromstring("".join(draw(rows_of(io.StringIO(text), chosen), title, view)))
+    return ElementTree.fromstring("".join(draw(rows_of(io.StringIO(text), chosen), title, view)))
+
+
+def drawn_by(test, *words, text):
+    """The picture that the command draws, read as XML."""
+    return ElementTree.fromstring(output_of(test, tool(*words, text=text)))
 
 
 def titles(root):
     """The texts of the attempts of a picture."""
     return [element.text for element in root.iter(f"{SVG}title") if element.text.startswith("attempt")]
+
+
+def jobs_in(root):
+    """The jobs whose attempts a picture has."""
+    return {title.split(" of ")[1].split(":")[0] for title in titles(root)}
+
+
+def labels(root):
+    """The labels of the axis of a picture."""
+    return [it for it in root.iter(f"{SVG}text") if it.get("class") == "axis"]
+
+
+def bars(root):
+    """The bars of a picture that have a title."""
+    return [it for it in root.iter(f"{SVG}rect") if it.find(f"{SVG}title") is not None]
 
 
 def pictures():
@@ -650,10 +589,8 @@ def nothing_outside(test, root):
     size_of = sizes(root)
     drawn_in_patterns = list(root.iterfind(f"{SVG}defs//*"))
     for element in root.iterfind(".//*"):
-        if element in drawn_in_patterns:
-            continue
-        styles = element.get("class", "").split()
-        for x, y in corners(element, max([size_of.get(style, 0) for style in styles], default=0)):
+        size = max([size_of.get(style, 0) for style in element.get("class", "").split()], default=0)
+        for x, y in corners(element, size) if element not in drawn_in_patterns else []:
             test.assertTrue(0 <= x <= width and 0 <= y <= height,
                             f"{element.tag} {element.attrib} {element.text} reaches {x}, {y}")
 
@@ -677,33 +614,31 @@ class Pictures(unittest.TestCase):
             "attempt 2 of broken: 160..170 ms, err 9; took 10 ms, waited 100 ms"])
 
     def test_attempts_that_are_near_each_other_share_a_block(self):
-        root = picture_of(long_report(5_000))
-        form = re.compile(r"attempts (\d+) to (\d+) of hammer: (\d+)\.\.(\d+) ms, 0 ok, (\d+) err")
-        told = [form.fullmatch(title) for title in titles(root)]
+        form = re.compile(r"attempts (\d+) to (\d+) of hammer: \d+\.\.\d+ ms, 0 ok, (\d+) err")
+        told = [tuple(map(int, form.fullmatch(title).groups())) for title in titles(picture_of(long_report(5_000)))]
         self.assertLess(len(told), 120)
-        self.assertEqual(sum(int(match[5]) for match in told), 5_000)
-        self.assertEqual([int(match[1]) for match in told[1:]], [int(match[2]) + 1 for match in told[:-1]])
+        self.assertEqual(sum(number for _, _, number in told), 5_000)
+        self.assertEqual([first for first, _, _ in told[1:]], [last + 1 for _, last, _ in told[:-1]])
 
     def test_outcomes_have_other_shapes(self):
-        root = picture_of(COARSE_AND_FAILED)
-        bars = [element for element in root.iter(f"{SVG}rect") if element.find(f"{SVG}title") is not None]
-        heights = {style: {bar.get("height") for bar in bars if bar.get("class") == style} for style in ["ok", "err"]}
+        drawn = bars(picture_of(REPORTS["coarse"]))
+        heights = {style: {bar.get("height") for bar in drawn if bar.get("class") == style} for style in ["ok", "err"]}
         self.assertEqual([len(heights["ok"]), len(heights["err"])], [1, 1])
         self.assertLess(float(*heights["err"]), 0.6 * float(*heights["ok"]))
-        self.assertEqual({bar.get("class") for bar in bars if bar.get("rx")}, {"ok"})
+        self.assertEqual({bar.get("class") for bar in drawn if bar.get("rx")}, {"ok"})
 
     def test_labels_of_the_axis_are_sensible_and_stand_apart(self):
         for text, wanted in [(RETRIED, ["0", "2 ms", "4 ms"]), (RUNNING, ["0", "2 s", "4 s"]),
                              (long_report(5_000), ["0", "10 s", "20 s"]),
                              (long_report(50_000), ["0", "1 min", "2 min"]),
                              (RUNNING.replace("at 10000", "at 39000"), ["0", "5 s", "10 s"])]:
-            labels = [it for it in picture_of(text).iter(f"{SVG}text") if it.get("class") == "axis"]
-            self.assertEqual([it.text for it in labels][:3], wanted)
-            places = [float(it.get("x")) for it in labels]
+            shown = labels(picture_of(text))
+            self.assertEqual([it.text for it in shown][:3], wanted)
+            places = [float(it.get("x")) for it in shown]
             self.assertGreaterEqual(min(right - left for left, right in zip(places, places[1:])), 89)
 
     def test_moments_that_are_far_from_0_count_from_the_first(self):
-        told = [it.text for it in picture_of(GREATEST).iter(f"{SVG}text") if it.get("class") == "axis"]
+        told = [it.text for it in labels(picture_of(GREATEST))]
         self.assertEqual(told[:3], ["time since moment 18446744073709551514 ms", "+0 ms", "+20 ms"])
 
     def test_an_unfinished_job_says_at_which_horizon(self):
@@ -714,8 +649,7 @@ class Pictures(unittest.TestCase):
     def test_jobs_are_chosen_by_name_and_of_more_than_200_the_load_is_drawn(self):
         many = wide_report(201, 2)
         for form in ["svg", "html"]:
-            status, out, errors = tool(form, "--title", "T & U", text=many)
-            self.assertEqual((status, errors), (0, ""))
+            out = output_of(self, tool(form, "--title", "T & U", text=many))
             self.assertIn("201 jobs; a picture has room for the rows of 200: choose some with --job NAME", out)
             self.assertNotIn("service-007", out)
             # 201 jobs, each with an attempt that fails and one that succeeds.
@@ -724,12 +658,10 @@ class Pictures(unittest.TestCase):
             wanted = [drawn * count for count in (402, 201, 201)]
             self.assertEqual([sum(int(row[place]) for row in figures) for place in range(3)], wanted)
             self.assertEqual(figures[-1][3:], ("0", "0"))
-        status, out, _ = tool("svg", "--job", "service-200", "--job", "service-007", text=many)
-        self.assertEqual({it.split(" of ")[1].split(":")[0] for it in titles(xml.etree.ElementTree.fromstring(out))},
-                         {"service-007", "service-200"})
+        out = output_of(self, tool("svg", "--job", "service-200", "--job", "service-007", text=many))
         self.assertNotIn(" begun, ", out)
-        told = titles(picture_of(many, ["service-200", "service-007"]))
-        self.assertEqual({it.split(" of ")[1].split(":")[0] for it in told}, {"service-007", "service-200"})
+        self.assertEqual(jobs_in(ElementTree.fromstring(out)), {"service-007", "service-200"})
+        self.assertEqual(jobs_in(picture_of(many, ["service-200", "service-007"])), {"service-007", "service-200"})
         self.assertEqual(tool("html", "--job", "x", text=many),
                          (2, "", "zsched-report: standard input: has no job x\n"))
 
@@ -740,11 +672,10 @@ class Pictures(unittest.TestCase):
             ("a", "attempt 1 0..20 ok 1\nend succeeded 1 at 20 polls 2\n")]) + "polls 7\n"
         for words, wanted in [([], "bca"), (["--sort", "end"], "cab"), (["--sort", "name"], "abc"),
                               (["--sort", "attempts"], "cba")]:
-            status, out, _ = tool("svg", *words, text=text)
-            shown = [it.text for it in xml.etree.ElementTree.fromstring(out).iter(f"{SVG}text") if it.text in ("a", "b", "c")]
-            self.assertEqual((status, "".join(shown)), (0, wanted))
-            status, out, _ = tool("html", *words, text=text)
-            self.assertEqual((status, "".join(re.findall(r"^job (\w) retry$", out, re.M))), (0, wanted))
+            shown = [it.text for it in drawn_by(self, "svg", *words, text=text).iter(f"{SVG}text")]
+            self.assertEqual("".join(it for it in shown if it in ("a", "b", "c")), wanted)
+            out = output_of(self, tool("html", *words, text=text))
+            self.assertEqual("".join(re.findall(r"^job (\w) retry$", out, re.M)), wanted)
 
     def test_a_page_has_the_picture_and_no_network_address(self):
         for name, text in pictures():
@@ -759,12 +690,10 @@ class Pictures(unittest.TestCase):
         shown = titles(picture_of(RUNNING, view=View(2000, 6000)))
         self.assertEqual([it.split(" of ")[0] for it in shown], ["attempt 2", "attempt 3"])
         root = picture_of(RUNNING, view=View(2500, 3300))
-        self.assertEqual(titles(root), [])
-        self.assertEqual(len([it for it in root.iter(f"{SVG}path") if it.get("class") == "wait"]), 2)
+        waits = [it for it in root.iter(f"{SVG}path") if it.get("class") == "wait"]
+        self.assertEqual((titles(root), len(waits)), ([], 2))
         for words in [["--from", "5s", "--to", "5s"], ["--from", "1min"]]:
-            status, out, errors = tool("svg", *words, text=RUNNING)
-            self.assertEqual((status, out), (2, ""))
-            self.assertIn("--from must be before --to", errors)
+            self.assertIn("--from must be before --to", errors_of(self, tool("svg", *words, text=RUNNING)))
         self.assertIn('"x" is not a duration', tool("svg", "--from", "x", text=RUNNING)[2])
 
     def test_a_part_of_time_has_its_load_alone(self):
@@ -773,18 +702,16 @@ class Pictures(unittest.TestCase):
             begins = [int(begin) for begin in re.findall(r"^attempt \d+ (\d+)", text, re.MULTILINE)]
             for words, least, most in [(["--from", "300", "--to", "899"], 300, 900), (["--to", "899", "--log"], 0, 900),
                                        (["--log"], 0, max(begins) + 1)]:
-                status, out, errors = tool("svg", *words, text=text)
-                self.assertEqual((status, errors), (0, ""))
-                root = xml.etree.ElementTree.fromstring(out)
-                shown = [int(found[1]) for it in root.iter(f"{SVG}title") if (found := re.search(r": (\d+) begun, ", it.text))]
-                self.assertEqual(sum(shown), sum(least <= begin < most for begin in begins), f"{jobs} jobs, {words}")
+                root = drawn_by(self, "svg", *words, text=text)
+                found = [re.search(r": (\d+) begun, ", it.text) for it in root.iter(f"{SVG}title")]
+                wanted = sum(least <= begin < most for begin in begins)
+                self.assertEqual(sum(int(it[1]) for it in found if it), wanted, f"{jobs} jobs, {words}")
                 nothing_outside(self, root)
             self.assertEqual(tool("svg", "--from", "900", "--to", "300", text=text)[:2], (2, ""))
 
     def test_the_page_of_a_load_has_a_picture_for_each_width(self):
-        status, out, _ = tool("html", "--title", "T & U", text=wide_report(201, 2))
-        self.assertEqual(status, 0)
-        drawn = [xml.etree.ElementTree.fromstring(it.replace("<svg", f"<svg xmlns={SVG[1:-1]!r}", 1))
+        out = output_of(self, tool("html", "--title", "T & U", text=wide_report(201, 2)))
+        drawn = [ElementTree.fromstring(it.replace("<svg", f"<svg xmlns={SVG[1:-1]!r}", 1))
                  for it in re.findall("<svg.*?</svg>", out, re.DOTALL)]
         self.assertEqual([int(root.get("width")) for root in drawn], list(LOAD_WIDTHS))
         for root in drawn:
@@ -800,7 +727,7 @@ class Pictures(unittest.TestCase):
         self.assertIn("pattern{visibility:visible}", out)
 
     def test_no_line_of_the_grid_crosses_the_words_of_a_load(self):
-        root = xml.etree.ElementTree.fromstring(tool("svg", text=wide_report(201, 2))[1])
+        root = drawn_by(self, "svg", text=wide_report(201, 2))
         words = [float(it.get("y")) for it in root.iter(f"{SVG}text") if ":" in "".join(it.itertext())]
         lines = [it.get("d") for it in root.iter(f"{SVG}path") if it.get("class") == "grid"]
         self.assertTrue(words and lines)
@@ -808,19 +735,14 @@ class Pictures(unittest.TestCase):
             self.assertFalse([y for y in words if above < y < below], (above, below))
 
     def test_equal_ratios_are_equally_long_on_a_logarithmic_axis(self):
-        root = picture_of(RUNNING, view=View(is_log=True))
-        bars = [it for it in root.iter(f"{SVG}rect") if it.find(f"{SVG}title") is not None]
-        left = [float(bar.get("x")) for bar in bars]
+        left = [float(bar.get("x")) for bar in bars(picture_of(RUNNING, view=View(is_log=True)))]
         scale = Scale(0, 10000, left[0], left[0] + 1000, 700)
         self.assertEqual([round(scale.at(moment)) for moment in (0, 700, 2100, 4900)],
                          [round(left[0] + 1000 * number / math.log2(1 + 10000 / 700)) for number in (0, 1, 2, 3)])
-        plain = [float(bar.get("x")) for bar in picture_of(RUNNING).iter(f"{SVG}rect")
-                 if bar.find(f"{SVG}title") is not None]
+        plain = [float(bar.get("x")) for bar in bars(picture_of(RUNNING))]
         self.assertGreater(left[1] - left[0], 2 * (plain[1] - plain[0]))
         for name, text in pictures():
-            root = picture_of(text, view=View(is_log=True))
-            labels = [it for it in root.iter(f"{SVG}text") if it.get("class") == "axis"]
-            places = sorted({float(it.get("x")) for it in labels})
+            places = sorted({float(it.get("x")) for it in labels(picture_of(text, view=View(is_log=True)))})
             self.assertTrue(all(right - left > 59 for left, right in zip(places[1:], places[2:])), name)
 
     def test_a_picture_is_dark_where_that_is_preferred_and_has_no_small_letter(self):
@@ -831,7 +753,7 @@ class Pictures(unittest.TestCase):
     def test_a_picture_of_a_file_is_as_large_as_it_was_drawn(self):
         for words in [["svg"], ["load", "--svg", "--every", "50ms"]]:
             for text in [WAITING, wide_report(201, 2)]:
-                root = xml.etree.ElementTree.fromstring(tool(*words, text=text)[1])
+                root = drawn_by(self, *words, text=text)
                 self.assertEqual(["0", "0", root.get("width"), root.get("height")], root.get("viewBox").split())
                 self.assertIsNone(root.get("style"))
 
@@ -845,117 +767,93 @@ class Pictures(unittest.TestCase):
 
     def test_the_command_writes_picture_and_page(self):
         for form, make in [("svg", draw), ("html", page)]:
-            status, out, errors = process(form, "--title", "T", "--job", "beat", text=WAITING)
-            self.assertEqual((status, errors), (0, ""))
+            out = output_of(self, apart(form, "--title", "T", "--job", "beat", text=WAITING))
             made = "".join(make(rows_of(io.StringIO(WAITING), ["beat"]), "T"))
             self.assertEqual(out.replace("\n", ""), made.replace("\n", ""))
 
     def test_the_picture_of_the_documents_is_that_of_its_example(self):
         report_text = (support.TOP / "examples" / "two_policies.json.stdout").read_text()
-        status, out, _ = tool("svg", text=report_text)
-        self.assertEqual(status, 0)
-        self.assertEqual(out, (support.TOP / "docs" / "two_policies.svg").read_text())
+        picture = (support.TOP / "docs" / "two_policies.svg").read_text()
+        self.assertEqual(tool("svg", text=report_text), (0, picture, ""))
 
 
-COARSE_AND_FAILED = REPORTS["coarse"]
-
-
-class Join(unittest.TestCase):
+class Join(InFolder):
     """One report of many."""
-
-    def setUp(self):
-        self.folder = tempfile.TemporaryDirectory()
-        self.addCleanup(self.folder.cleanup)
-
-    def part(self, name, text):
-        """A file with a part's text."""
-        path = pathlib.Path(self.folder.name) / name
-        path.write_text(text)
-        return str(path)
 
     def refused(self, *parts):
         """The error for rejected parts, without the folder's name; no byte is written."""
-        status, out, errors = tool("join", *parts)
-        self.assertEqual((status, out), (2, ""))
-        return errors.replace(f"{self.folder.name}/", "").removeprefix("zsched-report: ").removesuffix("\n")
+        errors = errors_of(self, tool("join", *parts))
+        return errors.replace(f"{self.folder}/", "").removeprefix("zsched-report: ").removesuffix("\n")
 
     def test_jobs_stand_in_order_and_polls_are_added(self):
-        parts = [self.part("a", RETRIED), self.part("b", WAITING), self.part("c", "polls 0\n")]
+        parts = [self.file("a", RETRIED), self.file("b", WAITING), self.file("c", "polls 0\n")]
         whole = RETRIED.removesuffix("polls 3\n") + WAITING.removesuffix("polls 9\n") + "polls 12\n"
-        self.assertEqual(process("join", *parts), (0, whole, ""))
+        self.assertEqual(apart("join", *parts), (0, whole, ""))
         self.assertEqual(tool("join", parts[0]), (0, RETRIED, ""))
         self.assertEqual(tool("lines", text=whole)[0], 0)
 
     def test_empty_cut_and_foreign_parts_are_refused_by_name(self):
-        good = self.part("good", WAITING)
+        good = self.file("good", WAITING)
         for end in [0, 1, 5, len(RETRIED) - 8, len(RETRIED) - 1]:
-            bad = self.part("bad", RETRIED[:end])
+            bad = self.file("bad", RETRIED[:end])
             for parts in [[bad, good], [good, bad]]:
                 self.assertTrue(self.refused(*parts).startswith("bad: "), end)
-        self.assertEqual(self.refused(good, self.part("bad", "{}\n")), "bad: line 1 isn't a line of a report: '{}'")
-        self.assertEqual(self.refused(self.part("bad", RETRIED + RETRIED.replace("job a", "job b")), good),
+        self.assertEqual(self.refused(good, self.file("bad", "{}\n")), "bad: line 1 isn't a line of a report: '{}'")
+        self.assertEqual(self.refused(self.file("bad", RETRIED + RETRIED.replace("job a", "job b")), good),
                          "bad: line 7 is after the last line: 'job b retry'")
 
     def test_repeated_parts_are_refused_by_name(self):
-        first, second = self.part("first", RETRIED), self.part("second", WAITING)
+        first, second = self.file("first", RETRIED), self.file("second", WAITING)
         self.assertEqual(self.refused(first, second, first),
                          "first: is the same file as first, which is a part already")
-        link = first + "-link"
+        link = self.folder / "first-link"
         os.link(first, link)
         self.assertEqual(self.refused(first, link), "first-link: is the same file as first, which is a part already")
-        copy = self.part("copy", RETRIED)
-        self.assertEqual(self.refused(first, second, copy), "copy: line 1 has job a, which is also in first: line 1")
-        self.assertEqual(self.refused(first, self.part("other", WAITING.replace("job broken", "job a"))),
+        said = "copy: line 1 has job a, which is also in first: line 1"
+        self.assertEqual(self.refused(first, second, self.file("copy", RETRIED)), said)
+        self.assertEqual(self.refused(first, self.file("other", WAITING.replace("job broken", "job a"))),
                          "other: line 9 has job a, which is also in first: line 1")
-        self.assertEqual(self.refused(self.part("twice", WAITING.replace("job broken", "job beat"))),
+        self.assertEqual(self.refused(self.file("twice", WAITING.replace("job broken", "job beat"))),
                          "twice: line 9 has job beat, which is also in twice: line 1")
 
     def test_parts_of_other_horizons_are_refused_by_name(self):
-        first, second = self.part("first", RUNNING), self.part("second", WAITING)
+        first, second = self.file("first", RUNNING), self.file("second", WAITING)
         self.assertEqual(self.refused(first, second), "second: line 8 has another horizon than a job before it, 10000: "
                                                       "'end unfinished at 4000 polls 5'")
-        late = self.part("late", RETRIED.replace("5..10", "5..10000").replace("at 10", "at 10000"))
+        late = self.file("late", RETRIED.replace("5..10", "5..10000").replace("at 10", "at 10000"))
         self.assertTrue(self.refused(late, second).startswith("second: line 8 is at odds with a horizon of 4000"))
 
     def test_of_two_bad_parts_the_first_is_named(self):
-        good, cut, foreign = self.part("good", WAITING), self.part("cut", RETRIED[:-1]), self.part("foreign", RUNNING)
+        good, cut, foreign = self.file("good", WAITING), self.file("cut", RETRIED[:-1]), self.file("foreign", RUNNING)
         for number in range(8):
-            others = [self.part(f"good-{at}", RETRIED.replace("job a", f"job a{at}")) for at in range(number)]
+            others = [self.file(f"good-{at}", RETRIED.replace("job a", f"job a{at}")) for at in range(number)]
             self.assertTrue(self.refused(*others, cut, good, foreign).startswith("cut: line 6 is cut"))
             said = self.refused(good, *others, foreign, cut)
             self.assertTrue(said.startswith("foreign: line 11 has another horizon"), said)
 
     def test_what_is_no_file_is_refused(self):
         said = "zsched-report: /dev/null: is not a regular file, and a part is read twice\n"
-        self.assertEqual(process("join", "/dev/null"), (2, "", said))
+        self.assertEqual(apart("join", "/dev/null"), (2, "", said))
 
     def test_a_missing_part_is_told_by_name_and_nothing_is_written(self):
-        missing = os.path.join(self.folder.name, "missing")
-        self.assertEqual(tool("join", self.part("a", RETRIED), missing),
+        missing = self.folder / "missing"
+        self.assertEqual(tool("join", self.file("a", RETRIED), missing),
                          (3, "", f"zsched-report: {missing}: No such file or directory\n"))
 
     def test_a_part_that_changes_after_it_was_read_is_not_copied(self):
-        path = self.part("a", RETRIED)
-        written = []
-
-        def write(piece):
-            """Stores a piece, and truncates the other part."""
-            written.append(piece)
-            os.truncate(other, 0)
-        other = self.part("b", WAITING)
+        path, other, written = self.file("a", RETRIED), self.file("b", WAITING), []
         with self.assertRaises(OSError):
-            write_joined([path, other], write)
+            write_joined([path, other], lambda piece: (written.append(piece), os.truncate(other, 0)))
         self.assertEqual(written, [RETRIED.removesuffix("polls 3\n").encode()])
 
     def test_many_parts_take_little_memory(self):
-        parts = []
-        for number in range(40):
-            parts.append(self.part(f"part-{number:03}", wide_report(500, 2).replace("job service", f"job s{number}")))
-        whole = pathlib.Path(self.folder.name) / "whole"
+        parts = [self.file(f"part-{number:03}", wide_report(500, 2).replace("job service", f"job s{number}"))
+                 for number in range(40)]
+        whole = self.folder / "whole"
         status, kilobytes, _ = measured(TOOL, "join", *parts, out=whole)
         self.assertEqual(status, 0)
         self.assertEqual(whole.read_text(), "".join(
-            pathlib.Path(part).read_text().removesuffix("polls 2000\n") for part in parts) + "polls 80000\n")
+            part.read_text().removesuffix("polls 2000\n") for part in parts) + "polls 80000\n")
         self.assertLess(kilobytes, 40_000)
 
 

@@ -27,18 +27,6 @@ if [ "$(cat at)" = "$call half" ]; then {program} "$@" > half; head -c $(($(wc -
 {program} "$@"
 [ "$(cat at)" != "$call after" ] || kill -9 0
 """
-# In place of Slurm's: it runs an array's tasks on this machine, except the one that the file `cancelled` names, and
-# ends with 0 as Slurm's does when a task is cancelled before it begins.
-SBATCH = """#!/bin/bash
-case "$*" in "--wait --array="*" part.sbatch") ;; *) echo "sbatch: $*" >&2; exit 2 ;; esac
-array=${2#--array=}
-for task in ${array//,/ }; do
-  [ "$task" = "$(cat cancelled 2> /dev/null)" ] && continue
-  SLURM_ARRAY_TASK_ID=$task sh part.sbatch > parts/slurm-$task.out 2>&1
-done
-exit 0
-"""
-
 # A plan of 10^15 attempts, with its newline of 114 bytes.
 ENDLESS = """{"horizon":999999999999999,"jobs":[{"name":"a","mode":"repeat","schedule":"forever",\
 "script":[{"ms":1,"ok":1}]}]}
@@ -100,6 +88,11 @@ class Recipes(InFolder):
         if ended.returncode != 0:
             self.skipTest(f"{' '.join(words)} ends with {ended.returncode} on this machine")
         return ended.stdout
+
+    def needs_parallel(self):
+        """Skips the test if GNU's parallel isn't on this machine."""
+        if "GNU" not in self.needs("parallel", "--version"):
+            self.skipTest("the parallel of this machine isn't GNU's")
 
     def run_in_folder(self, commands):
         """Runs commands in the folder: status and errors."""
@@ -282,13 +275,11 @@ class Recipes(InFolder):
             self.assertEqual(self.run_in_folder(f"cp kept parts/{name}"), (0, ""))
 
     def test_gnu_parallel(self):
-        if "GNU" not in self.needs("parallel", "--version"):
-            self.skipTest("the parallel of this machine isn't GNU's")
+        self.needs_parallel()
         self.check_recipe(recipe("GNU parallel")[0], 1, joins=False)
 
     def test_gnu_parallel_on_several_machines(self):
-        if "GNU" not in self.needs("parallel", "--version"):
-            self.skipTest("the parallel of this machine isn't GNU's")
+        self.needs_parallel()
         self.needs("rsync", "--version")
         self.program("ssh", SSH.format(folder=self.folder))
         self.program("zsched", f"#!/bin/sh\necho run >> ~/../${{HOME##*/}}.log\nexec {self.zsched}\n")
@@ -321,7 +312,7 @@ class Recipes(InFolder):
         self.check_recipe(commands, 3)
 
     def test_an_array_by_a_program_that_stands_in_for_slurm(self):
-        self.program("sbatch", SBATCH)
+        self.program("sbatch", (support.TOP / "tests" / "tools" / "sbatch.sh").read_text())
         script, commands = recipe("Slurm")
         (self.folder / "part.sbatch").write_text(script)
         self.check_recipe(commands, 3)
@@ -343,12 +334,6 @@ class Recipes(InFolder):
         (self.folder / "run_parts.py").write_text(recipe("Dask", "python")[0])
         self.check_recipe(recipe("Dask")[0], 1, times=1)
 
-    def write_population(self, jobs):
-        """Writes population.jsonl, and returns the report of its jobs."""
-        names = [f"job-{number}" for number in range(jobs)]
-        (self.folder / "population.jsonl").write_bytes(support.population(names, 1, 1))
-        return support.equal_jobs(names, 1, 1)[1]
-
     def test_one_program(self):
         try:
             found = zsched.find_population()
@@ -358,8 +343,10 @@ class Recipes(InFolder):
             self.skipTest("zsched_population isn't built")
         (commands,), whole = recipe("One program, without parts"), self.folder / "whole.report"
         partial = self.folder / "whole.partial"
-        right = self.write_population(MANY_JOBS)
-        block = support.equal_jobs([f"job-{number}" for number in range(10_000)], 1, 1)[1].rpartition(b"polls ")[0]
+        names = [f"job-{number}" for number in range(MANY_JOBS)]
+        self.file("population.jsonl", support.population(names, 1, 1))
+        right = support.equal_jobs(names, 1, 1)[1]
+        block = support.equal_jobs(names[:10_000], 1, 1)[1].rpartition(b"polls ")[0]
         # It gets no line after the first of the second block.
         self.program("zsched-population", f"#!/bin/sh\n[ ! -e {self.folder}/slow ] && exec {found}\n"
                                           f"(head -n 10002; sleep 60) | {found}\n")
@@ -390,8 +377,7 @@ class Recipes(InFolder):
         population.write_bytes(good)
 
     def test_the_pipe(self):
-        if "GNU" not in self.needs("parallel", "--version"):
-            self.skipTest("the parallel of this machine isn't GNU's")
+        self.needs_parallel()
         script, commands, repeats = recipe("The pipe, without parts")
         (self.folder / "run-block.sh").write_text(script)
         jobs = [support.job(f"job-{number}") for number in range(JOBS)]

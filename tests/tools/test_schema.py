@@ -167,24 +167,28 @@ class Validated(unittest.TestCase):
                 self.assertTrue(self.validator.is_valid(tree))
                 taken.append(jobs)
 
-    def test_takes_its_own_examples(self):
-        for text in SCHEMA["$defs"]["job"]["properties"]["schedule"]["examples"]:
-            with self.subTest(text):
-                self.assertTrue(self.validator.is_valid(json.loads(scheduled(text))))
-                self.assertEqual(self.status(scheduled(text)), 0)
-
     def test_takes_lawful_schedules_made_at_random(self):
         chance = random.Random(SEED)
         for _ in range(500):
             text = spread(chance, " ".join(made_term(chance, chance.choice([1, 2, 3, 5, 12]))[0]))
             self.assertTrue(self.validator.is_valid(json.loads(scheduled(text))), text)
 
-    def test_refuses_each_faulty_plan_as_the_program_does(self):
-        self.assertTrue(self.validator.is_valid(json.loads(ONE_JOB)))
-        for name, text in FAULTY:
+    def hold(self, plans, is_valid, status):
+        """Whether the schema accepts plans, and the program's status on them."""
+        for name, text in plans:
             with self.subTest(name):
-                self.assertFalse(self.validator.is_valid(json.loads(text)))
-                self.assertEqual(self.status(text), 2)
+                self.assertEqual((self.validator.is_valid(json.loads(text)), self.status(text)), (is_valid, status))
+
+    def test_takes_its_own_examples(self):
+        examples = SCHEMA["$defs"]["job"]["properties"]["schedule"]["examples"]
+        self.hold([(text, scheduled(text)) for text in examples], True, 0)
+
+    def test_refuses_each_faulty_plan_as_the_program_does(self):
+        self.hold([("one job", ONE_JOB)], True, 0)
+        self.hold(FAULTY, False, 2)
+
+    def test_what_it_cannot_tell_the_program_refuses(self):
+        self.hold(MISSED, True, 2)
 
     def test_refuses_each_fault_that_it_can_tell(self):
         refused = 0
@@ -196,12 +200,6 @@ class Validated(unittest.TestCase):
                 refused += not is_valid
                 self.assertTrue(not is_valid or UNTOLD.search(fault) or name in MISSED_NAMES)
         self.assertGreater(refused, 180)
-
-    def test_what_it_cannot_tell_the_program_refuses(self):
-        for name, text in MISSED:
-            with self.subTest(name):
-                self.assertTrue(self.validator.is_valid(json.loads(text)))
-                self.assertEqual(self.status(text), 2)
 
     def test_the_program_refuses_whatever_it_refuses(self):
         chance = random.Random(SEED)

@@ -11,7 +11,7 @@ import tempfile
 import unittest
 from unittest import mock
 
-from commands import judge_colours
+from commands import InFolder, judge_colours, output_of, process
 from support import TOP
 from zsched_tools import program, starting
 
@@ -26,9 +26,7 @@ ENDING = {"zsched-explain": ["--zsched", "/nowhere"], "zsched-play": ["--zsched"
 
 def ended(tool, *words, **environment):
     """A run of a tool: status, output and errors."""
-    run = subprocess.run([sys.executable, tool, *words], capture_output=True, stdin=subprocess.DEVNULL, check=False,
-                         env={**os.environ, **environment})
-    return run.returncode, run.stdout.decode(), run.stderr.decode()
+    return process(sys.executable, tool, *words, **environment)
 
 
 # For each tool the words of runs that write to standard output; LOG, PLAN, REPORT and SCENARIO are files.
@@ -45,60 +43,47 @@ SCENARIO = """{"horizon": "5s", "clients": {"number": 1}, "outcomes": {"up": {"m
 "policies": {"steady": "spaced(400)"}}"""
 
 
-class Tools(unittest.TestCase):
+class Tools(InFolder):
     """Each command."""
 
-    def files(self, folder):
-        """The files that the words of WRITING name."""
-        texts = {"LOG": "name,ms,status\na,5,200\n", "SCENARIO": SCENARIO}
-        found = {name: pathlib.Path(folder) / file for name, file in
-                 {"LOG": "log.csv", "SCENARIO": "scenario.json", "LINES": "lines.jsonl"}.items()}
-        for name, text in texts.items():
-            found[name].write_text(text)
-        found.update(PLAN=TOP / "examples" / "checkout.json", REPORT=TOP / "examples" / "checkout.json.stdout")
-        found["LINES"].write_text(ended(TOP / "tools" / "zsched-report", "lines", found["REPORT"])[1])
-        return found
-
-    def lines_written(self, folder):
+    def lines_written(self):
         """The shell's words of each run of WRITING, and of help and version."""
         self.assertEqual(sorted(WRITING), [tool.name for tool in TOOLS])
-        files = self.files(folder)
+        plan, report = TOP / "examples" / "checkout.json", TOP / "examples" / "checkout.json.stdout"
+        lines = output_of(self, ended(TOP / "tools" / "zsched-report", "lines", report))
+        files = {"PLAN": plan, "REPORT": report, "LOG": self.file("log.csv", "name,ms,status\na,5,200\n"),
+                 "SCENARIO": self.file("scenario.json", SCENARIO), "LINES": self.file("lines.jsonl", lines)}
         for name, runs in WRITING.items():
             for words in [["--help"], ["--version"], *runs]:
                 run = [TOP / "tools" / name, *(files.get(it, it) for it in words)]
                 yield name, shlex.join(map(str, run))
 
     def test_an_output_that_takes_nothing_ends_each_with_3_and_one_line(self):
-        with tempfile.TemporaryDirectory() as folder:
-            for name, line in self.lines_written(folder):
-                for target, said in [("> /dev/full", "No space left on device"), (">&-", "standard output is closed")]:
-                    with self.subTest(f"{line} {target}"):
-                        run = subprocess.run(["bash", "-c", f"{line} {target}"], stdin=subprocess.DEVNULL,
-                                             capture_output=True, text=True, timeout=300, check=False)
-                        self.assertEqual(run.returncode, 3, run.stderr)
-                        self.assertRegex(run.stderr, rf"^{name}: (standard output: )?{said}\n$")
+        for name, line in self.lines_written():
+            for target, said in [("> /dev/full", "No space left on device"), (">&-", "standard output is closed")]:
+                with self.subTest(f"{line} {target}"):
+                    status, _, errors = process("bash", "-c", f"{line} {target}")
+                    self.assertEqual(status, 3, errors)
+                    self.assertRegex(errors, rf"^{name}: (standard output: )?{said}\n$")
 
     def test_a_reader_that_goes_away_ends_each_quietly(self):
-        with tempfile.TemporaryDirectory() as folder:
-            for name, line in self.lines_written(folder):
-                with self.subTest(line):
-                    # The reader is gone before any output is written.
-                    reader, writer = os.pipe()
-                    os.close(reader)
-                    with os.fdopen(writer, "wb", 0) as output:
-                        run = subprocess.run(shlex.split(line), stdin=subprocess.DEVNULL, stdout=output,
-                                             stderr=subprocess.PIPE, text=True, timeout=300, check=False)
-                    wanted = ((3, "zsched-report: the reader of standard output closed it\n") if " join " in line
-                              else (-signal.SIGPIPE, ""))
-                    self.assertEqual((run.returncode, run.stderr), wanted)
+        for _, line in self.lines_written():
+            with self.subTest(line):
+                # The reader is gone before any output is written.
+                reader, writer = os.pipe()
+                os.close(reader)
+                with os.fdopen(writer, "wb", 0) as output:
+                    run = subprocess.run(shlex.split(line), stdin=subprocess.DEVNULL, stdout=output,
+                                         stderr=subprocess.PIPE, text=True, timeout=300, check=False)
+                wanted = ((3, "zsched-report: the reader of standard output closed it\n") if " join " in line
+                          else (-signal.SIGPIPE, ""))
+                self.assertEqual((run.returncode, run.stderr), wanted)
 
     def test_without_python_each_says_so_in_one_line(self):
         for tool in TOOLS:
             with self.subTest(tool.name):
-                run = subprocess.run(["/bin/sh", tool, "--help"], env={"PATH": "/nowhere"}, capture_output=True,
-                                     text=True, check=False)
                 said = f"{tool.name}: needs Python 3.11 or later, and there is no python3 on this machine\n"
-                self.assertEqual((run.returncode, run.stdout, run.stderr), (3, "", said))
+                self.assertEqual(process("/bin/sh", tool, "--help", PATH="/nowhere"), (3, "", said))
 
     def test_the_version_is_that_of_the_tree(self):
         for tool in [*TOOLS, *MAKERS]:

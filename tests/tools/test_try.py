@@ -1,18 +1,15 @@
 """zsched-try: a line a policy, computed by hand; bounds, also those of every input; the plan and the picture; faults with their caret."""
 import io
 import json
-import pathlib
 import random
 import re
 import shlex
-import subprocess
 import sys
-import tempfile
 import unittest
 from unittest import mock
 
 import reference
-from commands import judge_colours, run_here
+from commands import InFolder, errors_of, judge_colours, output_of, process, run_here
 from support import TOP
 from zsched_tools import program as zsched
 from zsched_tools import try_command, trying
@@ -20,8 +17,6 @@ from zsched_tools.durations import duration
 from zsched_tools.report import Attempt, Ending, records
 
 TOOL = TOP / "tools" / "zsched-try"
-
-
 BOUNDS = zsched.find_bounds()
 # The line of a policy for every input.
 EVERY = re.compile(r"^ *for every input: .*\n", re.M)
@@ -137,29 +132,24 @@ class Bounds(unittest.TestCase):
         self.assertEqual(tool("spaced(1000)", "--until", "1h", "--max-wait", "1s")[0], 0)
 
 
-def printing(folder, lines, status=0):
-    """The path of a program that prints these lines, whatever it reads."""
-    script = pathlib.Path(folder) / "zsched-bounds"
-    script.write_text(f"#!/bin/sh\ncat > /dev/null\ncat << END\n{lines}\nEND\nexit {status}\n")
-    script.chmod(0o700)
-    return str(script)
-
-
 def bounds_line(least, most, longest, total, seen):
     """A line as zsched-bounds prints it."""
     return json.dumps({"policy": "p", "attempts": {"least": least, "most": most}, "longest_wait": longest,
                        "total_wait": total, "steps_seen": seen})
 
 
-class EveryInput(unittest.TestCase):
+class EveryInput(InFolder):
     """What is proved for every input, and bounds that have to be."""
 
     RUN = "failed 503 after 2 attempts, 80 ms (waited 0 ms, longest wait 0 ms)\n"
 
+    def printing(self, lines, status=0):
+        """The path of a program that prints these lines, whatever it reads."""
+        return str(self.script("zsched-bounds", f"cat > /dev/null\ncat << END\n{lines}\nEND\nexit {status}"))
+
     def shown(self, line, *words):
         """Status, the line for every input, and standard error if zsched-bounds prints this line."""
-        with tempfile.TemporaryDirectory() as folder:
-            status, out, err = tool("recurs(1)", *words, bounds=printing(folder, line))
+        status, out, err = tool("recurs(1)", *words, bounds=self.printing(line))
         self.assertTrue(out.startswith(self.RUN), out)
         return status, out.removeprefix(self.RUN), err
 
@@ -209,11 +199,10 @@ class EveryInput(unittest.TestCase):
         self.assertEqual(self.shown(bounds_line(9, 20000, 7, None, 20000), "--require-wait", "7")[::2], (0, ""))
 
     def test_each_policy_has_its_line_and_its_bounds(self):
-        with tempfile.TemporaryDirectory() as folder:
-            path = printing(folder, bounds_line(2, 2, 0, 0, 2) + "\n" + bounds_line(3, 3, 5, 10, 3))
-            words = ["recurs(1)", "(recurs(2) && spaced(5))", "--require-most", "2"]
-            status, out, err = tool(*words, bounds=path)
-            picture = tool(*words, "--svg", bounds=path)
+        path = self.printing(bounds_line(2, 2, 0, 0, 2) + "\n" + bounds_line(3, 3, 5, 10, 3))
+        words = ["recurs(1)", "(recurs(2) && spaced(5))", "--require-most", "2"]
+        status, out, err = tool(*words, bounds=path)
+        picture = tool(*words, "--svg", bounds=path)
         self.assertEqual((status, err), (1, "zsched-try: (recurs(2) && spaced(5)): --require-most 2 is not proved: "
                                             "up to 3 attempts\n"))
         self.assertEqual([line[26:] for line in out.splitlines()[1::2]], [
@@ -225,59 +214,49 @@ class EveryInput(unittest.TestCase):
     def test_without_the_program(self):
         self.assertEqual(tool("recurs(1)"), (0, self.RUN, ""))
         for words in [["--require-most", "9"], ["--require-wait", "9"], ["--require-total", "9"]]:
-            status, out, err = tool("recurs(1)", *words)
-            self.assertEqual((status, out), (2, ""))
-            self.assertIn("need zsched-bounds, which is neither built nor installed", err)
+            self.assertIn("need zsched-bounds, which is neither built nor installed",
+                          errors_of(self, tool("recurs(1)", *words)))
 
     def test_a_program_that_fails_or_is_not_there(self):
-        with tempfile.TemporaryDirectory() as folder:
-            status, out, err = tool("recurs(1)", bounds=printing(folder, "", 4))
-        self.assertEqual((status, out, err), (3, "", "zsched-try: zsched-bounds ended with status 4\n"))
-        ended = subprocess.run([sys.executable, TOOL, "recurs(1)", "--zsched", zsched.find(), "--bounds", "/nowhere"],
-                               capture_output=True, text=True, check=False)
-        self.assertEqual((ended.returncode, ended.stdout, ended.stderr), (2, "", "zsched-try: no program at /nowhere\n"))
+        self.assertEqual(tool("recurs(1)", bounds=self.printing("", 4)),
+                         (3, "", "zsched-try: zsched-bounds ended with status 4\n"))
+        ended = process(sys.executable, TOOL, "recurs(1)", "--zsched", zsched.find(), "--bounds", "/nowhere")
+        self.assertEqual(ended, (2, "", "zsched-try: no program at /nowhere\n"))
 
     @unittest.skipIf(BOUNDS is None, "zsched_bounds isn't built")
     def test_the_program_itself(self):
         # Delays of 100 ms and twice as much each time, up to 1.6 s, for five retries.
         policy = "(exponential(100) && recurs(5))"
-        status, out, err = tool(policy, "--require-most", "6", "--require-total", "3100", bounds=BOUNDS)
-        self.assertEqual((status, err), (0, ""))
+        out = output_of(self, tool(policy, "--require-most", "6", "--require-total", "3100", bounds=BOUNDS))
         self.assertIn("for every input: 6 attempts, always; waits of at most 1.6 s, 3.1 s in all\n", out)
-        self.assertEqual(tool(policy, "--require-most", "5", bounds=BOUNDS)[0], 1)
-        self.assertEqual(tool(policy, "--require-wait", "1600", bounds=BOUNDS)[0], 0)
-        self.assertEqual(tool(policy, "--require-wait", "1599", bounds=BOUNDS)[0], 1)
-        self.assertEqual(tool(policy, "--require-total", "3099", bounds=BOUNDS)[0], 1)
+        for option, number, status in [("most", 5, 1), ("wait", 1600, 0), ("wait", 1599, 1), ("total", 3099, 1)]:
+            self.assertEqual(tool(policy, f"--require-{option}", number, bounds=BOUNDS)[0], status, option)
 
     def test_a_wrong_policy_has_the_same_fault(self):
-        with tempfile.TemporaryDirectory() as folder:
-            self.assertEqual(tool("x", "--require-most", "1", bounds=printing(folder, "", 2))[::2], tool("x")[::2])
+        self.assertEqual(tool("x", "--require-most", "1", bounds=self.printing("", 2))[::2], tool("x")[::2])
 
 
 class Printed(unittest.TestCase):
     """The plan and the picture."""
 
     def test_the_plan_gives_the_same_report(self):
-        status, out, err = tool("spaced(1000)", "(exponential(100) && recurs(5))", "--after", "2", "--until", "2h",
-                                "--plan")
-        self.assertEqual((status, err), (0, ""))
+        words = ["spaced(1000)", "(exponential(100) && recurs(5))", "--after", "2", "--until", "2h", "--plan"]
+        out = output_of(self, tool(*words))
         plan = json.loads(out)
         self.assertEqual([job["name"] for job in plan["jobs"]], ["spaced-1000", "exponential-100-recurs-5"])
         self.assertEqual(plan["horizon"], 7200000)
         self.assertEqual(plan["jobs"][1], {"name": "exponential-100-recurs-5", "mode": "retry",
                                            "schedule": "(exponential(100) && recurs(5))",
                                            "script": [{"ms": 40, "err": 503}] * 2 + [{"ms": 35, "ok": 200}]})
-        ended = subprocess.run([zsched.find()], input=out.encode(), capture_output=True, check=False)
-        self.assertEqual(ended.returncode, 0)
-        self.assertIn(b"end succeeded 200 at 2115 polls 6\n", ended.stdout)
+        said = output_of(self, process(zsched.find(), given=out.encode()))
+        self.assertIn("end succeeded 200 at 2115 polls 6\n", said)
 
     def test_names_are_allowed_and_differ(self):
         names = trying.job_names(["spaced(1)", "spaced( 1 )", "spaced(1) ", "&&", "x" * 90, "x" * 91])
         self.assertEqual(names, ["spaced-1", "spaced-1-2", "spaced-1-3", "policy", "x" * 48, "x" * 48 + "-2"])
 
     def test_the_picture_has_a_row_a_policy(self):
-        status, out, err = tool("spaced(1000)", "recurs(2)", "--after", "3", "--svg", "--title", "Two & two")
-        self.assertEqual((status, err), (0, ""))
+        out = output_of(self, tool("spaced(1000)", "recurs(2)", "--after", "3", "--svg", "--title", "Two & two"))
         self.assertTrue(out.startswith("<svg") and out.endswith("</svg>\n"))
         for words in ["spaced-1000", "recurs-2", "Two &amp; two", "failed 503 · 3 attempts"]:
             self.assertIn(words, out)
@@ -288,7 +267,7 @@ class Printed(unittest.TestCase):
                          (1, True, "zsched-try: spaced(1000): longest wait 1 s, over --max-wait 1 ms\n"))
 
 
-class Faults(unittest.TestCase):
+class Faults(InFolder):
     """A wrong policy: its place, a caret and a help."""
 
     def test_a_policy(self):
@@ -301,17 +280,15 @@ zsched-try: byte 10: this && is outside of parentheses
 """))
 
     def test_the_policy_is_named_where_there_are_some(self):
-        status, out, err = tool("recurs(1)", "windowed(0)", "x")
-        self.assertEqual((status, out, err.partition("\n")[0]),
-                         (2, "", "zsched-try: policy 2, byte 9: the window is 0"))
+        err = errors_of(self, tool("recurs(1)", "windowed(0)", "x"))
+        self.assertEqual(err.partition("\n")[0], "zsched-try: policy 2, byte 9: the window is 0")
 
     def test_other_faults_of_a_schedule(self):
         for policy, at, help in [("", 0, ""), ("recur(3)", 0, "recurs"), ("recurs(3).map(_1)", 10, "pairs"),
                                  ("recurs(99999999999999999999)", 7, "18446744073709551615"),
                                  ("exponential(1.5)", 13, ""), ("spaced(1)é", 9, "")]:
             with self.subTest(policy):
-                status, out, err = tool(policy)
-                self.assertEqual((status, out), (2, ""))
+                err = errors_of(self, tool(policy))
                 self.assertRegex(err, rf"^zsched-try: byte {at}: ")
                 self.assertIn(help, err)
                 self.assertRegex(err, r"\n  \| +\^|\n  \| \^")
@@ -325,22 +302,15 @@ zsched-try: byte 10: this && is outside of parentheses
                             (["recurs(1)", "--max-attempts", "-1"], ""), ([], "POLICY"),
                             (["recurs(1)", "--plan", "--svg"], "not allowed with")]:
             with self.subTest(words):
-                status, out, err = tool(*words)
-                self.assertEqual((status, out), (2, ""))
-                self.assertIn(what, err)
+                self.assertIn(what, errors_of(self, tool(*words)))
 
     def test_a_program_that_fails_or_is_not_there(self):
         self.assertEqual(tool("recurs(1)", program="/nowhere"), (2, "", "zsched-try: no program at /nowhere\n"))
-        status, out, err = tool("recurs(1)", program="/bin/false")
-        self.assertEqual((status, out, err), (3, "", "zsched-try: zsched ended with status 1\n"))
+        self.assertEqual(tool("recurs(1)", program="/bin/false"), (3, "", "zsched-try: zsched ended with status 1\n"))
         for ending, what in [("kill -9 $$", "zsched was ended by signal 9"),
                              ("echo zsched: out of memory >&2; exit 4", "zsched: out of memory")]:
-            with tempfile.TemporaryDirectory() as folder:
-                script = pathlib.Path(folder) / "zsched"
-                script.write_text(f"#!/bin/sh\n{ending}\n")
-                script.chmod(0o700)
-                self.assertEqual(tool("forever", program=str(script)),
-                                 (3, "", f"zsched-try: {what}; shorten --until, or lengthen the waits\n"))
+            self.assertEqual(tool("forever", program=str(self.script("zsched", ending))),
+                             (3, "", f"zsched-try: {what}; shorten --until, or lengthen the waits\n"))
 
 
 class Command(unittest.TestCase):
