@@ -1,17 +1,18 @@
 //! One step of all states in which a schedule may be.
 
 ghost use Rattle.std.specs.Prelude.{◌≡◌, ◌&&◌, ◌||◌, IfOk, OnOk, if◌then◌else◌};
-ghost use Rattle.zs_term.specs.Schedule.{two, over, both, and_then, while_output, collect_all, mapped, reset_when};
+ghost use Rattle.zs_term.specs.Schedule.{two, over, and_then, while_input, while_output, collect_all, mapped, reset_when};
 ghost use Rattle.zs_bounds.specs.OutRange.{output_range_of};
+ghost use Rattle.zs_bounds.specs.Leaf.{bare_leaf};
 ghost use Rattle.zs_bounds.specs.OutputRange.{pairs, sides, merge_range};
-ghost use Rattle.zs_bounds.specs.AnswerRange.{range, answers_if, left_range, right_range};
-ghost use Rattle.zs_bounds.specs.DecisionRange.{may_go_on, no_decision};
-ghost use Rattle.zs_bounds.specs.StateRange.{items, first_range, next_range, next_state};
+ghost use Rattle.zs_bounds.specs.AnswerRange.{range, answers_if, leaf_range, left_range, right_range};
+ghost use Rattle.zs_bounds.specs.DecisionRange.{may_go_on, both_decide, either_decides, no_decision};
+ghost use Rattle.zs_bounds.specs.StateRange.{items, first_range, next_range, next_state, more_steps, more_time};
 ghost use Rattle.zs_bounds.specs.Node.{node_schedule, node_state, part_state, turn_states, turns_range, turn_of, fresh_added, node_firsts, KnowsFirsts};
 ghost use Rattle.zs_bounds.specs.Reads.{Shows, range_if, left_range_in, right_range_in};
 
 use crate::decisions::Decisions;
-use crate::leaves::leaf_range;
+use crate::leaves::{Leaf, leaf_range};
 use crate::node::{Node, ResetRule, Turn, Turns, add_first, any_input, more_items, refresh};
 use crate::ranges::{OutRange, make_pairs, may_fail, may_pass, picked_span};
 use crate::reads::{Reads, join_read};
@@ -41,29 +42,16 @@ pub(crate) fn step<'a>(
     ensures firsts { OnOk result (node_firsts node.new ≡ node_firsts node.old) }
 {
     match node {
-        Node::Leaf { leaf, steps, time } => {
-            *steps = steps.more_steps();
-            *time = time.more_time(later);
-            let (x, decision) = leaf_range(*leaf, *steps, *time);
-            reads.put(x, out);
-            Ok(decision)
-        }
-        Node::Both { first, second } => {
-            let (x, y) = step_pair(alloc, first, second, reads, later, out)?;
-            Ok(x.both(y))
-        }
-        Node::Either { first, second } => {
-            let (x, y) = step_pair(alloc, first, second, reads, later, out)?;
-            Ok(x.either(y))
-        }
+        Node::Leaf { leaf, steps, time } => Ok(step_leaf(*leaf, steps, time, reads, later, out)),
+        Node::Both { first, second } => step_both(alloc, first, second, reads, later, out),
+        Node::Either { first, second } => step_either(alloc, first, second, reads, later, out),
         Node::AndThen {
             turns,
             first,
             second,
         } => step_and_then(alloc, turns, first, second, reads, later, out),
         Node::WhileInput { part, test } => {
-            let x = step(alloc, part, reads, later, out)?;
-            Ok(x.tested(may_pass(*test, any_input()), may_fail(*test, any_input())))
+            step_while_input(alloc, part, *test, reads, later, out)
         }
         Node::WhileOutput { part, pick, test } => {
             step_while_output(alloc, part, *pick, *test, reads, later, out)
@@ -79,6 +67,105 @@ pub(crate) fn step<'a>(
             start,
         } => step_reset_when(alloc, part, *rule, (start, *begins), reads, later, out),
     }
+}
+
+// One step of a leaf.
+fn step_leaf(
+    leaf: Leaf,
+    steps: &mut Span,
+    time: &mut Span,
+    reads: &Reads<'_>,
+    later: u64,
+    out: &mut OutRange,
+) -> Decisions
+    ensures output { Shows reads.now out.new
+        (leaf_range (bare_leaf leaf) (more_steps steps.old) (more_time later time.old)).output }
+    ensures decision { result
+        ≡ (leaf_range (bare_leaf leaf) (more_steps steps.old) (more_time later time.old)).decision }
+    ensures steps { steps.new ≡ more_steps steps.old }
+    ensures time { time.new ≡ more_time later time.old }
+{
+    *steps = steps.more_steps();
+    *time = time.more_time(later);
+    let (x, decision) = leaf_range(leaf, *steps, *time);
+    reads.put(x, out);
+    decision
+}
+
+// One step of both parts of `&&`.
+#[cycle(stepping)]
+fn step_both<'a>(
+    alloc: Global,
+    first: &mut Node,
+    second: &mut Node,
+    reads: &'a Reads<'a>,
+    later: u64,
+    out: &mut OutRange,
+) -> Result<Decisions, AllocError>
+    requires first_firsts { KnowsFirsts first.old }
+    requires second_firsts { KnowsFirsts second.old }
+    ensures output { OnOk result
+        (Shows reads.now out.new
+        (pairs
+        (next_range (node_schedule first.old) (node_state first.old) later).output
+        (next_range (node_schedule second.old) (node_state second.old) later).output)) }
+    ensures decision { IfOk result (λ d.
+        d
+        ≡ both_decide
+        (next_range (node_schedule first.old) (node_state first.old) later).decision
+        (next_range (node_schedule second.old) (node_state second.old) later).decision) }
+    ensures states { OnOk result
+        ((node_state first.new
+        ≡ next_state (node_schedule first.old) (node_state first.old) later)
+        × (node_state second.new
+        ≡ next_state (node_schedule second.old) (node_state second.old) later)) }
+    ensures same { OnOk result
+        ((node_schedule first.new ≡ node_schedule first.old)
+        × (node_schedule second.new ≡ node_schedule second.old)) }
+    ensures firsts { OnOk result
+        ((node_firsts first.new ≡ node_firsts first.old)
+        × (node_firsts second.new ≡ node_firsts second.old)) }
+{
+    let (x, y) = step_pair(alloc, first, second, reads, later, out)?;
+    Ok(x.both(y))
+}
+
+// One step of both parts of `||`.
+#[cycle(stepping)]
+fn step_either<'a>(
+    alloc: Global,
+    first: &mut Node,
+    second: &mut Node,
+    reads: &'a Reads<'a>,
+    later: u64,
+    out: &mut OutRange,
+) -> Result<Decisions, AllocError>
+    requires first_firsts { KnowsFirsts first.old }
+    requires second_firsts { KnowsFirsts second.old }
+    ensures output { OnOk result
+        (Shows reads.now out.new
+        (pairs
+        (next_range (node_schedule first.old) (node_state first.old) later).output
+        (next_range (node_schedule second.old) (node_state second.old) later).output)) }
+    ensures decision { IfOk result (λ d.
+        d
+        ≡ either_decides
+        (next_range (node_schedule first.old) (node_state first.old) later).decision
+        (next_range (node_schedule second.old) (node_state second.old) later).decision) }
+    ensures states { OnOk result
+        ((node_state first.new
+        ≡ next_state (node_schedule first.old) (node_state first.old) later)
+        × (node_state second.new
+        ≡ next_state (node_schedule second.old) (node_state second.old) later)) }
+    ensures same { OnOk result
+        ((node_schedule first.new ≡ node_schedule first.old)
+        × (node_schedule second.new ≡ node_schedule second.old)) }
+    ensures firsts { OnOk result
+        ((node_firsts first.new ≡ node_firsts first.old)
+        × (node_firsts second.new ≡ node_firsts second.old)) }
+{
+    let (x, y) = step_pair(alloc, first, second, reads, later, out)?;
+    Ok(x.either(y))
 }
 
 // One step of both parts of pairs: what is read of the pairs, and what each part may decide.
@@ -131,6 +218,34 @@ fn step_pair<'a>(
     let y = step(alloc, second, &reads.of_second(), later, &mut b)?;
     *out = make_pairs(alloc, a, b)?;
     Ok((x, y))
+}
+
+// One step of a part under a test of the input.
+#[cycle(stepping)]
+fn step_while_input<'a>(
+    alloc: Global,
+    part: &mut Node,
+    test: Test,
+    reads: &'a Reads<'a>,
+    later: u64,
+    out: &mut OutRange,
+) -> Result<Decisions, AllocError>
+    requires firsts { KnowsFirsts part.old }
+    ensures output { OnOk result
+        (Shows reads.now out.new
+        (next_range (node_schedule part.old) (node_state part.old) later).output) }
+    ensures decision { IfOk result (λ d.
+        d
+        ≡ (next_range (over (node_schedule part.old) (while_input test)) (node_state part.old)
+        later).decision) }
+    ensures state { OnOk result
+        (node_state part.new
+        ≡ next_state (node_schedule part.old) (node_state part.old) later) }
+    ensures same { OnOk result (node_schedule part.new ≡ node_schedule part.old) }
+    ensures firsts { OnOk result (node_firsts part.new ≡ node_firsts part.old) }
+{
+    let x = step(alloc, part, reads, later, out)?;
+    Ok(x.tested(may_pass(test, any_input()), may_fail(test, any_input())))
 }
 
 // One step of a part under a test of its output.
@@ -318,6 +433,9 @@ fn step_and_then<'a>(
     ensures start { OnOk result
         (output_range_of turns.new.start ≡ output_range_of turns.old.start) }
 {
+    if let Reads::Nothing = reads {
+        return step_turns(alloc, turns, first, second, reads, later, out);
+    }
     let side = reads.of_side();
     let decision = step_turns(alloc, turns, first, second, &side, later, out)?;
     reads.choose(alloc, turns.may_be_on(), out, &mut turns.made)?;
