@@ -18,6 +18,7 @@ use crate::ranges::{OutRange, make_pairs, may_fail, may_pass, picked_span};
 use crate::reads::{Reads, join_read};
 use crate::span::Span;
 use std::alloc::{AllocError, Global};
+use std::mem::swap;
 use zs_term::{Func, Pick, Test};
 
 // One step, in place: what it may decide. What is read of its output is put into `out`.
@@ -437,6 +438,15 @@ fn step_and_then<'a>(
         return step_turns(alloc, turns, first, second, reads, later, out);
     }
     let side = reads.of_side();
+    // The sides of an earlier step are written over.
+    if let OutRange::Sides(a, b) = out {
+        let decision = step_turns(alloc, turns, first, second, &side, later, a)?;
+        swap(&mut **b, &mut turns.made);
+        if !turns.may_be_on() {
+            *out = OutRange::Nothing;
+        }
+        return Ok(decision);
+    }
     let decision = step_turns(alloc, turns, first, second, &side, later, out)?;
     reads.choose(alloc, turns.may_be_on(), out, &mut turns.made)?;
     Ok(decision)
