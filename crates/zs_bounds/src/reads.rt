@@ -21,7 +21,7 @@ pub(crate) enum Reads<'a> {
 }
 
 impl<'a> Reads<'a> {
-    // With the number that a test reads. The places of all and of nothing are given.
+    // With the number that a test reads. `all` and `none` refer to `Whole` and to `Nothing`.
     pub(crate) fn with_pick(
         &'a self,
         pick: Pick,
@@ -47,7 +47,7 @@ impl<'a> Reads<'a> {
         }
     }
 
-    // What is read of a part if this is read of a function's results.
+    // What is read of a part if this is read of a function's results. `none` refers to `Nothing`.
     pub(crate) fn through(&'a self, func: Func, none: &'a Reads<'a>) -> Reads<'a>
         requires none { want_of none.now ≡ unread }
         ensures value { want_of result ≡ map_want (want_of self.now) func }
@@ -187,11 +187,7 @@ impl<'a> Reads<'a> {
 }
 
 // A copy of what is read of a range.
-pub(crate) fn copy_read(
-    alloc: Global,
-    reads: &Reads<'_>,
-    range: &OutRange,
-) -> Result<OutRange, AllocError>
+fn copy_read(alloc: Global, reads: &Reads<'_>, range: &OutRange) -> Result<OutRange, AllocError>
     ensures value { IfOk result (λ r. Shows reads.now r (output_range_of range.now)) }
 {
     match reads {
@@ -243,11 +239,7 @@ pub(crate) fn join_read(
                     join_read(alloc, v, a, c)?;
                     join_read(alloc, w, b, d)
                 }
-                OutRange::Nothing => Ok(()),
-                _ => {
-                    *range = OutRange::Anything;
-                    Ok(())
-                }
+                _ => join(alloc, range, other),
             },
             _ => join(alloc, range, other),
         },
@@ -261,11 +253,7 @@ pub(crate) fn join_read(
                     join_read(alloc, w, a, c)?;
                     join_read(alloc, w, b, d)
                 }
-                OutRange::Nothing => Ok(()),
-                _ => {
-                    *range = OutRange::Anything;
-                    Ok(())
-                }
+                _ => join(alloc, range, other),
             },
             _ => join(alloc, range, other),
         },
