@@ -1,17 +1,18 @@
 -- The schedule that a node was made of, the range of states that it has, and what it knows of first
 -- steps.
-use Rattle.std.specs.Prelude.{◌≡◌, Bool, true, false}
+use Rattle.std.specs.Prelude.{◌≡◌, ℕ, Bool, true, false}
 use Rattle.zs_term.specs.Schedule.{Schedule, leaf, two, over, both, either, and_then, while_input, while_output, collect_all, mapped, reset_when}
 use Rattle.zs_bounds.specs.declared.decisions.Decisions.{Decisions}
 use Rattle.zs_bounds.specs.declared.node.Fresh.{Fresh}
 use Rattle.zs_bounds.specs.declared.node.Fresh.TheVariants.{Nothing, Beside, Alone}
 use Rattle.zs_bounds.specs.declared.node.Turn.{Turn}
+use Rattle.zs_bounds.specs.declared.node.Turns.{Turns}
 use Rattle.zs_bounds.specs.declared.node.Node.{Node}
 use Rattle.zs_bounds.specs.declared.node.Node.TheVariants.{Leaf, Both', Either', AndThen', WhileInput', WhileOutput', CollectAll', Map', ResetWhen'}
 use Rattle.zs_bounds.specs.Leaf.{bare_leaf}
 use Rattle.zs_bounds.specs.AnswerRange.{AnswerRange, range}
 use Rattle.zs_bounds.specs.OutRange.{output_range_of}
-use Rattle.zs_bounds.specs.StateRange.{StateRange, counts, parts, turns, items, first_range, first_state, with_first}
+use Rattle.zs_bounds.specs.StateRange.{StateRange, counts, parts, turns, items, first_range, first_state, with_first, next_range}
 
 -- the schedule that a node was made of
 abbrev pub node_schedule : Node → Schedule
@@ -66,6 +67,10 @@ part_state t a = fresh_state t.fresh (node_schedule a) (node_state a)
 -- the states of two parts in turn
 abbrev pub turn_states : Turn → Turn → Node → Node → StateRange
 turn_states t u a b = turns t.is_on u.is_on (part_state t a) (part_state u b)
+
+-- what the next step of two parts in turn may return
+abbrev pub turns_range : Turns → Node → Node → ℕ → AnswerRange
+turns_range t a b d = next_range (two and_then (node_schedule a) (node_schedule b)) (turn_states t.first t.second a b) d
 
 -- ---- what first steps may return: of both parts in turn, of a part that is collected, and of a
 -- ---- part that may be reset

@@ -1,150 +1,127 @@
--- What is read of an output, and which part of a range a step makes for it. No reader has to
--- believe this file.
-use Rattle.std.specs.Prelude.{Bool, true, false, Option}
+-- What is read of an output, and when a range shows it. No reader has to believe this file.
+use Rattle.std.specs.Prelude.{◌≡◌, Bool, true, false}
 use Rattle.zs_term.specs.declared.term.Pick.{Pick}
 use Rattle.zs_term.specs.declared.term.Pick.TheVariants.{Whole as PickWhole, First as PickFirst, Second as PickSecond, Size as PickSize}
 use Rattle.zs_term.specs.declared.term.Func.{Func}
 use Rattle.zs_term.specs.declared.term.Func.TheVariants.{First as TakeFirst, Second as TakeSecond, Size, Merge, Const, Add, Mul}
 use Rattle.zs_bounds.specs.declared.reads.Reads.{Reads}
-use Rattle.zs_bounds.specs.declared.reads.Reads.TheVariants.{Nothing, Whole, First, Second, Merged}
-use Rattle.zs_bounds.specs.declared.span.Span.{Span}
-use Rattle.zs_bounds.specs.Span.{span}
-use Rattle.zs_bounds.specs.OutputRange.{OutputRange, nothing, numbers, pairs, sides, output_hull, number_span, first_range_in, second_range_in, picked_span, merge_range, applied_range}
+use Rattle.zs_bounds.specs.declared.reads.Reads.TheVariants.{Nothing, Whole, Parts', Sides'}
+use Rattle.zs_bounds.specs.declared.ranges.OutRange.{OutRange}
+use Rattle.zs_bounds.specs.OutRange.{output_range_of}
+use Rattle.zs_bounds.specs.OutputRange.{OutputRange, nothing, numbers, pairs, sides, lists, anything, output_hull}
 
--- what is read of a range
-abbrev pub read_range : Reads → OutputRange → OutputRange
-read_range Nothing r = nothing
-read_range Whole r = r
-read_range First r = first_range_in r
-read_range Second r = second_range_in r
-read_range Merged r = merge_range r
+-- What is read: nothing, all of it, something of each part of pairs, or the same of both sides of a
+-- choice.
+pub data Want : Type 0 where
+  unread : Want
+  whole : Want
+  parts_of : Want → Want → Want
+  sides_of : Want → Want
+
+-- the plain value, whatever memory it is in
+abbrev pub want_of : Reads → Want
+want_of Nothing = unread
+want_of Whole = whole
+want_of (Parts' p v q w) = parts_of (want_of v) (want_of w)
+want_of (Sides' p w) = sides_of (want_of w)
+
+-- What is read of a range. A range of another kind, which no schedule has, is read as a whole.
+abbrev pub read_range : Want → OutputRange → OutputRange
+read_range unread r = nothing
+read_range whole r = r
+read_range (parts_of v w) (pairs a b) = pairs (read_range v a) (read_range w b)
+read_range (parts_of v w) nothing = nothing
+read_range (parts_of v w) (numbers s) = numbers s
+read_range (parts_of v w) (sides a b) = sides a b
+read_range (parts_of v w) (lists s) = lists s
+read_range (parts_of v w) anything = anything
+read_range (sides_of w) (sides a b) = sides (read_range w a) (read_range w b)
+read_range (sides_of w) nothing = nothing
+read_range (sides_of w) (numbers s) = numbers s
+read_range (sides_of w) (pairs a b) = pairs a b
+read_range (sides_of w) (lists s) = lists s
+read_range (sides_of w) anything = anything
 
 -- a range, if a fact holds
 abbrev pub range_if : Bool → OutputRange → OutputRange
 range_if true r = r
 range_if false r = nothing
 
--- ---- a test of an output
+-- a range has what is read of another one
+abbrev pub Shows : Reads → OutRange → OutputRange → Type 0
+Shows v out r = read_range (want_of v) (output_range_of out) ≡ read_range (want_of v) r
 
--- what is read of the output of a part, with the number that a test reads
-abbrev pub with_pick : Reads → Pick → Reads
-with_pick Nothing PickWhole = Whole
-with_pick Nothing PickFirst = First
-with_pick Nothing PickSecond = Second
-with_pick Nothing PickSize = Whole
-with_pick First PickWhole = Whole
-with_pick First PickFirst = First
-with_pick First PickSecond = Whole
-with_pick First PickSize = Whole
-with_pick Second PickWhole = Whole
-with_pick Second PickFirst = Whole
-with_pick Second PickSecond = Second
-with_pick Second PickSize = Whole
-with_pick Whole k = Whole
-with_pick Merged k = Whole
+-- the left side of a choice, if there is any
+abbrev pub left_range_in : OutputRange → OutputRange
+left_range_in (sides a b) = a
+left_range_in _ = nothing
 
--- the span of the numbers that a test reads, in the part of a range that was made
-abbrev pub span_read : Reads → Pick → OutputRange → Option Span
-span_read Nothing k r = picked_span k r
-span_read Whole k r = picked_span k r
-span_read First k r = number_span r
-span_read Second k r = number_span r
-span_read Merged k r = picked_span k r
+-- the right side
+abbrev pub right_range_in : OutputRange → OutputRange
+right_range_in (sides a b) = b
+right_range_in _ = nothing
 
--- what is read of a range, in the part of it that was made
-abbrev pub read_made : Reads → Reads → OutputRange → OutputRange
-read_made First First r = r
-read_made Second Second r = r
-read_made First Nothing r = first_range_in r
-read_made First Whole r = first_range_in r
-read_made First Second r = first_range_in r
-read_made First Merged r = first_range_in r
-read_made Second Nothing r = second_range_in r
-read_made Second Whole r = second_range_in r
-read_made Second First r = second_range_in r
-read_made Second Merged r = second_range_in r
-read_made Nothing made r = nothing
-read_made Whole made r = r
-read_made Merged made r = merge_range r
+-- the output of a part that may be reset, by its output and that of its first step
+abbrev pub reset_output : Bool → Bool → OutputRange → OutputRange → OutputRange
+reset_output true true a b = output_hull a b
+reset_output true false a b = b
+reset_output false fails a b = a
 
--- what is read of the output of a part that may be reset
-abbrev pub reset_reads : Reads → Pick → Reads
-reset_reads Nothing k = with_pick Nothing k
-reset_reads Whole k = Whole
-reset_reads First k = Whole
-reset_reads Second k = Whole
-reset_reads Merged k = Whole
+-- with the first part of pairs, as a whole
+abbrev pub with_first : Want → Want
+with_first unread = parts_of whole unread
+with_first whole = whole
+with_first (parts_of v w) = parts_of whole w
+with_first (sides_of w) = whole
 
--- what is read before the first step's range is joined
-abbrev pub joined_reads : Reads → Reads
-joined_reads Nothing = Nothing
-joined_reads Whole = Whole
-joined_reads First = Whole
-joined_reads Second = Whole
-joined_reads Merged = Whole
+-- with the second part
+abbrev pub with_second : Want → Want
+with_second unread = parts_of unread whole
+with_second whole = whole
+with_second (parts_of v w) = parts_of v whole
+with_second (sides_of w) = whole
 
--- ---- a function of an output
+-- with the number that a test reads
+abbrev pub with_pick : Want → Pick → Want
+with_pick v PickWhole = whole
+with_pick v PickFirst = with_first v
+with_pick v PickSecond = with_second v
+with_pick v PickSize = whole
 
 -- what a function reads
-abbrev pub func_reads : Func → Reads
-func_reads TakeFirst = First
-func_reads TakeSecond = Second
-func_reads Size = Whole
-func_reads Merge = Merged
-func_reads (Const n) = Nothing
-func_reads (Add n) = Whole
-func_reads (Mul n) = Whole
+abbrev pub func_want : Want → Func → Want
+func_want v TakeFirst = parts_of v unread
+func_want v TakeSecond = parts_of unread v
+func_want v Size = whole
+func_want v Merge = sides_of v
+func_want v (Const n) = unread
+func_want v (Add n) = whole
+func_want v (Mul n) = whole
 
 -- what is read of a part's output if something is read of the function's result
-abbrev pub map_reads : Reads → Func → Reads
-map_reads Nothing f = Nothing
-map_reads Whole f = func_reads f
-map_reads First f = func_reads f
-map_reads Second f = func_reads f
-map_reads Merged f = func_reads f
-
--- the range of a function's results, by what it reads
-abbrev pub applied_read : Func → OutputRange → OutputRange
-applied_read TakeFirst r = r
-applied_read TakeSecond r = r
-applied_read Size r = applied_range Size r
-applied_read Merge r = r
-applied_read (Const n) r = numbers (span n n)
-applied_read (Add n) r = applied_range (Add n) r
-applied_read (Mul n) r = applied_range (Mul n) r
-
--- ---- pairs
+abbrev pub map_want : Want → Func → Want
+map_want unread f = unread
+map_want whole f = func_want whole f
+map_want (parts_of v w) f = func_want (parts_of v w) f
+map_want (sides_of w) f = func_want (sides_of w) f
 
 -- what is read of the first parts of pairs
-abbrev pub first_reads : Reads → Reads
-first_reads Nothing = Nothing
-first_reads Whole = Whole
-first_reads First = Whole
-first_reads Second = Nothing
-first_reads Merged = Whole
+abbrev pub first_want : Want → Want
+first_want unread = unread
+first_want whole = whole
+first_want (parts_of v w) = v
+first_want (sides_of w) = whole
 
 -- what is read of the second parts
-abbrev pub second_reads : Reads → Reads
-second_reads Nothing = Nothing
-second_reads Whole = Whole
-second_reads First = Nothing
-second_reads Second = Whole
-second_reads Merged = Whole
+abbrev pub second_want : Want → Want
+second_want unread = unread
+second_want whole = whole
+second_want (parts_of v w) = w
+second_want (sides_of w) = whole
 
--- what is read of pairs, by what is read of both parts
-abbrev pub pair_read : Reads → OutputRange → OutputRange → OutputRange
-pair_read Nothing a b = nothing
-pair_read Whole a b = pairs a b
-pair_read First a b = a
-pair_read Second a b = b
-pair_read Merged a b = pairs a b
-
--- ---- two parts in turn
-
--- What is read of them, by the left and the right side, and whether there is any.
-abbrev pub turn_read : Reads → Bool → OutputRange → OutputRange → OutputRange
-turn_read Nothing any a b = nothing
-turn_read Whole any a b = range_if any (sides a b)
-turn_read First any a b = range_if any (sides a b)
-turn_read Second any a b = range_if any (sides a b)
-turn_read Merged any a b = output_hull a b
+-- what is read of each side of a choice
+abbrev pub side_want : Want → Want
+side_want unread = unread
+side_want whole = whole
+side_want (parts_of v w) = whole
+side_want (sides_of w) = w

@@ -4,7 +4,7 @@
 ghost use Rattle.std.specs.Prelude.{◌≡◌, IfOk};
 ghost use Rattle.zs_bounds.specs.OutRange.{output_range_of};
 ghost use Rattle.zs_bounds.specs.OutputRange.{pairs};
-ghost use Rattle.zs_bounds.specs.AnswerRange.{range, answer_hull, no_answer, left_range, right_range, test_range, reset_range};
+ghost use Rattle.zs_bounds.specs.AnswerRange.{range, answer_hull, no_answer, left_range, right_range, test_range};
 
 use crate::decisions::Decisions;
 use crate::ranges::{OutRange, hull, make_pairs, make_sides, may_fail, may_pass};
@@ -79,20 +79,4 @@ pub(crate) fn tested(test: Test, span: Option<Span>, answer: Answer) -> Answer
     let (out, decision) = answer;
     let passes = may_pass(test, span);
     (out, decision.tested(passes, may_fail(test, span)))
-}
-
-// The results of a part, or those of its first step, if it may be reset.
-pub(crate) fn reset(passes: bool, fails: bool, answer: Answer, first: Answer) -> Answer
-    ensures value { range (output_range_of result.0) result.1
-        ≡ reset_range passes fails (range (output_range_of answer.0) answer.1)
-        (range (output_range_of first.0) first.1) }
-{
-    if !passes {
-        return answer;
-    }
-    if fails {
-        answer_hull(answer, first)
-    } else {
-        first
-    }
 }

@@ -9,7 +9,7 @@ ghost use Rattle.zs_bounds.specs.Node.{node_schedule, node_state, KnowsFirsts};
 use crate::decisions::Decisions;
 use crate::node::{Node, begin, first_range, node_of};
 use crate::ranges::OutRange;
-use crate::reads::{Reads, Stride};
+use crate::reads::Reads;
 use crate::span::MAX_TICK;
 use crate::stepping::step;
 use crate::told::Bounds;
@@ -47,6 +47,7 @@ fn bounds_from(
     let mut decision = first;
     let mut passed = 0u64;
     let mut told = Bounds::nothing();
+    let mut out = OutRange::Nothing;
     for _ in 0..steps {
         told = told.with_step(decision);
         let Some(wait) = decision.waits else {
@@ -57,12 +58,7 @@ fn bounds_from(
         if passed > MAX_TICK {
             return Ok(told);
         }
-        let stride = Stride {
-            reads: Reads::Nothing,
-            later,
-        };
-        let mut out = OutRange::Nothing;
-        decision = step(alloc, node, stride, &mut out)?;
+        decision = step(alloc, node, &Reads::Nothing, later, &mut out)?;
     }
     Ok(told.unended())
 }

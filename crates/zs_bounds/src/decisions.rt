@@ -1,6 +1,8 @@
 //! What a step may decide, and how the operators join it.
 
 ghost use Rattle.std.specs.Prelude.{◌≡◌, false};
+ghost use Rattle.zs_bounds.specs.AnswerRange.{range, reset_range};
+ghost use Rattle.zs_bounds.specs.OutputRange.{nothing};
 ghost use Rattle.zs_bounds.specs.DecisionRange.{may_go_on, wait_hull, later_waits, earlier_waits, waits_if, decisions, decision_hull, both_decide, either_decides, test_decides, going_on, no_decision};
 
 use crate::span::Span;
@@ -80,6 +82,17 @@ impl Decisions {
             stops: self.stops || fails,
             waits: waits_if(passes, self.waits),
         }
+    }
+
+    // Those of a part, or of its first step, if it may be reset.
+    pub(crate) fn reset(self, passes: bool, fails: bool, first: Decisions) -> Decisions
+        ensures value { result
+            ≡ (reset_range passes fails (range nothing self) (range nothing first)).decision }
+    {
+        if !passes {
+            return self;
+        }
+        if fails { self.hull(first) } else { first }
     }
 
     // Those to go on alone.

@@ -36,12 +36,14 @@ pub(crate) struct Turn {
     pub(crate) fresh: Fresh,
 }
 
-// Two parts in turn, and what the second's first step may return as its output.
+// Two parts in turn, and what the second's first step may return as its output. What is read of the
+// second's output is stored until the next step, which writes to the same memory.
 #[derive(Drop)]
 pub(crate) struct Turns {
     pub(crate) first: Turn,
     pub(crate) second: Turn,
     pub(crate) start: OutRange,
+    pub(crate) made: OutRange,
 }
 
 impl Turns {
@@ -256,6 +258,7 @@ fn in_turn(alloc: Global, first: Box<Node>, second: Box<Node>) -> Result<Node, A
         first: Turn::of(decision),
         second: Turn::of(begins),
         start,
+        made: OutRange::Nothing,
     };
     Ok(Node::AndThen {
         turns,

@@ -212,7 +212,7 @@ fn join_lists(span: Span, other: &OutRange) -> OutRange
 }
 
 // The span of a range's numbers, if it has numbers alone.
-pub(crate) fn number_span(range: &OutRange) -> Option<Span>
+fn number_span(range: &OutRange) -> Option<Span>
     ensures value { result ≡ number_span (output_range_of range.now) }
 {
     match range {
@@ -324,7 +324,7 @@ fn numbers_in(span: Option<Span>) -> OutRange
 }
 
 // The range of the first parts of pairs.
-pub(crate) fn first_of(range: OutRange) -> OutRange
+fn first_of(range: OutRange) -> OutRange
     ensures value { output_range_of result ≡ first_range_in (output_range_of range) }
 {
     match range {
@@ -338,7 +338,7 @@ pub(crate) fn first_of(range: OutRange) -> OutRange
 }
 
 // The range of the second parts of pairs.
-pub(crate) fn second_of(range: OutRange) -> OutRange
+fn second_of(range: OutRange) -> OutRange
     ensures value { output_range_of result ≡ second_range_in (output_range_of range) }
 {
     match range {
@@ -352,7 +352,7 @@ pub(crate) fn second_of(range: OutRange) -> OutRange
 }
 
 // The range of what is on either side.
-pub(crate) fn merged(range: OutRange) -> OutRange
+fn merged(range: OutRange) -> OutRange
     ensures value { output_range_of result ≡ merge_range (output_range_of range) }
 {
     match range {
