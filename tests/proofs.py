@@ -65,14 +65,6 @@ class Usage(threading.Thread):
                 for crate in self.first]
 
 
-def environment():
-    """The variables for `rt ci`: the number of proofs that may run at once, if there are four gigabytes for each."""
-    memory = os.sysconf("SC_PAGE_SIZE") * os.sysconf("SC_PHYS_PAGES")
-    processors = len(os.sched_getaffinity(0))
-    jobs = {"RT_JOBS": str(processors)} if memory >= 4_000_000_000 * processors else {}
-    return {**jobs, **os.environ}
-
-
 def main():
     """Runs `rt ci`, and prints its output."""
     words = parser_of(__doc__)
@@ -82,8 +74,7 @@ def main():
     said = subprocess.run(["rt", "help"], capture_output=True, text=True, check=False)
     knows_anew = "--anew" in said.stdout + said.stderr
     before = left_libraries.sources_sum()
-    running = subprocess.Popen(["rt", "ci", *["--anew"] * (is_anew and knows_anew)], cwd=TOP, env=environment(),
-                               text=True, errors="replace", stdout=subprocess.PIPE, stderr=subprocess.STDOUT)
+    running = subprocess.Popen(["rt", "ci", *["--anew"] * (is_anew and knows_anew)], cwd=TOP, text=True, errors="replace", stdout=subprocess.PIPE, stderr=subprocess.STDOUT)
     usage = Usage(os.getsid(0))
     usage.start()
     passed, failed = 0, 1
