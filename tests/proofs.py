@@ -74,7 +74,8 @@ def main():
     said = subprocess.run(["rt", "help"], capture_output=True, text=True, check=False)
     knows_anew = "--anew" in said.stdout + said.stderr
     before = left_libraries.sources_sum()
-    running = subprocess.Popen(["rt", "ci", *["--anew"] * (is_anew and knows_anew)], cwd=TOP, text=True, errors="replace", stdout=subprocess.PIPE, stderr=subprocess.STDOUT)
+    running = subprocess.Popen(["rt", "ci", *["--anew"] * (is_anew and knows_anew)], cwd=TOP, text=True,
+                               errors="replace", stdout=subprocess.PIPE, stderr=subprocess.STDOUT)
     usage = Usage(os.getsid(0))
     usage.start()
     passed, failed = 0, 1
