@@ -12,7 +12,7 @@ import pathlib
 import sys
 
 LAST_MOMENT = 999_999_999_999_999
-CUTS = [(1, 1), (4, 1), (4, 100), (64, 10), (64, 10_000)]
+CUTS = [(1, 1), (4, 1), (4, 100), (4, 2_500), (64, 10), (64, 10_000)]
 HEAVY_CUTS = [(1, 1), (4, 1), (4, 100), (64, 10)]
 ONE = [{"ms": 1, "ok": 7}]
 RESETS = "(recurs(9).resetWhen(= 5) && elapsed).resetWhen(_2 >= 50)"

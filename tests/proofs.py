@@ -91,10 +91,14 @@ def main():
     before = left_libraries.sources_sum()
     usage = Usage(os.getsid(0))
     usage.start()
-    if knows_anew and not is_anew and len(os.sched_getaffinity(0)) >= 4:
+    processors = len(os.sched_getaffinity(0))
+    if knows_anew and not is_anew and processors >= 4:
         prove_first()
-    running = subprocess.Popen(["rt", "ci", *["--anew"] * (is_anew and knows_anew)], cwd=TOP, text=True,
-                               errors="replace", stdout=subprocess.PIPE, stderr=subprocess.STDOUT)
+    # It delays proofs until more memory is free than they take. So it gets the number that may run at once.
+    memory = os.sysconf("SC_PAGE_SIZE") * os.sysconf("SC_PHYS_PAGES")
+    jobs = {"RT_JOBS": str(processors)} if memory >= 4_000_000_000 * processors else {}
+    running = subprocess.Popen(["rt", "ci", *["--anew"] * (is_anew and knows_anew)], cwd=TOP, env={**jobs, **os.environ},
+                               text=True, errors="replace", stdout=subprocess.PIPE, stderr=subprocess.STDOUT)
     passed, failed = 0, 1
     try:
         for line in running.stdout:
