@@ -1,8 +1,11 @@
-"""The libraries below zs_c that `rt ci` proved and left in the checkout, which tools/make-library reads and never writes."""
+"""The libraries that `rt ci` proved and left in the checkout: tools/make-library reads those below zs_c and never writes them,
+and other commands of the toolchain take them as up to date."""
 import hashlib
+import pathlib
+import sys
 
 import support
-from prover import crates_of
+from prover import Toolchain, crates_of
 from support import TOP
 
 CRATE = "zs_c"
@@ -15,10 +18,10 @@ def sources_sum():
 
 
 def left(total):
-    """A checksum of the sources' checksum and of the libraries, or None if one of them is missing, or has the stamp that
-    each command but `rt ci` leaves. A library's file `format` has the checksum of its other files."""
+    """A checksum of the sources' checksum and of the libraries, or None if one of them is missing. A library's file `format`
+    has the checksum of its other files."""
     formats = [it.rlib / "format" for it in crates_of(TOP)[CRATE].below]
-    if not all(it.exists() and not (it.parents[1] / "stamp").exists() for it in formats):
+    if not all(it.exists() for it in formats):
         return None
     return hashlib.sha256(b"".join([total.encode(), *[it.read_bytes() for it in formats]])).hexdigest()
 
@@ -34,3 +37,13 @@ def note(total):
 def are_left(total):
     """Whether the libraries are those that the last noted `rt ci` left, and it was over the sources with this checksum."""
     return NOTED.exists() and NOTED.read_text() == left(total)
+
+
+def stamp():
+    """Gives each library the stamp by which other commands know that it is up to date, which `rt ci` doesn't leave. Without
+    it the first check of a crate proves all crates below it again."""
+    sys.path.append(str(Toolchain().kit / "bin"))
+    import rtlib
+    for crate in rtlib.crates_below(str(TOP / "crates")):
+        if crate.makes_rlib() and pathlib.Path(crate.rlib, "format").exists():
+            pathlib.Path(crate.folder, "out", "rlib", "stamp").write_text(crate.stamp())

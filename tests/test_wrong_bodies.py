@@ -1,6 +1,7 @@
 """Tests of tests/wrong_bodies.py, which tests/test_gate.py runs: a crate of six functions with wrong bodies that the
 prover rejects, and with edits that must be reported by name, none of which hides another. They need the toolchain; what
 doesn't depend on proofs is tested with a script in its place."""
+import collections
 import contextlib
 import datetime
 import os
@@ -132,19 +133,20 @@ def test_followed(count):
 
 
 def test_turns(count):
-    """A crate over whose files all edits were rejected before is skipped on all days but one of five, and no other crate."""
-    trials = [Trial(Crate(pathlib.Path(), name, []), [], None) for name in ["a", "b", "c", "d"]]
+    """Of a crate over whose files all edits were rejected before, each has its turn once in 25 days; of others each day."""
+    edits = [f"edit {number}" for number in range(7)]
+    trials = [Trial(Crate(pathlib.Path(), name, []), edits, None) for name in ["a", "b", "c", "d"]]
     # The checksum of a crate as it is is its name.
     passed = types.SimpleNamespace(listed=lambda: {"a": "a", "b": "b", "c": "older"}, sum_of_all=lambda crate, _: crate.name)
-    days = {"a": 0, "b": 0}
-    for day in range(1, 11):
-        give_turns(trials, passed, datetime.date(2026, 1, day))
-        turns = [it.has_turn for it in trials]
-        count.test(f"turns of what is listed on day {day}", sum(turns[:2]) <= 1, True)
-        count.test(f"turns of what is not listed on day {day}", turns[2:], [True, True])
-        days["a"] += turns[0]
-        days["b"] += turns[1]
-    count.test("turns in ten days", days, {"a": 2, "b": 2})
+    turns = collections.Counter()
+    for day in range(25):
+        give_turns(trials, passed, datetime.date(2026, 1, 1) + datetime.timedelta(day))
+        turns.update((it.crate.name, edit) for it in trials for edit in it.in_turn)
+        for it in trials:
+            it.in_turn = set(edits)
+    for name, wanted in [("a", 1), ("b", 1), ("c", 25), ("d", 25)]:
+        for edit in edits:
+            count.test(f"turns of {edit} of {name} in 25 days", turns[name, edit], wanted)
 
 
 def made_by(folder, text, edits):

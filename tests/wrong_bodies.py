@@ -11,7 +11,8 @@ three rounds, so edits of one function name their goals; edits that wait for eac
 The crate is proved as it is first, by 'rt check', or with --follow by whoever names it. Work that earlier checks kept
 is used: it can spare a proof, and can leave nothing open. Two kinds of edits aren't tried again: those that passed on
 this machine over the same toolchain, files and libraries, and those of a crate that tests/rejected.txt names with the
-checksum of all that, unless it is the crate's turn: each has its turn every fifth day. --anew tries all.
+checksum of all that, unless it is the edit's turn: on a day a fifth of the edits of a fifth of the crates have theirs.
+--anew tries all.
 
 The last line is 'N passed, M failed', one for each edit."""
 import argparse
@@ -37,8 +38,8 @@ EPILOG = """exit status: 0 if each edit passed; 1 if one failed, also since its 
 2 if nothing could be tried (no toolchain, a library that can't be built, words that name no crate or edit)."""
 # The memory that a check of a crate takes, but for rare ones.
 BYTES_OF_A_CHECK = 2_200_000_000
-# An unchanged crate has its turn once in so many days.
-DAYS = 5
+# An unchanged crate has its turn once in so many days, and each of its edits once in so many turns of the crate.
+TURNS = 5
 # The rounds that a crate may need. More cost the gate minutes: name goals, or drop an edit that another covers.
 MOST_ROUNDS = 3
 
@@ -97,7 +98,8 @@ class Trial:
         self.found = {}
         self.clashes = set()
         self.rounds = 0
-        self.has_turn = True
+        # The edits that are tried though tests/rejected.txt is of the crate as it is.
+        self.in_turn = set(edits)
 
     def fail(self, edit, why):
         """Reports that an edit failed."""
@@ -124,15 +126,15 @@ class Trial:
 
     def is_known(self):
         """Whether each edit was seen to pass, by an earlier run here or by tests/rejected.txt."""
-        return not self.has_turn or all(self.passed.has(self.crate, edit) for edit in self.edits)
+        return all(edit not in self.in_turn or self.passed.has(self.crate, edit) for edit in self.edits)
 
     def take_passed(self, edits):
         """Counts those of some edits that were seen to pass, and returns the others."""
-        known = [edit for edit in edits if not self.has_turn or self.passed.has(self.crate, edit)]
+        known = [edit for edit in edits if edit not in self.in_turn or self.passed.has(self.crate, edit)]
         self.found.update(dict.fromkeys(known, True))
         if known:
-            by = "an earlier run on this machine" if self.has_turn else "the run that tests/rejected.txt is of"
-            say(f"{self.crate.name}: {len(known)} of {len(self.edits)} wrong bodies were rejected by {by}, over the same files")
+            by = "by earlier runs on this machine" if self.in_turn == set(self.edits) else "by the run that tests/rejected.txt is of"
+            say(f"{self.crate.name}: {len(known)} of {len(self.edits)} wrong bodies were rejected {by}, over the same files")
         return [edit for edit in edits if edit not in self.found]
 
     def try_all(self, room, edits):
@@ -291,11 +293,12 @@ def trials_of(options, crates, passed):
 
 
 def give_turns(trials, passed, day):
-    """Leaves out the crates that tests/rejected.txt is of, but for a few, others on another day."""
+    """Leaves out the edits of the crates that tests/rejected.txt is of, but for a few, others on another day."""
     listed = passed.listed()
     for number, trial in enumerate(trials):
-        is_listed = listed.get(trial.crate.name) == passed.sum_of_all(trial.crate, trial.edits)
-        trial.has_turn = not is_listed or (number + day.toordinal()) % DAYS == 0
+        if listed.get(trial.crate.name) == passed.sum_of_all(trial.crate, trial.edits):
+            turn, rest = divmod(number + day.toordinal(), TURNS)
+            trial.in_turn = {edit for place, edit in enumerate(trial.edits) if rest == 0 and (place + turn) % TURNS == 0}
 
 
 def write_listed(trials, passed):

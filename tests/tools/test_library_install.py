@@ -154,8 +154,9 @@ class Made(unittest.TestCase):
         def made(*words):
             """The calls of the toolchain while the library is made: the program, its folder, its words."""
             (place / "ran").write_text("")
+            before = [it.read_text() for it in formats]
             self.assertEqual(output([tree / "tools/make-library", *words], env=env).count("\n"), 2)
-            self.assertEqual([it.read_text() for it in formats], ["zs_bounds", "zs_step", "zs_term"])
+            self.assertEqual([it.read_text() for it in formats], before)
             calls = [line.split(" ", 3) for line in (place / "ran").read_text().splitlines()]
             return [(tool, folder, words) for tool, verb, folder, words in calls if verb != "version"]
 
@@ -177,9 +178,9 @@ class Made(unittest.TestCase):
         self.assertIn(f"--extern zs_bounds={formats[0].parent} ", words)
         (tree / "crates/zs_c/src/lib.rt").write_text("// changed")
         self.assertEqual(len(made()), 4)
-        # Another command than `rt ci` built this one, and leaves its stamp.
-        (formats[0].parents[1] / "stamp").write_text("")
         noted(tree / "crates/zs_c/out/proved")
+        # Another command than `rt ci` built this one.
+        formats[0].write_text("built again")
         self.assertEqual(len(made()), 4)
 
     def test_a_binding_without_its_library_names_the_command_that_makes_it(self):

@@ -45,7 +45,7 @@ pub(crate) fn beats_of(
     ensures value { Gives (λ beats. beats.items) result
         (demand_some (all_of beat_of (map view entries.now)) (faults.Shape (Some number))) }
 {
-    let mut beats = Vec::new(alloc);
+    let mut beats = Vec::with_capacity(alloc, entries.len())?;
     for entry in entries {
         let Some(beat) = beat_of(entry) else {
             return Err(PlanFault::Shape { job: Some(number) });

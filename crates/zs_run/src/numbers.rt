@@ -56,9 +56,9 @@ fn has_negative(numeral: &Numeral<'_>) -> bool
     numeral.to_i64(true).is_some_and(|number| number < 0) || is_float(true, numeral)
 }
 
-// Whether the number of a text is in range.
+// Whether the number of a text is in range, also if it isn't whole.
 #[cold]
-fn is_read(text: &str) -> bool
+fn has_any_number(text: &str) -> bool
     ensures value { result ≡ is_some (number_of text.now) }
 {
     let bytes = text.as_bytes();
@@ -75,5 +75,5 @@ fn is_read(text: &str) -> bool
 pub(crate) fn has_number(text: &str) -> bool
     ensures value { result ≡ is_some (number_of text.now) }
 {
-    whole_of(text).is_some() || is_read(text)
+    whole_of(text).is_some() || has_any_number(text)
 }

@@ -102,7 +102,8 @@ pub(crate) fn list<'v, 'a>(value: &'v Value<'a>, key: &str) -> Option<&'v [Value
 
 // The last value at the key.
 fn last_at<'a>(members: Vec<(&'a str, Value<'a>)>, key: &str) -> Option<Value<'a>>
-    ensures value { option_map value_view result ≡ get_member key.now (members_view members.entry.items) }
+    ensures value { option_map value_view result
+        ≡ get_member key.now (members_view members.entry.items) }
 {
     let mut found = None;
     for (name, member) in members {

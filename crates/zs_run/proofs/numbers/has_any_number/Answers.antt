@@ -2,7 +2,7 @@ use Rattle.std.proofs.Common.{◌≡◌, drop, get_or, true, false, ◌==◌, sy
 use Rattle.std.specs.Prelude.{is_some}
 use Rattle.fast_float.specs.Text.{scan}
 use Rattle.serde_json.specs.Read.{number_of, number_from}
-use Rattle.zs_run.proofs.numbers.is_read.Goals as goal
+use Rattle.zs_run.proofs.numbers.has_any_number.Goals as goal
 
 -- after a minus
 pub returns-then-has_minus : goal.returns-then-has_minus
