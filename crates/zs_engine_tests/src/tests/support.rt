@@ -8,5 +8,5 @@ pub mod jobs;
 
 /// Asserts that two texts are equal.
 pub fn expect_text(rt: &impl Abort, found: &str, wanted: &str, of: &str) {
-    assert!(rt; found == wanted, "{of}: wanted {wanted}, found {found}");
+    assert_eq!(rt; (of, found), (of, wanted));
 }

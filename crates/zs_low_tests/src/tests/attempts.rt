@@ -62,31 +62,29 @@ fn an_attempt_takes_its_time(rt: HostRuntime) {
     assert!(rt; Attempt::start(FIVE, u64::MAX - 3).end() == u64::MAX);
 }
 
+// The text of two entries.
+fn both(alloc: Global, first: Beat, last: Beat) -> Result<String, AllocError> {
+    format!(in alloc;
+        "{} {:?}, {} {:?}",
+        first.ms, first.outcome, last.ms, last.outcome
+    )
+}
+
 // Returns the first and the thousandth entry of a script, or the text of its fault.
 fn entries_of(alloc: Global, beats: &[Beat]) -> Result<String, AllocError> {
     match Script::new(Vec::from_slice(alloc, beats)?) {
-        Ok(script) => {
-            let (first, last) = (script.beat(1), script.beat(1000));
-            drop(script);
-            format!(in alloc;
-                "{} {:?}, {} {:?}",
-                first.ms, first.outcome, last.ms, last.outcome
-            )
-        }
+        Ok(script) => both(alloc, script.beat(1), script.beat(1000)),
         Err(fault) => format!(in alloc; "{fault}"),
     }
 }
 
-// Each script has the entries or the fault that is listed.
+// A script has the entries or the fault that is listed.
 fn expect_entries<R: Abort + Alloc<A = Global>>(
     rt: &R,
-    rows: &[(&[Beat], &str)],
+    entries: &[Beat],
+    wanted: &str,
 ) -> Result<(), Fail> {
-    assert!(rt; !rows.is_empty(), "no rows");
-    for (entries, wanted) in rows {
-        let found = entries_of(rt.alloc(), entries)?;
-        expect_text(rt, &found, wanted, "a script");
-    }
+    expect_text(rt, &entries_of(rt.alloc(), entries)?, wanted, "a script");
     Ok(())
 }
 
@@ -99,15 +97,15 @@ static SCRIPTS: [(&[Beat], &str); 4] = [
 
 #[test]
 fn a_script_goes_on_with_its_last_entry_and_each_takes_time(rt: HostRuntime) -> Result<(), Fail> {
-    expect_entries(&rt, &SCRIPTS)
+    for (entries, wanted) in &SCRIPTS {
+        expect_entries(&rt, entries, wanted)?;
+    }
+    Ok(())
 }
 
 #[test]
 fn a_script_has_at_most_1000_entries(rt: HostRuntime) -> Result<(), Fail> {
     let many = Vec::from_elem(rt.alloc(), bad!(5, 7), 1001)?;
-    let rows = [
-        (&many[..], "more than 1000 entries"),
-        (&many[1..], "5 Bad(7), 5 Bad(7)"),
-    ];
-    expect_entries(&rt, &rows)
+    expect_entries(&rt, &many, "more than 1000 entries")?;
+    expect_entries(&rt, &many[1..], "5 Bad(7), 5 Bad(7)")
 }

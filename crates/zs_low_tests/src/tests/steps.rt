@@ -409,23 +409,42 @@ fn push_hand(text: &mut String, compiled: &mut Compiled, now: u64) -> Result<(),
     Ok(push_step(text, &step.out, step.decision)?)
 }
 
-// Steps a new state twice.
-fn by_hand(alloc: Global, schedule: &str, first: u64, second: u64) -> Result<String, Fail>
+// Steps a state twice, and appends each result.
+fn push_both_steps(
+    text: &mut String,
+    compiled: &mut Compiled,
+    first: u64,
+    second: u64,
+) -> Result<(), Fail>
+    requires begun { last_seen compiled.old ≤ first }
     requires order { first ≤ second }
 {
-    let mut text = String::new(alloc);
-    let mut compiled = Compiled::new(alloc, read(alloc, schedule)?)?;
-    push_hand(&mut text, &mut compiled, first)?;
-    push_hand(&mut text, &mut compiled, second)?;
+    push_hand(text, compiled, first)?;
+    push_hand(text, compiled, second)?;
     write!(text, "{}", compiled.broken())?;
-    Ok(text)
+    Ok(())
+}
+
+// Steps a new state twice.
+fn by_hand(
+    alloc: Global,
+    text: &mut String,
+    schedule: &str,
+    first: u64,
+    second: u64,
+) -> Result<(), Fail>
+    requires order { first ≤ second }
+{
+    let mut compiled = Compiled::new(alloc, read(alloc, schedule)?)?;
+    push_both_steps(text, &mut compiled, first, second)
 }
 
 #[test]
 fn a_new_state_is_whole_and_stepped_by_hand(rt: HostRuntime) -> Result<(), Fail> {
     for (schedule, first, second, wanted) in &STEPS {
         assert!(rt; *first <= *second);
-        let found = by_hand(rt.alloc(), schedule, *first, *second)?;
+        let mut found = String::new(rt.alloc());
+        by_hand(rt.alloc(), &mut found, schedule, *first, *second)?;
         expect_text(&rt, &found, wanted, schedule);
     }
     Ok(())

@@ -5,7 +5,7 @@ use zs_term::{read, write};
 
 /// Asserts that two texts are equal.
 pub fn expect_text(rt: &impl Abort, found: &str, wanted: &str, of: &str) {
-    assert!(rt; found == wanted, "{of}: wanted {wanted}, found {found}");
+    assert_eq!(rt; (of, found), (of, wanted));
 }
 
 /// Reads a text: returns its canonical spelling, or the text of its fault.

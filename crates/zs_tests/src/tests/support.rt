@@ -9,7 +9,7 @@ pub mod streams;
 
 /// Asserts that two texts are equal.
 pub fn expect_text(rt: &impl Abort, found: &str, wanted: &str, of: &str) {
-    assert!(rt; found == wanted, "{of}: wanted {wanted}, found {found}");
+    assert_eq!(rt; (of, found), (of, wanted));
 }
 
 /// Asserts each of these facts of the run with this number.

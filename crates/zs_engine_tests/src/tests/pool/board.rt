@@ -150,21 +150,40 @@ fn a_claimed_batch_is_whole(rt: HostRuntime) -> Result<(), Fail> {
     Ok(())
 }
 
+// Claims the first batch by one of two passes and the second by the other, and joins these.
+fn claim_by_turns<R: Wait + Abort>(
+    rt: &R,
+    alloc: Global,
+    board: &Board,
+    pass: BoardPass,
+) -> BoardPass
+    requires board { pass.board ≡ board.now }
+    requires whole { pass.share ≡ max_moment }
+    ensures board { result.board ≡ board.now }
+    ensures whole { result.share ≡ max_moment }
+{
+    let Ok((mut first, mut second)) = board.split(rt, alloc, pass) else {
+        unreachable!()
+    };
+    expect_claim(rt, board, &mut second, Some(0));
+    expect_claim(rt, board, &mut first, Some(1));
+    board.join(rt, first, second)
+}
+
+// The batches have these numbers.
+fn expect_numbers(rt: &impl Abort, batches: &[Batch], numbers: &[u64]) {
+    assert!(rt; batches.len() == numbers.len());
+    for (batch, number) in batches.iter().zip(numbers) {
+        assert!(rt; batch.number == *number);
+    }
+}
+
 #[test]
 fn what_is_left_on_a_board_comes_back_in_order(rt: HostRuntime) -> Result<(), Fail> {
     let alloc = rt.alloc();
     let (board, pass) = Board::new(&rt, alloc, batches_of(alloc, 5, 0)?)?;
-    let Ok((mut first, mut second)) = board.split(&rt, alloc, pass) else {
-        unreachable!()
-    };
-    expect_claim(&rt, &board, &mut second, Some(0));
-    expect_claim(&rt, &board, &mut first, Some(1));
-    let pass = board.join(&rt, first, second);
-    let left = board.close(&rt, alloc, pass)?;
-    assert!(rt; left.len() == 3);
-    for (batch, number) in left.iter().zip([2u64, 3, 4]) {
-        assert!(rt; batch.number == number);
-    }
+    let pass = claim_by_turns(&rt, alloc, &board, pass);
+    expect_numbers(&rt, &board.close(&rt, alloc, pass)?, &[2, 3, 4]);
     Ok(())
 }
 

@@ -1,5 +1,6 @@
 //! Shelves of polled batches with no tasks, used by one pass, by two, and by two threads.
 ghost use Rattle.std.specs.Prelude.{◌≡◌, ◌≤◌};
+ghost use Rattle.zs_term.specs.Saturating.{max_moment};
 
 use super::*;
 use std::process::Abort;
@@ -55,19 +56,29 @@ fn a_shelf_of_one_is_full_after_one(rt: HostRuntime) -> Result<(), Fail> {
     Ok(())
 }
 
+// Puts four batches by two passes in turn, takes the first, and joins the passes.
+fn put_by_turns<R: Wait + Abort>(rt: &R, alloc: Global, shelf: &Shelf, pass: ShelfPass) -> ShelfPass
+    requires shelf { pass.shelf ≡ shelf.now }
+    requires whole { pass.share ≡ max_moment }
+    ensures shelf { result.shelf ≡ shelf.now }
+    ensures whole { result.share ≡ max_moment }
+{
+    let Ok((mut first, mut second)) = shelf.split(rt, alloc, pass) else {
+        unreachable!()
+    };
+    assert!(rt; put(rt, alloc, shelf, &mut second, 0).is_ok());
+    assert!(rt; put(rt, alloc, shelf, &mut first, 1).is_ok());
+    assert!(rt; put(rt, alloc, shelf, &mut second, 2).is_ok());
+    assert!(rt; put(rt, alloc, shelf, &mut first, 3).is_ok());
+    assert!(rt; take(rt, shelf, &mut first) == Some(0));
+    shelf.join(rt, first, second)
+}
+
 #[test]
 fn what_two_passes_put_is_taken_in_order_after_their_join(rt: HostRuntime) -> Result<(), Fail> {
     let alloc = rt.alloc();
     let (shelf, pass) = Shelf::new(&rt, alloc, 4)?;
-    let Ok((mut first, mut second)) = shelf.split(&rt, alloc, pass) else {
-        unreachable!()
-    };
-    assert!(rt; put(&rt, alloc, &shelf, &mut second, 0).is_ok());
-    assert!(rt; put(&rt, alloc, &shelf, &mut first, 1).is_ok());
-    assert!(rt; put(&rt, alloc, &shelf, &mut second, 2).is_ok());
-    assert!(rt; put(&rt, alloc, &shelf, &mut first, 3).is_ok());
-    assert!(rt; take(&rt, &shelf, &mut first) == Some(0));
-    let mut pass = shelf.join(&rt, first, second);
+    let mut pass = put_by_turns(&rt, alloc, &shelf, pass);
     assert!(rt; take(&rt, &shelf, &mut pass) == Some(1));
     expect_left(&rt, &shelf.close(&rt, alloc, pass)?, &[2, 3]);
     Ok(())
