@@ -47,10 +47,6 @@ first_tick-is (every_ms last) due =
     ] refl
 first_tick-is (listed ts) due = first_tick_from-listed ts due
 
-pub next-is : (c : Ticks) (due : Option ℕ) → option_and_then (first_tick c) due ≡ next_of (ticks_of c) due
-next-is c None = refl
-next-is c (Some due) = first_tick-is c due
-
 listed-end : (ts : List ℕ) (h : ℕ) → ((t : ℕ) → Contains ts t → t ≤ h) → AllBefore ts (h + 1)
 unfolding AllBefore
 listed-end [] h all = tt
@@ -59,7 +55,7 @@ listed-end (t ∷ ts) h all =
     (omega arith, listed-end ts h (λ s k. all s (Contains-append_right (t ∷ []) ts s k)))
 
 -- no tick is after the horizon
-pub ticks-end : (c : Ticks) (h : ℕ) → ((t : ℕ) → IsTick c t → t ≤ h) → AllBefore (ticks_of c) (h + 1)
+ticks-end : (c : Ticks) (h : ℕ) → ((t : ℕ) → IsTick c t → t ≤ h) → AllBefore (ticks_of c) (h + 1)
 unfolding ticks_of
 ticks-end (every_ms last) h all = let within : last ≤ h = all last (omega arith) in AllBefore-moments 0 (last + 1) (h + 1) (omega arith)
 ticks-end (listed ts) h all = listed-end ts h all
@@ -85,13 +81,6 @@ unfolding ticks_of
 ticks-rise (every_ms last) lawful = RisesFrom-moments 0 0 (last + 1) (omega arith)
 ticks-rise (listed ts) lawful = RisesFrom-increasing ts lawful.rising
 
--- the list of a clock's ticks is a valid clock of listed ticks
-pub ticks-clock : (c : Ticks) (h : ℕ) → IsClock c → ((t : ℕ) → IsTick c t → t ≤ h) → h ≤ max_horizon → drive.AreTicks (ticks_of c)
-ticks-clock c h lawful all small = record {
-  rises = ticks-rise c lawful;
-  bounded = AllBefore-later (ticks_of c) (h + 1) (max_tick + 1) (ticks-end c h all) (omega arith);
-}
-
 ticks-last : (c : Ticks) → IsClock c → (t : ℕ) → IsTick c t → t ≤ horizon c
 ticks-last (every_ms last) lawful t h = h
 ticks-last (listed ts) lawful t h = last-tick ts lawful.rising t h
@@ -102,7 +91,6 @@ horizon-small (listed ts) lawful = lawful.limit
 
 -- the list of a clock's ticks rises, up to the clock's horizon
 pub ticks-rising : (c : Ticks) → IsClock c → drive.AreTicks (ticks_of c) × AllBefore (ticks_of c) (horizon c + 1)
-ticks-rising c lawful = (
-  ticks-clock c (horizon c) lawful (ticks-last c lawful) (horizon-small c lawful),
-  ticks-end c (horizon c) (ticks-last c lawful),
-)
+ticks-rising c lawful =
+    let end = ticks-end c (horizon c) (ticks-last c lawful) in
+    (record { rises = ticks-rise c lawful; bounded = AllBefore-later (ticks_of c) (horizon c + 1) (max_tick + 1) end (omega (arith, horizon-small c lawful)) }, end)

@@ -1,9 +1,9 @@
 use Rattle.std.proofs.Common.{◌≡◌, ◌++◌, ◌∷◌, [], List, Option, Some, refl, sym, ap, ◌∙◌, arith, append_assoc, append-nil}
 use Rattle.std.specs.Vec.Iter.{into_iter_items}
-use Rattle.std.proofs.lemmas.List.{nil_from_length}
+use Rattle.std.proofs.lemmas.List.{nil_from_length, map-append}
 use Rattle.zs_drive.specs.Tasks.{TaskValue}
 use Rattle.zs_engine.specs.Slots.{Slots}
-use Rattle.zs_engine.proofs.SlotLemmas.{full, full-more, full-push}
+use Rattle.zs_engine.proofs.SlotLemmas.{full, full-more}
 use Rattle.zs_engine.proofs.slots.into_tasks.Goals as goal
 
 pub loop-slot-init : goal.loop-slot-init
@@ -33,7 +33,7 @@ loop-slot-preserved c =
       filled = (more.2, more.3);
       moved =
           ap (λ (ts : List TaskValue). full ts ++ rest) c.in_ok-push.ensures.items
-          ∙ ap (λ (slots : Slots). slots ++ rest) (full-push done task)
+          ∙ ap (λ (slots : Slots). slots ++ rest) (map-append (λ t. Some t) done (task ∷ []))
           ∙ append_assoc (full done) (Some task ∷ []) rest
           ∙ ap (λ (slot : Option TaskValue). full done ++ slot ∷ rest) (sym c.in-Some-slot.is)
           ∙ ap (λ (slots : Slots). full done ++ slots) (sym step)
