@@ -1,7 +1,6 @@
 -- The ticks of a clock as a list.
-use Rattle.std.proofs.Common.{◌≡◌, ℕ, zero, suc, ◌+◌, ◌≤◌, ◌<◌, List, [], ◌∷◌, Option, nat_le, cond, true, false, Contains, if◌then◌else◌, refl, sym, ap, arith, nat_cmp}
+use Rattle.std.proofs.Common.{◌≡◌, ℕ, zero, suc, ◌+◌, ◌≤◌, ◌<◌, List, [], ◌∷◌, nat_le, cond, true, false, Contains, if◌then◌else◌, refl, sym, ap, arith, nat_cmp}
 use Rattle.std.specs.Prelude.{Some, None}
-use Rattle.std.specs.Option.{option_and_then}
 use Rattle.std.specs.List.{AllByRecursion}
 use Rattle.std.specs.List.Sorted.{IsStrictlyIncreasing, IsStrictlySortedBy}
 use Rattle.std.specs.declared.cmp.Ordering.TheVariants.{Less}
@@ -14,7 +13,7 @@ use Rattle.zs_drive.proofs.Ticks.{tick_cases, first_tick_from-past}
 use Rattle.zs_drive.proofs.Moments.{AllBefore-later}
 use Rattle.zs_agenda.specs.Ticks.{Ticks, every_ms, listed, first_tick, horizon, IsTick, IsClock, max_horizon}
 use Rattle.zs_agenda.proofs.TickLemmas.{last-tick}
-use Rattle.zs_engine.specs.Times.{moments_from, ticks_of, next_of}
+use Rattle.zs_engine.specs.Times.{moments_from, ticks_of}
 
 AllBefore-moments : (b n c : ℕ) → b + n ≤ c → AllBefore (moments_from b n) c
 unfolding AllBefore moments_from

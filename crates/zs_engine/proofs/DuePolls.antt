@@ -1,6 +1,6 @@
 -- A due poll adds its moment, and no other, to the moments at which the attempts of a job alone
 -- begin and end.
-use Rattle.std.proofs.Common.{◌≡◌, ◌≢◌, ℕ, ◌+◌, ◌≤◌, ◌<◌, ◌^◌, ◌-◌, max, List, [], ◌∷◌, ◌++◌, length, Option, nat_lt, false, if◌then◌else◌, append_assoc, refl, sym, ◌∙◌, ap, arith, ◌⊎◌, inl, inr}
+use Rattle.std.proofs.Common.{◌≡◌, ◌≢◌, ℕ, ◌+◌, ◌≤◌, ◌<◌, ◌^◌, ◌-◌, max, List, [], ◌∷◌, ◌++◌, Option, nat_lt, false, if◌then◌else◌, append_assoc, refl, sym, ◌∙◌, ap, arith, ◌⊎◌, inl, inr}
 use Rattle.std.specs.Prelude.{Some, None, flat_map, fold}
 use Rattle.zs_effect.specs.Scripts.{IsScript}
 use Rattle.zs_effect.specs.declared.script.Outcome.{Outcome}

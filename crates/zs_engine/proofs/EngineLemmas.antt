@@ -1,14 +1,12 @@
 -- An engine before the first round, in a round, and after the last one.
-use Rattle.std.proofs.Common.{◌≡◌, ◌<◌, ◌≤◌, ◌+◌, ◌*◌, ◌-◌, ◌++◌, ◌∷◌, [], ℕ, false, List, Option, Some, None, length, length-append, refl, sym, ap, ◌∙◌, arith, slice_get, slice_index_or}
+use Rattle.std.proofs.Common.{◌≡◌, ◌<◌, ◌≤◌, ◌+◌, ◌*◌, ◌-◌, ◌++◌, ◌∷◌, [], ℕ, false, List, Option, Some, None, length, length-append, refl, ap, ◌∙◌, arith, slice_get, slice_index_or}
 use Rattle.std.specs.FinMap as map_of
-use Rattle.std.specs.List.Sorted.{IsStrictlySortedBy}
 use Rattle.std.proofs.Math.Nat.{mul-le-mul_right}
 use Rattle.std.proofs.lemmas.Grind.{flat_map-append}
-use Rattle.std.proofs.lemmas.Map.Keys.{sorted_from_strictly_increasing}
 use Rattle.std.proofs.lemmas.Option.{slice_get_read, slice_get_within}
 use Rattle.atomic_table.specs.Seated.{TableId}
 use Rattle.zs_agenda.specs.Ticks.{Ticks, IsClock, horizon}
-use Rattle.zs_agenda.specs.Timers.{Timers, IsAfter, Takes}
+use Rattle.zs_agenda.specs.Timers.{Timers, IsAfter}
 use Rattle.zs_term.specs.Saturating.{max_moment}
 use Rattle.zs_effect.specs.Scripts.{IsScript}
 use Rattle.zs_drive.specs.Tasks.{TaskValue, current_timeline}
@@ -19,9 +17,9 @@ use Rattle.zs_engine.specs.declared.engine.Engine.{Engine}
 use Rattle.zs_engine.specs.Times.{ticks_of, next_of}
 use Rattle.zs_engine.specs.Slots.{Slots}
 use Rattle.zs_engine.specs.Rounds.{KeptJob, kept_of, jobs_in, set_next}
-use Rattle.zs_engine.specs.Engine.{Runs, IsResting, IsNew, IsDueAt}
+use Rattle.zs_engine.specs.Engine.{Runs, IsNew, IsDueAt}
 use Rattle.zs_engine.proofs.ClockTicks.{ticks-rising}
-use Rattle.zs_engine.proofs.RoundLemmas.{taken-set_next, waits-none, waits-push, begins, begins-before, begins-next, due-few, due-room}
+use Rattle.zs_engine.proofs.RoundLemmas.{taken-set_next, waits-none, waits-push, begins-next, due-room}
 use Rattle.zs_engine.proofs.SlotLemmas.{length-slots}
 
 -- an engine of no jobs

@@ -53,10 +53,10 @@ pub answered : (clock : Ticks) (answer : Answer) (a : Timers) → Waits (ticks_o
 answered clock answer a w empty last =
     let ts : List TaskValue = answer.tasks.items in
     let ends : Ends (ticks_of clock) 0 ts = (λ i t e.
-        let k = w.each i t e in
-        let none : next_of (ticks_of clock) (current_timeline t).due ≡ None = ap (next_in (ticks_of clock)) (sym e) ∙ sym (w.timer i) ∙ ap (λ (m : Moments). map_of.get m i) empty ∙ map_of.get-empty nat_cmp i in
-        let same = keeps_up-to (ticks_of clock) t k.0 _ refl none in
-        (omega (arith, k.1), same, k.0.whole, k.0.kept ∙ ap (λ (timeline : Timeline). poll_moments timeline.attempts) same)) in
+    let k = w.each i t e in
+    let none : next_of (ticks_of clock) (current_timeline t).due ≡ None = ap (next_in (ticks_of clock)) (sym e) ∙ sym (w.timer i) ∙ ap (λ (m : Moments). map_of.get m i) empty ∙ map_of.get-empty nat_cmp i in
+    let same = keeps_up-to (ticks_of clock) t k.0 _ refl none in
+    (omega (arith, k.1), same, k.0.whole, k.0.kept ∙ ap (λ (timeline : Timeline). poll_moments timeline.attempts) same)) in
     let all = all-end (ticks_of clock) 0 ts ends in
     let jobs : map job_alone (jobs_in (full ts)) ≡ map (λ t. t.job) ts = ap (map job_alone) (jobs_in-full ts) ∙ map-map job_alone kept_of ts in
     rw jobs (record {

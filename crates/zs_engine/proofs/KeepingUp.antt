@@ -75,24 +75,26 @@ module _ (ticks : List ℕ) (task : TaskValue) where
     unfolding RisesFrom AllBefore
     onto moments seen all soon few same kept =
         let rises = rw is at k.rises in
-        let bounded = rw is at k.bounded in
-        (record {
-          past = k.past ++ t ∷ [];
-          rest = rest;
-          low = t + 1;
-          split = k.split ∙ ap (λ (ts : List ℕ). k.past ++ ts) is ∙ sym (append_assoc k.past (t ∷ []) rest);
-          before = AllBefore-append k.past t (t + 1) (AllBefore-later k.past t (t + 1) before (omega arith)) (omega arith);
-          small = omega (arith, from-low.1);
-          rises = rises.1;
-          bounded = bounded.1;
-          polled = all;
-          seen = soon;
-          few = omega (arith, few, length-append k.past (t ∷ []));
-          same = same;
-          kept = kept;
-          whole = k.whole;
-          script = k.script;
-        }, refl)
+        let bounded = rw is at k.bounded in (
+          record {
+            past = k.past ++ t ∷ [];
+            rest = rest;
+            low = t + 1;
+            split = k.split ∙ ap (λ (ts : List ℕ). k.past ++ ts) is ∙ sym (append_assoc k.past (t ∷ []) rest);
+            before = AllBefore-append k.past t (t + 1) (AllBefore-later k.past t (t + 1) before (omega arith)) (omega arith);
+            small = omega (arith, from-low.1);
+            rises = rises.1;
+            bounded = bounded.1;
+            polled = all;
+            seen = soon;
+            few = omega (arith, few, length-append k.past (t ∷ []));
+            same = same;
+            kept = kept;
+            whole = k.whole;
+            script = k.script;
+          },
+          refl,
+        )
 
     -- nothing is due
     skip : IsAfter t (current_timeline task).due → (n : KeepsUp ticks task) × (n.rest ≡ rest)

@@ -1,7 +1,6 @@
 -- The rounds of a run: a task's timer is armed, and due tasks are polled.
-use Rattle.std.proofs.Common.{◌≡◌, ◌≢◌, ◌<◌, ◌≤◌, ◌+◌, ◌*◌, ◌-◌, ◌==◌, ℕ, zero, suc, Bool, true, false, List, [], ◌∷◌, ◌++◌, Option, Some, None, All, cond, length, refl, sym, ap, ◌∙◌, subst, arith, slice_get, slice_set, nat_cmp, length-append, IsNone, map}
-use Rattle.std.specs.Prelude.{IfNone}
-use Rattle.std.proofs.lemmas.Bool.Decides.{nat_tests, Decides-eqb}
+use Rattle.std.proofs.Common.{◌≡◌, ◌<◌, ◌≤◌, ◌+◌, ◌*◌, ◌==◌, ℕ, suc, Bool, true, false, List, [], ◌∷◌, ◌++◌, Option, Some, None, All, cond, length, refl, sym, ap, ◌∙◌, subst, arith, slice_get, slice_set, nat_cmp, length-append, map}
+use Rattle.std.proofs.lemmas.Bool.Decides.{Decides-eqb}
 use Rattle.std.proofs.lemmas.List.{length-map, map-set, map-append}
 use Rattle.std.proofs.lemmas.List.Elements.{All-from_recursion}
 use Rattle.std.proofs.lemmas.List.Sums.{sum_by_push, sum_by-cons}
@@ -14,7 +13,7 @@ use Rattle.std.specs.List.Sorted.{IsStrictlySortedBy}
 use Rattle.std.specs.Cmp.{nat_cmp_total, unsigned_tied}
 use Rattle.std.specs.FinMap as map_of
 use Rattle.zs_effect.specs.Scripts.{IsScript}
-use Rattle.zs_agenda.specs.Timers.{Timers, Moments, IsAfter, Takes}
+use Rattle.zs_agenda.specs.Timers.{Timers, Takes}
 use Rattle.zs_drive.specs.Clocks.{AreTicks, AllBefore}
 use Rattle.zs_drive.specs.Tasks.{TaskValue, current_timeline}
 use Rattle.zs_drive.proofs.Moments.{length-rises, length-clock}

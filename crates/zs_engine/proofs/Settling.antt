@@ -1,7 +1,6 @@
 -- A shared round: the tasks that are due are taken out, polled, and put back.
-use Rattle.std.proofs.Common.{◌≡◌, ◌<◌, ◌≤◌, ◌+◌, ℕ, List, [], ◌∷◌, Some, None, length, sym, ap, ◌∙◌, arith, slice_get, slice_set, map, refl}
+use Rattle.std.proofs.Common.{◌≡◌, ◌<◌, ◌+◌, ℕ, List, [], ◌∷◌, Some, None, length, ap, ◌∙◌, arith, slice_get, slice_set, map}
 use Rattle.std.specs.FinMap.{get}
-use Rattle.std.proofs.lemmas.List.{length-map}
 use Rattle.std.proofs.lemmas.Option.{slice_get_within}
 use Rattle.zs_agenda.specs.Timers.{Timers}
 use Rattle.zs_drive.specs.Tasks.{TaskValue, current_timeline}
@@ -46,17 +45,20 @@ module _ {ticks : List ℕ} {now : ℕ} {jobs : List KeptJob} {slots : Slots} {a
         in_range = rw (s.out, length-emptied s.whole (numbers_of (w ∷ waits))) (slice_get_within s.whole w.number (Some w) here);
         unset = begins-unset s.begins w here;
         later = begins-later s.begins w here;
-        onward = (waits, record {
-          whole = slice_set s.whole w.number (Some (polled_at now w));
-          before = s.before + 1;
-          begins = begins-onward s.begins w here s.distinct.0;
-          distinct = s.distinct.1;
-          picks = picks-set s.whole w.number (Some (polled_at now w)) (numbers_of waits) s.distinct.0 ∙ rest;
-          rest_is = others;
-          out = ap (λ (ps : Slots). slice_set ps w.number (Some (polled_at now w))) s.out ∙ emptied-put s.whole w.number (Some (polled_at now w)) (numbers_of waits) s.distinct.0;
-          same_jobs = jobs_in-set s.whole w.number now w here ∙ s.same_jobs;
-          counted = omega (arith, s.counted);
-        });
+        onward = (
+          waits,
+          record {
+            whole = slice_set s.whole w.number (Some (polled_at now w));
+            before = s.before + 1;
+            begins = begins-onward s.begins w here s.distinct.0;
+            distinct = s.distinct.1;
+            picks = picks-set s.whole w.number (Some (polled_at now w)) (numbers_of waits) s.distinct.0 ∙ rest;
+            rest_is = others;
+            out = ap (λ (ps : Slots). slice_set ps w.number (Some (polled_at now w))) s.out ∙ emptied-put s.whole w.number (Some (polled_at now w)) (numbers_of waits) s.distinct.0;
+            same_jobs = jobs_in-set s.whole w.number now w here ∙ s.same_jobs;
+            counted = omega (arith, s.counted);
+          },
+        );
       })
 
   pub settling-end : (waits : List TaskValue) → Settling ticks now jobs slots a waits [] count → Waits ticks slots a count [] × (jobs_in slots ≡ jobs) × (a.last_taken ≡ Some now)

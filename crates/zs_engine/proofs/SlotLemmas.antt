@@ -1,6 +1,6 @@
 -- Lemmas about slots that are emptied and filled again.
 use Rattle.std.proofs.Common.{◌≡◌, ◌≢◌, ◌<◌, ◌+◌, ◌==◌, ◌||◌, ℕ, zero, suc, Bool, true, false, cond, List, [], ◌∷◌, ◌++◌, Option, Some, None, length, length-set, set-set, refl, sym, ap, ◌∙◌, arith, slice_get, slice_set, append_assoc, length-append, map, nat_cmp}
-use Rattle.std.specs.Prelude.{flat_map, option_to_list, option_map}
+use Rattle.std.specs.Prelude.{option_to_list, option_map}
 use Rattle.std.proofs.lemmas.Bool.Decides.{nat_tests, Decides-eqb}
 use Rattle.std.proofs.lemmas.List.{length-map, set_comm, map-append}
 use Rattle.std.proofs.lemmas.List.Concat.{flat_map_single}
@@ -14,7 +14,7 @@ use Rattle.zs_drive.specs.Clocks.{AllBefore}
 use Rattle.zs_drive.specs.Tasks.{TaskValue}
 use Rattle.zs_pool.proofs.Places.{get_set, get_else}
 use Rattle.zs_pool.specs.Rounds.{polled_at}
-use Rattle.zs_engine.specs.Slots.{Slots, Picks, emptied, has, IsDistinct}
+use Rattle.zs_engine.specs.Slots.{Slots, emptied, has, IsDistinct}
 use Rattle.zs_engine.specs.Rounds.{kept_of, jobs_in, polls_of, polls_in}
 
 abbrev pub full : List TaskValue → Slots

@@ -1,4 +1,4 @@
-use Rattle.std.proofs.Common.{◌≡◌, ◌∙◌, ◌++◌, [], ◌+◌, drop, refl, sym, ap, slice_index}
+use Rattle.std.proofs.Common.{◌∙◌, refl, sym}
 use Rattle.std.proofs.lemmas.List.{drop_more, drop_all, append-nil}
 use Rattle.zs_engine.proofs.SlotLemmas.{lifting-takes, lifting-step}
 use Rattle.zs_engine.proofs.slots.take_tasks.Goals as goal

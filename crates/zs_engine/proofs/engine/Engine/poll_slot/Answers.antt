@@ -1,4 +1,4 @@
-use Rattle.std.proofs.Common.{◌≡◌, ◌∙◌, ◌∷◌, ℕ, true, false, Option, Some, refl, sym, ap, arith, inl, inr, slice_set}
+use Rattle.std.proofs.Common.{◌≡◌, ◌∙◌, ◌∷◌, ℕ, false, Option, Some, refl, sym, ap, arith, inl, inr, slice_set}
 use Rattle.std.specs.List.Sorted.{IsStrictlySortedBy}
 use Rattle.std.proofs.lemmas.Option.{slice_get_within}
 use Rattle.zs_drive.specs.Tasks.{TaskValue}

@@ -1,4 +1,4 @@
-use Rattle.std.proofs.Common.{◌≡◌, ◌∙◌, [], List, map, refl, sym, arith}
+use Rattle.std.proofs.Common.{◌≡◌, ◌∙◌, [], refl, sym, arith}
 use Rattle.std.specs.Vec.Iter.{into_iter_items}
 use Rattle.std.proofs.lemmas.List.{nil_from_length}
 use Rattle.std.proofs.lemmas.Map.Keys.{IsStrictlyIncreasing-from_sorted}
@@ -40,17 +40,20 @@ loop-task-init g c =
     let picks = c.in_ok-due.ensures.picks in
     let numbers = due-numbers due.begins c.in_ok-due.due.items picks in
     record {
-      settling = (c.in_ok-due.due.items, record {
-        whole = c.args.self.now.slots.items;
-        before = c.args.self.now.seat.count;
-        begins = rw numbers due.begins;
-        distinct = rw numbers (IsDistinct-sorted c.args.numbers.now due.in_order);
-        picks = rw numbers picks;
-        rest_is = c.into_iter-task-iterator.ensures.into_iter_gives.0 ∙ c.in-Ok.ensures.tasks;
-        out = rw numbers c.in_ok-due.ensures.emptied;
-        same_jobs = refl;
-        counted = c.in-Ok.ensures.count;
-      });
+      settling = (
+        c.in_ok-due.due.items,
+        record {
+          whole = c.args.self.now.slots.items;
+          before = c.args.self.now.seat.count;
+          begins = rw numbers due.begins;
+          distinct = rw numbers (IsDistinct-sorted c.args.numbers.now due.in_order);
+          picks = rw numbers picks;
+          rest_is = c.into_iter-task-iterator.ensures.into_iter_gives.0 ∙ c.in-Ok.ensures.tasks;
+          out = rw numbers c.in_ok-due.ensures.emptied;
+          same_jobs = refl;
+          counted = c.in-Ok.ensures.count;
+        },
+      );
       runs = Runs-counted _ due.runs (c.in-Ok.ensures.tally ∙ sym due.runs.seated, c.in-Ok.ensures.count, c.in-Ok.ensures.allowance);
       clock = refl;
     }
