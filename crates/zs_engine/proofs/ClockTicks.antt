@@ -32,19 +32,15 @@ first_tick_from-moments b (suc n) x h l =
     tick_cases b x (λ t. (if t then Some b else first_tick_from (moments_from (b + 1) n) x) ≡ Some x)
     (λ k. first_tick_from-moments (b + 1) n x (omega arith) (omega arith)) (λ k. let same : b ≡ x = omega arith in ap (λ (m : ℕ). Some m) same)
 
-first_tick_from-listed : (ts : List ℕ) (due : ℕ) → first_tick (listed ts) due ≡ first_tick_from ts due
-unfolding first_tick_from
-first_tick_from-listed ts due = refl
-
 -- the clock's first tick is the least one of its list
 pub first_tick-is : (c : Ticks) (due : ℕ) → first_tick c due ≡ first_tick_from (ticks_of c) due
-unfolding ticks_of
+unfolding ticks_of first_tick_from
 first_tick-is (every_ms last) due =
     elim (nat_le due last) as (λ b. nat_le due last ≡ b → cond b (Some due) None ≡ first_tick_from (moments_from 0 (last + 1)) due) [
       | true ↦ λ is. let within : due ≤ last = grind (arith, nat_tests) in sym (first_tick_from-moments 0 (last + 1) due (omega arith) (omega arith))
       | false ↦ λ is. let past : last + 1 ≤ due = grind (arith, nat_tests) in sym (first_tick_from-past (moments_from 0 (last + 1)) (last + 1) due (AllBefore-moments 0 (last + 1) (last + 1) (omega arith)) past)
     ] refl
-first_tick-is (listed ts) due = first_tick_from-listed ts due
+first_tick-is (listed ts) due = refl
 
 listed-end : (ts : List ℕ) (h : ℕ) → ((t : ℕ) → Contains ts t → t ≤ h) → AllBefore ts (h + 1)
 unfolding AllBefore
@@ -59,26 +55,20 @@ unfolding ticks_of
 ticks-end (every_ms last) h all = let within : last ≤ h = all last (omega arith) in AllBefore-moments 0 (last + 1) (h + 1) (omega arith)
 ticks-end (listed ts) h all = listed-end ts h all
 
-above : (x : ℕ) (ys : List ℕ) → AllByRecursion (λ y. nat_cmp x y ≡ Less) ys → AllByRecursion (λ y. x + 1 ≤ y) ys
-above x [] h = tt
-above x (y ∷ ys) h = (let less : nat_cmp x y ≡ Less = h.0 in grind (arith, nat_tests), above x ys h.1)
-
-rises-sorted : (b : ℕ) (xs : List ℕ) → AllByRecursion (λ y. b ≤ y) xs → IsStrictlySortedBy nat_cmp xs → RisesFrom b xs
+rises-sorted : (b x : ℕ) (xs : List ℕ) → b ≤ x → IsStrictlySortedBy nat_cmp (x ∷ xs) → RisesFrom b (x ∷ xs)
 unfolding RisesFrom IsStrictlySortedBy
-rises-sorted b [] h s = tt
-rises-sorted b (x ∷ xs) h s = (h.0, rises-sorted (x + 1) xs (above x xs s.0) s.1)
+rises-sorted b x [] h s = (h, tt)
+rises-sorted b x (y ∷ xs) h s = (h, rises-sorted (x + 1) y xs (let less : nat_cmp x y ≡ Less = s.0.0 in grind (arith, nat_tests)) s.1)
 
-above_zero : (xs : List ℕ) → AllByRecursion (λ y. 0 ≤ y) xs
-above_zero [] = tt
-above_zero (x ∷ xs) = (omega arith, above_zero xs)
-
-pub RisesFrom-increasing : (xs : List ℕ) → IsStrictlyIncreasing xs → RisesFrom 0 xs
-RisesFrom-increasing xs h = rises-sorted 0 xs (above_zero xs) (sorted_from_strictly_increasing xs h)
+pub RisesFrom-sorted : (xs : List ℕ) → IsStrictlySortedBy nat_cmp xs → RisesFrom 0 xs
+unfolding RisesFrom
+RisesFrom-sorted [] s = tt
+RisesFrom-sorted (x ∷ xs) s = rises-sorted 0 x xs (omega arith) s
 
 ticks-rise : (c : Ticks) → IsClock c → RisesFrom 0 (ticks_of c)
 unfolding ticks_of
 ticks-rise (every_ms last) lawful = RisesFrom-moments 0 0 (last + 1) (omega arith)
-ticks-rise (listed ts) lawful = RisesFrom-increasing ts lawful.rising
+ticks-rise (listed ts) lawful = RisesFrom-sorted ts (sorted_from_strictly_increasing ts lawful.rising)
 
 ticks-last : (c : Ticks) → IsClock c → (t : ℕ) → IsTick c t → t ≤ horizon c
 ticks-last (every_ms last) lawful t h = h

@@ -22,7 +22,7 @@ use Rattle.zs_pool.specs.Rounds.{polled_at, IsPollable}
 use Rattle.zs_engine.specs.Times.{next_of, IsLater}
 use Rattle.zs_engine.specs.Slots.{Slots, Picks, has}
 use Rattle.zs_engine.specs.Rounds.{KeepsUp, Waits, Begins, next_in, set_next, polls_of, polls_in}
-use Rattle.zs_engine.proofs.ClockTicks.{RisesFrom-increasing}
+use Rattle.zs_engine.proofs.ClockTicks.{RisesFrom-sorted}
 use Rattle.zs_engine.proofs.KeepingUp.{keeps_up-first, due-poll, polled-later}
 use Rattle.zs_engine.proofs.SlotLemmas.{full, has-first, has-more, AllBefore-range, get-set, get-push, polls_in-set}
 
@@ -159,7 +159,7 @@ module _ {ticks : List ℕ} {slots : Slots} {a : Timers} {count now : ℕ} {numb
     pub due-few : IsStrictlySortedBy nat_cmp numbers → length ts ≤ length slots
     due-few rising =
         let in_range = (λ (i : ℕ) (h : has i numbers ≡ true). let t = due-task i h in slice_get_within slots i (Some t.0) t.1) in
-        let bound = length-rises 0 numbers (length slots) (RisesFrom-increasing numbers (IsStrictlyIncreasing-from_sorted numbers rising)) (AllBefore-range numbers (length slots) in_range) in
+        let bound = length-rises 0 numbers (length slots) (RisesFrom-sorted numbers rising) (AllBefore-range numbers (length slots) in_range) in
         omega (arith, bound, length-map ts (λ (t : TaskValue). t.number), ap (λ (ns : List ℕ). length ns) due-numbers)
 
   -- the seat may count all polls of a round

@@ -20,6 +20,13 @@ use Rattle.zs_engine.specs.Rounds.{kept_of, jobs_in, polls_of, polls_in}
 abbrev pub full : List TaskValue → Slots
 full ts = map (λ t. Some t) ts
 
+-- the element after some of the results of f is one of them too
+pub taken-next : {X Y : Type 0} (f : X → Y) (before all : List X) (y : Y) (rest : List Y) → map f before ++ y ∷ rest ≡ map f all → (x : X) × (y ≡ f x)
+taken-next f [] [] y rest is = cc
+taken-next f [] (x ∷ all) y rest is = (x, cc)
+taken-next f (u ∷ before) [] y rest is = cc
+taken-next f (u ∷ before) (x ∷ all) y rest is = taken-next f before all y rest cc
+
 -- ---- numbers
 pub has-first : (n : ℕ) (left : List ℕ) → has n (n ∷ left) ≡ true
 has-first n left = ap (λ (b : Bool). b || has n left) ((Decides-eqb n n).1 refl)
@@ -82,10 +89,6 @@ jobs_in-full ts = flat_map-map (λ slot. option_to_list (option_map kept_of slot
 pub length-slots : (slots : Slots) (ts : List TaskValue) → slots ≡ full ts → length slots ≡ length (jobs_in slots)
 length-slots slots ts same = rw (same, jobs_in-full ts) (length-map ts (λ t. Some t) ∙ sym (length-map ts kept_of))
 
-pub full-more : (p : Option TaskValue) (rest : Slots) (ts : List TaskValue) → p ∷ rest ≡ full ts → (t : TaskValue) × (p ≡ Some t) × (us : List TaskValue) × (rest ≡ full us)
-full-more p rest [] e = let no : p ∷ rest ≡ [] = e in cc
-full-more p rest (t ∷ ts) e = (t, cc, ts, cc)
-
 -- ---- the slots of a round
 -- another slot has no influence
 pub picks-set : (slots : Slots) (n : ℕ) (o : Option TaskValue) (left : List ℕ) → has n left ≡ false → map (slice_get (slice_set slots n o)) left ≡ map (slice_get slots) left
@@ -110,13 +113,6 @@ pub record Lifting (old : Slots) (numbers : List ℕ) (slots : Slots) (left : Li
   pub distinct : IsDistinct left
   pub taken : map (slice_get old) numbers ≡ map (λ task. Some (Some task)) tasks ++ map (slice_get slots) left
   pub emptied_all : emptied slots left ≡ emptied old numbers
-
-pub lifting-takes : (before all : List TaskValue) (slot : Option (Option TaskValue)) (rest : List (Option (Option TaskValue)))
-    → map (λ task. Some (Some task)) before ++ slot ∷ rest ≡ map (λ task. Some (Some task)) all → (task : TaskValue) × (slot ≡ Some (Some task))
-lifting-takes [] [] slot rest is = cc
-lifting-takes [] (t ∷ all) slot rest is = (t, cc)
-lifting-takes (u ∷ before) [] slot rest is = cc
-lifting-takes (u ∷ before) (t ∷ all) slot rest is = lifting-takes before all slot rest cc
 
 pub lifting-step : (old : Slots) (numbers : List ℕ) (slots : Slots) (n : ℕ) (left : List ℕ) (tasks : List TaskValue) (t : TaskValue) → slice_get slots n ≡ Some (Some t)
     → Lifting old numbers slots (n ∷ left) tasks → Lifting old numbers (slice_set slots n None) left (tasks ++ t ∷ [])

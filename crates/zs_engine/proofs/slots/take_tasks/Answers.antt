@@ -1,6 +1,6 @@
-use Rattle.std.proofs.Common.{◌∙◌, refl, sym}
+use Rattle.std.proofs.Common.{Some, ◌∙◌, refl, sym}
 use Rattle.std.proofs.lemmas.List.{drop_more, drop_all, append-nil}
-use Rattle.zs_engine.proofs.SlotLemmas.{lifting-takes, lifting-step}
+use Rattle.zs_engine.proofs.SlotLemmas.{taken-next, lifting-step}
 use Rattle.zs_engine.proofs.slots.take_tasks.Goals as goal
 
 pub loop-number-init : goal.loop-number-init
@@ -9,7 +9,7 @@ loop-number-init c = rw c.in_ok-tasks.ensures.items (record { distinct = c.requi
 pub take_task-requires : goal.take_task-requires
 take_task-requires c =
     let l = rw (drop_more c.args.numbers.now c.loop-number.number-index 0 c.loop-number-test.true) at c.loop-number.invariant in
-    record { filled = lifting-takes c.loop-number.tasks.items c.requires.filled.0 _ _ (sym l.taken ∙ c.requires.filled.1) }
+    record { filled = taken-next (λ task. Some (Some task)) c.loop-number.tasks.items c.requires.filled.0 _ _ (sym l.taken ∙ c.requires.filled.1) }
 
 pub loop-number-preserved : goal.loop-number-preserved
 loop-number-preserved c =
