@@ -15,11 +15,11 @@ use Rattle.zs_pool.specs.Shares.{HasCounted}
 use Rattle.zs_pool.specs.Tally.{Seating}
 use Rattle.zs_engine.specs.declared.engine.Engine.{Engine}
 use Rattle.zs_engine.specs.Times.{ticks_of, next_of}
-use Rattle.zs_engine.specs.Slots.{Slots}
+use Rattle.zs_engine.specs.Slots.{Slots, Picks}
 use Rattle.zs_engine.specs.Rounds.{KeptJob, kept_of, jobs_in, set_next}
 use Rattle.zs_engine.specs.Engine.{Runs, IsNew, IsDueAt}
 use Rattle.zs_engine.proofs.ClockTicks.{ticks-rising}
-use Rattle.zs_engine.proofs.RoundLemmas.{taken-set_next, waits-none, waits-push, begins-next, due-room}
+use Rattle.zs_engine.proofs.RoundLemmas.{taken-set_next, waits-none, waits-push, begins-next, due-few, due-room}
 use Rattle.zs_engine.proofs.SlotLemmas.{length-slots}
 
 -- an engine of no jobs
@@ -32,7 +32,13 @@ IsNew-none engine lawful is_horizon none unset seat =
     let all : engine.seat.allowance ≡ max_moment = ap (λ (s : Seating). s.allowance) seat in
     record {
       rests = record {
-        runs = record { lawful = lawful; is_horizon = is_horizon; few = rw none (omega arith); seated = ap (λ (s : Seating). s.tally) seat; sum = omega (arith, uncounted, all) };
+        runs = record {
+          lawful = lawful;
+          is_horizon = is_horizon;
+          few = rw none (omega arith);
+          seated = ap (λ (s : Seating). s.tally) seat;
+          sum = omega (arith, uncounted, all);
+        };
         rests = rw uncounted (waits-none (ticks_of engine.clock) engine.slots.items engine.agenda none (ap (λ (t : Timers). t.moments) unset));
       };
       untaken = ap (λ (t : Timers). t.last_taken) unset;
@@ -64,15 +70,21 @@ IsNew-add old new job task n h few made pushed at script same set =
 
 -- n polls were counted
 pub Runs-counted : {clock : Ticks} {end : ℕ} {jobs : List KeptJob} {tally : TableId} {seat after : Seating} (n : ℕ) → Runs clock end jobs tally seat → HasCounted seat n after → Runs clock end jobs tally after
-Runs-counted n runs counted = record { lawful = runs.lawful; is_horizon = runs.is_horizon; few = runs.few; seated = counted.0 ∙ runs.seated; sum = omega (arith, counted.1, counted.2, runs.sum) }
+Runs-counted n runs counted = record {
+  lawful = runs.lawful;
+  is_horizon = runs.is_horizon;
+  few = runs.few;
+  seated = counted.0 ∙ runs.seated;
+  sum = omega (arith, counted.1, counted.2, runs.sum);
+}
 
 -- ---- one round
 module _ {now : ℕ} {numbers : List ℕ} (old : Engine) (h : IsDueAt now numbers old) where
   slots-few : length old.slots.items ≤ 10000
   slots-few = omega (arith, h.runs.few, length-slots old.slots.items h.begins.waits.filled.0 h.begins.waits.filled.1)
 
-  pub tasks-few : (tasks : List TaskValue) → length tasks ≤ length old.slots.items → length tasks ≤ 10000
-  tasks-few tasks most = omega (arith, most, slots-few)
+  pub tasks-few : (tasks : List TaskValue) → Picks old.slots.items numbers tasks → length tasks ≤ 10000
+  tasks-few tasks picks = omega (arith, due-few h.begins tasks picks h.in_order, slots-few)
 
   -- the seat may count all polls of the round, by each worker
   pub allowed : (workers n : ℕ) → workers ≤ 64 → n ≤ 10000 → workers * n ≤ old.seat.allowance

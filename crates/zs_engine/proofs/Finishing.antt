@@ -1,6 +1,5 @@
 -- The end of a run: no task waits for a tick any more.
 use Rattle.std.proofs.Common.{◌≡◌, ◌+◌, ℕ, suc, false, List, [], ◌∷◌, Some, None, length, refl, sym, ap, ◌∙◌, arith, slice_get, map, nat_cmp}
-use Rattle.std.specs.Prelude.{Result, Ok, Err, IfOk}
 use Rattle.std.proofs.lemmas.List.{length-map}
 use Rattle.std.proofs.lemmas.List.Elements.{All-from_recursion}
 use Rattle.std.proofs.lemmas.List.Sums.{sum_by-cons}
@@ -17,7 +16,7 @@ use Rattle.zs_drive.specs.Tasks.{TaskValue, current_timeline}
 use Rattle.zs_engine.specs.declared.answer.Answer.{Answer}
 use Rattle.zs_engine.specs.Times.{moments_from, ticks_of, next_of}
 use Rattle.zs_engine.specs.Rounds.{Waits, KeptJob, job_kept, job_alone, kept_of, jobs_in, next_in, polls_of, polls_in}
-use Rattle.zs_engine.specs.Answers.{IsAnswer, AllKeep, poll_moments_of, poll_count_of}
+use Rattle.zs_engine.specs.Answers.{IsAnswer, poll_moments_of, poll_count_of}
 use Rattle.zs_engine.proofs.KeepingUp.{keeps_up-to}
 use Rattle.zs_engine.proofs.SlotLemmas.{full, jobs_in-full}
 
@@ -70,15 +69,10 @@ answered clock answer a w empty last =
     })
 
 -- each task stores its attempts as it was made to
-all-keep : (keeps : Keeping) (ts : List TaskValue) (jobs : List Job) → map kept_of ts ≡ map (job_kept keeps) jobs → AllByRecursion (λ (t : TaskValue). t.keeps ≡ keeps) ts
+pub all-keep : (keeps : Keeping) (ts : List TaskValue) (jobs : List Job) → map kept_of ts ≡ map (job_kept keeps) jobs → AllByRecursion (λ (t : TaskValue). t.keeps ≡ keeps) ts
 all-keep keeps [] jobs same = tt
 all-keep keeps (t ∷ ts) [] same = cc
 all-keep keeps (t ∷ ts) (job ∷ jobs) same =
     let first : kept_of t ≡ job_kept keeps job = cc in
     let rest : map kept_of ts ≡ map (job_kept keeps) jobs = cc in
     (ap (λ (k : KeptJob). k.1) first, all-keep keeps ts jobs rest)
-
-pub answer-keeps : {E : Type 0} (keeps : Keeping) (jobs : List Job) (result : Result Answer E) → IfOk result (λ answer. map kept_of answer.tasks.items ≡ map (job_kept keeps) jobs)
-    → IfOk result (AllKeep keeps)
-answer-keeps keeps jobs (Ok answer) same = All-from_recursion (λ (t : TaskValue). t.keeps ≡ keeps) answer.tasks.items (all-keep keeps answer.tasks.items jobs same)
-answer-keeps keeps jobs (Err e) same = tt

@@ -11,7 +11,7 @@ use Rattle.zs_engine.specs.declared.engine.Engine.{Engine}
 use Rattle.zs_engine.specs.Times.{ticks_of}
 use Rattle.zs_engine.specs.Rounds.{Waits, Begins, KeptJob, jobs_in}
 
--- The clock is valid up to its last tick `end`, one round may poll all of the jobs, and only this
+-- The clock is valid and its horizon is `end`, one round may poll all of the jobs, and only this
 -- seat counts.
 pub record Runs (clock : Ticks) (end : ℕ) (jobs : List KeptJob) (tally : TableId) (seat : Seating) : Type 0 where
   pub lawful : IsClock clock

@@ -1,7 +1,7 @@
-use Rattle.std.proofs.Common.{◌≡◌, ◌++◌, ◌∷◌, [], Some, refl, sym, ap, ◌∙◌, arith, append_assoc, append-nil}
+use Rattle.std.proofs.Common.{◌≡◌, ◌∷◌, [], Some, refl, sym, ◌∙◌, arith, append_assoc, append-nil}
 use Rattle.std.specs.Vec.Iter.{into_iter_items}
 use Rattle.std.proofs.lemmas.List.{nil_from_length, map-append}
-use Rattle.zs_engine.proofs.SlotLemmas.{full, taken-next}
+use Rattle.zs_engine.proofs.SlotLemmas.{taken-next}
 use Rattle.zs_engine.proofs.slots.into_tasks.Goals as goal
 
 pub loop-slot-init : goal.loop-slot-init

@@ -4,7 +4,7 @@ use Rattle.std.proofs.lemmas.List.{nil_from_length}
 use Rattle.std.proofs.lemmas.Map.Keys.{IsStrictlyIncreasing-from_sorted}
 use Rattle.zs_engine.specs.Times.{ticks_of}
 use Rattle.zs_engine.specs.Rounds.{jobs_in}
-use Rattle.zs_engine.proofs.RoundLemmas.{due-filled, due-all, due-numbers, due-few}
+use Rattle.zs_engine.proofs.RoundLemmas.{due-filled, due-all, due-numbers}
 use Rattle.zs_engine.proofs.EngineLemmas.{Runs-counted, tasks-few, allowed}
 use Rattle.zs_engine.proofs.Settling.{Next, settling-next, settling-end}
 use Rattle.zs_engine.proofs.SlotLemmas.{IsDistinct-sorted}
@@ -19,8 +19,7 @@ pub take_tasks-requires-clause-distinct : goal.take_tasks-requires-clause-distin
 take_tasks-requires-clause-distinct g c = IsDistinct-sorted c.args.numbers.now c.requires.due.in_order
 
 pub round-requires-clause-few : goal.round-requires-clause-few
-round-requires-clause-few g c = λ _ _.
-    tasks-few c.args.self.now c.requires.due c.in_ok-due.due.items (due-few c.requires.due.begins c.in_ok-due.due.items c.in_ok-due.ensures.picks c.requires.due.in_order)
+round-requires-clause-few g c = λ _ _. tasks-few c.args.self.now c.requires.due c.in_ok-due.due.items c.in_ok-due.ensures.picks
 
 pub round-requires-clause-rising : goal.round-requires-clause-rising
 round-requires-clause-rising g c = λ _ _.
@@ -31,7 +30,7 @@ round-requires-clause-pollable g c = λ _ _. due-all c.requires.due.begins c.in_
 
 pub round-requires-clause-allowance : goal.round-requires-clause-allowance
 round-requires-clause-allowance g c = λ _ _.
-    let few = tasks-few c.args.self.now c.requires.due c.in_ok-due.due.items (due-few c.requires.due.begins c.in_ok-due.due.items c.in_ok-due.ensures.picks c.requires.due.in_order) in
+    let few = tasks-few c.args.self.now c.requires.due c.in_ok-due.due.items c.in_ok-due.ensures.picks in
     allowed c.args.self.now c.requires.due c.args.cut.workers _ c.args.cut.within.1 few
 
 pub loop-task-init : goal.loop-task-init
