@@ -10,7 +10,7 @@ use Rattle.zs_drive.specs.Clocks.{first_tick_from, RisesFrom, AllBefore, max_tic
 use Rattle.zs_drive.specs.Clocks as drive
 use Rattle.zs_drive.proofs.Ticks.{tick_cases, first_tick_from-past}
 use Rattle.zs_drive.proofs.Moments.{AllBefore-later}
-use Rattle.zs_agenda.specs.Ticks.{Ticks, every_ms, listed, first_tick, horizon, IsTick, IsClock, max_horizon}
+use Rattle.zs_agenda.specs.Ticks.{Ticks, every_ms, listed, first_tick, horizon, IsClock}
 use Rattle.zs_agenda.proofs.TickLemmas.{last-tick}
 use Rattle.zs_engine.specs.Times.{moments_from, ticks_of}
 
@@ -41,18 +41,13 @@ first_tick-is (every_ms last) due =
     ] refl
 first_tick-is (listed ts) due = refl
 
+-- no tick is after the last one
 listed-end : (ts : List ℕ) (h : ℕ) → ((t : ℕ) → Contains ts t → t ≤ h) → AllBefore ts (h + 1)
 unfolding AllBefore
 listed-end [] h all = tt
 listed-end (t ∷ ts) h all =
     let first : t ≤ h = all t (0, (omega arith), refl) in
     (omega arith, listed-end ts h (λ s k. all s (Contains-append_right (t ∷ []) ts s k)))
-
--- no tick is after the horizon
-ticks-end : (c : Ticks) (h : ℕ) → ((t : ℕ) → IsTick c t → t ≤ h) → AllBefore (ticks_of c) (h + 1)
-unfolding ticks_of
-ticks-end (every_ms last) h all = let within : last ≤ h = all last (omega arith) in AllBefore-moments 0 (last + 1) (h + 1) (omega arith)
-ticks-end (listed ts) h all = listed-end ts h all
 
 rises-sorted : (b x : ℕ) (xs : List ℕ) → b ≤ x → IsStrictlySortedBy nat_cmp (x ∷ xs) → RisesFrom b (x ∷ xs)
 unfolding RisesFrom IsStrictlySortedBy
@@ -64,21 +59,12 @@ unfolding RisesFrom
 RisesFrom-sorted [] s = tt
 RisesFrom-sorted (x ∷ xs) s = rises-sorted 0 x xs (omega arith) s
 
-ticks-rise : (c : Ticks) → IsClock c → RisesFrom 0 (ticks_of c)
-unfolding ticks_of
-ticks-rise (every_ms last) lawful = RisesFrom-moments 0 0 (last + 1) (omega arith)
-ticks-rise (listed ts) lawful = RisesFrom-sorted ts (sorted_from_strictly_increasing ts lawful.rising)
-
-ticks-last : (c : Ticks) → IsClock c → (t : ℕ) → IsTick c t → t ≤ horizon c
-ticks-last (every_ms last) lawful t h = h
-ticks-last (listed ts) lawful t h = last-tick ts lawful.rising t h
-
-horizon-small : (c : Ticks) → IsClock c → horizon c ≤ max_horizon
-horizon-small (every_ms last) lawful = lawful
-horizon-small (listed ts) lawful = lawful.limit
-
 -- the list of a clock's ticks rises, up to the clock's horizon
 pub ticks-rising : (c : Ticks) → IsClock c → drive.AreTicks (ticks_of c) × AllBefore (ticks_of c) (horizon c + 1)
-ticks-rising c lawful =
-    let end = ticks-end c (horizon c) (ticks-last c lawful) in
-    (record { rises = ticks-rise c lawful; bounded = AllBefore-later (ticks_of c) (horizon c + 1) (max_tick + 1) end (omega (arith, horizon-small c lawful)) }, end)
+unfolding ticks_of
+ticks-rising (every_ms last) lawful =
+    (record { rises = RisesFrom-moments 0 0 (last + 1) (omega arith); bounded = AllBefore-moments 0 (last + 1) (max_tick + 1) (omega (arith, lawful)) }, AllBefore-moments 0 (last + 1) (last + 1) (omega arith))
+ticks-rising (listed ts) lawful =
+    let end = listed-end ts (horizon (listed ts)) (last-tick ts lawful.rising) in
+    let rises = RisesFrom-sorted ts (sorted_from_strictly_increasing ts lawful.rising) in
+    (record { rises = rises; bounded = AllBefore-later ts (horizon (listed ts) + 1) (max_tick + 1) end (omega (arith, lawful.limit)) }, end)
