@@ -1,9 +1,7 @@
 -- The ticks of a clock as a list.
-use Rattle.std.proofs.Common.{◌≡◌, ℕ, zero, suc, ◌+◌, ◌≤◌, ◌<◌, List, [], ◌∷◌, Option, nat_le, cond, true, false, Contains, if◌then◌else◌, refl, sym, ap, arith, nat_cmp}
+use Rattle.std.proofs.Common.{◌≡◌, ℕ, zero, suc, ◌+◌, ◌≤◌, ◌<◌, List, [], ◌∷◌, nat_le, cond, true, false, Contains, if◌then◌else◌, refl, sym, ap, arith, nat_cmp}
 use Rattle.std.specs.Prelude.{Some, None}
-use Rattle.std.specs.Option.{option_and_then}
-use Rattle.std.specs.List.{AllByRecursion}
-use Rattle.std.specs.List.Sorted.{IsStrictlyIncreasing, IsStrictlySortedBy}
+use Rattle.std.specs.List.Sorted.{IsStrictlySortedBy}
 use Rattle.std.specs.declared.cmp.Ordering.TheVariants.{Less}
 use Rattle.std.proofs.lemmas.Bool.Decides.{nat_tests}
 use Rattle.std.proofs.lemmas.List.Elements.{Contains-append_right}
@@ -12,9 +10,9 @@ use Rattle.zs_drive.specs.Clocks.{first_tick_from, RisesFrom, AllBefore, max_tic
 use Rattle.zs_drive.specs.Clocks as drive
 use Rattle.zs_drive.proofs.Ticks.{tick_cases, first_tick_from-past}
 use Rattle.zs_drive.proofs.Moments.{AllBefore-later}
-use Rattle.zs_agenda.specs.Ticks.{Ticks, every_ms, listed, first_tick, horizon, IsTick, IsClock, max_horizon}
+use Rattle.zs_agenda.specs.Ticks.{Ticks, every_ms, listed, first_tick, horizon, IsClock}
 use Rattle.zs_agenda.proofs.TickLemmas.{last-tick}
-use Rattle.zs_engine.specs.Times.{moments_from, ticks_of, next_of}
+use Rattle.zs_engine.specs.Times.{moments_from, ticks_of}
 
 AllBefore-moments : (b n c : ℕ) → b + n ≤ c → AllBefore (moments_from b n) c
 unfolding AllBefore moments_from
@@ -33,24 +31,17 @@ first_tick_from-moments b (suc n) x h l =
     tick_cases b x (λ t. (if t then Some b else first_tick_from (moments_from (b + 1) n) x) ≡ Some x)
     (λ k. first_tick_from-moments (b + 1) n x (omega arith) (omega arith)) (λ k. let same : b ≡ x = omega arith in ap (λ (m : ℕ). Some m) same)
 
-first_tick_from-listed : (ts : List ℕ) (due : ℕ) → first_tick (listed ts) due ≡ first_tick_from ts due
-unfolding first_tick_from
-first_tick_from-listed ts due = refl
-
 -- the clock's first tick is the least one of its list
 pub first_tick-is : (c : Ticks) (due : ℕ) → first_tick c due ≡ first_tick_from (ticks_of c) due
-unfolding ticks_of
+unfolding ticks_of first_tick_from
 first_tick-is (every_ms last) due =
     elim (nat_le due last) as (λ b. nat_le due last ≡ b → cond b (Some due) None ≡ first_tick_from (moments_from 0 (last + 1)) due) [
       | true ↦ λ is. let within : due ≤ last = grind (arith, nat_tests) in sym (first_tick_from-moments 0 (last + 1) due (omega arith) (omega arith))
       | false ↦ λ is. let past : last + 1 ≤ due = grind (arith, nat_tests) in sym (first_tick_from-past (moments_from 0 (last + 1)) (last + 1) due (AllBefore-moments 0 (last + 1) (last + 1) (omega arith)) past)
     ] refl
-first_tick-is (listed ts) due = first_tick_from-listed ts due
+first_tick-is (listed ts) due = refl
 
-pub next-is : (c : Ticks) (due : Option ℕ) → option_and_then (first_tick c) due ≡ next_of (ticks_of c) due
-next-is c None = refl
-next-is c (Some due) = first_tick-is c due
-
+-- no tick is after the last one
 listed-end : (ts : List ℕ) (h : ℕ) → ((t : ℕ) → Contains ts t → t ≤ h) → AllBefore ts (h + 1)
 unfolding AllBefore
 listed-end [] h all = tt
@@ -58,51 +49,22 @@ listed-end (t ∷ ts) h all =
     let first : t ≤ h = all t (0, (omega arith), refl) in
     (omega arith, listed-end ts h (λ s k. all s (Contains-append_right (t ∷ []) ts s k)))
 
--- no tick is after the horizon
-pub ticks-end : (c : Ticks) (h : ℕ) → ((t : ℕ) → IsTick c t → t ≤ h) → AllBefore (ticks_of c) (h + 1)
-unfolding ticks_of
-ticks-end (every_ms last) h all = let within : last ≤ h = all last (omega arith) in AllBefore-moments 0 (last + 1) (h + 1) (omega arith)
-ticks-end (listed ts) h all = listed-end ts h all
-
-above : (x : ℕ) (ys : List ℕ) → AllByRecursion (λ y. nat_cmp x y ≡ Less) ys → AllByRecursion (λ y. x + 1 ≤ y) ys
-above x [] h = tt
-above x (y ∷ ys) h = (let less : nat_cmp x y ≡ Less = h.0 in grind (arith, nat_tests), above x ys h.1)
-
-rises-sorted : (b : ℕ) (xs : List ℕ) → AllByRecursion (λ y. b ≤ y) xs → IsStrictlySortedBy nat_cmp xs → RisesFrom b xs
+rises-sorted : (b x : ℕ) (xs : List ℕ) → b ≤ x → IsStrictlySortedBy nat_cmp (x ∷ xs) → RisesFrom b (x ∷ xs)
 unfolding RisesFrom IsStrictlySortedBy
-rises-sorted b [] h s = tt
-rises-sorted b (x ∷ xs) h s = (h.0, rises-sorted (x + 1) xs (above x xs s.0) s.1)
+rises-sorted b x [] h s = (h, tt)
+rises-sorted b x (y ∷ xs) h s = (h, rises-sorted (x + 1) y xs (let less : nat_cmp x y ≡ Less = s.0.0 in grind (arith, nat_tests)) s.1)
 
-above_zero : (xs : List ℕ) → AllByRecursion (λ y. 0 ≤ y) xs
-above_zero [] = tt
-above_zero (x ∷ xs) = (omega arith, above_zero xs)
-
-pub RisesFrom-increasing : (xs : List ℕ) → IsStrictlyIncreasing xs → RisesFrom 0 xs
-RisesFrom-increasing xs h = rises-sorted 0 xs (above_zero xs) (sorted_from_strictly_increasing xs h)
-
-ticks-rise : (c : Ticks) → IsClock c → RisesFrom 0 (ticks_of c)
-unfolding ticks_of
-ticks-rise (every_ms last) lawful = RisesFrom-moments 0 0 (last + 1) (omega arith)
-ticks-rise (listed ts) lawful = RisesFrom-increasing ts lawful.rising
-
--- the list of a clock's ticks is a valid clock of listed ticks
-pub ticks-clock : (c : Ticks) (h : ℕ) → IsClock c → ((t : ℕ) → IsTick c t → t ≤ h) → h ≤ max_horizon → drive.AreTicks (ticks_of c)
-ticks-clock c h lawful all small = record {
-  rises = ticks-rise c lawful;
-  bounded = AllBefore-later (ticks_of c) (h + 1) (max_tick + 1) (ticks-end c h all) (omega arith);
-}
-
-ticks-last : (c : Ticks) → IsClock c → (t : ℕ) → IsTick c t → t ≤ horizon c
-ticks-last (every_ms last) lawful t h = h
-ticks-last (listed ts) lawful t h = last-tick ts lawful.rising t h
-
-horizon-small : (c : Ticks) → IsClock c → horizon c ≤ max_horizon
-horizon-small (every_ms last) lawful = lawful
-horizon-small (listed ts) lawful = lawful.limit
+pub RisesFrom-sorted : (xs : List ℕ) → IsStrictlySortedBy nat_cmp xs → RisesFrom 0 xs
+unfolding RisesFrom
+RisesFrom-sorted [] s = tt
+RisesFrom-sorted (x ∷ xs) s = rises-sorted 0 x xs (omega arith) s
 
 -- the list of a clock's ticks rises, up to the clock's horizon
 pub ticks-rising : (c : Ticks) → IsClock c → drive.AreTicks (ticks_of c) × AllBefore (ticks_of c) (horizon c + 1)
-ticks-rising c lawful = (
-  ticks-clock c (horizon c) lawful (ticks-last c lawful) (horizon-small c lawful),
-  ticks-end c (horizon c) (ticks-last c lawful),
-)
+unfolding ticks_of
+ticks-rising (every_ms last) lawful =
+    (record { rises = RisesFrom-moments 0 0 (last + 1) (omega arith); bounded = AllBefore-moments 0 (last + 1) (max_tick + 1) (omega (arith, lawful)) }, AllBefore-moments 0 (last + 1) (last + 1) (omega arith))
+ticks-rising (listed ts) lawful =
+    let end = listed-end ts (horizon (listed ts)) (last-tick ts lawful.rising) in
+    let rises = RisesFrom-sorted ts (sorted_from_strictly_increasing ts lawful.rising) in
+    (record { rises = rises; bounded = AllBefore-later ts (horizon (listed ts) + 1) (max_tick + 1) end (omega (arith, lawful.limit)) }, end)

@@ -1,6 +1,6 @@
 -- A due poll adds its moment, and no other, to the moments at which the attempts of a job alone
 -- begin and end.
-use Rattle.std.proofs.Common.{◌≡◌, ℕ, zero, suc, ◌+◌, ◌≤◌, ◌<◌, ◌^◌, ◌-◌, max, List, [], ◌∷◌, ◌++◌, length, Option, nat_lt, false, if◌then◌else◌, append_assoc, refl, sym, ◌∙◌, ap, arith, ◌⊎◌, inl, inr}
+use Rattle.std.proofs.Common.{◌≡◌, ◌≢◌, ℕ, ◌+◌, ◌≤◌, ◌<◌, ◌^◌, ◌-◌, max, List, [], ◌∷◌, ◌++◌, Option, nat_lt, false, if◌then◌else◌, append_assoc, refl, sym, ◌∙◌, ap, arith, ◌⊎◌, inl, inr}
 use Rattle.std.specs.Prelude.{Some, None, flat_map, fold}
 use Rattle.zs_effect.specs.Scripts.{IsScript}
 use Rattle.zs_effect.specs.declared.script.Outcome.{Outcome}
@@ -11,56 +11,26 @@ use Rattle.zs_step.specs.Answer.{answer_of}
 use Rattle.zs_step.specs.declared.decision.Decision.{Decision}
 use Rattle.zs_step.specs.declared.decision.Decision.TheVariants.{Stop, Next}
 use Rattle.zs_drive.specs.declared.record.Ending.{Ending}
-use Rattle.zs_drive.specs.Clocks.{first_tick_from, AllBefore}
+use Rattle.zs_drive.specs.Clocks.{AllBefore}
 use Rattle.zs_drive.specs.Values.{JobRecord, AttemptedValue}
-use Rattle.zs_drive.specs.Timeline.{Timeline, number_of, ending_by_outcome, waiting, running, beat_after, by_answer, by_outcome, from_wait, from_begin, from, timeline_of, moments_of, with_moment, poll_moments}
+use Rattle.zs_drive.specs.Timeline.{Timeline, number_of, ending_by_outcome, waiting, running, beat_after, by_answer, by_outcome, timeline_of, moments_of, with_moment, poll_moments}
 use Rattle.std.proofs.lemmas.Bool.Decides.{nat_tests}
 use Rattle.zs_drive.proofs.Ticks.{lt_cases}
 use Rattle.zs_drive.proofs.Moments.{moments-one, moments-two}
+use Rattle.zs_drive.proofs.Following.{timeline_of-keeps}
+use Rattle.zs_drive.proofs.Timing.{timeline-follows}
 use Rattle.zs_drive.proofs.Extending.{resume, close, extend, extend_last, extend_none, extended, timeline_of-append}
 
 -- only the last attempt may run
-abbrev pub LastRuns : List AttemptedValue → Type 0
-LastRuns [] = Unit {0}
-LastRuns (attempt ∷ attempts) = (attempt.ended ≡ None → attempts ≡ []) × LastRuns attempts
+abbrev LastRuns : List AttemptedValue → Type 0
+LastRuns attempts = (earlier later : List AttemptedValue) (a b : AttemptedValue) → attempts ≡ earlier ++ a ∷ b ∷ later → a.ended ≢ None
+
+-- an attempt that runs is the last one
+runs-last : (a : AttemptedValue) (attempts : List AttemptedValue) → LastRuns (a ∷ attempts) → a.ended ≡ None → attempts ≡ []
+runs-last a [] last is = refl
+runs-last a (b ∷ later) last is = absurd (last [] later a b refl is)
 
 module _ (job : JobRecord) where
-  abbrev pub AllLast : (History → ℕ → Timeline) → Type 0
-  AllLast rest = (h : History) (x : ℕ) → LastRuns (rest h x).attempts
-
-  by_answer-last : (rest : History → ℕ → Timeline) (h : History) (s e : ℕ) (outcome : Outcome) (output : Output) (decision : Decision) → AllLast rest → LastRuns (by_answer job rest h s e outcome output decision).attempts
-  unfolding by_answer
-  by_answer-last rest h s e outcome output Stop last = (λ no. cc, tt)
-  by_answer-last rest h s e outcome output (Next x) last = (λ no. cc, last h (max x e))
-
-  by_outcome-last : (rest : History → ℕ → Timeline) (h : History) (s e : ℕ) (outcome : Outcome) (ending : Option Ending) → AllLast rest → LastRuns (by_outcome job rest h s e outcome ending).attempts
-  unfolding by_outcome
-  by_outcome-last rest h s e outcome (Some ending) last = (λ no. cc, tt)
-  by_outcome-last rest h s e outcome None last =
-      let longer = (e, number_of outcome) ∷ h in
-      by_answer-last rest longer s e outcome (answer_of job.schedule longer).output (answer_of job.schedule longer).decision last
-
-  from_wait-last : (rest : History → ℕ → Timeline) (h : History) (s w : ℕ) (e : Option ℕ) → AllLast rest → LastRuns (from_wait job rest h s w e).attempts
-  unfolding from_wait
-  from_wait-last rest h s w None last = (λ _. refl, tt)
-  from_wait-last rest h s w (Some e) last =
-      let outcome = (beat_after job h).outcome in by_outcome-last rest h s e outcome (ending_by_outcome job.mode outcome) last
-
-  from_begin-last : (rest : History → ℕ → Timeline) (ticks : List ℕ) (h : History) (x : ℕ) (s : Option ℕ) → AllLast rest → LastRuns (from_begin job rest ticks h x s).attempts
-  unfolding from_begin
-  from_begin-last rest ticks h x None last = tt
-  from_begin-last rest ticks h x (Some s) last =
-      let w = saturated (s + (beat_after job h).ms) in from_wait-last rest h s w (first_tick_from ticks w) last
-
-  from-last : (ticks : List ℕ) (n : ℕ) → AllLast (from job ticks n)
-  unfolding from
-  from-last ticks zero h x = tt
-  from-last ticks (suc n) h x = from_begin-last (from job ticks n) ticks h x (first_tick_from ticks x) (from-last ticks n)
-
-  timeline_of-last : (ticks : List ℕ) → LastRuns (timeline_of job ticks).attempts
-  unfolding timeline_of
-  timeline_of-last ticks = from-last ticks (length ticks) [] job.start
-
   module _ (c : ℕ) where
     -- c is added once or twice: an attempt that ends at c and the next one that begins at c are one
     -- poll
@@ -110,10 +80,10 @@ module _ (job : JobRecord) where
         elim attempt.ended as (λ ended. attempt.ended ≡ ended
         → Grows (flat_map moments_of (record { begun = attempt.begun; ended = ended } ∷ attempts))
         (flat_map moments_of (extend job c h (record { begun = attempt.begun; ended = ended } ∷ attempts) (Some x) ending).attempts)) [
-          | None ↦ λ is. rw (last.0 is) (close-grows h attempt.begun x soon)
+          | None ↦ λ is. rw (runs-last attempt attempts last is) (close-grows h attempt.begun x soon)
           | Some end ↦ λ _.
               more (attempt.begun ∷ end.at ∷ []) (flat_map moments_of attempts) (flat_map moments_of (extend job c ((end.at, number_of end.outcome) ∷ h) attempts (Some x) ending).attempts)
-              (extend-grows ((end.at, number_of end.outcome) ∷ h) attempts x ending soon last.1)
+              (extend-grows ((end.at, number_of end.outcome) ∷ h) attempts x ending soon (λ earlier later a b split. last (attempt ∷ earlier) later a b (ap (◌∷◌ attempt) split)))
         ] refl
 
   -- the set of a job's moments after a due poll
@@ -123,9 +93,11 @@ module _ (job : JobRecord) where
   poll_moments-append script moments now x all small due soon kept =
       let t : Timeline = timeline_of job moments in
       let longer : timeline_of job (moments ++ now ∷ []) ≡ extended job now [] t = timeline_of-append job script moments now all small in
+      let rules = timeline-follows job moments t (timeline_of-keeps job moments script now (omega arith) all) in
+      let last : LastRuns t.attempts = (λ earlier later a b split none. rw none at (rules.next earlier later a b split)) in
       let before : AllBefore (fold with_moment [] (flat_map moments_of t.attempts)) now = rw (← kept) all in
       let grows : Grows now (flat_map moments_of t.attempts) (flat_map moments_of (extend job now [] t.attempts t.due t.ending).attempts) =
-      rw due (extend-grows now [] t.attempts x t.ending soon (timeline_of-last moments)) in
+      rw due (extend-grows now [] t.attempts x t.ending soon last) in
       let one : fold with_moment [] (flat_map moments_of (extended job now [] t).attempts) ≡ fold with_moment [] (flat_map moments_of t.attempts) ++ now ∷ [] =
       elim grows [
         | inl is ↦ rw is (moments-one (flat_map moments_of t.attempts) now before)

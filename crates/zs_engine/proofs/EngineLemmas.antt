@@ -1,153 +1,108 @@
 -- An engine before the first round, in a round, and after the last one.
-use Rattle.std.proofs.Common.{◌≡◌, ◌<◌, ◌≤◌, ◌+◌, ◌*◌, ◌++◌, ◌∷◌, [], ℕ, false, All, List, Some, None, length, length-append, map, sym, ap, ◌∙◌, arith}
-use Rattle.std.specs.List.Sorted.{IsStrictlyIncreasing}
+use Rattle.std.proofs.Common.{◌≡◌, ◌<◌, ◌≤◌, ◌+◌, ◌*◌, ◌-◌, ◌++◌, ◌∷◌, [], ℕ, false, List, Option, Some, None, length, length-append, refl, ap, ◌∙◌, arith, slice_get, slice_index_or}
 use Rattle.std.specs.FinMap as map_of
-use Rattle.zs_agenda.specs.Ticks.{IsTick, IsClock, horizon, max_horizon}
-use Rattle.zs_agenda.specs.Timers.{Timers, Takes}
+use Rattle.std.proofs.Math.Nat.{mul-le-mul_right}
+use Rattle.std.proofs.lemmas.Grind.{flat_map-append}
+use Rattle.std.proofs.lemmas.Option.{slice_get_read, slice_get_within}
+use Rattle.atomic_table.specs.Seated.{TableId}
+use Rattle.zs_agenda.specs.Ticks.{Ticks, IsClock, horizon}
+use Rattle.zs_agenda.specs.Timers.{Timers, IsAfter}
 use Rattle.zs_term.specs.Saturating.{max_moment}
 use Rattle.zs_effect.specs.Scripts.{IsScript}
 use Rattle.zs_drive.specs.Tasks.{TaskValue, current_timeline}
 use Rattle.zs_pool.specs.Limits.{max_tasks}
+use Rattle.zs_pool.specs.Shares.{HasCounted}
 use Rattle.zs_pool.specs.Tally.{Seating}
 use Rattle.zs_engine.specs.declared.engine.Engine.{Engine}
 use Rattle.zs_engine.specs.Times.{ticks_of, next_of}
-use Rattle.zs_engine.specs.Slots.{Slots, Picks, emptied, IsDistinct}
-use Rattle.zs_engine.specs.Rounds.{Rests, KeptJob, kept_of, jobs_in, set_next}
-use Rattle.zs_pool.specs.Rounds.{polled_at, IsPollable}
-use Rattle.zs_engine.specs.Engine.{Runs, IsResting, IsNew, IsDueAt, HasRunRound}
-use Rattle.zs_engine.proofs.ClockTicks.{ticks-clock, ticks-end}
-use Rattle.zs_engine.proofs.RoundLemmas.{taken-set_next, IsDistinct-increasing}
-use Rattle.zs_engine.proofs.SlotLemmas.{jobs_in-push}
-use Rattle.zs_engine.proofs.Settling.{Settling, rests-push, begins-filled, begins-few, begins-rising, begins-all, begins-room, room-enough, settling-start, settling-end}
-use Rattle.zs_engine.proofs.Finishing.{rests-none, begins, begins-within, length-slots}
+use Rattle.zs_engine.specs.Slots.{Slots, Picks}
+use Rattle.zs_engine.specs.Rounds.{KeptJob, kept_of, jobs_in, set_next}
+use Rattle.zs_engine.specs.Engine.{Runs, IsNew, IsDueAt}
+use Rattle.zs_engine.proofs.ClockTicks.{ticks-rising}
+use Rattle.zs_engine.proofs.RoundLemmas.{taken-set_next, waits-none, waits-push, begins-next, due-few, due-room}
+use Rattle.zs_engine.proofs.SlotLemmas.{length-slots}
 
 -- an engine of no jobs
-pub IsNew-none : (engine : Engine) → IsClock engine.clock → ((t : ℕ) → IsTick engine.clock t → t ≤ engine.horizon) → engine.horizon ≤ max_horizon → engine.horizon ≡ horizon engine.clock
+pub IsNew-none : (engine : Engine) → IsClock engine.clock → engine.horizon ≡ horizon engine.clock
     → engine.slots.items ≡ [] → engine.agenda ≡ record { moments = map_of.empty; last_taken = None }
     → engine.seat ≡ record { tally = engine.tally; count = 0; allowance = max_moment; seen = 0 }
     → IsNew engine
-IsNew-none engine lawful last limit is_horizon none unset seat =
+IsNew-none engine lawful is_horizon none unset seat =
     let uncounted : engine.seat.count ≡ 0 = ap (λ (s : Seating). s.count) seat in
     let all : engine.seat.allowance ≡ max_moment = ap (λ (s : Seating). s.allowance) seat in
     record {
       rests = record {
         runs = record {
-          few = rw none (omega arith);
-          rising = ticks-clock engine.clock engine.horizon lawful last limit;
-          last = ticks-end engine.clock engine.horizon last;
+          lawful = lawful;
           is_horizon = is_horizon;
+          few = rw none (omega arith);
           seated = ap (λ (s : Seating). s.tally) seat;
           sum = omega (arith, uncounted, all);
         };
-        rests = rw uncounted (rests-none (ticks_of engine.clock) engine.slots.items engine.agenda none (ap (λ (t : Timers). t.moments) unset));
+        rests = rw uncounted (waits-none (ticks_of engine.clock) engine.slots.items engine.agenda none (ap (λ (t : Timers). t.moments) unset));
       };
       untaken = ap (λ (t : Timers). t.last_taken) unset;
       uncounted = uncounted;
     }
 
--- other slots and other timers; the rest is unchanged
-pub record Keeps (old new : Engine) : Type 0 where
-  pub clock : new.clock ≡ old.clock
-  pub horizon : new.horizon ≡ old.horizon
-  pub tally : new.tally ≡ old.tally
-
-pub Runs-kept : (old new : Engine) → Runs old → Keeps old new → length (jobs_in new.slots.items) ≤ max_tasks
-    → new.seat.tally ≡ new.tally → new.seat.count + new.seat.allowance ≡ max_moment → Runs new
-Runs-kept old new runs keeps few seated sum = record {
-  few = few;
-  rising = rw keeps.clock runs.rising;
-  last = rw (keeps.clock, keeps.horizon) runs.last;
-  is_horizon = rw (keeps.clock, keeps.horizon) runs.is_horizon;
-  seated = seated;
-  sum = sum;
-}
-
 -- one more job
 pub jobs-add : (before after : Slots) (job : KeptJob) (task : TaskValue) (n : ℕ) → task ≡ record { number = n; job = job.0; keeps = job.1; moments = []; seen = 0; broken = false }
     → after ≡ before ++ Some task ∷ [] → jobs_in after ≡ jobs_in before ++ job ∷ []
-jobs-add before after job task n made pushed = ap jobs_in pushed ∙ jobs_in-push before task ∙ ap (λ (t : TaskValue). jobs_in before ++ kept_of t ∷ []) made
+jobs-add before after job task n made pushed = ap jobs_in pushed ∙ flat_map-append _ before (Some task ∷ []) ∙ ap (λ (t : TaskValue). jobs_in before ++ kept_of t ∷ []) made
 
-module _ (old new : Engine) (job : KeptJob) (task : TaskValue) (n : ℕ) (made : task ≡ record { number = n; job = job.0; keeps = job.1; moments = []; seen = 0; broken = false })
-    (pushed : new.slots.items ≡ old.slots.items ++ Some task ∷ []) where
-  pub IsNew-add : IsNew old → length (jobs_in old.slots.items) < max_tasks → Keeps old new → new.seat ≡ old.seat → n ≡ length old.slots.items → IsScript task.job.script
-      → new.agenda ≡ set_next old.agenda task.number (next_of (ticks_of old.clock) (current_timeline task).due) → IsNew new
-  IsNew-add h few keeps seat same script set =
-      let ticks : List ℕ = ticks_of old.clock in
-      let uncounted : new.seat.count ≡ 0 = ap (λ (s : Seating). s.count) seat ∙ h.uncounted in
-      let before : Rests ticks old.slots.items old.agenda 0 = rw h.uncounted at h.rests.rests in
-      let after : Rests ticks (old.slots.items ++ Some task ∷ []) (set_next old.agenda task.number (next_of ticks (current_timeline task).due)) 0 =
-      rests-push ticks old.slots.items old.agenda task h.rests.runs.rising before (ap (λ (t : TaskValue). t.number) made ∙ same) (ap (λ (t : TaskValue). t.moments) made)
-      (ap (λ (t : TaskValue). t.seen) made) (ap (λ (t : TaskValue). t.broken) made) script in
-      let runs = h.rests.runs in
-      let most : length (jobs_in new.slots.items) ≤ max_tasks = omega (arith, few, length-append (jobs_in old.slots.items) (job ∷ []), ap (λ (js : List KeptJob). length js) (jobs-add old.slots.items new.slots.items job task n made pushed)) in
-      record {
-        rests = record {
-          runs = Runs-kept old new runs keeps most (ap (λ (s : Seating). s.tally) seat ∙ runs.seated ∙ sym keeps.tally) (rw seat runs.sum);
-          rests = rw (keeps.clock, uncounted, pushed, set) after;
-        };
-        untaken = ap (λ (t : Timers). t.last_taken) set ∙ taken-set_next old.agenda task.number (next_of ticks (current_timeline task).due) ∙ h.untaken;
-        uncounted = uncounted;
-      }
+pub IsNew-add : (old new : Engine) (job : KeptJob) (task : TaskValue) (n : ℕ) → IsNew old → length (jobs_in old.slots.items) < max_tasks
+    → task ≡ record { number = n; job = job.0; keeps = job.1; moments = []; seen = 0; broken = false } → new.slots.items ≡ old.slots.items ++ Some task ∷ []
+    → n ≡ length old.slots.items → IsScript task.job.script → new ≡ record old { slots = new.slots; agenda = new.agenda }
+    → new.agenda ≡ set_next old.agenda task.number (next_of (ticks_of old.clock) (current_timeline task).due) → IsNew new
+IsNew-add old new job task n h few made pushed at script same set =
+    let runs = h.rests.runs in
+    let jobs = jobs-add old.slots.items new.slots.items job task n made pushed in
+    let most : length (jobs_in new.slots.items) ≤ max_tasks = omega (arith, few, length-append (jobs_in old.slots.items) (job ∷ []), ap (λ (js : List KeptJob). length js) jobs) in
+    let added = waits-push task (ticks-rising old.clock runs.lawful).0 (rw h.uncounted at h.rests.rests) (rw made at) (rw made refl) (rw made refl) (rw made refl) script in
+    rw same (record {
+      rests = record {
+        runs = record { lawful = runs.lawful; is_horizon = runs.is_horizon; few = most; seated = runs.seated; sum = runs.sum };
+        rests = rw (h.uncounted, pushed, set) added;
+      };
+      untaken = ap (λ (t : Timers). t.last_taken) set ∙ taken-set_next old.agenda task.number (next_of (ticks_of old.clock) (current_timeline task).due) ∙ h.untaken;
+      uncounted = h.uncounted;
+    })
 
--- a round begins
-pub IsDueAt-taken : (old new : Engine) (now : ℕ) (numbers : List ℕ) → IsResting old → Keeps old new → new.slots ≡ old.slots → new.seat ≡ old.seat
-    → Takes old.agenda new.agenda now numbers → IsDueAt now numbers new
-IsDueAt-taken old new now numbers h keeps slots seat takes =
-    let runs = h.runs in
-    record {
-      runs = Runs-kept old new runs keeps (rw slots runs.few) (ap (λ (s : Seating). s.tally) seat ∙ runs.seated ∙ sym keeps.tally) (rw seat runs.sum);
-      begins = rw (keeps.clock, slots, seat) (begins (ticks_of old.clock) old.slots.items old.agenda new.agenda old.seat.count now numbers h.rests takes);
-      in_order = takes.in_order;
-    }
-
--- it is not after the horizon
-pub taken-within : (old : Engine) (after : Timers) (now : ℕ) (numbers : List ℕ) → IsResting old → Takes old.agenda after now numbers → now ≤ horizon old.clock
-taken-within old after now numbers h takes =
-    let within : now ≤ old.horizon = begins-within (ticks_of old.clock) old.horizon old.slots.items old.agenda after old.seat.count now numbers h.rests takes h.runs.last in
-    omega (arith, within, h.runs.is_horizon)
+-- n polls were counted
+pub Runs-counted : {clock : Ticks} {end : ℕ} {jobs : List KeptJob} {tally : TableId} {seat after : Seating} (n : ℕ) → Runs clock end jobs tally seat → HasCounted seat n after → Runs clock end jobs tally after
+Runs-counted n runs counted = record {
+  lawful = runs.lawful;
+  is_horizon = runs.is_horizon;
+  few = runs.few;
+  seated = counted.0 ∙ runs.seated;
+  sum = omega (arith, counted.1, counted.2, runs.sum);
+}
 
 -- ---- one round
-module _ (old : Engine) (now : ℕ) (numbers : List ℕ) (h : IsDueAt now numbers old) where
-  -- the slots of the due tasks contain tasks
-  pub due-filled : (tasks : List TaskValue) × Picks old.slots.items numbers tasks
-  due-filled = begins-filled (ticks_of old.clock) old.slots.items old.agenda old.seat.count now numbers h.begins numbers (λ i e. e)
+module _ {now : ℕ} {numbers : List ℕ} (old : Engine) (h : IsDueAt now numbers old) where
+  slots-few : length old.slots.items ≤ 10000
+  slots-few = omega (arith, h.runs.few, length-slots old.slots.items h.begins.waits.filled.0 h.begins.waits.filled.1)
 
-  -- no number is due twice
-  pub due-distinct : IsDistinct numbers
-  due-distinct = IsDistinct-increasing numbers h.in_order
+  pub tasks-few : (tasks : List TaskValue) → Picks old.slots.items numbers tasks → length tasks ≤ 10000
+  tasks-few tasks picks = omega (arith, due-few h.begins tasks picks h.in_order, slots-few)
 
-  module _ (tasks : List TaskValue) (picks : Picks old.slots.items numbers tasks) where
-    pub due-rising : IsStrictlyIncreasing (map (λ task. task.number) tasks)
-    due-rising = begins-rising (ticks_of old.clock) old.slots.items old.agenda old.seat.count now numbers h.begins tasks picks h.in_order
+  -- the seat may count all polls of the round, by each worker
+  pub allowed : (workers n : ℕ) → workers ≤ 64 → n ≤ 10000 → workers * n ≤ old.seat.allowance
+  allowed workers n many few =
+      let room = due-room h.begins (ticks-rising old.clock h.runs.lawful).0 slots-few in
+      let most : workers * n ≤ 64 * n = mul-le-mul_right n many in omega (arith, most, few, room, h.runs.sum)
 
-    pub due-pollable : All (IsPollable now) tasks
-    due-pollable = begins-all (ticks_of old.clock) old.slots.items old.agenda old.seat.count now numbers h.begins tasks picks
+-- what is read from the slot of a due task
+pub due-read : {now n : ℕ} {left : List ℕ} (old : Engine) (slot : Option TaskValue) → IsDueAt now (n ∷ left) old → slot ≡ slice_index_or old.slots.items n slot → slice_get old.slots.items n ≡ Some slot
+due-read {n = n} old slot h read =
+    let next = begins-next h.begins in slice_get_read old.slots.items (length old.slots.items) n slot refl (slice_get_within old.slots.items n (Some next.0) next.1) read
 
-    pub due-few : length tasks ≤ 10000
-    due-few =
-        let most = begins-few (ticks_of old.clock) old.slots.items old.agenda old.seat.count now numbers h.begins tasks picks h.in_order in
-        omega (arith, most, h.runs.few, length-slots old.slots.items h.begins.tasks h.begins.same)
+-- ---- the whole run
+-- the greatest number of moments that remain
+abbrev pub rounds_left : ℕ → Option ℕ → ℕ
+rounds_left horizon None = horizon + 1
+rounds_left horizon (Some now) = horizon - now
 
-    -- the seat may count all polls of the round
-    pub due-room : (workers : ℕ) → workers ≤ 64 → workers * length tasks ≤ old.seat.allowance
-    due-room workers most =
-        let slots : length old.slots.items ≤ 10000 = omega (arith, h.runs.few, length-slots old.slots.items h.begins.tasks h.begins.same) in
-        let room = begins-room (ticks_of old.clock) old.slots.items old.agenda old.seat.count now numbers h.begins h.runs.rising slots in
-        room-enough workers (length tasks) old.seat.count old.seat.allowance most due-few room h.runs.sum
-
-    -- all tasks were polled, and none is put back yet
-    pub due-polled : (slots : Slots) (polled : List TaskValue) (count : ℕ) → slots ≡ emptied old.slots.items numbers → polled ≡ map (polled_at now) tasks → count ≡ old.seat.count + length tasks
-        → Settling (ticks_of old.clock) now (jobs_in old.slots.items) slots old.agenda polled count
-    due-polled slots polled count out is grown =
-        settling-start (ticks_of old.clock) old.slots.items slots old.agenda old.seat.count count now numbers tasks polled h.begins h.in_order picks out is grown
-
-  -- all tasks were put back
-  pub due-settled : (new : Engine) → Keeps old new → new.seat.tally ≡ new.tally → new.seat.count + new.seat.allowance ≡ max_moment
-      → Settling (ticks_of old.clock) now (jobs_in old.slots.items) new.slots.items new.agenda [] new.seat.count → HasRunRound now old new
-  due-settled new keeps seated sum settling =
-      let end = settling-end (ticks_of old.clock) now (jobs_in old.slots.items) new.slots.items new.agenda new.seat.count settling in
-      record {
-        rests = record { runs = Runs-kept old new h.runs keeps (rw end.1 h.runs.few) seated sum; rests = rw keeps.clock end.0 };
-        same = record { clock = keeps.clock; jobs = end.1 };
-        taken = settling.all_wait.is_taken;
-      }
+pub rounds_left-falls : (horizon : ℕ) (taken : Option ℕ) (now : ℕ) → IsAfter taken now → now ≤ horizon → rounds_left horizon (Some now) < rounds_left horizon taken
+rounds_left-falls horizon None now a l = omega arith
+rounds_left-falls horizon (Some s) now a l = omega arith

@@ -6,4 +6,3 @@ pub mod SlotLemmas
 pub mod Settling
 pub mod Finishing
 pub mod EngineLemmas
-pub mod SlotPolls

@@ -1,28 +1,29 @@
 -- The states of an engine: its fields satisfy `Rounds`, on its clock.
-use Rattle.std.specs.Prelude.{◌≡◌, ◌≤◌, ◌+◌, ℕ, List, Some, None, length}
-use Rattle.std.specs.List.Sorted.{IsStrictlyIncreasing}
-use Rattle.zs_agenda.specs.Ticks.{horizon}
-use Rattle.zs_drive.specs.Clocks.{AreTicks, AllBefore}
+use Rattle.std.specs.Prelude.{◌≡◌, ◌≤◌, ◌+◌, ℕ, List, [], Some, None, length}
+use Rattle.std.specs.List.Sorted.{IsStrictlySortedBy}
+use Rattle.std.specs.Ordering.{nat_cmp}
+use Rattle.atomic_table.specs.Seated.{TableId}
+use Rattle.zs_agenda.specs.Ticks.{Ticks, IsClock, horizon}
 use Rattle.zs_pool.specs.Limits.{max_tasks}
+use Rattle.zs_pool.specs.Tally.{Seating}
 use Rattle.zs_term.specs.Saturating.{max_moment}
 use Rattle.zs_engine.specs.declared.engine.Engine.{Engine}
 use Rattle.zs_engine.specs.Times.{ticks_of}
-use Rattle.zs_engine.specs.Rounds.{Rests, Begins, jobs_in}
+use Rattle.zs_engine.specs.Rounds.{Waits, Begins, KeptJob, jobs_in}
 
--- The ticks of the engine's clock rise up to its horizon, one round may poll all of its jobs, and
--- only its seat counts.
-pub record Runs (engine : Engine) : Type 0 where
-  pub few : length (jobs_in engine.slots.items) ≤ max_tasks
-  pub rising : AreTicks (ticks_of engine.clock)
-  pub last : AllBefore (ticks_of engine.clock) (engine.horizon + 1)
-  pub is_horizon : engine.horizon ≡ horizon engine.clock
-  pub seated : engine.seat.tally ≡ engine.tally
-  pub sum : engine.seat.count + engine.seat.allowance ≡ max_moment
+-- The clock is valid and its horizon is `end`, one round may poll all of the jobs, and only this
+-- seat counts.
+pub record Runs (clock : Ticks) (end : ℕ) (jobs : List KeptJob) (tally : TableId) (seat : Seating) : Type 0 where
+  pub lawful : IsClock clock
+  pub is_horizon : end ≡ horizon clock
+  pub few : length jobs ≤ max_tasks
+  pub seated : seat.tally ≡ tally
+  pub sum : seat.count + seat.allowance ≡ max_moment
 
 -- between two rounds
 pub record IsResting (engine : Engine) : Type 0 where
-  pub runs : Runs engine
-  pub rests : Rests (ticks_of engine.clock) engine.slots.items engine.agenda engine.seat.count
+  pub runs : Runs engine.clock engine.horizon (jobs_in engine.slots.items) engine.tally engine.seat
+  pub rests : Waits (ticks_of engine.clock) engine.slots.items engine.agenda engine.seat.count []
 
 -- before the first round
 pub record IsNew (engine : Engine) : Type 0 where
@@ -32,9 +33,9 @@ pub record IsNew (engine : Engine) : Type 0 where
 
 -- as a round begins: these jobs are due at `now`
 pub record IsDueAt (now : ℕ) (numbers : List ℕ) (engine : Engine) : Type 0 where
-  pub runs : Runs engine
+  pub runs : Runs engine.clock engine.horizon (jobs_in engine.slots.items) engine.tally engine.seat
   pub begins : Begins (ticks_of engine.clock) engine.slots.items engine.agenda engine.seat.count now numbers
-  pub in_order : IsStrictlyIncreasing numbers
+  pub in_order : IsStrictlySortedBy nat_cmp numbers
 
 -- the clock and the jobs are unchanged
 pub record IsSameRun (old new : Engine) : Type 0 where

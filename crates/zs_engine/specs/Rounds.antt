@@ -1,8 +1,9 @@
 -- The invariant of the rounds of a run. Between two rounds each task has the timeline of its job
 -- alone on the ticks so far. It has a timer exactly if there is a tick at or after its due moment.
 -- During a round this is true of all tasks but those that are still to be polled.
-use Rattle.std.specs.Prelude.{◌≡◌, ◌<◌, ◌≤◌, ◌+◌, ◌++◌, ◌∷◌, [], ℕ, true, false, List, Option, Some, None, length, slice_get, map, option_to_list, option_map}
+use Rattle.std.specs.Prelude.{◌≡◌, ◌≤◌, ◌+◌, ◌++◌, ℕ, true, false, if◌then◌else◌, List, Option, Some, None, length, slice_get, map, flat_map, option_to_list, option_map, option_and_then}
 use Rattle.std.specs.FinMap.{get, insert}
+use Rattle.std.specs.List.{sum_by}
 use Rattle.zs_agenda.specs.Ticks.{Ticks}
 use Rattle.zs_agenda.specs.Timers.{Timers}
 use Rattle.zs_effect.specs.Scripts.{IsScript}
@@ -38,50 +39,32 @@ pub record KeepsUp (ticks : List ℕ) (task : TaskValue) : Type 0 where
 abbrev pub next_tick_of : Ticks → TaskValue → Option ℕ
 next_tick_of clock task = next_of (ticks_of clock) (current_timeline task).due
 
--- the task in slot i waits for its next due poll, and its timer is armed for it
-pub record IsWaiting (ticks : List ℕ) (timers : Timers) (i : ℕ) (task : TaskValue) : Type 0 where
-  pub keeps_up : KeepsUp ticks task
-  pub number : task.number ≡ i
-  pub is_set : get timers.moments i ≡ next_of ticks (current_timeline task).due
+-- the tick at which the task in a slot is due, if there is one
+abbrev pub next_in : List ℕ → Option (Option TaskValue) → Option ℕ
+next_in ticks slot = option_and_then (option_and_then (λ task. next_of ticks (current_timeline task).due)) slot
 
--- the task of slot i is due at `now`, and has no timer
-pub record IsPending (ticks : List ℕ) (timers : Timers) (now i : ℕ) (task : TaskValue) : Type 0 where
-  pub keeps_up : KeepsUp ticks task
-  pub number : task.number ≡ i
-  pub is_due : next_of ticks (current_timeline task).due ≡ Some now
-  pub is_unset : get timers.moments i ≡ None
-
--- between two rounds each task waits, and there are no other timers
-pub record AllWait (ticks : List ℕ) (tasks : List TaskValue) (timers : Timers) : Type 0 where
-  pub each : (i : ℕ) (task : TaskValue) → slice_get tasks i ≡ Some task → IsWaiting ticks timers i task
-  pub no_others : (i m : ℕ) → get timers.moments i ≡ Some m → i < length tasks
-
--- in the round at `now` all tasks wait but these, which are still to be polled
-pub record AllWaitBut (ticks : List ℕ) (tasks : List TaskValue) (timers : Timers) (now : ℕ) (left : List ℕ) : Type 0 where
-  pub is_taken : timers.last_taken ≡ Some now
-  pub pending : (i : ℕ) (task : TaskValue) → slice_get tasks i ≡ Some task → has i left ≡ true → IsPending ticks timers now i task
-  pub waiting : (i : ℕ) (task : TaskValue) → slice_get tasks i ≡ Some task → has i left ≡ false → IsWaiting ticks timers i task
-  pub no_others : (i m : ℕ) → get timers.moments i ≡ Some m → i < length tasks
-  pub in_range : (i : ℕ) → has i left ≡ true → i < length tasks
+-- the number of due polls of a slot's task
+abbrev pub polls_of : Option TaskValue → ℕ
+polls_of None = 0
+polls_of (Some task) = length task.moments
 
 -- the number of due polls that were done
-abbrev pub polls_of : List TaskValue → ℕ
-polls_of [] = 0
-polls_of (task ∷ tasks) = length task.moments + polls_of tasks
+abbrev pub polls_in : Slots → ℕ
+polls_in slots = sum_by polls_of slots
 
--- between two rounds each task is in its slot and waits, and `count` polls were done
-pub record Rests (ticks : List ℕ) (slots : Slots) (timers : Timers) (count : ℕ) : Type 0 where
-  pub tasks : List TaskValue
-  pub same : slots ≡ map (λ task. Some task) tasks
-  pub all_wait : AllWait ticks tasks timers
-  pub counted : count ≡ polls_of tasks
+-- Each task is in its slot and up to date, and `count` polls were done. All tasks but those in
+-- `left` wait for their next due polls. There are no timers but theirs.
+pub record Waits (ticks : List ℕ) (slots : Slots) (timers : Timers) (count : ℕ) (left : List ℕ) : Type 0 where
+  pub filled : (tasks : List TaskValue) × (slots ≡ map (λ task. Some task) tasks)
+  pub each : (i : ℕ) (task : TaskValue) → slice_get slots i ≡ Some (Some task) → KeepsUp ticks task × (task.number ≡ i)
+  pub timer : (i : ℕ) → get timers.moments i ≡ (if has i left then None else next_in ticks (slice_get slots i))
+  pub counted : count ≡ polls_in slots
 
--- a round begins: each task is in its slot, and these are due at `now`
-pub record Begins (ticks : List ℕ) (slots : Slots) (timers : Timers) (count now : ℕ) (numbers : List ℕ) : Type 0 where
-  pub tasks : List TaskValue
-  pub same : slots ≡ map (λ task. Some task) tasks
-  pub all_wait : AllWaitBut ticks tasks timers now numbers
-  pub counted : count ≡ polls_of tasks
+-- in the round at `now` these tasks are due, and are still to be polled
+pub record Begins (ticks : List ℕ) (slots : Slots) (timers : Timers) (count now : ℕ) (left : List ℕ) : Type 0 where
+  pub waits : Waits ticks slots timers count left
+  pub is_taken : timers.last_taken ≡ Some now
+  pub due : (i : ℕ) → has i left ≡ true → next_in ticks (slice_get slots i) ≡ Some now
 
 -- a job, and how its task stores its attempts
 abbrev pub KeptJob : Type 0
@@ -101,8 +84,7 @@ kept_of task = (task.job, task.keeps)
 
 -- the jobs of the tasks in the slots
 abbrev pub jobs_in : Slots → List KeptJob
-jobs_in [] = []
-jobs_in (slot ∷ slots) = option_to_list (option_map kept_of slot) ++ jobs_in slots
+jobs_in slots = flat_map (λ slot. option_to_list (option_map kept_of slot)) slots
 
 -- the timers after a job's is armed for a tick, if there is one
 abbrev pub set_next : Timers → ℕ → Option ℕ → Timers

@@ -1,6 +1,6 @@
 -- The slots of a run: each job's task has a separate slot, which is empty while several workers
 -- poll the task.
-use Rattle.std.specs.Prelude.{◌≡◌, ◌==◌, ℕ, Bool, false, List, [], ◌∷◌, Option, Some, None, slice_get, slice_set}
+use Rattle.std.specs.Prelude.{◌≡◌, ◌==◌, ℕ, Bool, false, List, [], ◌∷◌, Option, Some, None, slice_get, slice_set, map}
 use Rattle.std.specs.List.{list_any}
 use Rattle.zs_drive.specs.Tasks.{TaskValue}
 
@@ -15,13 +15,11 @@ emptied slots (number ∷ numbers) = emptied (slice_set slots number None) numbe
 
 -- the tasks in these slots, in order
 abbrev pub Picks : Slots → List ℕ → List TaskValue → Type 0
-Picks slots [] tasks = tasks ≡ []
-Picks slots (number ∷ numbers) [] = ⊥
-Picks slots (number ∷ numbers) (task ∷ tasks) = (slice_get slots number ≡ Some (Some task)) × Picks slots numbers tasks
+Picks slots numbers tasks = map (slice_get slots) numbers ≡ map (λ task. Some (Some task)) tasks
 
 -- whether the number is in the list
 abbrev pub has : ℕ → List ℕ → Bool
-has i left = list_any (λ x. x == i) left
+has i left = list_any (λ x. i == x) left
 
 -- no number occurs twice
 abbrev pub IsDistinct : List ℕ → Type 0

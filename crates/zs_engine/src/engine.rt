@@ -97,13 +97,7 @@ impl Engine {
         ensures tally { OnOk result
             ((self.new.tally ≡ self.old.tally) × (self.new.seat ≡ self.old.seat)) }
     {
-        match set_timer(&self.clock, &mut self.agenda, &task) {
-            Ok(()) => {}
-            Err(refused) => {
-                drop(task);
-                return Err(refused);
-            }
-        }
+        set_timer(&self.clock, &mut self.agenda, &task)?;
         let number = task.number() as usize;
         drop(self.slots[number].replace(task));
         Ok(())

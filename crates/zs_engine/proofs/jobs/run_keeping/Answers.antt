@@ -1,11 +1,9 @@
-use Rattle.std.proofs.Common.{◌≡◌, ◌∙◌, ap, List, map, subst}
-use Rattle.std.specs.Prelude.{IfOk}
-use Rattle.zs_drive.specs.Values.{JobValue, job_value}
-use Rattle.zs_agenda.specs.Ticks.{Ticks}
+use Rattle.std.proofs.lemmas.Simd.{map-map}
+use Rattle.std.proofs.lemmas.List.Elements.{All-from_recursion}
+use Rattle.std.proofs.lemmas.Result.{IfOk-weaker}
 use Rattle.zs_engine.specs.declared.answer.Answer.{Answer}
-use Rattle.zs_engine.specs.Answers.{IsAnswer}
-use Rattle.zs_engine.specs.Rounds.{KeptJob, job_alone, kept_of}
-use Rattle.zs_engine.proofs.Finishing.{alone-jobs, answer-keeps}
+use Rattle.zs_engine.specs.Rounds.{job_alone, job_kept}
+use Rattle.zs_engine.proofs.Finishing.{all-keep}
 use Rattle.zs_engine.proofs.jobs.run_keeping.Goals as goal
 
 pub run-requires-clause-new : goal.run-requires-clause-new
@@ -16,12 +14,8 @@ run-requires-clause-empty g c = λ _ _. c.in_ok-engine.ensures.empty.1
 
 pub returns : goal.returns
 returns g c =
-    let jobs = c.in_ok-run.ensures.jobs in
+    let run = c.in_ok-run.ensures in
     record {
-      answer =
-          subst (λ (clock : Ticks). IfOk c.finish.result (IsAnswer clock (map job_value c.args.jobs.items))) (c.in_ok-run.ensures.clock ∙ c.in_ok-engine.ensures.empty.0)
-          (subst (λ (js : List JobValue). IfOk c.finish.result (IsAnswer c.run.new.self.clock js)) (ap (map job_alone) jobs ∙ alone-jobs c.args.keeps c.args.jobs.items) c.finish.ensures.answer);
-      keeps =
-          answer-keeps c.args.keeps c.args.jobs.items c.finish.result
-          (subst (λ (js : List KeptJob). IfOk c.finish.result (λ (answer : Answer). map kept_of answer.tasks.items ≡ js)) jobs c.finish.ensures.jobs);
+      answer = rw (run.jobs, map-map job_alone (job_kept c.args.keeps) c.args.jobs.items, run.clock, c.in_ok-engine.ensures.empty.0) at c.finish.ensures.answer;
+      keeps = IfOk-weaker c.finish.result _ _ (λ (answer : Answer) same. All-from_recursion _ _ (all-keep c.args.keeps answer.tasks.items c.args.jobs.items same)) (rw run.jobs at c.finish.ensures.jobs);
     }

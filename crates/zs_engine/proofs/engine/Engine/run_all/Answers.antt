@@ -1,14 +1,18 @@
-use Rattle.std.proofs.Common.{◌≡◌, ◌≤◌, ◌∙◌, refl, ap}
+use Rattle.std.proofs.Common.{◌≡◌, ◌≤◌, ◌+◌, ◌∙◌, Option, Some, None, IsNone, refl, ap, arith}
+use Rattle.std.specs.Prelude.{IfNone, ◌↔◌}
+use Rattle.std.proofs.lemmas.Map.Keys.{sorted_from_strictly_increasing}
 use Rattle.zs_agenda.specs.Ticks.{horizon}
 use Rattle.zs_agenda.specs.Timers.{Timers, Takes}
-use Rattle.zs_engine.proofs.RoundLemmas.{rounds_left-falls, none-of_not_some, from_none}
-use Rattle.zs_engine.proofs.EngineLemmas.{IsDueAt-taken, taken-within}
+use Rattle.zs_engine.proofs.ClockTicks.{ticks-rising}
+use Rattle.zs_engine.proofs.RoundLemmas.{begins, begins-before}
+use Rattle.zs_engine.proofs.EngineLemmas.{rounds_left-falls}
 use Rattle.zs_engine.proofs.engine.Engine.run_all.Goals as goal
 
 pub run_round-requires-clause-due : goal.run_round-requires-clause-due
 run_round-requires-clause-due g c = λ _ _.
     let takes : Takes c.loop-now.self.agenda c.take.new.self c.in-Some.now c.in-Some.numbers.items = rw c.in-Some.is at c.in_ok-now.ensures.some in
-    rw c.deref.ensures.value (IsDueAt-taken c.loop-now.self _ c.in-Some.now c.in-Some.numbers.items c.loop-now.invariant.rests (record { clock = refl; horizon = refl; tally = refl }) refl refl takes)
+    let rests = c.loop-now.invariant.rests in
+    rw c.deref.ensures.value (record { runs = rests.runs; begins = begins rests.rests takes; in_order = sorted_from_strictly_increasing c.in-Some.numbers.items takes.in_order })
 
 pub loop-now-preserved : goal.loop-now-preserved
 loop-now-preserved g c =
@@ -21,12 +25,17 @@ loop-now-preserved g c =
 pub loop-now-smaller : goal.loop-now-smaller
 loop-now-smaller g c =
     let takes : Takes c.loop-now.self.agenda c.take.new.self c.in-Some.now c.in-Some.numbers.items = rw c.in-Some.is at c.in_ok-now.ensures.some in
-    let within : c.in-Some.now ≤ horizon c.args.self.now.clock =
-    rw c.loop-now.invariant.same.clock at (taken-within c.loop-now.self c.take.new.self c.in-Some.now c.in-Some.numbers.items c.loop-now.invariant.rests takes) in
+    let rests = c.loop-now.invariant.rests in
+    let before = rw c.loop-now.invariant.same.clock at (begins-before rests.rests takes (horizon c.loop-now.self.clock + 1) (ticks-rising c.loop-now.self.clock rests.runs.lawful).1) in
+    let within : c.in-Some.now ≤ horizon c.args.self.now.clock = omega (arith, before) in
     rw (ap (λ (t : Timers). t.last_taken) c.reuse.ensures.same ∙ c.in_ok-run_round.ensures.round.taken) (rounds_left-falls _ c.loop-now.self.agenda.last_taken c.in-Some.now takes.is_after within)
+
+-- what is said of no value
+none_of : {X : Type 0} (o : Option X) {P Q : Type 0} → ((x : X) → o ≡ Some x → ⊥) → IfNone o P → IsNone o ↔ Q → P × Q
+none_of None not_some same none = (same, none.0 refl)
+none_of (Some x) not_some same none = absurd (not_some x refl)
 
 pub returns-clause-over : goal.returns-clause-over
 returns-clause-over g c =
-    let none = none-of_not_some c.in_ok-now.field-0 c.in_default.not-Some in
-    let same : c.take.new.self ≡ c.loop-now.self.agenda = from_none c.in_ok-now.field-0 (c.take.new.self ≡ c.loop-now.self.agenda) none c.in_ok-now.ensures.same in
-    ap (λ (t : Timers). t.moments) same ∙ c.in_ok-now.ensures.none.0 none
+    let over = none_of c.in_ok-now.field-0 c.in_default.not-Some c.in_ok-now.ensures.same c.in_ok-now.ensures.none in
+    ap (λ (t : Timers). t.moments) over.0 ∙ over.1

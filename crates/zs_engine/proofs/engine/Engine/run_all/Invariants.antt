@@ -1,6 +1,6 @@
 use Rattle.zs_agenda.specs.Ticks.{horizon}
 use Rattle.zs_engine.specs.Engine.{IsResting, IsSameRun}
-use Rattle.zs_engine.proofs.RoundLemmas.{rounds_left}
+use Rattle.zs_engine.proofs.EngineLemmas.{rounds_left}
 use Rattle.zs_engine.proofs.engine.Engine.run_all.Given as goal
 
 abbrev pub invariant-loop-now : goal.invariant-loop-now
