@@ -80,6 +80,19 @@ AllBefore-none (t ∷ ticks) x =
     tick_cases t x (λ b. (if b then Some t else first_tick_from ticks x) ≡ None → (t < x) × AllBefore ticks x)
     (λ l e. (l, AllBefore-none ticks x e)) (λ _ e. cc)
 
+-- the least tick at or after x is the least at or after itself
+pub first_tick_from-again : (ticks : List ℕ) (x e : ℕ) → first_tick_from ticks x ≡ Some e → first_tick_from ticks e ≡ Some e
+unfolding first_tick_from
+first_tick_from-again [] x e = λ is. cc
+first_tick_from-again (t ∷ ticks) x e =
+    tick_cases t x (λ b. (if b then Some t else first_tick_from ticks x) ≡ Some e → first_tick_from (t ∷ ticks) e ≡ Some e)
+    (λ l is.
+    let from : x ≤ e = first_tick_from-from ticks x e is in
+    tick_cases t e (λ b. (if b then Some t else first_tick_from ticks e) ≡ Some e) (λ _. first_tick_from-again ticks x e is) (λ k. absurd (omega arith)))
+    (λ l is.
+    let same : t ≡ e = cc in
+    tick_cases t e (λ b. (if b then Some t else first_tick_from ticks e) ≡ Some e) (λ k. absurd (omega arith)) (λ _. is))
+
 pub left-none : (ticks : List ℕ) (x : ℕ) → left ticks x ≤ 0 → first_tick_from ticks x ≡ None
 unfolding first_tick_from left
 left-none [] x = λ h. refl

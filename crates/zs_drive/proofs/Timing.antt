@@ -17,9 +17,8 @@ use Rattle.zs_drive.specs.Recorded.{AllEnded}
 use Rattle.zs_drive.specs.DriverRules.{history_after}
 use Rattle.zs_drive.proofs.Follows.{GoesOn, IsAsked, EndsAt, Follows}
 use Rattle.zs_drive.specs.DriverRules.{IsTimeline, IsEnd, IsLast, StopsBy, StopsOn, BeginsAfter, asked_unless}
-use Rattle.zs_drive.proofs.Ticks.{lt_cases}
+use Rattle.zs_drive.proofs.Ticks.{lt_cases, first_tick_from-again}
 use Rattle.zs_drive.proofs.Steps.{length-history_after, history_after-ended, AllEnded-append}
-use Rattle.zs_drive.proofs.Ruling.{first_tick_from-again}
 
 not-empty : (xs ys : List AttemptedValue) (a : AttemptedValue) → xs ++ a ∷ ys ≡ [] → ⊥
 not-empty [] ys a is = cc
