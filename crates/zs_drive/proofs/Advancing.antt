@@ -15,8 +15,8 @@ use Rattle.zs_drive.specs.declared.progress.Progress.{Progress}
 use Rattle.zs_drive.specs.Values.{JobRecord, record_of, AttemptedValue}
 use Rattle.zs_effect.specs.declared.script.Outcome.{Outcome}
 use Rattle.zs_step.specs.History.{History}
-use Rattle.zs_step.specs.Answer.{Answer}
-use Rattle.zs_step.specs.Compiled.{StandsFor}
+use Rattle.zs_step.specs.Answer.{Answer, answer_of}
+use Rattle.zs_step.specs.Compiled.{StandsFor, compiled_schedule}
 use Rattle.zs_drive.specs.Timeline.{Timeline, timeline_of, poll_moments, number_of, beat_after, ended_attempt}
 use Rattle.zs_drive.specs.Recorded.{AllEnded, IsOnTimeline, IsStepped}
 use Rattle.zs_drive.specs.DriverRules.{history_after}
@@ -134,10 +134,22 @@ begin-advances p log spare beat attempt (Waiting x) is progress state waits next
 begin-advances p log spare beat attempt (Running other) is progress state waits next script keeps begun started = absurd (rw is at waits)
 begin-advances p log spare beat attempt (Over ending) is progress state waits next script keeps begun started = absurd (rw is at waits)
 
--- the history on which the schedule was evaluated
-pub asked-history : (p : Progress) (outcome : Outcome) (others : List AttemptedValue) (s : ℕ) → attempts_of p ≡ others ++ runs s ∷ []
-    → ((p.seen, number_of outcome) ∷ history_after (attempts_of p)) ≡ ((p.seen, number_of outcome) ∷ history_after others)
-asked-history p outcome others s last = ap (λ (h : History). (p.seen, number_of outcome) ∷ h) (ap history_after last ∙ history_after-running others s)
+-- the history on which the schedule was evaluated, and its result
+pub asked-history : (p : Progress) (outcome : Outcome) (r : Ran p outcome) → history_after (attempts_of p) ≡ history_after r.others
+asked-history p outcome r = ap history_after r.last ∙ history_after-running r.others r.s
+
+pub asked-answer : (p : Progress) (outcome : Outcome) (r : Ran p outcome) (step : Answer)
+    → step ≡ answer_of (compiled_schedule p.compiled) ((p.seen, number_of outcome) ∷ history_after (attempts_of p))
+    → step ≡ answer_of (job_in p).schedule ((p.seen, number_of outcome) ∷ history_after r.others)
+asked-answer p outcome r step answered = answered ∙ ap (λ (h : History). answer_of (compiled_schedule p.compiled) ((p.seen, number_of outcome) ∷ h)) (asked-history p outcome r)
+
+-- the schedule's state represents the records, once the attempt has ended
+pub IsStepped-asked : (p : Progress) (outcome : Outcome) (r : Ran p outcome) (step : Option Answer) → WasAsked p outcome
+    → IsStepped (r.others ++ ended_attempt r.s p.seen outcome step ∷ []) p.compiled p.seen
+IsStepped-asked p outcome r step asked = record {
+  stands = rw (history_after-ended r.others r.s p.seen outcome step, ← asked-history p outcome r) asked;
+  past = let seen = asked.last in omega arith;
+}
 
 -- the attempt that ran ends, and none begins
 pub end_attempt-advances : (p q : Progress) (outcome : Outcome) (step : Option Answer) (phase : Phase) (r : Ran p outcome) → IsProgress p → IsScript p.script
@@ -175,19 +187,7 @@ restart-advances p q outcome step beat attempt r progress script asked next rest
     advances p q q.spare (Running attempt) r.w (r.others ++ ended_attempt r.s p.seen outcome step ∷ runs p.seen ∷ []) progress script rest keeps r.due r.soon
     (rw (started, entry, r.last, r.due, r.going) made) (closed r.others r.s logs)
     (ended, p.seen, record { last = split; ended = all; outcome = rw (started, entry, numbered) refl; saw = rw started (omega arith) })
-    (record {
-      stands = subst (StandsFor p.compiled)
-          (asked-history p outcome r.others r.s r.last ∙ sym (history_after-ended r.others r.s p.seen outcome step) ∙ sym (history_after-running ended p.seen) ∙ ap history_after (sym split)) asked;
-      past = let seen = asked.last in omega arith;
-    })
-
--- the schedule's state represents the records, once the attempt has ended
-pub IsStepped-asked : (p : Progress) (outcome : Outcome) (others : List AttemptedValue) (s : ℕ) (step : Option Answer) → WasAsked p outcome → attempts_of p ≡ others ++ runs s ∷ []
-    → IsStepped (others ++ ended_attempt s p.seen outcome step ∷ []) p.compiled p.seen
-IsStepped-asked p outcome others s step asked last = record {
-  stands = subst (StandsFor p.compiled) (asked-history p outcome others s last ∙ sym (history_after-ended others s p.seen outcome step)) asked;
-  past = let seen = asked.last in omega arith;
-}
+    (let stepped = IsStepped-asked p outcome r step asked in record { stands = rw (split, history_after-running ended p.seen) stepped.stands; past = stepped.past })
 
 -- after a failed allocation
 pub StandsStill-stays : (p q : Progress) → IsProgress p → Stays p q → StandsStill p q
