@@ -1,5 +1,5 @@
 -- What one poll does to the fields of a task.
-use Rattle.std.specs.Prelude.{◌≡◌, ℕ, ◌≤◌, ◌<◌, [], ◌∷◌, ◌++◌, None, ⊤}
+use Rattle.std.specs.Prelude.{◌≡◌, ℕ, ◌≤◌, ◌<◌, [], ◌∷◌, ◌++◌, None, IsSomeAnd, ⊤}
 use Rattle.zs_effect.specs.declared.script.Outcome.{Outcome}
 use Rattle.zs_step.specs.Compiled.{StandsFor}
 use Rattle.zs_drive.specs.declared.job.Mode.{Mode}
@@ -47,21 +47,15 @@ WasAsked p outcome = StandsFor p.compiled ((p.seen, number_of outcome) ∷ histo
 
 -- the job is over
 abbrev pub IsOver : Phase → Type 0
-IsOver (Waiting due) = ⊥
-IsOver (Running attempt) = ⊥
-IsOver (Over ending) = ⊤
+IsOver phase = IsSomeAnd (ending_of phase) (λ _. ⊤)
 
 -- the due moment is after the moment seen
 abbrev pub IsEarly : ℕ → Phase → Type 0
-IsEarly seen (Waiting due) = seen < due
-IsEarly seen (Running attempt) = seen < attempt.end
-IsEarly seen (Over ending) = ⊥
+IsEarly seen phase = IsSomeAnd (due_of phase) (λ due. seen < due)
 
 -- the due moment is at or before the moment seen
 abbrev pub IsDuePhase : ℕ → Phase → Type 0
-IsDuePhase seen (Waiting due) = due ≤ seen
-IsDuePhase seen (Running attempt) = attempt.end ≤ seen
-IsDuePhase seen (Over ending) = ⊥
+IsDuePhase seen phase = IsSomeAnd (due_of phase) (λ due. due ≤ seen)
 
 -- a due poll may allocate memory: an attempt begins, or its outcome does not itself end the job
 abbrev pub TakesMemory : Mode → Phase → Type 0
