@@ -7,7 +7,7 @@ ghost use Rattle.zs_term.specs.OutputText.{IsBeginning, output_text};
 ghost use Rattle.zs_drive.specs.Values.{attempted_of};
 ghost use Rattle.zs_drive.specs.Lines.{attempt_lines, decision_text, outcome_text};
 
-use crate::line::Line;
+use crate::line::{Line, ROOM};
 use crate::record::{Attempted, Ended};
 use std::alloc::AllocError;
 use zs_effect::Outcome;
@@ -17,7 +17,7 @@ use zs_term::{Out, append_out};
 // Puts a space and how an attempt ended before the rest.
 #[inline(always)]
 fn put_outcome(line: &mut Line, outcome: Outcome)
-    requires room { 25 + length line.old ≤ 208 }
+    requires room { 25 + length line.old ≤ ROOM }
     ensures text { line.new ≡ codes " " ++ outcome_text outcome ++ line.old }
     ensures len { length line.new ≤ 25 + length line.old }
 {
@@ -36,7 +36,7 @@ fn put_outcome(line: &mut Line, outcome: Outcome)
 // Puts a space and what a schedule decided before the rest.
 #[inline(always)]
 fn put_decision(line: &mut Line, decision: Decision)
-    requires room { 26 + length line.old ≤ 208 }
+    requires room { 26 + length line.old ≤ ROOM }
     ensures text { line.new ≡ codes " " ++ decision_text decision ++ line.old }
     ensures len { length line.new ≤ 26 + length line.old }
 {
@@ -52,7 +52,7 @@ fn put_decision(line: &mut Line, decision: Decision)
 // Puts a pair of numbers before the rest.
 #[inline(always)]
 fn put_pair(line: &mut Line, a: u64, b: u64)
-    requires room { 43 + length line.old ≤ 208 }
+    requires room { 43 + length line.old ≤ ROOM }
     ensures text { line.new
         ≡ codes "(" ++ decimal a ++ codes "," ++ decimal b ++ codes ")" ++ line.old }
     ensures len { length line.new ≤ 43 + length line.old }
@@ -67,7 +67,7 @@ fn put_pair(line: &mut Line, a: u64, b: u64)
 // Puts an output before the rest if it is a number or a pair of numbers, and returns whether it is.
 #[inline(always)]
 fn put_numbers(line: &mut Line, out: &Out) -> bool
-    requires room { 43 + length line.old ≤ 208 }
+    requires room { 43 + length line.old ≤ ROOM }
     ensures text { result ≡ true → line.new ≡ output_text (output_of out.now) ++ line.old }
     ensures same { result ≡ false → line.new ≡ line.old }
     ensures len { length line.new ≤ 43 + length line.old }
@@ -91,7 +91,7 @@ fn put_numbers(line: &mut Line, out: &Out) -> bool
 // Puts the beginning of an attempt before the rest.
 #[inline(always)]
 fn put_begun(line: &mut Line, number: u64, begun: u64)
-    requires room { 51 + length line.old ≤ 208 }
+    requires room { 51 + length line.old ≤ ROOM }
     ensures text { line.new
         ≡ codes "attempt "
         ++ decimal number ++ codes " " ++ decimal begun ++ codes ".." ++ line.old }
@@ -107,7 +107,7 @@ fn put_begun(line: &mut Line, number: u64, begun: u64)
 // Puts the line of an attempt that has ended, without the end of the line, before the rest.
 #[inline(always)]
 fn put_ended(line: &mut Line, number: u64, begun: u64, at: u64, outcome: Outcome)
-    requires room { 96 + length line.old ≤ 208 }
+    requires room { 96 + length line.old ≤ ROOM }
     ensures text { line.new
         ≡ codes "attempt "
         ++ decimal number
@@ -125,7 +125,7 @@ fn put_ended(line: &mut Line, number: u64, begun: u64, at: u64, outcome: Outcome
 // Puts what is before the output of a step before the rest.
 #[inline(always)]
 fn put_stepped(line: &mut Line, number: u64, begun: u64, at: u64, outcome: Outcome)
-    requires room { 127 + length line.old ≤ 208 }
+    requires room { 127 + length line.old ≤ ROOM }
     ensures text { line.new
         ≡ codes "attempt "
         ++ decimal number
