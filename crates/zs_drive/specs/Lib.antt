@@ -11,6 +11,7 @@ pub mod DriverLaws
 -- Named by the clauses of calls on which no headline depends.
 pub mod Told
 -- What the code stores. Only private contracts, and the views and invariants of models, name these.
+pub mod Pieces
 pub mod Recorded
 pub mod Log
 pub mod Progress

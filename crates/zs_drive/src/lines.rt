@@ -1,11 +1,14 @@
 //! Attempts as lines of text. Lines are written from their end, so that they are appended by one
 //! push.
-ghost use Rattle.std.specs.Prelude.{◌≡◌, ◌++◌, ◌+◌, ◌≤◌, [], length, true, false, codes, OnOk, OnErr, string_bytes};
+ghost use Rattle.std.specs.Prelude.{◌≡◌, ◌++◌, ◌+◌, ◌≤◌, [], length, true, false, Some, codes, OnOk, OnErr, string_bytes};
 ghost use Rattle.std.specs.Fmt.{decimal};
 ghost use Rattle.zs_term.specs.Output.{output_of};
 ghost use Rattle.zs_term.specs.OutputText.{IsBeginning, output_text};
 ghost use Rattle.zs_drive.specs.Values.{attempted_of};
+ghost use Rattle.zs_step.specs.Answer.{answer};
+ghost use Rattle.zs_drive.specs.Timeline.{ended_attempt};
 ghost use Rattle.zs_drive.specs.Lines.{attempt_lines, decision_text, outcome_text};
+ghost use Rattle.zs_drive.specs.Pieces.{begun_text, ended_text, stepped_text};
 
 use crate::line::{Line, ROOM};
 use crate::record::{Attempted, Ended};
@@ -92,9 +95,7 @@ fn put_numbers(line: &mut Line, out: &Out) -> bool
 #[inline(always)]
 fn put_begun(line: &mut Line, number: u64, begun: u64)
     requires room { 51 + length line.old ≤ ROOM }
-    ensures text { line.new
-        ≡ codes "attempt "
-        ++ decimal number ++ codes " " ++ decimal begun ++ codes ".." ++ line.old }
+    ensures text { line.new ≡ begun_text number begun ++ line.old }
     ensures len { length line.new ≤ 51 + length line.old }
 {
     line.put("..");
@@ -108,13 +109,7 @@ fn put_begun(line: &mut Line, number: u64, begun: u64)
 #[inline(always)]
 fn put_ended(line: &mut Line, number: u64, begun: u64, at: u64, outcome: Outcome)
     requires room { 96 + length line.old ≤ ROOM }
-    ensures text { line.new
-        ≡ codes "attempt "
-        ++ decimal number
-        ++ codes " "
-        ++ decimal begun
-        ++ codes ".."
-        ++ decimal at ++ codes " " ++ outcome_text outcome ++ line.old }
+    ensures text { line.new ≡ ended_text number begun at outcome ++ line.old }
     ensures len { length line.new ≤ 96 + length line.old }
 {
     put_outcome(line, outcome);
@@ -126,15 +121,7 @@ fn put_ended(line: &mut Line, number: u64, begun: u64, at: u64, outcome: Outcome
 #[inline(always)]
 fn put_stepped(line: &mut Line, number: u64, begun: u64, at: u64, outcome: Outcome)
     requires room { 127 + length line.old ≤ ROOM }
-    ensures text { line.new
-        ≡ codes "attempt "
-        ++ decimal number
-        ++ codes " "
-        ++ decimal begun
-        ++ codes ".."
-        ++ decimal at
-        ++ codes " "
-        ++ outcome_text outcome ++ codes "\nstep " ++ decimal number ++ codes " out " ++ line.old }
+    ensures text { line.new ≡ stepped_text number begun at outcome ++ line.old }
     ensures len { length line.new ≤ 127 + length line.old }
 {
     line.put(" out ");
@@ -171,19 +158,9 @@ fn push_stepped(
 ) -> Result<(), AllocError>
     ensures text { OnOk result (string_bytes text.new
         ≡ string_bytes text.old
-        ++ codes "attempt "
-        ++ decimal number
-        ++ codes " "
-        ++ decimal begun
-        ++ codes ".."
-        ++ decimal ended.now.at
-        ++ codes " "
-        ++ outcome_text ended.now.outcome
-        ++ codes "\nstep "
-        ++ decimal number
-        ++ codes " out "
-        ++ output_text (output_of out.now)
-        ++ codes " " ++ decision_text decision ++ codes "\n") }
+        ++ attempt_lines number
+            (ended_attempt begun ended.now.at ended.now.outcome
+                (Some (answer (output_of out.now) decision)))) }
     ensures kept { IsBeginning (string_bytes text.old) (string_bytes text.new) }
 {
     let at = ended.at;
