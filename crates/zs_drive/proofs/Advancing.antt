@@ -188,28 +188,3 @@ restart-advances p q outcome step beat attempt r progress script asked next rest
     (rw (started, entry, r.last, r.due, r.going) made) (closed r.others r.s logs)
     (ended, p.seen, record { last = split; ended = all; outcome = rw (started, entry, numbered) refl; saw = rw started (omega arith) })
     (let stepped = IsStepped-asked p outcome r step asked in record { stands = rw (split, history_after-running ended p.seen) stepped.stands; past = stepped.past })
-
--- after a failed allocation
-pub StandsStill-stays : (p q : Progress) → IsProgress p → Stays p q → StandsStill p q
-StandsStill-stays p q progress stays =
-    let logged : IsLog q.log (attempts_of p) = stays.log progress.log in
-    let moments : moments_in q ≡ moments_in p = log-moments q.log (attempts_of p) logged ∙ sym (log-moments p.log (attempts_of p) progress.log) in
-    let at : timeline_of (job_in q) (moments_in q) ≡ timeline_of (job_in p) (moments_in p) =
-    ap (λ (job : JobRecord). timeline_of job (moments_in q)) (ap record_of stays.job) ∙ ap (timeline_of (job_in p)) moments in
-    let same : attempts_of q ≡ attempts_of p = ap (λ (t : Timeline). t.attempts) at in
-    record {
-      progress = record {
-        log = rw same logged;
-        on_timeline = subst (λ (job : JobRecord). IsOnTimeline job (timeline_in q) q.polls) (sym (ap record_of stays.job)) (rw (same, stays.phase, stays.polls) progress.on_timeline);
-        waits = ap (λ (t : Timeline). t.due) at ∙ progress.waits ∙ ap due_of (sym stays.phase);
-        ended = ap (λ (t : Timeline). t.ending) at ∙ progress.ended ∙ ap ending_of (sym stays.phase);
-        phase = subst (λ (job : JobRecord). IsPhase job (attempts_of q) q.seen q.phase) (sym (ap record_of stays.job)) (rw (same, stays.phase, stays.seen) progress.phase);
-        bounded = rw stays.seen progress.bounded;
-      };
-      moments = moments;
-      job = stays.job;
-      keeps = stays.keeps;
-      seen = stays.seen;
-      due = ap due_of stays.phase;
-      ending = ap ending_of stays.phase;
-    }

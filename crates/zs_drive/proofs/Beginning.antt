@@ -54,18 +54,3 @@ IsProgress-new p phase polls seen is =
 
 pub HasState-new : (p : Progress) → p.phase ≡ Waiting p.start → IsLog p.log [] → StandsFor p.compiled [] → HasState p
 HasState-new p phase is stands = rw (attempts-none p is, phase) (IsStepped-new p.compiled p.seen stands)
-
-IsStepped-later : (attempts : List AttemptedValue) (compiled : Compiled) (seen now : ℕ) → seen ≤ now → IsStepped attempts compiled seen → IsStepped attempts compiled now
-IsStepped-later attempts compiled seen now later kept = record { stands = kept.stands; past = let past = kept.past in omega arith }
-
-pub IsPhase-later : (job : JobRecord) (attempts : List AttemptedValue) (seen now : ℕ) (phase : Phase) → seen ≤ now → IsPhase job attempts seen phase → IsPhase job attempts now phase
-IsPhase-later job attempts seen now (Waiting due) later all = all
-IsPhase-later job attempts seen now (Running attempt) later runs =
-    (runs.0, runs.1, record { last = runs.2.last; ended = runs.2.ended; outcome = runs.2.outcome; saw = let saw = runs.2.saw in omega arith })
-IsPhase-later job attempts seen now (Over ending) later over = tt
-
-pub IsSteppedIn-later : (attempts : List AttemptedValue) (compiled : Compiled) (seen now : ℕ) (phase : Phase) → seen ≤ now
-    → IsSteppedIn attempts compiled seen phase → IsSteppedIn attempts compiled now phase
-IsSteppedIn-later attempts compiled seen now (Waiting due) later kept = IsStepped-later attempts compiled seen now later kept
-IsSteppedIn-later attempts compiled seen now (Running attempt) later kept = IsStepped-later attempts compiled seen now later kept
-IsSteppedIn-later attempts compiled seen now (Over ending) later kept = tt

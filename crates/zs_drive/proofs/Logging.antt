@@ -60,33 +60,6 @@ module _ (log : Log) (attempts : List AttemptedValue) (is : IsLog log attempts) 
       let all = ap (λ (xs : List AttemptedValue). length xs) (told-recorded (keeping_of log) attempts) in
       omega (arith, is.told, records, kept, both, all)
 
--- a log after a failed allocation
-pub same-log : (old new : Log) (attempts : List AttemptedValue) → IsSameLog old new → IsLog old attempts → IsLog new attempts
-same-log old new attempts same is = record {
-  lines = rw (same.lines, same.keeps) is.lines;
-  told = rw (same.told, same.keeps) is.told;
-  moments = rw (same.moments, same.keeps) is.moments;
-  records = rw (same.records, same.keeps) is.records;
-}
-
--- no attempt has no lines and no records
-none-told : (keeps : Keeping) → told_of keeps [] ≡ []
-none-told Records = refl
-none-told Lines = refl
-
-none-recorded : (keeps : Keeping) → recorded_of keeps [] ≡ []
-none-recorded Records = refl
-none-recorded Lines = refl
-
--- no attempt yet
-pub new-log : (log : Log) → lines_in log ≡ [] → told_in log ≡ 0 → moments_told log ≡ [] → records_in log ≡ [] → IsLog log []
-new-log log lines told moments records = record {
-  lines = rw (none-told (keeping_of log)) lines;
-  told = rw (none-told (keeping_of log)) told;
-  moments = rw (none-told (keeping_of log)) moments;
-  records = rw (none-recorded (keeping_of log)) (ap (map attempted_of) records);
-}
-
 -- an attempt begins: the one before it, if there is one, becomes lines
 pub begun-told : (old new : Told) (s : ℕ) (attempts : List AttemptedValue) → BeginsNext old new (record { begun = s; ended = None })
     → IsLog (Written old) attempts → IsLog (Written new) (attempts ++ runs s ∷ [])
