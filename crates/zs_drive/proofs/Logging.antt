@@ -3,8 +3,9 @@ use Rattle.std.proofs.Common.{◌≡◌, ℕ, suc, ◌+◌, ◌-◌, List, [], �
 use Rattle.std.specs.Prelude.{map, flat_map, fold, take, drop, Option, Some, None, option_to_list, string_bytes, slice_set, slice_index_or}
 use Rattle.std.specs.Global.{Vec}
 use Rattle.std.proofs.lemmas.List.{map-set, length-map, take-append-drop}
-use Rattle.std.proofs.Math.Seq.{take-append_seam, drop-append_seam, get_or-append_seam}
+use Rattle.std.proofs.Math.Seq.{take-append_seam, drop-append_seam, get_or-append_seam, set-append_seam}
 use Rattle.std.proofs.Math.ListN.{get_or-map}
+use Rattle.std.proofs.lemmas.Grind.{flat_map-append}
 use Rattle.zs_drive.specs.declared.record.Attempted.{Attempted}
 use Rattle.zs_drive.specs.declared.record.Ended.{Ended}
 use Rattle.zs_drive.specs.declared.record.Keeping.{Keeping}
@@ -17,8 +18,7 @@ use Rattle.zs_drive.specs.Timeline.{poll_moments, moments_of, with_moment}
 use Rattle.zs_drive.specs.Lines.{attempt_lines, attempts_lines}
 use Rattle.zs_drive.specs.Told.{told_of, recorded_of}
 use Rattle.zs_drive.specs.Log.{BeginsNext, IsLog, IsSameLog, keeping_of, lines_in, log_count, log_moments, moments_told, records_in, told_in}
-use Rattle.zs_drive.proofs.Moments.{flat_map-append}
-use Rattle.zs_drive.proofs.Steps.{runs, set-middle}
+use Rattle.zs_drive.proofs.Steps.{runs}
 
 before-last : (others : List AttemptedValue) (x : AttemptedValue) → length (others ++ x ∷ []) - 1 ≡ length others
 before-last others x = omega (arith, length-append others (x ∷ []))
@@ -96,6 +96,6 @@ set-recorded old new index was ended others last place is_last written is =
       moments = refl;
       records = rw written
           (map-set attempted_of old.items index made ∙ ap (λ (xs : List AttemptedValue). slice_set xs index (attempted_of made)) were
-          ∙ ap (λ (k : ℕ). slice_set (others ++ last ∷ []) k (attempted_of made)) long ∙ set-middle others last (attempted_of made) []
+          ∙ ap (λ (k : ℕ). slice_set (others ++ last ∷ []) k (attempted_of made)) long ∙ set-append_seam others last [] (attempted_of made)
           ∙ ap (λ (k : ℕ). others ++ record { begun = k; ended = ended_of ended } ∷ []) begun);
     }

@@ -2,6 +2,7 @@
 use Rattle.std.proofs.Common.{◌≡◌, ℕ, suc, ◌+◌, ◌-◌, ◌^◌, ◌≤◌, ◌<◌, max, nat_lt, true, false, List, [], ◌∷◌, ◌++◌, length, length-append, Option, ◌⊎◌, inl, inr, refl, sym, ◌∙◌, ap, subst, arith}
 use Rattle.std.specs.Prelude.{Some, None, IsSome, IfSome, is_some, not, flat_map}
 use Rattle.std.proofs.lemmas.Bool.Decides.{nat_tests}
+use Rattle.std.proofs.lemmas.Grind.{fold-append}
 use Rattle.zs_term.specs.Saturating.{saturated}
 use Rattle.zs_effect.specs.Scripts.{IsScript}
 use Rattle.zs_effect.specs.declared.script.Outcome.{Outcome}
@@ -17,7 +18,7 @@ use Rattle.zs_drive.specs.Timeline.{Timeline, waiting, running, before, number_o
 use Rattle.zs_drive.specs.Recorded.{AllEnded, IsOnTimeline}
 use Rattle.zs_drive.specs.DriverRules.{pair_of, longer_by, history_from, history_after}
 use Rattle.zs_drive.proofs.Ticks.{lt_cases, AllBefore-none}
-use Rattle.zs_drive.proofs.Moments.{AllBefore-later, AreTicks-append, fold-append, moments-one, moments-two}
+use Rattle.zs_drive.proofs.Moments.{AllBefore-later, AreTicks-append, moments-one, moments-two}
 use Rattle.zs_drive.proofs.Extending.{resume, close, extend, extend_none, extend_last, extended, timeline_of-append}
 use Rattle.zs_drive.proofs.Follows.{Follows, follows-each}
 use Rattle.zs_drive.proofs.Following.{Keeps, timeline_of-keeps}

@@ -1,6 +1,7 @@
 -- What a due poll does to the records, by what was due and by the schedule's result.
 use Rattle.std.proofs.Common.{◌≡◌, ℕ, suc, ◌+◌, ◌≤◌, ◌<◌, max, List, [], ◌∷◌, ◌++◌, length, length-append, append_assoc, append-nil, Option, if◌then◌else◌, refl, sym, ◌∙◌, ap, arith}
 use Rattle.std.specs.Prelude.{Some, None, IsSome, flat_map, slice_set}
+use Rattle.std.proofs.lemmas.Grind.{fold-append}
 use Rattle.zs_term.specs.Saturating.{saturated}
 use Rattle.zs_effect.specs.Scripts.{entry_at}
 use Rattle.zs_effect.specs.declared.script.Outcome.{Outcome}
@@ -15,7 +16,6 @@ use Rattle.zs_drive.specs.Timeline.{Timeline, before, waiting, running, number_o
 use Rattle.zs_drive.specs.Recorded.{AllEnded}
 use Rattle.zs_drive.specs.DriverRules.{pair_of, longer_by, history_from, history_after}
 use Rattle.zs_drive.proofs.Ticks.{lt_cases}
-use Rattle.zs_drive.proofs.Moments.{fold-append, flat_map-append}
 use Rattle.zs_drive.proofs.Extending.{resume, close, extend, extend_none, extend_last, extended}
 use Rattle.zs_drive.proofs.Records.{after, extend-ended, resume-soon, resume-late, close-soon}
 
@@ -42,11 +42,6 @@ AllEnded-append (attempt ∷ attempts) s e outcome step all = (all.0, AllEnded-a
 pub history_after-ended : (attempts : List AttemptedValue) (s e : ℕ) (outcome : Outcome) (step : Option Answer)
     → history_after (attempts ++ ended_attempt s e outcome step ∷ []) ≡ (e, number_of outcome) ∷ history_after attempts
 history_after-ended attempts s e outcome step = fold-append _ [] attempts (ended_attempt s e outcome step ∷ [])
-
--- an element in the middle of a list is replaced
-pub set-middle : {A : Type 0} (xs : List A) (y z : A) (ys : List A) → slice_set (xs ++ y ∷ ys) (length xs) z ≡ xs ++ z ∷ ys
-set-middle [] y z ys = refl
-set-middle (x ∷ xs) y z ys = ap (◌∷◌ x) (set-middle xs y z ys)
 
 module _ (job : JobRecord) (seen : ℕ) where
   -- the due attempt begins
