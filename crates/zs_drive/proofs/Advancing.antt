@@ -77,6 +77,8 @@ has-last p outcome progress run =
     let r = ran p outcome p.phase refl progress run in
     omega (arith, log-count p.log (attempts_of p) progress.log, ap (λ (xs : List AttemptedValue). length xs) r.last, length-append r.others (runs r.s ∷ []))
 
+pub ruleset counts = (polls-fit, attempts-fit, has-last)
+
 -- the timeline of a task, by its fields
 pub stands-at : (p : Progress) → IsProgress p → timeline_of (job_in p) (moments_in p) ≡ timeline_in p
 stands-at p progress = ap (timeline_of (job_in p)) (log-moments p.log (attempts_of p) progress.log) ∙ sym progress.on_timeline.same

@@ -135,6 +135,7 @@ impl Progress {
     }
 
     // The entry of the script for the next attempt.
+    #[tactic(auto, using(crate::proofs::Advancing::counts))]
     fn next_beat(&self) -> Beat
         requires progress { IsProgress self.now }
         ensures value { result ≡ entry_at self.now.script (log_count self.now.log + 1) }
@@ -143,6 +144,7 @@ impl Progress {
     }
 
     // Begins the attempt that was waited for.
+    #[tactic(auto, using(crate::proofs::Advancing::counts))]
     fn begin(&mut self) -> Result<(), DriveFault>
         requires progress { IsProgress self.old }
         requires state { HasState self.old }
@@ -245,6 +247,7 @@ impl Progress {
     }
 
     // The last attempt ends, and none begins.
+    #[tactic(auto, using(crate::proofs::Advancing::counts))]
     fn end_attempt(&mut self, outcome: Outcome, step: Option<(Out, Decision)>, phase: Phase)
         requires progress { IsProgress self.old }
         requires running { HasRunTo self.old.seen outcome self.old.phase }
@@ -263,6 +266,7 @@ impl Progress {
     }
 
     // The last attempt ends, and the next begins.
+    #[tactic(auto, using(crate::proofs::Advancing::counts))]
     fn restart(
         &mut self,
         outcome: Outcome,
