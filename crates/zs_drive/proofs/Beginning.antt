@@ -1,5 +1,5 @@
--- A new task, and a task that sees a later moment.
-use Rattle.std.proofs.Common.{◌≡◌, ℕ, ◌≤◌, List, [], refl, ap, arith}
+-- A new task.
+use Rattle.std.proofs.Common.{◌≡◌, ℕ, List, [], false, true, refl, sym, ◌∙◌, ap, arith}
 use Rattle.std.specs.Prelude.{Some, None}
 use Rattle.zs_step.specs.declared.compiled.Compiled.{Compiled}
 use Rattle.zs_step.specs.Compiled.{StandsFor}
@@ -11,6 +11,9 @@ use Rattle.zs_drive.specs.Timeline.{Timeline, waiting, timeline_of, from, poll_m
 use Rattle.zs_drive.specs.Recorded.{AllEnded, IsOnTimeline, IsStepped}
 use Rattle.zs_drive.specs.declared.progress.Progress.{Progress}
 use Rattle.zs_drive.specs.Progress.{IsPhase, IsSteppedIn, IsProgress, HasState, job_in, moments_in, attempts_of}
+use Rattle.zs_effect.specs.Scripts.{IsScript}
+use Rattle.zs_drive.specs.declared.task.Task.TheInside.{Inside}
+use Rattle.zs_drive.specs.Fields.{IsTask}
 use Rattle.zs_drive.specs.declared.log.Log.{Log}
 use Rattle.zs_drive.specs.Log.{IsLog, log_moments}
 use Rattle.zs_drive.proofs.Logging.{log-moments}
@@ -19,13 +22,6 @@ use Rattle.zs_drive.proofs.Logging.{log-moments}
 pub IsOnTimeline-new : (job : JobRecord) → IsOnTimeline job (record { attempts = []; due = Some job.start; ending = None }) 0
 unfolding timeline_of from poll_moments RisesFrom AllBefore
 IsOnTimeline-new job = record { same = refl; clock = record { rises = tt; bounded = tt }; counted = refl; few = omega arith }
-
-pub IsStepped-new : (compiled : Compiled) (seen : ℕ) → StandsFor compiled [] → IsStepped [] compiled seen
-IsStepped-new compiled seen stands = record { stands = stands; past = let last = stands.last in omega arith }
-
-pub AllEnded-new : AllEnded []
-unfolding AllEnded
-AllEnded-new = tt
 
 -- a new log has no moments
 pub moments-none : (log : Log) → IsLog log [] → log_moments log ≡ []
@@ -37,20 +33,24 @@ timeline-none : (p : Progress) → IsLog p.log [] → timeline_of (job_in p) (mo
 unfolding timeline_of from
 timeline-none p is = ap (timeline_of (job_in p)) (moments-none p.log is)
 
-attempts-none : (p : Progress) → IsLog p.log [] → attempts_of p ≡ []
-attempts-none p is = ap (λ (t : Timeline). t.attempts) (timeline-none p is)
-
-pub IsProgress-new : (p : Progress) → p.phase ≡ Waiting p.start → p.polls ≡ 0 → p.seen ≡ 0 → IsLog p.log [] → IsProgress p
-IsProgress-new p phase polls seen is =
-    let none : attempts_of p ≡ [] = attempts-none p is in
-    record {
-      log = rw none is;
+pub IsTask-new : (t : Inside) (p : Progress) → t.progress.value ≡ p → p.phase ≡ Waiting p.start → p.polls ≡ 0 → p.seen ≡ 0
+    → IsLog p.log [] → StandsFor p.compiled [] → IsScript p.script → t.broken ≡ false → IsTask t
+unfolding AllEnded
+IsTask-new t p is phase polls seen log stands script whole =
+    let at = timeline-none p log in
+    let none : attempts_of p ≡ [] = ap (λ (t : Timeline). t.attempts) at in
+    let progress : IsProgress p = record {
+      log = rw none log;
       on_timeline = rw (none, phase, polls) (IsOnTimeline-new (job_in p));
-      waits = rw phase (ap (λ (t : Timeline). t.due) (timeline-none p is));
-      ended = rw phase (ap (λ (t : Timeline). t.ending) (timeline-none p is));
-      phase = rw (none, phase) AllEnded-new;
+      waits = rw phase (ap (λ (t : Timeline). t.due) at);
+      ended = rw phase (ap (λ (t : Timeline). t.ending) at);
+      phase = rw (none, phase) tt;
       bounded = rw seen (omega arith);
+    } in
+    let state : HasState p = rw (none, phase) (record { stands = stands; past = let last = stands.last in omega arith }) in
+    record {
+      progress = rw is progress;
+      state = λ _. rw is state;
+      script = rw is script;
+      unended = λ broken. let clash : false ≡ true = sym whole ∙ broken in cc;
     }
-
-pub HasState-new : (p : Progress) → p.phase ≡ Waiting p.start → IsLog p.log [] → StandsFor p.compiled [] → HasState p
-HasState-new p phase is stands = rw (attempts-none p is, phase) (IsStepped-new p.compiled p.seen stands)

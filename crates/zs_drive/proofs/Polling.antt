@@ -132,3 +132,5 @@ module _ (job : JobRecord) (script : IsScript job.script) where
 
     pub first_polls-suffice : FirstPollsSuffice job ticks
     first_polls-suffice first rest split = on-clock.reached first rest split
+
+pub ruleset polls = (polls-among, polls-suffice, first_polls-suffice)

@@ -69,3 +69,5 @@ module _ (job : JobRecord) (script : IsScript job.script) (ticks : List ℕ) (cl
 
   pub begins-later : BeginsLater job ticks
   begins-later earlier later attempt next split = (pair earlier later attempt next split).0
+
+pub ruleset rising = (ends-later, begins-later)
