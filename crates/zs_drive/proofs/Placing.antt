@@ -1,5 +1,6 @@
 -- Text that is written from its end, and text that is appended in one piece or three.
-use Rattle.std.proofs.Common.{◌≡◌, ℕ, ◌+◌, ◌≤◌, List, [], ◌∷◌, ◌++◌, length, drop, refl, ap, sym, ◌∙◌, append_assoc, append-nil, length-take-le}
+use Rattle.std.proofs.Common.{◌≡◌, ℕ, ◌+◌, ◌^◌, ◌≤◌, ◌<◌, List, [], ◌∷◌, ◌++◌, length, drop, refl, ap, sym, ◌∙◌, append_assoc, append-nil, length-take-le, arith}
+use Rattle.std.proofs.lemmas.Fmt.{length-decimal-le}
 use Rattle.std.specs.Prelude.{Result, Ok, Err, OnOk, Some, codes, decimal}
 use lib.Seq.{drop_at, drop-drop}
 use Rattle.zs_term.specs.Output.{Output}
@@ -36,3 +37,7 @@ pub three_appended : {T E : Type 0} (last : Result T E) (old one two new first m
     → one ≡ old ++ (first ++ []) → two ≡ one ++ middle → OnOk last (new ≡ two ++ end) → OnOk last (new ≡ old ++ (first ++ (middle ++ end)))
 three_appended (Err e) old one two new first middle end f s t = tt
 three_appended (Ok u) old one two new first middle end f s t = t ∙ rw (s, f) (simp (append_assoc, append-nil))
+
+-- a number of 64 bits has at most 20 digits
+pub digits : (n : ℕ) → n < 2 ^ 64 → length (decimal n) ≤ 20
+digits n small = length-decimal-le 20 n (omega arith) (omega (arith, small)) small
