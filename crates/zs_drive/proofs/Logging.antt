@@ -17,7 +17,7 @@ use Rattle.zs_drive.specs.Values.{AttemptedValue, attempted_of, ended_of}
 use Rattle.zs_drive.specs.Timeline.{poll_moments, moments_of, with_moment}
 use Rattle.zs_drive.specs.Lines.{attempt_lines, attempts_lines}
 use Rattle.zs_drive.specs.Told.{told_of, recorded_of}
-use Rattle.zs_drive.specs.Log.{BeginsNext, IsLog, IsSameLog, keeping_of, lines_in, log_count, log_moments, moments_told, records_in, told_in}
+use Rattle.zs_drive.specs.Log.{BeginsNext, IsLog, keeping_of, lines_in, log_count, log_moments, moments_told, records_in, told_in}
 use Rattle.zs_drive.proofs.Steps.{runs}
 
 before-last : (others : List AttemptedValue) (x : AttemptedValue) → length (others ++ x ∷ []) - 1 ≡ length others
