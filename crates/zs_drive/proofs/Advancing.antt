@@ -21,7 +21,7 @@ use Rattle.zs_drive.specs.Timeline.{Timeline, timeline_of, poll_moments, number_
 use Rattle.zs_drive.specs.Recorded.{AllEnded, IsOnTimeline, IsStepped}
 use Rattle.zs_drive.specs.DriverRules.{history_after}
 use Rattle.zs_drive.specs.Progress.{IsProgress, IsPhase, IsSteppedIn, HasState, job_in, moments_in, attempts_of, timeline_in, due_of, ending_of}
-use Rattle.zs_drive.specs.Turns.{Advances, Stays, StandsStill, IsWaitingTo, HasRunTo, WasAsked}
+use Rattle.zs_drive.specs.Turns.{Advances, IsWaitingTo, HasRunTo, WasAsked}
 use Rattle.zs_drive.proofs.Moments.{length-clock}
 use Rattle.zs_drive.proofs.Extending.{extended}
 use Rattle.zs_drive.proofs.Records.{advance, history_after-running}

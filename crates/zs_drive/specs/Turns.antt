@@ -26,15 +26,6 @@ IsWaitingTo seen (Waiting due) = due ≤ seen
 IsWaitingTo seen (Running attempt) = ⊥
 IsWaitingTo seen (Over ending) = ⊥
 
--- nothing was done, but the schedule may have been stepped
-pub record Stays (old new : Progress) : Type 0 where
-  pub log : IsLog old.log (attempts_of old) → IsLog new.log (attempts_of old)
-  pub phase : new.phase ≡ old.phase
-  pub job : job_value_in new ≡ job_value_in old
-  pub keeps : keeping_of new.log ≡ keeping_of old.log
-  pub seen : new.seen ≡ old.seen
-  pub polls : new.polls ≡ old.polls
-
 -- its attempt ends with this outcome, by the moment seen
 abbrev pub HasRunTo : ℕ → Outcome → Phase → Type 0
 HasRunTo seen outcome (Waiting due) = ⊥

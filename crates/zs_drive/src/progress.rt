@@ -13,7 +13,7 @@ ghost use Rattle.zs_drive.specs.Log.{IsFull, IsLog, keeping_of, log_count};
 ghost use Rattle.zs_drive.specs.Values.{AttemptedValue, step_of};
 ghost use Rattle.zs_drive.specs.DriverRules.{history_after};
 ghost use Rattle.zs_drive.specs.Progress.{IsProgress, HasState, attempts_of, due_of, ending_of, job_value_in};
-ghost use Rattle.zs_drive.specs.Turns.{Advances, Stays, IsWaitingTo, HasRunTo, WasAsked, IsOver, IsEarly, IsDuePhase, StandsStill, IsSame, TakesMemory};
+ghost use Rattle.zs_drive.specs.Turns.{Advances, IsWaitingTo, HasRunTo, WasAsked, IsOver, IsEarly, IsDuePhase, StandsStill, IsSame, TakesMemory};
 
 use crate::fault::DriveFault;
 use crate::job::Mode;
@@ -151,7 +151,7 @@ impl Progress {
         requires waits { IsWaitingTo self.old.seen self.old.phase }
         requires script { IsScript self.old.script }
         ensures ok { OnOk result (Advances self.old self.new) }
-        ensures err { OnErr result (Stays self.old self.new) }
+        ensures err { OnErr result (StandsStill self.old self.new) }
         ensures full { OnErr result (IsFull self.old.log) }
     {
         let begun = self.seen;
@@ -189,7 +189,7 @@ impl Progress {
         requires running { HasRunTo self.old.seen outcome self.old.phase }
         requires script { IsScript self.old.script }
         ensures ok { OnOk result (Advances self.old self.new) }
-        ensures err { OnErr result (Stays self.old self.new) }
+        ensures err { OnErr result (StandsStill self.old self.new) }
         ensures asked { OnErr result (ending_by_outcome self.old.mode outcome ≡ None) }
     {
         match end_by_outcome(self.mode, outcome) {
@@ -226,7 +226,7 @@ impl Progress {
             ((self.old.seen, number_of outcome) ∷ history_after (attempts_of self.old)) }
         requires script { IsScript self.old.script }
         ensures ok { OnOk result (Advances self.old self.new) }
-        ensures err { OnErr result (Stays self.old self.new) }
+        ensures err { OnErr result (StandsStill self.old self.new) }
         ensures full { OnErr result (IsFull self.old.log) }
     {
         match decision {
@@ -296,7 +296,7 @@ impl Progress {
             (others ++ ended_attempt s self.old.seen outcome (step_of (Some step))
             ∷ record { begun = self.old.seen; ended = None }
             ∷ [])) }
-        ensures err { OnErr result (Stays self.old self.new) }
+        ensures err { OnErr result (StandsStill self.old self.new) }
         ensures full { OnErr result (IsFull self.old.log) }
     {
         let at = self.seen;
