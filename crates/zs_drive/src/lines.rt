@@ -52,21 +52,6 @@ fn put_decision(line: &mut Line, decision: Decision)
     }
 }
 
-// Puts a pair of numbers before the rest.
-#[inline(always)]
-fn put_pair(line: &mut Line, a: u64, b: u64)
-    requires room { 43 + length line.old ≤ ROOM }
-    ensures text { line.new
-        ≡ codes "(" ++ decimal a ++ codes "," ++ decimal b ++ codes ")" ++ line.old }
-    ensures len { length line.new ≤ 43 + length line.old }
-{
-    line.put(")");
-    line.put_number(b);
-    line.put(",");
-    line.put_number(a);
-    line.put("(");
-}
-
 // Puts an output before the rest if it is a number or a pair of numbers, and returns whether it is.
 #[inline(always)]
 fn put_numbers(line: &mut Line, out: &Out) -> bool
@@ -82,7 +67,11 @@ fn put_numbers(line: &mut Line, out: &Out) -> bool
         }
         Out::Pair(a, b) => match (a.as_ref(), b.as_ref()) {
             (Out::Num(a), Out::Num(b)) => {
-                put_pair(line, *a, *b);
+                line.put(")");
+                line.put_number(*b);
+                line.put(",");
+                line.put_number(*a);
+                line.put("(");
                 true
             }
             (_, _) => false,

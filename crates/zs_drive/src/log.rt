@@ -286,8 +286,8 @@ impl Log {
         Ok(())
     }
 
-    // The last attempt has this end, or none.
-    fn set_end(&mut self, ended: Option<Ended>)
+    /// Gives the last attempt this end, or none.
+    pub fn set_end(&mut self, ended: Option<Ended>)
         requires last { 0 < log_count self.old }
         ensures ended { (others : List AttemptedValue) (last : AttemptedValue)
             → IsLog self.old (others ++ last ∷ [])
@@ -308,18 +308,6 @@ impl Log {
                 None => drop(ended),
             },
         }
-    }
-
-    /// Ends the last attempt.
-    pub fn end(&mut self, ended: Ended)
-        requires last { 0 < log_count self.old }
-        ensures ended { (others : List AttemptedValue) (last : AttemptedValue)
-            → IsLog self.old (others ++ last ∷ [])
-            → IsLog self.new
-            (others ++ record { begun = last.begun; ended = ended_of (Some ended) } ∷ []) }
-        ensures keeps { keeping_of self.new ≡ keeping_of self.old }
-    {
-        self.set_end(Some(ended));
     }
 
     /// Ends the last attempt, and begins another at that moment. If the former becomes lines, the

@@ -260,7 +260,7 @@ impl Progress {
             (others ++ ended_attempt s self.old.seen outcome (step_of step) ∷ []) }
     {
         let at = self.seen;
-        self.log.end(Ended { at, outcome, step });
+        self.log.set_end(Some(Ended { at, outcome, step }));
         self.phase = phase;
         self.polls += 1;
     }
