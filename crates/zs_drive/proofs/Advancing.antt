@@ -1,5 +1,5 @@
 -- The steps of a task preserve the invariant of its fields.
-use Rattle.std.proofs.Common.{◌≡◌, ℕ, ◌+◌, ◌^◌, ◌≤◌, ◌<◌, List, [], ◌∷◌, ◌++◌, length, Option, inl, inr, refl, sym, ◌∙◌, ap, subst, arith, append_assoc, Fits, w64}
+use Rattle.std.proofs.Common.{◌≡◌, ℕ, ◌+◌, ◌^◌, ◌≤◌, ◌<◌, List, [], ◌∷◌, ◌++◌, length, Option, refl, sym, ◌∙◌, ap, subst, arith, append_assoc, Fits, w64}
 use Rattle.std.specs.Prelude.{Some, None}
 use Rattle.std.proofs.lemmas.List.{length-append}
 use Rattle.zs_term.specs.Saturating.{saturated}
@@ -12,13 +12,13 @@ use Rattle.zs_drive.specs.Log.{IsLog, keeping_of, log_count, log_moments}
 use Rattle.zs_drive.specs.declared.progress.Phase.{Phase}
 use Rattle.zs_drive.specs.declared.progress.Phase.TheVariants.{Waiting, Running, Over}
 use Rattle.zs_drive.specs.declared.progress.Progress.{Progress}
-use Rattle.zs_drive.specs.Values.{JobRecord, record_of, AttemptedValue}
+use Rattle.zs_drive.specs.Values.{AttemptedValue}
 use Rattle.zs_effect.specs.declared.script.Outcome.{Outcome}
 use Rattle.zs_step.specs.History.{History}
 use Rattle.zs_step.specs.Answer.{Answer, answer_of}
-use Rattle.zs_step.specs.Compiled.{StandsFor, compiled_schedule}
+use Rattle.zs_step.specs.Compiled.{compiled_schedule}
 use Rattle.zs_drive.specs.Timeline.{Timeline, timeline_of, poll_moments, number_of, beat_after, ended_attempt}
-use Rattle.zs_drive.specs.Recorded.{AllEnded, IsOnTimeline, IsStepped}
+use Rattle.zs_drive.specs.Recorded.{AllEnded, IsStepped}
 use Rattle.zs_drive.specs.DriverRules.{history_after}
 use Rattle.zs_drive.specs.Progress.{IsProgress, IsPhase, IsSteppedIn, HasState, job_in, moments_in, attempts_of, timeline_in, due_of, ending_of}
 use Rattle.zs_drive.specs.Turns.{Advances, IsWaitingTo, HasRunTo, WasAsked}

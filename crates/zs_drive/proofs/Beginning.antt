@@ -1,16 +1,14 @@
 -- A new task.
-use Rattle.std.proofs.Common.{◌≡◌, ℕ, List, [], false, true, refl, sym, ◌∙◌, ap, arith}
+use Rattle.std.proofs.Common.{◌≡◌, [], false, true, refl, sym, ◌∙◌, ap, arith}
 use Rattle.std.specs.Prelude.{Some, None}
-use Rattle.zs_step.specs.declared.compiled.Compiled.{Compiled}
 use Rattle.zs_step.specs.Compiled.{StandsFor}
 use Rattle.zs_drive.specs.Clocks.{RisesFrom, AllBefore}
-use Rattle.zs_drive.specs.Values.{JobRecord, AttemptedValue}
-use Rattle.zs_drive.specs.declared.progress.Phase.{Phase}
-use Rattle.zs_drive.specs.declared.progress.Phase.TheVariants.{Waiting, Running, Over}
+use Rattle.zs_drive.specs.Values.{JobRecord}
+use Rattle.zs_drive.specs.declared.progress.Phase.TheVariants.{Waiting}
 use Rattle.zs_drive.specs.Timeline.{Timeline, waiting, timeline_of, from, poll_moments}
-use Rattle.zs_drive.specs.Recorded.{AllEnded, IsOnTimeline, IsStepped}
+use Rattle.zs_drive.specs.Recorded.{AllEnded, IsOnTimeline}
 use Rattle.zs_drive.specs.declared.progress.Progress.{Progress}
-use Rattle.zs_drive.specs.Progress.{IsPhase, IsSteppedIn, IsProgress, HasState, job_in, moments_in, attempts_of}
+use Rattle.zs_drive.specs.Progress.{IsProgress, HasState, job_in, moments_in, attempts_of}
 use Rattle.zs_effect.specs.Scripts.{IsScript}
 use Rattle.zs_drive.specs.declared.task.Task.TheInside.{Inside}
 use Rattle.zs_drive.specs.Fields.{IsTask}

@@ -1,5 +1,5 @@
 -- The timeline of a job follows the rules from the start on.
-use Rattle.std.proofs.Common.{◌≡◌, ℕ, zero, suc, ◌+◌, ◌-◌, ◌^◌, ◌≤◌, ◌<◌, max, List, [], ◌∷◌, length, Option, refl, ap, arith}
+use Rattle.std.proofs.Common.{◌≡◌, ℕ, zero, suc, ◌+◌, ◌-◌, ◌^◌, ◌≤◌, ◌<◌, max, List, [], ◌∷◌, length, Option, refl, arith}
 use Rattle.std.specs.Prelude.{Some, None}
 use Rattle.zs_term.specs.Saturating.{saturated}
 use Rattle.zs_effect.specs.Scripts.{IsScript}
@@ -8,12 +8,12 @@ use Rattle.zs_term.specs.Output.{Output}
 use Rattle.zs_step.specs.declared.decision.Decision.{Decision}
 use Rattle.zs_step.specs.declared.decision.Decision.TheVariants.{Stop, Next}
 use Rattle.zs_step.specs.History.{History}
-use Rattle.zs_step.specs.Answer.{Answer, answer, answer_of}
+use Rattle.zs_step.specs.Answer.{answer, answer_of}
 use Rattle.zs_drive.specs.declared.record.Ending.{Ending}
 use Rattle.zs_drive.specs.Clocks.{first_tick_from, AllBefore}
-use Rattle.zs_drive.specs.Values.{JobRecord, AttemptedValue, EndedValue}
-use Rattle.zs_drive.specs.Timeline.{Timeline, before, number_of, ending_by_outcome, ended_attempt, beat_after, by_answer, by_outcome, from_wait, from_begin, from, timeline_of}
-use Rattle.zs_drive.proofs.Follows.{GoesOn, IsAsked, EndsAt, Follows}
+use Rattle.zs_drive.specs.Values.{JobRecord}
+use Rattle.zs_drive.specs.Timeline.{Timeline, number_of, ending_by_outcome, beat_after, by_answer, by_outcome, from_wait, from_begin, from, timeline_of}
+use Rattle.zs_drive.proofs.Follows.{Follows}
 use Rattle.zs_drive.proofs.Ticks.{left, first_tick_from-from, first_tick_from-before, left-none, left-length, left-after}
 use Rattle.zs_drive.proofs.Extending.{beat-takes}
 

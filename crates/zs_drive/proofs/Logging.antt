@@ -1,6 +1,6 @@
 -- How a log stores its attempts, as they begin and end.
-use Rattle.std.proofs.Common.{◌≡◌, ℕ, suc, ◌+◌, ◌-◌, List, [], ◌∷◌, ◌++◌, length, length-append, append_assoc, append-nil, refl, sym, ◌∙◌, ap, arith}
-use Rattle.std.specs.Prelude.{map, flat_map, fold, take, drop, Option, Some, None, option_to_list, string_bytes, slice_set, slice_index_or}
+use Rattle.std.proofs.Common.{◌≡◌, ℕ, suc, ◌+◌, ◌-◌, List, [], ◌∷◌, ◌++◌, length, length-append, append_assoc, refl, sym, ◌∙◌, ap, arith}
+use Rattle.std.specs.Prelude.{map, flat_map, fold, take, drop, Option, None, option_to_list, slice_set, slice_index_or}
 use Rattle.std.specs.Global.{Vec}
 use Rattle.std.proofs.lemmas.List.{map-set, length-map, take-append-drop}
 use Rattle.std.proofs.Math.Seq.{take-append_seam, drop-append_seam, get_or-append_seam, set-append_seam}
@@ -17,7 +17,7 @@ use Rattle.zs_drive.specs.Values.{AttemptedValue, attempted_of, ended_of}
 use Rattle.zs_drive.specs.Timeline.{poll_moments, moments_of, with_moment}
 use Rattle.zs_drive.specs.Lines.{attempt_lines, attempts_lines}
 use Rattle.zs_drive.specs.Told.{told_of, recorded_of}
-use Rattle.zs_drive.specs.Log.{BeginsNext, IsLog, keeping_of, lines_in, log_count, log_moments, moments_told, records_in, told_in}
+use Rattle.zs_drive.specs.Log.{BeginsNext, IsLog, keeping_of, log_count, log_moments, records_in}
 use Rattle.zs_drive.proofs.Steps.{runs}
 
 before-last : (others : List AttemptedValue) (x : AttemptedValue) → length (others ++ x ∷ []) - 1 ≡ length others

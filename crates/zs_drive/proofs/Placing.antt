@@ -1,5 +1,5 @@
 -- Text that is written from its end, and text that is appended in one piece or three.
-use Rattle.std.proofs.Common.{◌≡◌, ℕ, ◌+◌, ◌^◌, ◌≤◌, ◌<◌, List, [], ◌∷◌, ◌++◌, length, drop, refl, ap, sym, ◌∙◌, append_assoc, append-nil, length-take-le, arith}
+use Rattle.std.proofs.Common.{◌≡◌, ℕ, ◌+◌, ◌^◌, ◌≤◌, ◌<◌, List, [], ◌++◌, length, drop, ap, sym, ◌∙◌, append_assoc, append-nil, length-take-le, arith}
 use Rattle.std.proofs.lemmas.Fmt.{length-decimal-le}
 use Rattle.std.specs.Prelude.{Result, Ok, Err, OnOk, Some, codes, decimal}
 use lib.Seq.{drop_at, drop-drop}

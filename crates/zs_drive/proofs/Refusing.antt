@@ -1,11 +1,10 @@
 -- A due poll that may allocate memory never gives an ending by outcome alone.
-use Rattle.std.proofs.Common.{◌≡◌, ℕ, ◌+◌, ◌≤◌, max, List, [], ◌∷◌, ◌++◌, nat_lt, false, refl, sym, ◌∙◌, ap, arith}
+use Rattle.std.proofs.Common.{◌≡◌, ℕ, ◌≤◌, max, List, [], ◌∷◌, ◌++◌, nat_lt, false, refl, sym, ◌∙◌, ap, arith}
 use Rattle.std.proofs.lemmas.Bool.Decides.{nat_tests}
-use Rattle.std.specs.Prelude.{Option, Some, None, IsSomeAnd, Result, Ok, Err, OnOk, OnErr}
+use Rattle.std.specs.Prelude.{Option, Some, None, IsSomeAnd, Result, Err, OnErr}
 use Rattle.futures.specs.Poll.{IfReady}
 use Rattle.futures.specs.declared.task.Poll.{Poll}
-use Rattle.futures.specs.declared.task.Poll.TheVariants.{Ready, Pending}
-use Rattle.zs_term.specs.Saturating.{saturated}
+use Rattle.futures.specs.declared.task.Poll.TheVariants.{Ready}
 use Rattle.zs_term.specs.Output.{Output}
 use Rattle.zs_effect.specs.Scripts.{IsScript}
 use Rattle.zs_effect.specs.declared.script.Outcome.{Outcome}
@@ -21,18 +20,18 @@ use Rattle.zs_drive.specs.declared.progress.Phase.{Phase}
 use Rattle.zs_drive.specs.declared.progress.Phase.TheVariants.{Waiting, Running, Over}
 use Rattle.zs_drive.specs.declared.progress.Progress.{Progress}
 use Rattle.zs_drive.specs.declared.task.Task.TheInside.{Inside}
-use Rattle.zs_drive.specs.Values.{JobRecord, AttemptedValue}
-use Rattle.zs_drive.specs.Timeline.{Timeline, waiting, running, number_of, ending_by_outcome, ending_by_schedule, beat_after, by_answer, by_outcome, timeline_of, poll_moments}
-use Rattle.zs_drive.specs.Recorded.{AllEnded, IsOnTimeline}
+use Rattle.zs_drive.specs.Values.{JobRecord}
+use Rattle.zs_drive.specs.Timeline.{number_of, ending_by_outcome, ending_by_schedule, by_answer, by_outcome, timeline_of}
+use Rattle.zs_drive.specs.Recorded.{AllEnded}
 use Rattle.zs_drive.specs.DriverRules.{history_after}
-use Rattle.zs_drive.specs.Progress.{IsProgress, HasState, job_in, job_value_in, attempts_of, moments_in, timeline_in, due_of}
-use Rattle.zs_drive.specs.Turns.{Advances, StandsStill, IsSame, IsOver, IsEarly, IsDuePhase, TakesMemory}
+use Rattle.zs_drive.specs.Progress.{IsProgress, job_in, attempts_of, moments_in, timeline_in, due_of}
+use Rattle.zs_drive.specs.Turns.{IsDuePhase, TakesMemory}
 use Rattle.zs_drive.specs.Tasks.{TaskValue, current_timeline, polled, polled_when, EndsByOutcome}
 use Rattle.zs_drive.specs.Fields.{task_of, IsTask}
 use Rattle.zs_drive.proofs.Ticks.{lt_cases}
 use Rattle.zs_drive.proofs.Extending.{resume, extended}
 use Rattle.zs_drive.proofs.Records.{polled-extended, resume-soon, resume-late}
-use Rattle.zs_drive.proofs.Steps.{runs, begins, closes}
+use Rattle.zs_drive.proofs.Steps.{begins, closes}
 use Rattle.zs_drive.proofs.Advancing.{ran, stands-at, moments-in}
 
 -- no outcome itself gives this ending

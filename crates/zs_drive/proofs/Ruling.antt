@@ -1,14 +1,13 @@
 -- Only one timeline satisfies the rules of the drivers at each place.
-use Rattle.std.proofs.Common.{◌≡◌, ℕ, ◌+◌, ◌-◌, ◌^◌, ◌≤◌, ◌<◌, List, [], ◌∷◌, ◌++◌, length, append_assoc, Option, refl, sym, ◌∙◌, ap, arith}
+use Rattle.std.proofs.Common.{◌≡◌, ℕ, ◌-◌, ◌^◌, ◌≤◌, List, [], ◌∷◌, ◌++◌, length, append_assoc, Option, refl, sym, ◌∙◌, arith}
 use Rattle.std.specs.Prelude.{Some, None}
 use Rattle.zs_effect.specs.Scripts.{IsScript}
-use Rattle.zs_step.specs.declared.decision.Decision.{Decision}
 use Rattle.zs_step.specs.declared.decision.Decision.TheVariants.{Stop, Next}
 use Rattle.zs_step.specs.Answer.{Answer}
 use Rattle.zs_drive.specs.declared.record.Ending.{Ending}
-use Rattle.zs_drive.specs.Clocks.{first_tick_from, AllBefore}
+use Rattle.zs_drive.specs.Clocks.{AllBefore}
 use Rattle.zs_drive.specs.Values.{JobRecord, AttemptedValue, EndedValue}
-use Rattle.zs_drive.specs.Timeline.{Timeline, number_of, ending_by_outcome, from, timeline_of}
+use Rattle.zs_drive.specs.Timeline.{Timeline, ending_by_outcome, from, timeline_of}
 use Rattle.zs_drive.specs.DriverRules.{IsTimeline, IsEnd, IsLast, StopsBy, StopsOn, BeginsAfter, BeginsBy, BeginsOn, asked_unless}
 use Rattle.zs_drive.proofs.Ticks.{lt_cases, left, left-length}
 use Rattle.zs_drive.proofs.Following.{timeline_of-keeps, from-keeps}

@@ -1,6 +1,6 @@
 -- What a due poll does to the records, by what was due and by the schedule's result.
-use Rattle.std.proofs.Common.{◌≡◌, ℕ, suc, ◌+◌, ◌≤◌, ◌<◌, max, List, [], ◌∷◌, ◌++◌, length, length-append, append_assoc, append-nil, Option, if◌then◌else◌, refl, sym, ◌∙◌, ap, arith}
-use Rattle.std.specs.Prelude.{Some, None, IsSome, flat_map, slice_set}
+use Rattle.std.proofs.Common.{◌≡◌, ℕ, suc, ◌+◌, ◌≤◌, ◌<◌, max, List, [], ◌∷◌, ◌++◌, length, length-append, append-nil, Option, refl, sym, ◌∙◌, ap, arith}
+use Rattle.std.specs.Prelude.{Some, None, IsSome}
 use Rattle.std.proofs.lemmas.Grind.{fold-append}
 use Rattle.zs_term.specs.Saturating.{saturated}
 use Rattle.zs_effect.specs.Scripts.{entry_at}
@@ -12,11 +12,10 @@ use Rattle.zs_step.specs.declared.decision.Decision.{Decision}
 use Rattle.zs_step.specs.declared.decision.Decision.TheVariants.{Stop, Next}
 use Rattle.zs_drive.specs.declared.record.Ending.{Ending}
 use Rattle.zs_drive.specs.Values.{JobRecord, AttemptedValue}
-use Rattle.zs_drive.specs.Timeline.{Timeline, before, waiting, running, number_of, ended_attempt, ending_by_outcome, ending_by_schedule, beat_after, by_answer, by_outcome, moments_of}
+use Rattle.zs_drive.specs.Timeline.{Timeline, before, number_of, ended_attempt, ending_by_outcome, ending_by_schedule, beat_after, by_answer, by_outcome}
 use Rattle.zs_drive.specs.Recorded.{AllEnded}
 use Rattle.zs_drive.specs.DriverRules.{pair_of, longer_by, history_from, history_after}
-use Rattle.zs_drive.proofs.Ticks.{lt_cases}
-use Rattle.zs_drive.proofs.Extending.{resume, close, extend, extend_none, extend_last, extended}
+use Rattle.zs_drive.proofs.Extending.{resume, extend, extend_none, extend_last, extended}
 use Rattle.zs_drive.proofs.Records.{after, extend-ended, resume-soon, resume-late, close-soon}
 
 -- an attempt that began at s and is running

@@ -1,5 +1,5 @@
 -- A timeline that follows from the start on satisfies the rules of the drivers at each place.
-use Rattle.std.proofs.Common.{◌≡◌, ℕ, ◌+◌, ◌<◌, max, List, [], ◌∷◌, ◌++◌, length, length-append, append_assoc, append-nil, Option, refl, sym, ◌∙◌, ap, subst, arith}
+use Rattle.std.proofs.Common.{◌≡◌, ℕ, ◌+◌, max, List, [], ◌∷◌, ◌++◌, length, length-append, append_assoc, append-nil, Option, refl, sym, ◌∙◌, ap, subst, arith}
 use Rattle.std.specs.Prelude.{Some, None}
 use Rattle.zs_term.specs.Saturating.{saturated}
 use Rattle.zs_term.specs.Output.{Output}
@@ -95,12 +95,12 @@ module _ (job : JobRecord) (ticks : List ℕ) (timeline : Timeline) where
       elim (ending_by_outcome job.mode end.outcome) as (λ by. IsAsked job ticks (Rest []) (history_after p) [] timeline.due timeline.ending end by → StopsBy job ticks end timeline.due timeline.ending by end.step) [
         | Some x ↦ λ asked. (asked.2, asked.3)
         | None ↦ λ asked. rw asked.0 (elim (answer_of job.schedule ((end.at, number_of end.outcome) ∷ history_after p)).decision
-        as (λ d. GoesOn job ticks (Rest []) (history_after p) [] timeline.due timeline.ending end d → StopsOn job ticks end timeline.due timeline.ending d) [
-          | Stop ↦ λ on. (on.1, on.2)
-          | Next y ↦ λ on. lt_cases end.at y (λ _. StopsOn job ticks end timeline.due timeline.ending (Next y))
-          (λ l. let greater : max y end.at ≡ y = omega arith in let all = rw greater at on in (l, all.0, all.1, all.2))
-          (λ l. let greater : max y end.at ≡ end.at = omega arith in let none : first_tick_from ticks end.at ≡ None = rw greater at on.0 in absurd cc)
-        ] asked.1)
+            as (λ d. GoesOn job ticks (Rest []) (history_after p) [] timeline.due timeline.ending end d → StopsOn job ticks end timeline.due timeline.ending d) [
+              | Stop ↦ λ on. (on.1, on.2)
+              | Next y ↦ λ on. lt_cases end.at y (λ _. StopsOn job ticks end timeline.due timeline.ending (Next y))
+                  (λ l. let greater : max y end.at ≡ y = omega arith in let all = rw greater at on in (l, all.0, all.1, all.2))
+                  (λ l. let greater : max y end.at ≡ end.at = omega arith in let none : first_tick_from ticks end.at ≡ None = rw greater at on.0 in absurd cc)
+            ] asked.1)
       ] ends.2
 
   -- a timeline that follows from the start on satisfies the rules at each place

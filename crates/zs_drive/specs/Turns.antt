@@ -8,7 +8,7 @@ use Rattle.zs_drive.specs.declared.progress.Phase.TheVariants.{Waiting, Running,
 use Rattle.zs_drive.specs.declared.progress.Progress.{Progress}
 use Rattle.zs_drive.specs.Timeline.{number_of, ending_by_outcome}
 use Rattle.zs_drive.specs.DriverRules.{history_after}
-use Rattle.zs_drive.specs.Log.{IsLog, keeping_of}
+use Rattle.zs_drive.specs.Log.{keeping_of}
 use Rattle.zs_drive.specs.Progress.{due_of, ending_of, job_value_in, attempts_of, moments_in, IsProgress, HasState}
 
 -- one due poll was done at the moment seen

@@ -148,8 +148,8 @@ fn push_stepped(
     ensures text { OnOk result (string_bytes text.new
         ≡ string_bytes text.old
         ++ attempt_lines number
-            (ended_attempt begun ended.now.at ended.now.outcome
-                (Some (answer (output_of out.now) decision)))) }
+        (ended_attempt begun ended.now.at ended.now.outcome
+        (Some (answer (output_of out.now) decision)))) }
     ensures kept { IsBeginning (string_bytes text.old) (string_bytes text.new) }
 {
     let at = ended.at;

@@ -1,4 +1,4 @@
-use Rattle.std.proofs.Common.{◌≡◌, refl}
+use Rattle.std.proofs.Common.{refl}
 use Rattle.zs_drive.proofs.Beginning.{IsTask-new, moments-none}
 use Rattle.zs_drive.proofs.task.Task.keeping.Goals as goal
 
