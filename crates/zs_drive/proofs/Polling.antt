@@ -33,7 +33,7 @@ without-last (f ∷ first) r rest (y ∷ xs) x e =
 
 module _ (job : JobRecord) (script : IsScript job.script) where
   -- the timeline of a job on these ticks, to which its polls led
-  record IsPolled (ticks : List ℕ) : Type 0 where
+  pub record IsPolled (ticks : List ℕ) : Type 0 where
     pub polls : ℕ
     pub on : IsOnTimeline job (timeline_of job ticks) polls
     pub among : AreAmong ticks (polls_on job ticks)
@@ -115,22 +115,7 @@ module _ (job : JobRecord) (script : IsScript job.script) where
       subst IsPolled (append_assoc past (c ∷ []) later)
       (walks (past ++ c ∷ []) later (c + 1) (grows past c before (omega (arith, bounded.0)) polled) longer rises.1 bounded.1)
 
-  module _ (ticks : List ℕ) (clock : AreTicks ticks) where
-    -- the timeline of the job on a whole clock
-    on-clock : IsPolled ticks
-    unfolding AllBefore
-    on-clock = walks [] ticks 0 starts tt clock.rises clock.bounded
-
-    pub polls-rise : AreTicks (polls_on job ticks)
-    polls-rise = on-clock.on.clock
-
-    pub polls-among : All (λ moment. first_tick_from ticks moment ≡ Some moment) (polls_on job ticks)
-    polls-among = on-clock.among
-
-    pub polls-suffice : timeline_at job (polls_on job ticks) ≡ timeline_of job ticks
-    polls-suffice = sym on-clock.on.same
-
-    pub first_polls-suffice : FirstPollsSuffice job ticks
-    first_polls-suffice first rest split = on-clock.reached first rest split
-
-pub ruleset polls = (polls-among, polls-suffice, first_polls-suffice)
+  -- the timeline of the job on a whole clock
+  pub on-clock : (ticks : List ℕ) → AreTicks ticks → IsPolled ticks
+  unfolding AllBefore
+  on-clock ticks clock = walks [] ticks 0 starts tt clock.rises clock.bounded

@@ -104,7 +104,7 @@ module _ (job : JobRecord) (ticks : List ℕ) (timeline : Timeline) where
       ] ends.2
 
   -- a timeline that follows from the start on satisfies the rules at each place
-  pub timeline-follows : Rest timeline.attempts [] job.start → IsTimeline job ticks timeline
+  pub timeline-follows : Follows job ticks timeline.attempts timeline.due timeline.ending [] job.start → IsTimeline job ticks timeline
   unfolding Follows AllEnded
   timeline-follows follows =
       let from : (attempts : List AttemptedValue) → timeline.attempts ≡ attempts → Rest attempts [] job.start = λ attempts is. rw is at follows in

@@ -18,7 +18,7 @@ pub fn timelines_are_whole()
 {}
 
 /// Attempts follow one another, and their moments are rising ticks: at most one poll for each tick.
-#[tactic(auto, using(crate::proofs::Polling::polls, crate::proofs::Rising::rising))]
+#[tactic(auto, using(crate::proofs::Rising::rising))]
 pub fn moments_rise()
     ensures ends { OnEachClock EndsLater }
     ensures begins { OnEachClock BeginsLater }
@@ -27,7 +27,6 @@ pub fn moments_rise()
 {}
 
 /// A job that is polled exactly when it is due has the timeline that it has on the whole clock.
-#[tactic(auto, using(crate::proofs::Polling::polls))]
 pub fn due_polls_suffice()
     ensures whole { OnEachClock PollsSuffice }
     // The same after any number of its first polls, on the clock up to then.
