@@ -26,7 +26,8 @@ use Rattle.zs_drive.proofs.Moments.{length-clock}
 use Rattle.zs_drive.proofs.Extending.{extended}
 use Rattle.zs_drive.proofs.Records.{advance, history_after-running}
 use Rattle.zs_drive.proofs.Logging.{log-moments, log-count}
-use Rattle.zs_drive.proofs.Steps.{runs, begins, length-history_after, history_after-ended, AllEnded-append}
+use Rattle.zs_drive.proofs.Timing.{length-history_after, history_after-ended, AllEnded-append}
+use Rattle.zs_drive.proofs.Steps.{runs, begins}
 
 -- one more poll can be counted
 pub polls-fit : (p : Progress) → IsProgress p → Fits w64 (p.polls + 1)

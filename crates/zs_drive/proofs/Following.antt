@@ -14,8 +14,7 @@ use Rattle.zs_drive.specs.Clocks.{first_tick_from, AllBefore}
 use Rattle.zs_drive.specs.Values.{JobRecord}
 use Rattle.zs_drive.specs.Timeline.{Timeline, number_of, ending_by_outcome, beat_after, by_answer, by_outcome, from_wait, from_begin, from, timeline_of}
 use Rattle.zs_drive.proofs.Follows.{Follows}
-use Rattle.zs_drive.proofs.Ticks.{left, first_tick_from-from, first_tick_from-before, left-none, left-length, left-after}
-use Rattle.zs_drive.proofs.Extending.{beat-takes}
+use Rattle.zs_drive.proofs.Ticks.{beat-takes, left, first_tick_from-from, first_tick_from-before, left-none, left-length, left-after}
 
 module _ (job : JobRecord) (ticks : List ℕ) where
   abbrev pub Keeps : History → ℕ → Timeline → Type 0
@@ -36,7 +35,7 @@ module _ (job : JobRecord) (ticks : List ℕ) where
   by_answer-keeps rest h s e outcome output (Next y) keeps ends own none answered x begun =
       (begun, (ends, own, rw (none, ← answered) (refl, keeps ((e, number_of outcome) ∷ h) (max y e) (omega arith))))
 
-  by_outcome-keeps : (rest : History → ℕ → Timeline) (h : History) (s e : ℕ) (outcome : Outcome) (ending : Option Ending)
+  pub by_outcome-keeps : (rest : History → ℕ → Timeline) (h : History) (s e : ℕ) (outcome : Outcome) (ending : Option Ending)
       → ((g : History) (y : ℕ) → e ≤ y → Keeps g y (rest g y))
       → first_tick_from ticks (saturated (s + (beat_after job h).ms)) ≡ Some e → outcome ≡ (beat_after job h).outcome
       → ending_by_outcome job.mode outcome ≡ ending

@@ -8,10 +8,9 @@ use Rattle.zs_drive.specs.Clocks.{RisesFrom, AllBefore, max_tick}
 use Rattle.zs_drive.specs.Values.{JobRecord, AttemptedValue}
 use Rattle.zs_drive.specs.Timeline.{before, timeline_of}
 use Rattle.zs_drive.proofs.Moments.{AllBefore-append, AllBefore-later}
-use Rattle.zs_drive.proofs.Extending.{extend, extend_none, extend_last, extended, timeline_of-append}
+use Rattle.zs_drive.proofs.Extending.{extend, extend_none, extend_last, extended, timeline_of-append, resume-late, close-late}
 use Rattle.zs_drive.proofs.Follows.{Follows, follows-each}
 use Rattle.zs_drive.proofs.Following.{timeline_of-keeps}
-use Rattle.zs_drive.proofs.Records.{resume-late, close-late}
 
 -- the due moment, if there is one, is after c
 abbrev pub IsAfter : ℕ → Option ℕ → Type 0

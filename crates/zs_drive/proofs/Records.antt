@@ -19,7 +19,7 @@ use Rattle.zs_drive.specs.Recorded.{AllEnded, IsOnTimeline}
 use Rattle.zs_drive.specs.DriverRules.{pair_of, longer_by, history_from, history_after}
 use Rattle.zs_drive.proofs.Ticks.{lt_cases, AllBefore-none}
 use Rattle.zs_drive.proofs.Moments.{AllBefore-later, AreTicks-append, moments-one, moments-two}
-use Rattle.zs_drive.proofs.Extending.{resume, close, extend, extend_none, extend_last, extended, timeline_of-append}
+use Rattle.zs_drive.proofs.Extending.{resume, close, extend, extend_none, extend_last, extended, timeline_of-append, resume-soon, resume-late, close-soon}
 use Rattle.zs_drive.proofs.Follows.{Follows, follows-each}
 use Rattle.zs_drive.proofs.Following.{Keeps, timeline_of-keeps}
 
@@ -58,24 +58,6 @@ module _ (job : JobRecord) (ticks : List ℕ) (script : IsScript job.script) (c 
   timeline_of-waits x due = rw due at timeline_of-settled.0
 
 module _ (job : JobRecord) (c : ℕ) where
-  -- what a tick does to a job that is due by then, and to one that is due later
-  pub resume-soon : (h : History) (x : ℕ) → x ≤ c → resume job c h x ≡ running c (saturated (c + (beat_after job h).ms))
-  unfolding resume
-  resume-soon h x soon = let test : nat_lt c x ≡ false = grind (arith, nat_tests) in rw test refl
-
-  pub resume-late : (h : History) (x : ℕ) → c < x → resume job c h x ≡ waiting x
-  unfolding resume
-  resume-late h x late = let test : nat_lt c x ≡ true = grind (arith, nat_tests) in rw test refl
-
-  pub close-soon : (h : History) (s w : ℕ) → w ≤ c
-      → close job c h s w ≡ (let outcome = (beat_after job h).outcome in by_outcome job (resume job c) h s c outcome (ending_by_outcome job.mode outcome))
-  unfolding close
-  close-soon h s w soon = let test : nat_lt c w ≡ false = grind (arith, nat_tests) in rw test refl
-
-  pub close-late : (h : History) (s w : ℕ) → c < w → close job c h s w ≡ running s w
-  unfolding close
-  close-late h s w late = let test : nat_lt c w ≡ true = grind (arith, nat_tests) in rw test refl
-
   -- a due poll adds one attempt at most, and its moment once or twice
   record Grown (old new : List AttemptedValue) : Type 0 where
     pub few : length new ≤ length old + 1
@@ -86,8 +68,8 @@ module _ (job : JobRecord) (c : ℕ) where
   unfolding by_answer
   by_answer-grown h s outcome output Stop = record { few = omega arith; more = inl refl }
   by_answer-grown h s outcome output (Next x) = lt_cases c (max x c) (λ _. Grown (record { begun = s; ended = None } ∷ []) (by_answer job (resume job c) h s c outcome output (Next x)).attempts)
-      (λ late. rw (resume-late h (max x c) late) (record { few = omega arith; more = inl refl }))
-      (λ soon. rw (resume-soon h (max x c) soon) (record { few = omega arith; more = inr refl }))
+      (λ late. rw (resume-late job c h (max x c) late) (record { few = omega arith; more = inl refl }))
+      (λ soon. rw (resume-soon job c h (max x c) soon) (record { few = omega arith; more = inr refl }))
 
   by_outcome-grown : (h : History) (s : ℕ) (outcome : Outcome) (ending : Option Ending)
       → Grown (record { begun = s; ended = None } ∷ []) (by_outcome job (resume job c) h s c outcome ending).attempts
@@ -101,8 +83,8 @@ module _ (job : JobRecord) (c : ℕ) where
       → (attempts : List AttemptedValue) (h : History) (y : ℕ) → Follows job ticks attempts due ending h y → Grown attempts (extend job c h attempts due ending).attempts
   unfolding extend extend_none extend_last
   extend-grown ticks x due ending is soon = follows-each job ticks due ending (λ attempts h. Grown attempts (extend job c h attempts due ending).attempts)
-      (λ h y none waits going. rw (is, resume-soon h x soon) (record { few = omega arith; more = inl refl }))
-      (λ h s w none waits going. rw (is, close-soon h s x soon) (by_outcome-grown h s (beat_after job h).outcome (ending_by_outcome job.mode (beat_after job h).outcome)))
+      (λ h y none waits going. rw (is, resume-soon job c h x soon) (record { few = omega arith; more = inl refl }))
+      (λ h s w none waits going. rw (is, close-soon job c h s x soon) (by_outcome-grown h s (beat_after job h).outcome (ending_by_outcome job.mode (beat_after job h).outcome)))
       (λ h s end ends over going. cc)
       (λ h s end later grown. record {
         few = omega (arith, grown.few);

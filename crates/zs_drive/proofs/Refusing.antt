@@ -29,8 +29,8 @@ use Rattle.zs_drive.specs.Turns.{IsDuePhase, TakesMemory}
 use Rattle.zs_drive.specs.Tasks.{TaskValue, current_timeline, polled, polled_when, EndsByOutcome}
 use Rattle.zs_drive.specs.Fields.{task_of, IsTask}
 use Rattle.zs_drive.proofs.Ticks.{lt_cases}
-use Rattle.zs_drive.proofs.Extending.{resume, extended}
-use Rattle.zs_drive.proofs.Records.{polled-extended, resume-soon, resume-late}
+use Rattle.zs_drive.proofs.Extending.{resume, extended, resume-soon, resume-late}
+use Rattle.zs_drive.proofs.Records.{polled-extended}
 use Rattle.zs_drive.proofs.Steps.{begins, closes}
 use Rattle.zs_drive.proofs.Advancing.{ran, stands-at, moments-in}
 

@@ -15,32 +15,13 @@ use Rattle.zs_drive.specs.Values.{JobRecord, AttemptedValue}
 use Rattle.zs_drive.specs.Timeline.{Timeline, before, number_of, ended_attempt, ending_by_outcome, ending_by_schedule, beat_after, by_answer, by_outcome}
 use Rattle.zs_drive.specs.Recorded.{AllEnded}
 use Rattle.zs_drive.specs.DriverRules.{pair_of, longer_by, history_from, history_after}
-use Rattle.zs_drive.proofs.Extending.{resume, extend, extend_none, extend_last, extended}
-use Rattle.zs_drive.proofs.Records.{after, extend-ended, resume-soon, resume-late, close-soon}
+use Rattle.zs_drive.proofs.Extending.{resume, extend, extend_none, extend_last, extended, resume-soon, resume-late, close-soon}
+use Rattle.zs_drive.proofs.Timing.{length-history_after}
+use Rattle.zs_drive.proofs.Records.{after, extend-ended}
 
 -- an attempt that began at s and is running
 abbrev pub runs : ℕ → AttemptedValue
 runs s = record { begun = s; ended = None }
-
-length-history_from : (h : History) (attempts : List AttemptedValue) → AllEnded attempts → length (history_from h attempts) ≡ length h + length attempts
-unfolding AllEnded
-length-history_from h [] all = omega arith
-length-history_from h (attempt ∷ attempts) all =
-    elim attempt.ended as (λ o. IsSome o → length (history_from (longer_by h o) attempts) ≡ length h + suc (length attempts))
-    [ None ↦ λ some. cc | Some end ↦ λ some. let rest = length-history_from (pair_of end ∷ h) attempts all.1 in omega arith ] all.0
-
-pub length-history_after : (attempts : List AttemptedValue) → AllEnded attempts → length (history_after attempts) ≡ length attempts
-length-history_after attempts all = length-history_from [] attempts all ∙ omega arith
-
-pub AllEnded-append : (attempts : List AttemptedValue) (s e : ℕ) (outcome : Outcome) (step : Option Answer) → AllEnded attempts
-    → AllEnded (attempts ++ ended_attempt s e outcome step ∷ [])
-unfolding AllEnded
-AllEnded-append [] s e outcome step all = (refl, tt)
-AllEnded-append (attempt ∷ attempts) s e outcome step all = (all.0, AllEnded-append attempts s e outcome step all.1)
-
-pub history_after-ended : (attempts : List AttemptedValue) (s e : ℕ) (outcome : Outcome) (step : Option Answer)
-    → history_after (attempts ++ ended_attempt s e outcome step ∷ []) ≡ (e, number_of outcome) ∷ history_after attempts
-history_after-ended attempts s e outcome step = fold-append _ [] attempts (ended_attempt s e outcome step ∷ [])
 
 module _ (job : JobRecord) (seen : ℕ) where
   -- the due attempt begins

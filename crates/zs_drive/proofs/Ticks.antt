@@ -1,9 +1,12 @@
--- The least tick of a clock, and of one with one more tick.
-use Rattle.std.proofs.Common.{◌≡◌, ℕ, suc, ◌≤◌, ◌<◌, List, [], ◌∷◌, ◌++◌, length, nat_lt, nat_le, true, false, Bool, if◌then◌else◌, refl, arith}
+-- The least tick of a clock, and of one with one more tick; attempts take time.
+use Rattle.std.proofs.Common.{◌≡◌, ℕ, suc, ◌+◌, ◌-◌, ◌^◌, ◌≤◌, ◌<◌, min, List, [], ◌∷◌, ◌++◌, length, nat_lt, nat_le, true, false, Bool, if◌then◌else◌, refl, arith}
 use Rattle.std.specs.Prelude.{Some, None}
 use Rattle.std.proofs.lemmas.Bool.{ltb-true}
 use Rattle.std.proofs.lemmas.Bool.Decides.{nat_tests}
 use borrow.Author.Tests.{ltb-false}
+use Rattle.zs_term.specs.Saturating.{saturated}
+use Rattle.zs_effect.specs.Scripts.{IsScript, entry_at, no_entry}
+use Rattle.zs_effect.specs.declared.script.Beat.{Beat}
 use Rattle.zs_drive.specs.Clocks.{first_tick_from, AllBefore}
 
 -- by cases on a test
@@ -130,3 +133,13 @@ left-after (t ∷ ticks) x s y n =
     let same : t ≡ s = cc in
     let fewer : left ticks y ≤ left ticks x = left-later ticks x y (omega arith) in
     tick_cases t y (λ b. (if b then suc (left ticks y) else left ticks y) ≤ n) (λ _. omega arith) (λ k. absurd (omega arith)))
+
+-- an attempt takes at least 1 ms
+pub beat-takes : (beats : List Beat) (k : ℕ) → IsScript beats → 1 ≤ (entry_at beats k).ms
+beat-takes beats k script =
+    let index : min k (length beats) - 1 < length beats = omega (arith, script.some) in
+    script.timed (min k (length beats) - 1) no_entry index
+
+-- so it ends after it began
+pub saturated-after : (s c ms : ℕ) → s ≤ c → c < 2 ^ 64 - 1 → 1 ≤ ms → s < saturated (s + ms)
+saturated-after s c ms h k l = omega arith

@@ -1,19 +1,40 @@
 -- A timeline that follows from the start on satisfies the rules of the drivers at each place.
-use Rattle.std.proofs.Common.{◌≡◌, ℕ, ◌+◌, max, List, [], ◌∷◌, ◌++◌, length, length-append, append_assoc, append-nil, Option, refl, sym, ◌∙◌, ap, subst, arith}
-use Rattle.std.specs.Prelude.{Some, None}
+use Rattle.std.proofs.Common.{◌≡◌, ℕ, suc, ◌+◌, max, List, [], ◌∷◌, ◌++◌, length, length-append, append_assoc, append-nil, Option, refl, sym, ◌∙◌, ap, subst, arith}
+use Rattle.std.specs.Prelude.{Some, None, IsSome}
+use Rattle.std.proofs.lemmas.Grind.{fold-append}
+use Rattle.zs_effect.specs.declared.script.Outcome.{Outcome}
 use Rattle.zs_term.specs.Saturating.{saturated}
 use Rattle.zs_term.specs.Output.{Output}
 use Rattle.zs_step.specs.declared.decision.Decision.TheVariants.{Stop, Next}
 use Rattle.zs_step.specs.History.{History}
-use Rattle.zs_step.specs.Answer.{answer, answer_of}
+use Rattle.zs_step.specs.Answer.{Answer, answer, answer_of}
 use Rattle.zs_drive.specs.Clocks.{first_tick_from}
 use Rattle.zs_drive.specs.Values.{JobRecord, AttemptedValue, EndedValue}
-use Rattle.zs_drive.specs.Timeline.{Timeline, number_of, ending_by_outcome, beat_after}
+use Rattle.zs_drive.specs.Timeline.{Timeline, number_of, ending_by_outcome, ended_attempt, beat_after}
 use Rattle.zs_drive.specs.Recorded.{AllEnded}
-use Rattle.zs_drive.specs.DriverRules.{history_after, IsTimeline, IsEnd, IsLast, StopsBy, StopsOn, BeginsAfter, asked_unless}
+use Rattle.zs_drive.specs.DriverRules.{pair_of, longer_by, history_from, history_after, IsTimeline, IsEnd, IsLast, StopsBy, StopsOn, BeginsAfter, asked_unless}
 use Rattle.zs_drive.proofs.Follows.{GoesOn, IsAsked, EndsAt, Follows}
 use Rattle.zs_drive.proofs.Ticks.{lt_cases, first_tick_from-again}
-use Rattle.zs_drive.proofs.Steps.{length-history_after, history_after-ended, AllEnded-append}
+
+length-history_from : (h : History) (attempts : List AttemptedValue) → AllEnded attempts → length (history_from h attempts) ≡ length h + length attempts
+unfolding AllEnded
+length-history_from h [] all = omega arith
+length-history_from h (attempt ∷ attempts) all =
+    elim attempt.ended as (λ o. IsSome o → length (history_from (longer_by h o) attempts) ≡ length h + suc (length attempts))
+    [ None ↦ λ some. cc | Some end ↦ λ some. let rest = length-history_from (pair_of end ∷ h) attempts all.1 in omega arith ] all.0
+
+pub length-history_after : (attempts : List AttemptedValue) → AllEnded attempts → length (history_after attempts) ≡ length attempts
+length-history_after attempts all = length-history_from [] attempts all ∙ omega arith
+
+pub AllEnded-append : (attempts : List AttemptedValue) (s e : ℕ) (outcome : Outcome) (step : Option Answer) → AllEnded attempts
+    → AllEnded (attempts ++ ended_attempt s e outcome step ∷ [])
+unfolding AllEnded
+AllEnded-append [] s e outcome step all = (refl, tt)
+AllEnded-append (attempt ∷ attempts) s e outcome step all = (all.0, AllEnded-append attempts s e outcome step all.1)
+
+pub history_after-ended : (attempts : List AttemptedValue) (s e : ℕ) (outcome : Outcome) (step : Option Answer)
+    → history_after (attempts ++ ended_attempt s e outcome step ∷ []) ≡ (e, number_of outcome) ∷ history_after attempts
+history_after-ended attempts s e outcome step = fold-append _ [] attempts (ended_attempt s e outcome step ∷ [])
 
 module _ (job : JobRecord) (ticks : List ℕ) (timeline : Timeline) where
   -- what is required of the attempts after history h and moment x

@@ -6,7 +6,8 @@ use Rattle.zs_step.specs.Answer.{answer}
 use Rattle.zs_step.specs.declared.decision.Decision.TheVariants.{Next}
 use Rattle.zs_drive.specs.declared.progress.Phase.TheVariants.{Waiting, Over}
 use Rattle.zs_drive.specs.Progress.{job_in}
-use Rattle.zs_drive.proofs.Steps.{AllEnded-append, stops, waits, restarts}
+use Rattle.zs_drive.proofs.Timing.{AllEnded-append}
+use Rattle.zs_drive.proofs.Steps.{stops, waits, restarts}
 use Rattle.zs_drive.proofs.Advancing.{ran, end_attempt-advances, restart-advances, asked-answer, IsStepped-asked}
 use Rattle.zs_drive.proofs.progress.Progress.follow.Goals as goal
 
