@@ -1,10 +1,10 @@
 -- A due poll that may allocate memory never gives an ending by outcome alone.
 use Rattle.std.proofs.Common.{◌≡◌, ℕ, ◌≤◌, max, List, [], ◌∷◌, ◌++◌, nat_lt, false, refl, sym, ◌∙◌, ap, arith}
 use Rattle.std.proofs.lemmas.Bool.Decides.{nat_tests}
-use Rattle.std.specs.Prelude.{Option, Some, None, IsSomeAnd, Result, Err, OnErr}
+use Rattle.std.specs.Prelude.{Option, Some, None, IsSomeAnd, Result, Ok, Err, OnOk, OnErr}
 use Rattle.futures.specs.Poll.{IfReady}
 use Rattle.futures.specs.declared.task.Poll.{Poll}
-use Rattle.futures.specs.declared.task.Poll.TheVariants.{Ready}
+use Rattle.futures.specs.declared.task.Poll.TheVariants.{Ready, Pending}
 use Rattle.zs_term.specs.Output.{Output}
 use Rattle.zs_effect.specs.Scripts.{IsScript}
 use Rattle.zs_effect.specs.declared.script.Outcome.{Outcome}
@@ -24,8 +24,8 @@ use Rattle.zs_drive.specs.Values.{JobRecord}
 use Rattle.zs_drive.specs.Timeline.{number_of, ending_by_outcome, ending_by_schedule, by_answer, by_outcome, timeline_of}
 use Rattle.zs_drive.specs.Recorded.{AllEnded}
 use Rattle.zs_drive.specs.DriverRules.{history_after}
-use Rattle.zs_drive.specs.Progress.{IsProgress, job_in, attempts_of, moments_in, timeline_in, due_of}
-use Rattle.zs_drive.specs.Turns.{IsDuePhase, TakesMemory}
+use Rattle.zs_drive.specs.Progress.{IsProgress, HasState, job_in, job_value_in, attempts_of, moments_in, timeline_in, due_of}
+use Rattle.zs_drive.specs.Turns.{Advances, StandsStill, IsSame, IsOver, IsEarly, IsDuePhase, TakesMemory}
 use Rattle.zs_drive.specs.Tasks.{TaskValue, current_timeline, polled, polled_when, EndsByOutcome}
 use Rattle.zs_drive.specs.Fields.{task_of, IsTask}
 use Rattle.zs_drive.proofs.Ticks.{lt_cases}
@@ -85,17 +85,35 @@ asked-unlike p (Running attempt) is progress script due takes =
     rw (rw (← r.own, none) at made) (unlike-outcome (job_in p) p.seen (history_after r.others) r.s attempt.outcome)
 asked-unlike p (Over over) is progress script due takes = absurd (rw is at due)
 
+-- a phase is over, is due later, or is due
+phase_cases : (seen : ℕ) (phase : Phase) (P : Type 0) → (IsOver phase → P) → (IsEarly seen phase → P) → (IsDuePhase seen phase → P) → P
+phase_cases seen (Waiting due) P over early now = lt_cases seen due (λ _. P) early now
+phase_cases seen (Running attempt) P over early now = lt_cases seen attempt.end (λ _. P) early now
+phase_cases seen (Over ending) P over early now = over tt
+
+-- what a task has after a turn that was done
+pub done-whole : {A T E : Type 0} (old new : Progress) (turn : Poll (Result T E)) (done : T) → turn ≡ Ready (Ok done)
+    → (IsOver old.phase → A × IsSame old new) → (IsEarly old.seen old.phase → (turn ≡ Pending) × IsSame old new)
+    → (IsDuePhase old.seen old.phase → IfReady turn (λ answer. OnOk answer (Advances old new) × OnErr answer (StandsStill old new)))
+    → IsProgress new × HasState new × (job_value_in new ≡ job_value_in old)
+done-whole old new turn done is over early due =
+    phase_cases old.seen old.phase (IsProgress new × HasState new × (job_value_in new ≡ job_value_in old))
+    (λ o. let same = (over o).1 in (same.0.progress, same.1, same.0.job))
+    (λ e. let other = (early e).0 in cc)
+    (λ d. let all = rw is at (due d) in (all.0.progress, all.0.state, all.0.job))
+
 -- a poll of a task that is due
 polled-due : (task : TaskValue) (due : Option ℕ) → IsSomeAnd due (λ x. x ≤ task.seen) → polled_when task due ≡ record task { moments = task.moments ++ task.seen ∷ [] }
 polled-due task None soon = absurd soon
 polled-due task (Some x) soon = let test : nat_lt task.seen x ≡ false = grind (arith, nat_tests) in rw test refl
 
 -- a turn that fails was due, may allocate memory, and gives no ending by outcome
-pub refused-EndsByOutcome : {T E : Type 0} (t : Inside) (turn : Poll (Result T E)) (fault : E) → IsTask t → turn ≡ Ready (Err fault)
-    → IfReady turn (λ answer. OnErr answer (IsDuePhase t.progress.value.seen t.progress.value.phase × TakesMemory t.progress.value.mode t.progress.value.phase))
+pub refused-EndsByOutcome : {T E : Type 0} (t : Inside) (turn : Poll (Result T E)) (fault : E) (done : T) → IsTask t → turn ≡ Ready (Err fault)
+    → (IsEarly t.progress.value.seen t.progress.value.phase → turn ≡ Pending) → (IsOver t.progress.value.phase → turn ≡ Ready (Ok done))
+    → IfReady turn (λ answer. OnErr answer (TakesMemory t.progress.value.mode t.progress.value.phase))
     → (ending : Ending) → EndsByOutcome (task_of t) ending → ⊥
-refused-EndsByOutcome t turn fault task refused takes ending ends =
+refused-EndsByOutcome t turn fault done task refused early over takes ending ends =
     let p = t.progress.value in
-    let due = rw refused at takes in
-    let same : polled (task_of t) ≡ record (task_of t) { moments = moments_in p ++ p.seen ∷ [] } = polled-due (task_of t) (current_timeline (task_of t)).due (rw (stands-at p task.progress) due.0) in
-    asked-unlike p p.phase refl task.progress task.script due.0 due.1 ends.outcome ending ends.gives (rw same at ends.ends)
+    let due : IsDuePhase p.seen p.phase = phase_cases p.seen p.phase (IsDuePhase p.seen p.phase) (λ o. let other = over o in cc) (λ e. let other = early e in cc) (λ d. d) in
+    let same : polled (task_of t) ≡ record (task_of t) { moments = moments_in p ++ p.seen ∷ [] } = polled-due (task_of t) (current_timeline (task_of t)).due (rw (stands-at p task.progress) due) in
+    asked-unlike p p.phase refl task.progress task.script due (rw refused at takes) ends.outcome ending ends.gives (rw same at ends.ends)

@@ -52,6 +52,14 @@ pub record IsLog (log : Log) (attempts : List AttemptedValue) : Type 0 where
   pub moments : moments_told log ≡ flat_map moments_of (told_of (keeping_of log) attempts)
   pub records : map attempted_of (records_in log) ≡ recorded_of (keeping_of log) attempts
 
+-- both logs store the same attempts in the same way
+pub record IsSameLog (old new : Log) : Type 0 where
+  pub keeps : keeping_of new ≡ keeping_of old
+  pub lines : lines_in new ≡ lines_in old
+  pub told : told_in new ≡ told_in old
+  pub moments : moments_told new ≡ moments_told old
+  pub records : map attempted_of (records_in new) ≡ map attempted_of (records_in old)
+
 -- an attempt begins, and the one before it, if any, is appended to the lines
 pub record BeginsNext (old new : Told) (next : Attempted) : Type 0 where
   pub lines : string_bytes new.lines ≡ string_bytes old.lines ++ attempts_lines (old.count + 1) (map attempted_of (option_to_list old.last))

@@ -4,7 +4,7 @@ ghost use Rattle.std.specs.Vec.{vec_capacity};
 ghost use Rattle.zs_drive.specs.Values.{AttemptedValue, attempted_of, ended_of};
 ghost use Rattle.zs_drive.specs.PollMoments.{moments_of};
 ghost use Rattle.zs_drive.specs.Lines.{attempt_lines};
-ghost use Rattle.zs_drive.specs.Log.{BeginsNext, IsFull, IsLog, keeping_of, lines_in, log_count, records_in, told_in};
+ghost use Rattle.zs_drive.specs.Log.{BeginsNext, IsFull, IsLog, IsSameLog, keeping_of, lines_in, log_count, records_in, told_in};
 
 use crate::fault::DriveFault;
 use crate::lines::append_attempt;
@@ -273,9 +273,7 @@ impl Log {
         requires few { log_count self.old + 1 < 2 ^ 64 }
         ensures begun { OnOk result ((attempts : List AttemptedValue) → IsLog self.old attempts
             → IsLog self.new (attempts ++ record { begun = begun; ended = None } ∷ [])) }
-        ensures same { OnErr result ((attempts : List AttemptedValue) → IsLog self.old attempts
-            → IsLog self.new attempts) }
-        ensures count { OnErr result (log_count self.new ≡ log_count self.old) }
+        ensures same { OnErr result (IsSameLog self.old self.new) }
         ensures full { OnErr result (IsFull self.old) }
         ensures keeps { keeping_of self.new ≡ keeping_of self.old }
     {
@@ -286,8 +284,8 @@ impl Log {
         Ok(())
     }
 
-    /// Gives the last attempt this end, or none.
-    pub fn set_end(&mut self, ended: Option<Ended>)
+    // The last attempt has this end, or none.
+    fn set_end(&mut self, ended: Option<Ended>)
         requires last { 0 < log_count self.old }
         ensures ended { (others : List AttemptedValue) (last : AttemptedValue)
             → IsLog self.old (others ++ last ∷ [])
@@ -308,6 +306,18 @@ impl Log {
                 None => drop(ended),
             },
         }
+    }
+
+    /// Ends the last attempt.
+    pub fn end(&mut self, ended: Ended)
+        requires last { 0 < log_count self.old }
+        ensures ended { (others : List AttemptedValue) (last : AttemptedValue)
+            → IsLog self.old (others ++ last ∷ [])
+            → IsLog self.new
+            (others ++ record { begun = last.begun; ended = ended_of (Some ended) } ∷ []) }
+        ensures keeps { keeping_of self.new ≡ keeping_of self.old }
+    {
+        self.set_end(Some(ended));
     }
 
     /// Ends the last attempt, and begins another at that moment. If the former becomes lines, the

@@ -12,7 +12,7 @@ ghost use Rattle.zs_step.specs.Compiled.{StandsFor, last_seen, compiled_term, co
 ghost use Rattle.zs_drive.specs.Log.{IsFull, IsLog, keeping_of, log_count};
 ghost use Rattle.zs_drive.specs.Values.{AttemptedValue, step_of};
 ghost use Rattle.zs_drive.specs.DriverRules.{history_after};
-ghost use Rattle.zs_drive.specs.Progress.{IsProgress, HasState, attempts_of, due_of, ending_of, job_value_in};
+ghost use Rattle.zs_drive.specs.Progress.{IsProgress, HasState, attempts_of, due_of, ending_of};
 ghost use Rattle.zs_drive.specs.Turns.{Advances, IsWaitingTo, HasRunTo, WasAsked, IsOver, IsEarly, IsDuePhase, StandsStill, IsSame, TakesMemory};
 
 use crate::fault::DriveFault;
@@ -260,7 +260,7 @@ impl Progress {
             (others ++ ended_attempt s self.old.seen outcome (step_of step) ∷ []) }
     {
         let at = self.seen;
-        self.log.set_end(Some(Ended { at, outcome, step }));
+        self.log.end(Ended { at, outcome, step });
         self.phase = phase;
         self.polls += 1;
     }
@@ -322,12 +322,8 @@ impl Progress {
             OnOk done (Advances self.old self.new)
             × OnErr done (StandsStill self.old self.new)) }
         ensures answers { IsDuePhase self.old.seen self.old.phase → OnPending result ⊥ }
-        ensures whole { IfReady result (λ done.
-            OnOk done (IsProgress self.new × HasState self.new
-            × (job_value_in self.new ≡ job_value_in self.old))) }
         ensures refused { IfReady result (λ done.
-            OnErr done (IsDuePhase self.old.seen self.old.phase
-            × TakesMemory self.old.mode self.old.phase)) }
+            OnErr done (TakesMemory self.old.mode self.old.phase)) }
         ensures armed { OnPending result (IsArmed cx.new) }
         ensures kept { Keeps cx.old cx.new }
     {
