@@ -111,9 +111,12 @@ module _ (job : JobRecord) (script : IsScript job.script) (ticks : List ℕ) (c 
         let asked = elim (ending_by_outcome job.mode end.outcome) as (λ by. IsAsked job ticks (Follows job ticks later due ending) h later due ending end by
         → IsAsked job longer (Follows job longer t.attempts t.due t.ending) h t.attempts t.due t.ending end by) [
           | Some z ↦ λ asked. rw (asked.1, asked.2, asked.3) (asked.0, refl, refl, refl)
-          | None ↦ λ asked. (asked.0, (elim (answer_of job.schedule g).decision as (λ d. GoesOn job ticks (Follows job ticks later due ending) h later due ending end d
-          → GoesOn job longer (Follows job longer t.attempts t.due t.ending) h t.attempts t.due t.ending end d)
-          [ Stop ↦ λ on. rw (on.0, on.1, on.2) (refl, refl, refl) | Next y ↦ λ on. each g (max y end.at) on ]) asked.1)
+          | None ↦ λ asked. (
+            asked.0,
+            (elim (answer_of job.schedule g).decision as (λ d. GoesOn job ticks (Follows job ticks later due ending) h later due ending end d
+                → GoesOn job longer (Follows job longer t.attempts t.due t.ending) h t.attempts t.due t.ending end d)
+                [ Stop ↦ λ on. rw (on.0, on.1, on.2) (refl, refl, refl) | Next y ↦ λ on. each g (max y end.at) on ]) asked.1,
+          )
         ] in
         (first_tick_from-some ticks c x s begun, (first_tick_from-some ticks c (saturated (s + (beat_after job h).ms)) end.at ends.0, ends.1, asked ends.2))
 

@@ -8,8 +8,7 @@ use Rattle.zs_drive.specs.Clocks.{first_tick_from, RisesFrom, AllBefore, AreTick
 use Rattle.zs_drive.specs.Values.{JobRecord}
 use Rattle.zs_drive.specs.Timeline.{from, timeline_of, poll_moments}
 use Rattle.zs_drive.specs.Recorded.{IsOnTimeline}
-use Rattle.zs_drive.specs.Tasks.{timeline_at}
-use Rattle.zs_drive.specs.DriverLaws.{polls_on, IsReached, FirstPollsSuffice}
+use Rattle.zs_drive.specs.DriverLaws.{polls_on, IsReached}
 use Rattle.zs_drive.proofs.Ticks.{lt_cases, first_tick_from-some, first_tick_from-none, first_tick_from-past, tick_one-at}
 use Rattle.zs_drive.proofs.Moments.{AllBefore-append, AllBefore-later}
 use Rattle.zs_drive.proofs.Extending.{timeline_of-append}

@@ -1,9 +1,7 @@
 -- A job's timeline, before and after one more due poll.
-use Rattle.std.proofs.Common.{◌≡◌, ℕ, ◌+◌, ◌-◌, ◌^◌, ◌≤◌, ◌<◌, max, nat_lt, true, false, List, [], ◌∷◌, ◌++◌, length, length-append, Option, ◌⊎◌, inl, inr, refl, sym, ◌∙◌, ap, subst, arith}
+use Rattle.std.proofs.Common.{◌≡◌, ℕ, ◌+◌, ◌-◌, ◌^◌, ◌≤◌, max, List, [], ◌∷◌, ◌++◌, length, length-append, Option, ◌⊎◌, inl, inr, refl, sym, ◌∙◌, ap, subst, arith}
 use Rattle.std.specs.Prelude.{Some, None, IsSome, IfSome, is_some, not, flat_map}
-use Rattle.std.proofs.lemmas.Bool.Decides.{nat_tests}
 use Rattle.std.proofs.lemmas.Grind.{fold-append}
-use Rattle.zs_term.specs.Saturating.{saturated}
 use Rattle.zs_effect.specs.Scripts.{IsScript}
 use Rattle.zs_effect.specs.declared.script.Outcome.{Outcome}
 use Rattle.zs_term.specs.Output.{Output}
@@ -14,12 +12,12 @@ use Rattle.zs_step.specs.declared.decision.Decision.TheVariants.{Stop, Next}
 use Rattle.zs_drive.specs.declared.record.Ending.{Ending}
 use Rattle.zs_drive.specs.Clocks.{first_tick_from, AllBefore, max_tick}
 use Rattle.zs_drive.specs.Values.{JobRecord, AttemptedValue}
-use Rattle.zs_drive.specs.Timeline.{Timeline, waiting, running, before, number_of, ending_by_outcome, beat_after, by_answer, by_outcome, timeline_of, moments_of, poll_moments}
+use Rattle.zs_drive.specs.Timeline.{Timeline, before, number_of, ending_by_outcome, beat_after, by_answer, by_outcome, timeline_of, moments_of, poll_moments}
 use Rattle.zs_drive.specs.Recorded.{AllEnded, IsOnTimeline}
 use Rattle.zs_drive.specs.DriverRules.{pair_of, longer_by, history_from, history_after}
 use Rattle.zs_drive.proofs.Ticks.{lt_cases, AllBefore-none}
 use Rattle.zs_drive.proofs.Moments.{AllBefore-later, AreTicks-append, moments-one, moments-two}
-use Rattle.zs_drive.proofs.Extending.{resume, close, extend, extend_none, extend_last, extended, timeline_of-append, resume-soon, resume-late, close-soon}
+use Rattle.zs_drive.proofs.Extending.{resume, extend, extend_none, extend_last, extended, timeline_of-append, resume-soon, resume-late, close-soon}
 use Rattle.zs_drive.proofs.Follows.{Follows, follows-each}
 use Rattle.zs_drive.proofs.Following.{Keeps, timeline_of-keeps}
 

@@ -78,13 +78,15 @@ finished = (refl, refl)
 
 -- delays grow, and a part that stops ends both; a retry ends with the last error
 growing_delays : Runs (job Retry (two both (leaf (exponential 10 2)) (leaf (recurs 3))) (bad 1 1 ∷ [])) (every_ms 1000)
-    (closed (asked 0 1 (Bad 1) (pair (number 10) (number 0)) (Next 11) ∷ asked 11 12 (Bad 1) (pair (number 20) (number 1)) (Next 32) ∷ asked 32 33 (Bad 1) (pair (number 40) (number 2)) (Next 73) ∷ asked 73 74 (Bad 1) (pair (number 80) (number 3)) Stop ∷ []) (Failed 1)) (0 ∷ 1 ∷ 11 ∷ 12 ∷ 32 ∷ 33 ∷ 73 ∷ 74 ∷ [])
+    (closed (asked 0 1 (Bad 1) (pair (number 10) (number 0)) (Next 11) ∷ asked 11 12 (Bad 1) (pair (number 20) (number 1)) (Next 32) ∷ asked 32 33 (Bad 1) (pair (number 40) (number 2)) (Next 73) ∷ asked 73 74 (Bad 1) (pair (number 80) (number 3)) Stop ∷ []) (Failed 1))
+    (0 ∷ 1 ∷ 11 ∷ 12 ∷ 32 ∷ 33 ∷ 73 ∷ 74 ∷ [])
 unfolding timeline_of from from_begin from_wait by_outcome by_answer first_tick_from poll_moments
 growing_delays = (refl, refl)
 
 -- a fixed period that is late continues at once, and then follows its boundaries again
 behind : Runs (job Repeat (leaf (fixed 100)) (good 50 1 ∷ good 250 1 ∷ good 10 1 ∷ good 10 1 ∷ [])) (every_ms 500)
-    (going (asked 0 50 (Good 1) (number 0) (Next 150) ∷ asked 150 400 (Good 1) (number 1) (Next 400) ∷ asked 400 410 (Good 1) (number 2) (Next 450) ∷ asked 450 460 (Good 1) (number 3) (Next 550) ∷ []) 550) (0 ∷ 50 ∷ 150 ∷ 400 ∷ 410 ∷ 450 ∷ 460 ∷ [])
+    (going (asked 0 50 (Good 1) (number 0) (Next 150) ∷ asked 150 400 (Good 1) (number 1) (Next 400) ∷ asked 400 410 (Good 1) (number 2) (Next 450) ∷ asked 450 460 (Good 1) (number 3) (Next 550) ∷ []) 550)
+    (0 ∷ 50 ∷ 150 ∷ 400 ∷ 410 ∷ 450 ∷ 460 ∷ [])
 unfolding timeline_of from from_begin from_wait by_outcome by_answer first_tick_from poll_moments
 behind = (refl, refl)
 
@@ -96,13 +98,15 @@ on_a_boundary = (refl, refl)
 
 -- a part that stopped continues again, and the last attempt begins at the horizon
 goes_on_again : Runs (job Repeat (two either (over (leaf identity) (while_input (record { cmp = Eq; than = 0 }))) (leaf (recurs 3))) (good 1 0 ∷ good 1 1 ∷ good 1 0 ∷ [])) (every_ms 4)
-    (going (asked 0 1 (Good 0) (pair (number 0) (number 0)) (Next 1) ∷ asked 1 2 (Good 1) (pair (number 1) (number 1)) (Next 2) ∷ asked 2 3 (Good 0) (pair (number 0) (number 2)) (Next 3) ∷ asked 3 4 (Good 0) (pair (number 0) (number 3)) (Next 4) ∷ runs 4 ∷ []) 5) (0 ∷ 1 ∷ 2 ∷ 3 ∷ 4 ∷ [])
+    (going (asked 0 1 (Good 0) (pair (number 0) (number 0)) (Next 1) ∷ asked 1 2 (Good 1) (pair (number 1) (number 1)) (Next 2) ∷ asked 2 3 (Good 0) (pair (number 0) (number 2)) (Next 3) ∷ asked 3 4 (Good 0) (pair (number 0) (number 3)) (Next 4) ∷ runs 4 ∷ []) 5)
+    (0 ∷ 1 ∷ 2 ∷ 3 ∷ 4 ∷ [])
 unfolding timeline_of from from_begin from_wait by_outcome by_answer first_tick_from poll_moments
 goes_on_again = (refl, refl)
 
 -- the output of the last step is not collected
 collected : Runs (job Repeat (over (over (leaf identity) (while_input (record { cmp = Lt; than = 3 }))) collect_all) (good 1 1 ∷ good 1 2 ∷ good 1 3 ∷ [])) (every_ms 1000)
-    (closed (asked 0 1 (Good 1) (listed none) (Next 1) ∷ asked 1 2 (Good 2) (listed (more (number 1) none)) (Next 2) ∷ asked 2 3 (Good 3) (listed (more (number 1) (more (number 2) none))) Stop ∷ []) Finished) (0 ∷ 1 ∷ 2 ∷ 3 ∷ [])
+    (closed (asked 0 1 (Good 1) (listed none) (Next 1) ∷ asked 1 2 (Good 2) (listed (more (number 1) none)) (Next 2) ∷ asked 2 3 (Good 3) (listed (more (number 1) (more (number 2) none))) Stop ∷ []) Finished)
+    (0 ∷ 1 ∷ 2 ∷ 3 ∷ [])
 unfolding timeline_of from from_begin from_wait by_outcome by_answer first_tick_from poll_moments
 collected = (refl, refl)
 
@@ -120,13 +124,15 @@ ending_at_the_horizon = (refl, refl)
 
 -- a delay saturates, and the earlier of two moments counts
 saturating_delay : Runs (job Repeat (two either (leaf (exponential 1 4294967296)) (leaf (spaced 1))) (good 1 0 ∷ [])) (every_ms 5)
-    (going (asked 0 1 (Good 0) (pair (number 1) (number 0)) (Next 2) ∷ asked 2 3 (Good 0) (pair (number 4294967296) (number 1)) (Next 4) ∷ asked 4 5 (Good 0) (pair (number 18446744073709551615) (number 2)) (Next 6) ∷ []) 6) (0 ∷ 1 ∷ 2 ∷ 3 ∷ 4 ∷ 5 ∷ [])
+    (going (asked 0 1 (Good 0) (pair (number 1) (number 0)) (Next 2) ∷ asked 2 3 (Good 0) (pair (number 4294967296) (number 1)) (Next 4) ∷ asked 4 5 (Good 0) (pair (number 18446744073709551615) (number 2)) (Next 6) ∷ []) 6)
+    (0 ∷ 1 ∷ 2 ∷ 3 ∷ 4 ∷ 5 ∷ [])
 unfolding timeline_of from from_begin from_wait by_outcome by_answer first_tick_from poll_moments
 saturating_delay = (refl, refl)
 
 -- the second schedule steps in the poll in which the first is done
 one_after_another : Runs (job Repeat (two and_then (leaf (recurs 2)) (leaf (recurs 1))) (good 1 5 ∷ [])) (every_ms 1000)
-    (closed (asked 0 1 (Good 5) (left (number 0)) (Next 1) ∷ asked 1 2 (Good 5) (left (number 1)) (Next 2) ∷ asked 2 3 (Good 5) (right (number 0)) (Next 3) ∷ asked 3 4 (Good 5) (right (number 1)) Stop ∷ []) Finished) (0 ∷ 1 ∷ 2 ∷ 3 ∷ 4 ∷ [])
+    (closed (asked 0 1 (Good 5) (left (number 0)) (Next 1) ∷ asked 1 2 (Good 5) (left (number 1)) (Next 2) ∷ asked 2 3 (Good 5) (right (number 0)) (Next 3) ∷ asked 3 4 (Good 5) (right (number 1)) Stop ∷ []) Finished)
+    (0 ∷ 1 ∷ 2 ∷ 3 ∷ 4 ∷ [])
 unfolding timeline_of from from_begin from_wait by_outcome by_answer first_tick_from poll_moments
 one_after_another = (refl, refl)
 
@@ -138,7 +144,8 @@ first_failure = (refl, refl)
 
 -- a script of three entries continues with its last one
 past_the_last_entry : Runs (job Retry (leaf (recurs 3)) (bad 1 11 ∷ bad 2 12 ∷ bad 3 13 ∷ [])) (every_ms 1000)
-    (closed (asked 0 1 (Bad 11) (number 0) (Next 1) ∷ asked 1 3 (Bad 12) (number 1) (Next 3) ∷ asked 3 6 (Bad 13) (number 2) (Next 6) ∷ asked 6 9 (Bad 13) (number 3) Stop ∷ []) (Failed 13)) (0 ∷ 1 ∷ 3 ∷ 6 ∷ 9 ∷ [])
+    (closed (asked 0 1 (Bad 11) (number 0) (Next 1) ∷ asked 1 3 (Bad 12) (number 1) (Next 3) ∷ asked 3 6 (Bad 13) (number 2) (Next 6) ∷ asked 6 9 (Bad 13) (number 3) Stop ∷ []) (Failed 13))
+    (0 ∷ 1 ∷ 3 ∷ 6 ∷ 9 ∷ [])
 unfolding timeline_of from from_begin from_wait by_outcome by_answer first_tick_from poll_moments
 past_the_last_entry = (refl, refl)
 

@@ -1,20 +1,18 @@
 -- What a due poll does to the records, by what was due and by the schedule's result.
-use Rattle.std.proofs.Common.{◌≡◌, ℕ, suc, ◌+◌, ◌≤◌, ◌<◌, max, List, [], ◌∷◌, ◌++◌, length, length-append, append-nil, Option, refl, sym, ◌∙◌, ap, arith}
-use Rattle.std.specs.Prelude.{Some, None, IsSome}
-use Rattle.std.proofs.lemmas.Grind.{fold-append}
+use Rattle.std.proofs.Common.{◌≡◌, ℕ, ◌+◌, ◌≤◌, ◌<◌, max, List, [], ◌∷◌, ◌++◌, length, length-append, append-nil, sym, ◌∙◌, ap, arith}
+use Rattle.std.specs.Prelude.{Some, None}
 use Rattle.zs_term.specs.Saturating.{saturated}
 use Rattle.zs_effect.specs.Scripts.{entry_at}
 use Rattle.zs_effect.specs.declared.script.Outcome.{Outcome}
 use Rattle.zs_term.specs.Output.{Output}
-use Rattle.zs_step.specs.History.{History}
-use Rattle.zs_step.specs.Answer.{Answer, answer, answer_of}
+use Rattle.zs_step.specs.Answer.{answer, answer_of}
 use Rattle.zs_step.specs.declared.decision.Decision.{Decision}
 use Rattle.zs_step.specs.declared.decision.Decision.TheVariants.{Stop, Next}
 use Rattle.zs_drive.specs.declared.record.Ending.{Ending}
 use Rattle.zs_drive.specs.Values.{JobRecord, AttemptedValue}
 use Rattle.zs_drive.specs.Timeline.{Timeline, before, number_of, ended_attempt, ending_by_outcome, ending_by_schedule, beat_after, by_answer, by_outcome}
 use Rattle.zs_drive.specs.Recorded.{AllEnded}
-use Rattle.zs_drive.specs.DriverRules.{pair_of, longer_by, history_from, history_after}
+use Rattle.zs_drive.specs.DriverRules.{history_after}
 use Rattle.zs_drive.proofs.Extending.{resume, extend, extend_none, extend_last, extended, resume-soon, resume-late, close-soon}
 use Rattle.zs_drive.proofs.Timing.{length-history_after}
 use Rattle.zs_drive.proofs.Records.{after, extend-ended}
