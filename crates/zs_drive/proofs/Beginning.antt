@@ -1,16 +1,17 @@
--- A new task, and a task that sees a later moment.
-use Rattle.std.proofs.Common.{◌≡◌, ℕ, ◌≤◌, List, [], refl, ap, arith}
+-- A new task.
+use Rattle.std.proofs.Common.{◌≡◌, [], false, true, refl, sym, ◌∙◌, ap, arith}
 use Rattle.std.specs.Prelude.{Some, None}
-use Rattle.zs_step.specs.declared.compiled.Compiled.{Compiled}
 use Rattle.zs_step.specs.Compiled.{StandsFor}
 use Rattle.zs_drive.specs.Clocks.{RisesFrom, AllBefore}
-use Rattle.zs_drive.specs.Values.{JobRecord, AttemptedValue}
-use Rattle.zs_drive.specs.declared.progress.Phase.{Phase}
-use Rattle.zs_drive.specs.declared.progress.Phase.TheVariants.{Waiting, Running, Over}
+use Rattle.zs_drive.specs.Values.{JobRecord}
+use Rattle.zs_drive.specs.declared.progress.Phase.TheVariants.{Waiting}
 use Rattle.zs_drive.specs.Timeline.{Timeline, waiting, timeline_of, from, poll_moments}
-use Rattle.zs_drive.specs.Recorded.{AllEnded, IsOnTimeline, IsStepped}
+use Rattle.zs_drive.specs.Recorded.{AllEnded, IsOnTimeline}
 use Rattle.zs_drive.specs.declared.progress.Progress.{Progress}
-use Rattle.zs_drive.specs.Progress.{IsPhase, IsSteppedIn, IsProgress, HasState, job_in, moments_in, attempts_of}
+use Rattle.zs_drive.specs.Progress.{IsProgress, HasState, job_in, moments_in, attempts_of}
+use Rattle.zs_effect.specs.Scripts.{IsScript}
+use Rattle.zs_drive.specs.declared.task.Task.TheInside.{Inside}
+use Rattle.zs_drive.specs.Fields.{IsTask}
 use Rattle.zs_drive.specs.declared.log.Log.{Log}
 use Rattle.zs_drive.specs.Log.{IsLog, log_moments}
 use Rattle.zs_drive.proofs.Logging.{log-moments}
@@ -19,13 +20,6 @@ use Rattle.zs_drive.proofs.Logging.{log-moments}
 pub IsOnTimeline-new : (job : JobRecord) → IsOnTimeline job (record { attempts = []; due = Some job.start; ending = None }) 0
 unfolding timeline_of from poll_moments RisesFrom AllBefore
 IsOnTimeline-new job = record { same = refl; clock = record { rises = tt; bounded = tt }; counted = refl; few = omega arith }
-
-pub IsStepped-new : (compiled : Compiled) (seen : ℕ) → StandsFor compiled [] → IsStepped [] compiled seen
-IsStepped-new compiled seen stands = record { stands = stands; past = let last = stands.last in omega arith }
-
-pub AllEnded-new : AllEnded []
-unfolding AllEnded
-AllEnded-new = tt
 
 -- a new log has no moments
 pub moments-none : (log : Log) → IsLog log [] → log_moments log ≡ []
@@ -37,35 +31,24 @@ timeline-none : (p : Progress) → IsLog p.log [] → timeline_of (job_in p) (mo
 unfolding timeline_of from
 timeline-none p is = ap (timeline_of (job_in p)) (moments-none p.log is)
 
-attempts-none : (p : Progress) → IsLog p.log [] → attempts_of p ≡ []
-attempts-none p is = ap (λ (t : Timeline). t.attempts) (timeline-none p is)
-
-pub IsProgress-new : (p : Progress) → p.phase ≡ Waiting p.start → p.polls ≡ 0 → p.seen ≡ 0 → IsLog p.log [] → IsProgress p
-IsProgress-new p phase polls seen is =
-    let none : attempts_of p ≡ [] = attempts-none p is in
-    record {
-      log = rw none is;
+pub IsTask-new : (t : Inside) (p : Progress) → t.progress.value ≡ p → p.phase ≡ Waiting p.start → p.polls ≡ 0 → p.seen ≡ 0
+    → IsLog p.log [] → StandsFor p.compiled [] → IsScript p.script → t.broken ≡ false → IsTask t
+unfolding AllEnded
+IsTask-new t p is phase polls seen log stands script whole =
+    let at = timeline-none p log in
+    let none : attempts_of p ≡ [] = ap (λ (t : Timeline). t.attempts) at in
+    let progress : IsProgress p = record {
+      log = rw none log;
       on_timeline = rw (none, phase, polls) (IsOnTimeline-new (job_in p));
-      waits = rw phase (ap (λ (t : Timeline). t.due) (timeline-none p is));
-      ended = rw phase (ap (λ (t : Timeline). t.ending) (timeline-none p is));
-      phase = rw (none, phase) AllEnded-new;
+      waits = rw phase (ap (λ (t : Timeline). t.due) at);
+      ended = rw phase (ap (λ (t : Timeline). t.ending) at);
+      phase = rw (none, phase) tt;
       bounded = rw seen (omega arith);
+    } in
+    let state : HasState p = rw (none, phase) (record { stands = stands; past = let last = stands.last in omega arith }) in
+    record {
+      progress = rw is progress;
+      state = λ _. rw is state;
+      script = rw is script;
+      unended = λ broken. let clash : false ≡ true = sym whole ∙ broken in cc;
     }
-
-pub HasState-new : (p : Progress) → p.phase ≡ Waiting p.start → IsLog p.log [] → StandsFor p.compiled [] → HasState p
-HasState-new p phase is stands = rw (attempts-none p is, phase) (IsStepped-new p.compiled p.seen stands)
-
-IsStepped-later : (attempts : List AttemptedValue) (compiled : Compiled) (seen now : ℕ) → seen ≤ now → IsStepped attempts compiled seen → IsStepped attempts compiled now
-IsStepped-later attempts compiled seen now later kept = record { stands = kept.stands; past = let past = kept.past in omega arith }
-
-pub IsPhase-later : (job : JobRecord) (attempts : List AttemptedValue) (seen now : ℕ) (phase : Phase) → seen ≤ now → IsPhase job attempts seen phase → IsPhase job attempts now phase
-IsPhase-later job attempts seen now (Waiting due) later all = all
-IsPhase-later job attempts seen now (Running attempt) later runs =
-    (runs.0, runs.1, record { last = runs.2.last; ended = runs.2.ended; outcome = runs.2.outcome; saw = let saw = runs.2.saw in omega arith })
-IsPhase-later job attempts seen now (Over ending) later over = tt
-
-pub IsSteppedIn-later : (attempts : List AttemptedValue) (compiled : Compiled) (seen now : ℕ) (phase : Phase) → seen ≤ now
-    → IsSteppedIn attempts compiled seen phase → IsSteppedIn attempts compiled now phase
-IsSteppedIn-later attempts compiled seen now (Waiting due) later kept = IsStepped-later attempts compiled seen now later kept
-IsSteppedIn-later attempts compiled seen now (Running attempt) later kept = IsStepped-later attempts compiled seen now later kept
-IsSteppedIn-later attempts compiled seen now (Over ending) later kept = tt

@@ -14,7 +14,6 @@ pub mod Ruling
 pub mod Timing
 pub mod Follows
 pub mod Polling
-pub mod Pending
 pub mod Rising
 pub mod Standing
 pub mod Placing

@@ -1,10 +1,11 @@
 -- How a log stores its attempts, as they begin and end.
-use Rattle.std.proofs.Common.{◌≡◌, ℕ, suc, ◌+◌, ◌-◌, List, [], ◌∷◌, ◌++◌, length, length-append, append_assoc, append-nil, refl, sym, ◌∙◌, ap, arith}
-use Rattle.std.specs.Prelude.{map, flat_map, fold, take, drop, Option, Some, None, option_to_list, string_bytes, slice_set, slice_index_or}
+use Rattle.std.proofs.Common.{◌≡◌, ℕ, suc, ◌+◌, ◌-◌, List, [], ◌∷◌, ◌++◌, length, length-append, append_assoc, refl, sym, ◌∙◌, ap, arith}
+use Rattle.std.specs.Prelude.{map, flat_map, fold, take, drop, Option, None, option_to_list, slice_set, slice_index_or}
 use Rattle.std.specs.Global.{Vec}
 use Rattle.std.proofs.lemmas.List.{map-set, length-map, take-append-drop}
-use Rattle.std.proofs.Math.Seq.{take-append_seam, drop-append_seam, get_or-append_seam}
+use Rattle.std.proofs.Math.Seq.{take-append_seam, drop-append_seam, get_or-append_seam, set-append_seam}
 use Rattle.std.proofs.Math.ListN.{get_or-map}
+use Rattle.std.proofs.lemmas.Grind.{flat_map-append}
 use Rattle.zs_drive.specs.declared.record.Attempted.{Attempted}
 use Rattle.zs_drive.specs.declared.record.Ended.{Ended}
 use Rattle.zs_drive.specs.declared.record.Keeping.{Keeping}
@@ -16,9 +17,8 @@ use Rattle.zs_drive.specs.Values.{AttemptedValue, attempted_of, ended_of}
 use Rattle.zs_drive.specs.Timeline.{poll_moments, moments_of, with_moment}
 use Rattle.zs_drive.specs.Lines.{attempt_lines, attempts_lines}
 use Rattle.zs_drive.specs.Told.{told_of, recorded_of}
-use Rattle.zs_drive.specs.Log.{BeginsNext, IsLog, IsSameLog, keeping_of, lines_in, log_count, log_moments, moments_told, records_in, told_in}
-use Rattle.zs_drive.proofs.Moments.{flat_map-append}
-use Rattle.zs_drive.proofs.Steps.{runs, set-middle}
+use Rattle.zs_drive.specs.Log.{BeginsNext, IsLog, keeping_of, log_count, log_moments, records_in}
+use Rattle.zs_drive.proofs.Steps.{runs}
 
 before-last : (others : List AttemptedValue) (x : AttemptedValue) → length (others ++ x ∷ []) - 1 ≡ length others
 before-last others x = omega (arith, length-append others (x ∷ []))
@@ -60,33 +60,6 @@ module _ (log : Log) (attempts : List AttemptedValue) (is : IsLog log attempts) 
       let all = ap (λ (xs : List AttemptedValue). length xs) (told-recorded (keeping_of log) attempts) in
       omega (arith, is.told, records, kept, both, all)
 
--- a log after a failed allocation
-pub same-log : (old new : Log) (attempts : List AttemptedValue) → IsSameLog old new → IsLog old attempts → IsLog new attempts
-same-log old new attempts same is = record {
-  lines = rw (same.lines, same.keeps) is.lines;
-  told = rw (same.told, same.keeps) is.told;
-  moments = rw (same.moments, same.keeps) is.moments;
-  records = rw (same.records, same.keeps) is.records;
-}
-
--- no attempt has no lines and no records
-none-told : (keeps : Keeping) → told_of keeps [] ≡ []
-none-told Records = refl
-none-told Lines = refl
-
-none-recorded : (keeps : Keeping) → recorded_of keeps [] ≡ []
-none-recorded Records = refl
-none-recorded Lines = refl
-
--- no attempt yet
-pub new-log : (log : Log) → lines_in log ≡ [] → told_in log ≡ 0 → moments_told log ≡ [] → records_in log ≡ [] → IsLog log []
-new-log log lines told moments records = record {
-  lines = rw (none-told (keeping_of log)) lines;
-  told = rw (none-told (keeping_of log)) told;
-  moments = rw (none-told (keeping_of log)) moments;
-  records = rw (none-recorded (keeping_of log)) (ap (map attempted_of) records);
-}
-
 -- an attempt begins: the one before it, if there is one, becomes lines
 pub begun-told : (old new : Told) (s : ℕ) (attempts : List AttemptedValue) → BeginsNext old new (record { begun = s; ended = None })
     → IsLog (Written old) attempts → IsLog (Written new) (attempts ++ runs s ∷ [])
@@ -123,6 +96,6 @@ set-recorded old new index was ended others last place is_last written is =
       moments = refl;
       records = rw written
           (map-set attempted_of old.items index made ∙ ap (λ (xs : List AttemptedValue). slice_set xs index (attempted_of made)) were
-          ∙ ap (λ (k : ℕ). slice_set (others ++ last ∷ []) k (attempted_of made)) long ∙ set-middle others last (attempted_of made) []
+          ∙ ap (λ (k : ℕ). slice_set (others ++ last ∷ []) k (attempted_of made)) long ∙ set-append_seam others last [] (attempted_of made)
           ∙ ap (λ (k : ℕ). others ++ record { begun = k; ended = ended_of ended } ∷ []) begun);
     }

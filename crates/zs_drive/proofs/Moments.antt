@@ -1,8 +1,9 @@
 -- Clocks that get one more tick, and sets of moments as lists.
-use Rattle.std.proofs.Common.{◌≡◌, ℕ, ◌+◌, ◌-◌, ◌≤◌, ◌<◌, List, [], ◌∷◌, ◌++◌, length, nat_eq, true, false, ◌||◌, refl, sym, arith, append_assoc}
-use Rattle.std.specs.Prelude.{fold, flat_map}
+use Rattle.std.proofs.Common.{◌≡◌, ℕ, ◌+◌, ◌-◌, ◌≤◌, ◌<◌, List, [], ◌∷◌, ◌++◌, length, nat_eq, true, false, ◌||◌, refl, arith}
+use Rattle.std.specs.Prelude.{fold}
 use Rattle.std.specs.List.{list_any}
 use Rattle.std.proofs.lemmas.Bool.Decides.{nat_tests}
+use Rattle.std.proofs.lemmas.Grind.{fold-append}
 use Rattle.zs_drive.specs.Clocks.{RisesFrom, AllBefore, AreTicks, max_tick}
 use Rattle.zs_drive.specs.Timeline.{with_moment}
 
@@ -47,14 +48,6 @@ absent (x ∷ ticks) c all =
 pub present : (ticks : List ℕ) (c : ℕ) → list_any (nat_eq c) (ticks ++ c ∷ []) ≡ true
 present [] c = let same : nat_eq c c ≡ true = grind (arith, nat_tests) in rw same refl
 present (x ∷ ticks) c = rw (present ticks c) (elim (nat_eq c x) as (λ b. (b || true) ≡ true) [ true ↦ refl | false ↦ refl ])
-
-pub fold-append : {A B : Type 0} (f : B → A → B) (b : B) (xs ys : List A) → fold f b (xs ++ ys) ≡ fold f (fold f b xs) ys
-fold-append f b [] ys = refl
-fold-append f b (x ∷ xs) ys = fold-append f (f b x) xs ys
-
-pub flat_map-append : {A B : Type 0} (f : A → List B) (xs ys : List A) → flat_map f (xs ++ ys) ≡ flat_map f xs ++ flat_map f ys
-flat_map-append f [] ys = refl
-flat_map-append f (x ∷ xs) ys = rw (flat_map-append f xs ys) (sym (append_assoc (f x) (flat_map f xs) (flat_map f ys)))
 
 -- a moment after all others is added to the set, once
 pub with_moment-new : (moments : List ℕ) (c : ℕ) → AllBefore moments c → with_moment moments c ≡ moments ++ c ∷ []

@@ -13,13 +13,12 @@ use Rattle.zs_drive.specs.DriverRules.{IsTimeline, IsEnd, BeginsOn, BeginsBy, Be
 use Rattle.zs_drive.specs.DriverLaws.{EndsLater, BeginsLater}
 use Rattle.zs_drive.proofs.Ticks.{lt_cases, first_tick_from-from, first_tick_from-before}
 use Rattle.zs_drive.proofs.Extending.{beat-takes, saturated-after}
-use Rattle.zs_drive.proofs.Following.{timeline_of-keeps}
-use Rattle.zs_drive.proofs.Timing.{timeline-follows}
+use Rattle.zs_drive.proofs.Ruling.{timeline_of-rules}
 
 module _ (job : JobRecord) (script : IsScript job.script) (ticks : List ℕ) (clock : AreTicks ticks) where
   -- the rules at each place of the list
   rules : IsTimeline job ticks (timeline_of job ticks)
-  rules = timeline-follows job ticks (timeline_of job ticks) (timeline_of-keeps job ticks script (max_tick + 1) (omega arith) clock.bounded)
+  rules = timeline_of-rules job ticks script (max_tick + 1) (omega arith) clock.bounded
 
   -- ticks are moments
   tick-small : (x s : ℕ) → first_tick_from ticks x ≡ Some s → s < max_tick + 1
@@ -70,3 +69,5 @@ module _ (job : JobRecord) (script : IsScript job.script) (ticks : List ℕ) (cl
 
   pub begins-later : BeginsLater job ticks
   begins-later earlier later attempt next split = (pair earlier later attempt next split).0
+
+pub ruleset rising = (ends-later, begins-later)

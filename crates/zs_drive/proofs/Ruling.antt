@@ -1,145 +1,112 @@
--- A timeline that satisfies the rules of the drivers at each place follows from the start on.
-use Rattle.std.proofs.Common.{◌≡◌, ℕ, ◌+◌, ◌≤◌, ◌<◌, max, List, [], ◌∷◌, ◌++◌, length, append_assoc, Option, if◌then◌else◌, refl, sym, ◌∙◌, ap, subst, arith}
+-- Only one timeline satisfies the rules of the drivers at each place.
+use Rattle.std.proofs.Common.{◌≡◌, ℕ, ◌-◌, ◌^◌, ◌≤◌, List, [], ◌∷◌, ◌++◌, length, append_assoc, Option, refl, sym, ◌∙◌, arith}
 use Rattle.std.specs.Prelude.{Some, None}
-use Rattle.zs_term.specs.Saturating.{saturated}
-use Rattle.zs_effect.specs.Scripts.{entry_at}
-use Rattle.zs_effect.specs.declared.script.Outcome.{Outcome}
-use Rattle.zs_term.specs.Output.{Output}
-use Rattle.zs_step.specs.declared.decision.Decision.{Decision}
+use Rattle.zs_effect.specs.Scripts.{IsScript}
 use Rattle.zs_step.specs.declared.decision.Decision.TheVariants.{Stop, Next}
-use Rattle.zs_step.specs.History.{History}
-use Rattle.zs_step.specs.Answer.{Answer, answer, answer_of}
+use Rattle.zs_step.specs.Answer.{Answer}
 use Rattle.zs_drive.specs.declared.record.Ending.{Ending}
-use Rattle.zs_drive.specs.Clocks.{first_tick_from}
+use Rattle.zs_drive.specs.Clocks.{AllBefore}
 use Rattle.zs_drive.specs.Values.{JobRecord, AttemptedValue, EndedValue}
-use Rattle.zs_drive.specs.Timeline.{Timeline, number_of, ending_by_outcome, ended_attempt, beat_after}
-use Rattle.zs_drive.specs.Recorded.{AllEnded}
-use Rattle.zs_drive.specs.DriverRules.{history_after}
-use Rattle.zs_drive.proofs.Follows.{GoesOn, IsAsked, EndsAt, Follows}
-use Rattle.zs_drive.specs.DriverRules.{IsTimeline, EndsBy, BeginsAfter, BeginsOn, asked_unless}
-use Rattle.zs_drive.proofs.Ticks.{lt_cases, tick_cases, first_tick_from-from}
-use Rattle.zs_drive.proofs.Steps.{length-history_after, history_after-ended, AllEnded-append}
-
--- the least tick at or after x is the least at or after itself
-pub first_tick_from-again : (ticks : List ℕ) (x e : ℕ) → first_tick_from ticks x ≡ Some e → first_tick_from ticks e ≡ Some e
-unfolding first_tick_from
-first_tick_from-again [] x e = λ is. cc
-first_tick_from-again (t ∷ ticks) x e =
-    tick_cases t x (λ b. (if b then Some t else first_tick_from ticks x) ≡ Some e → first_tick_from (t ∷ ticks) e ≡ Some e)
-    (λ l is.
-    let from : x ≤ e = first_tick_from-from ticks x e is in
-    tick_cases t e (λ b. (if b then Some t else first_tick_from ticks e) ≡ Some e) (λ _. first_tick_from-again ticks x e is) (λ k. absurd (omega arith)))
-    (λ l is.
-    let same : t ≡ e = cc in
-    tick_cases t e (λ b. (if b then Some t else first_tick_from ticks e) ≡ Some e) (λ k. absurd (omega arith)) (λ _. is))
+use Rattle.zs_drive.specs.Timeline.{Timeline, ending_by_outcome, from, timeline_of}
+use Rattle.zs_drive.specs.DriverRules.{IsTimeline, IsEnd, IsLast, StopsBy, StopsOn, BeginsAfter, BeginsBy, BeginsOn, asked_unless}
+use Rattle.zs_drive.proofs.Ticks.{lt_cases, left, left-length}
+use Rattle.zs_drive.proofs.Following.{timeline_of-keeps, from-keeps}
+use Rattle.zs_drive.proofs.Timing.{timeline-follows}
 
 module _ (job : JobRecord) (ticks : List ℕ) where
-  -- a decision to continue at x, after an attempt that ended at e
-  begins-soon : (w e x s : ℕ) → first_tick_from ticks w ≡ Some e → BeginsOn job ticks e s (Next x) → first_tick_from ticks (max x e) ≡ Some s
-  begins-soon w e x s at begins =
-      lt_cases e x (λ _. first_tick_from ticks (max x e) ≡ Some s)
-      (λ l. let greater : max x e ≡ x = omega arith in rw greater (begins.1 l))
-      (λ l. let greater : max x e ≡ e = omega arith in rw (greater, begins.0 l) (first_tick_from-again ticks w e at))
+  -- each rule allows one value
+  one-end : (earlier : List AttemptedValue) (s : ℕ) (a b : Option EndedValue) → IsEnd job ticks earlier s a → IsEnd job ticks earlier s b → a ≡ b
+  one-end earlier s None None first second = refl
+  one-end earlier s None (Some b) first second = let at = second.at in cc
+  one-end earlier s (Some a) None first second = let at = first.at in cc
+  one-end earlier s (Some a) (Some b) first second =
+      let at : a.at ≡ b.at = let one = first.at in let other = second.at in cc in
+      let outcome : a.outcome ≡ b.outcome = first.outcome ∙ sym second.outcome in
+      let step : a.step ≡ b.step = (rw (at, outcome) at first.step) ∙ sym second.step in
+      λ i. Some (record { at = at i; outcome = outcome i; step = step i })
 
-  -- the first of these attempts begins as soon as there is a tick at or after x
-  abbrev pub Starts : ℕ → Option ℕ → Option Ending → List AttemptedValue → Type 0
-  Starts x due ending [] = (first_tick_from ticks x ≡ None) × (due ≡ Some x) × (ending ≡ None)
-  Starts x due ending (a ∷ later) = first_tick_from ticks x ≡ Some a.begun
+  one-begin : (s t : ℕ) (ended : Option EndedValue) → BeginsAfter job ticks s ended → BeginsAfter job ticks t ended → s ≡ t
+  one-begin s t None first second = absurd first
+  one-begin s t (Some end) first second =
+      elim end.step as (λ o. BeginsBy job ticks end.at s o → BeginsBy job ticks end.at t o → s ≡ t) [
+        | None ↦ λ none. absurd none
+        | Some answered ↦ elim answered.decision as (λ d. BeginsOn job ticks end.at s d → BeginsOn job ticks end.at t d → s ≡ t) [
+          | Stop ↦ λ none. absurd none
+          | Next x ↦ λ one other. lt_cases end.at x (λ _. s ≡ t) (λ l. let soon = one.1 l in let so = other.1 l in cc) (λ l. one.0 l ∙ sym (other.0 l))
+        ]
+      ] first second
 
-  module _ (timeline : Timeline) (t : IsTimeline job ticks timeline) where
-    -- no attempt follows one after which the job doesn't continue
-    no-later : (p later : List AttemptedValue) (a : AttemptedValue) → timeline.attempts ≡ p ++ a ∷ later
-        → ((s : ℕ) → BeginsAfter job ticks s a.ended → ⊥) → later ≡ []
-    no-later p [] a is stops = refl
-    no-later p (b ∷ later) a is stops = absurd (stops b.begun (t.next p later a b is))
+  one-stop : (end : EndedValue) (d e : Option ℕ) (x y by : Option Ending) (step : Option Answer)
+      → StopsBy job ticks end d x by step → StopsBy job ticks end e y by step → (d ≡ e) × (x ≡ y)
+  one-stop end d e x y (Some z) step first second = (first.0 ∙ sym second.0, first.1 ∙ sym second.1)
+  one-stop end d e x y None None first second = absurd first
+  one-stop end d e x y None (Some answered) first second =
+      elim answered.decision as (λ c. StopsOn job ticks end d x c → StopsOn job ticks end e y c → (d ≡ e) × (x ≡ y))
+      [ Stop ↦ λ f g. (f.0 ∙ sym g.0, f.1 ∙ sym g.1) | Next z ↦ λ f g. (f.2 ∙ sym g.2, f.3 ∙ sym g.3) ] first second
 
-    -- the next attempt, if there is one
-    starts-next : (p later : List AttemptedValue) (s w e y : ℕ) (outcome : Outcome) (output : Output)
-        → timeline.attempts ≡ p ++ ended_attempt s e outcome (Some (answer output (Next y))) ∷ later
-        → first_tick_from ticks w ≡ Some e → ending_by_outcome job.mode outcome ≡ None
-        → Starts (max y e) timeline.due timeline.ending later
-    starts-next p [] s w e y outcome output is at by =
-        let stops = rw by at (t.last p (ended_attempt s e outcome (Some (answer output (Next y)))) is) in
-        let late : e < y = stops.0 in
-        let greater : max y e ≡ y = omega arith in rw greater (stops.1, stops.2, stops.3)
-    starts-next p (b ∷ later) s w e y outcome output is at by =
-        begins-soon w e y b.begun at (t.next p later (ended_attempt s e outcome (Some (answer output (Next y)))) b is)
+  one-last : (earlier : List AttemptedValue) (s : ℕ) (d e : Option ℕ) (x y : Option Ending) (ended : Option EndedValue)
+      → IsLast job ticks earlier s d x ended → IsLast job ticks earlier s e y ended → (d ≡ e) × (x ≡ y)
+  one-last earlier s d e x y None first second = (first.0 ∙ sym second.0, first.1 ∙ sym second.1)
+  one-last earlier s d e x y (Some end) first second = one-stop end d e x y (ending_by_outcome job.mode end.outcome) end.step first second
 
-    down-goes : (p later : List AttemptedValue) (s w e : ℕ) (outcome : Outcome) (step : Option Answer) (output : Output) (decision : Decision)
-        → timeline.attempts ≡ p ++ record { begun = s; ended = Some (record { at = e; outcome = outcome; step = step }) } ∷ later
-        → first_tick_from ticks w ≡ Some e → ending_by_outcome job.mode outcome ≡ None → step ≡ Some (answer output decision)
-        → ((y : ℕ) → step ≡ Some (answer output (Next y)) → Starts (max y e) timeline.due timeline.ending later
-        → Follows job ticks later timeline.due timeline.ending ((e, number_of outcome) ∷ history_after p) (max y e))
-        → GoesOn job ticks (Follows job ticks later timeline.due timeline.ending) (history_after p) later timeline.due timeline.ending (record { at = e; outcome = outcome; step = step }) decision
-    down-goes p later s w e outcome step output Stop is at by stepped again =
-        let a : AttemptedValue = record { begun = s; ended = Some (record { at = e; outcome = outcome; step = step }) } in
-        let empty : later ≡ [] = no-later p later a is (λ b begins. rw stepped at begins) in
-        let stops = rw (by, stepped) at (t.last p a (is ∙ ap (λ (l : List AttemptedValue). p ++ a ∷ l) empty)) in
-        (empty, stops.0, stops.1)
-    down-goes p later s w e outcome step output (Next y) is at by stepped again =
-        again y stepped (starts-next p later s w e y outcome output (rw stepped at is) at by)
+  -- an attempt that is the last one has none after it
+  stops-here : (end : EndedValue) (s : ℕ) (due : Option ℕ) (ending by : Option Ending) (step : Option Answer) (answered : Answer)
+      → step ≡ asked_unless job ticks by answered → StopsBy job ticks end due ending by step → BeginsBy job ticks end.at s step → ⊥
+  stops-here end s due ending (Some x) step answered is stops begins = rw is at begins
+  stops-here end s due ending None None answered is stops begins = stops
+  stops-here end s due ending None (Some step) answered is stops begins =
+      elim step.decision as (λ d. StopsOn job ticks end due ending d → BeginsOn job ticks end.at s d → ⊥)
+      [ Stop ↦ λ f g. g | Next x ↦ λ f g. let none = f.1 in let some = g.1 f.0 in cc ] stops begins
 
-    down-asked : (p later : List AttemptedValue) (s w e : ℕ) (outcome : Outcome) (step : Option Answer) (by : Option Ending)
-        → timeline.attempts ≡ p ++ record { begun = s; ended = Some (record { at = e; outcome = outcome; step = step }) } ∷ later
-        → first_tick_from ticks w ≡ Some e → ending_by_outcome job.mode outcome ≡ by
-        → step ≡ asked_unless job ticks by (answer_of job.schedule ((e, number_of outcome) ∷ history_after p))
-        → ((y : ℕ) (output : Output) → step ≡ Some (answer output (Next y)) → Starts (max y e) timeline.due timeline.ending later
-        → Follows job ticks later timeline.due timeline.ending ((e, number_of outcome) ∷ history_after p) (max y e))
-        → IsAsked job ticks (Follows job ticks later timeline.due timeline.ending) (history_after p) later timeline.due timeline.ending (record { at = e; outcome = outcome; step = step }) by
-    down-asked p later s w e outcome step (Some x) is at by stepped again =
-        let a : AttemptedValue = record { begun = s; ended = Some (record { at = e; outcome = outcome; step = step }) } in
-        let empty : later ≡ [] = no-later p later a is (λ b begins. rw stepped at begins) in
-        let stops = rw by at (t.last p a (is ∙ ap (λ (l : List AttemptedValue). p ++ a ∷ l) empty)) in
-        (stepped, empty, stops.0, stops.1)
-    down-asked p later s w e outcome step None is at by stepped again =
-        let answered = answer_of job.schedule ((e, number_of outcome) ∷ history_after p) in
-        (stepped, down-goes p later s w e outcome step answered.output answered.decision is at by stepped (λ y. again y answered.output))
+  none-after : (earlier : List AttemptedValue) (s next : ℕ) (due : Option ℕ) (ending : Option Ending) (ended : Option EndedValue)
+      → IsEnd job ticks earlier s ended → IsLast job ticks earlier s due ending ended → BeginsAfter job ticks next ended → ⊥
+  none-after earlier s next due ending None ends last begins = begins
+  none-after earlier s next due ending (Some end) ends last begins =
+      stops-here end next due ending (ending_by_outcome job.mode end.outcome) end.step _ ends.step last begins
 
-    down-end : (p later : List AttemptedValue) (s : ℕ) (ended : Option EndedValue) → AllEnded p
-        → timeline.attempts ≡ p ++ record { begun = s; ended = ended } ∷ later
-        → ((e y : ℕ) (outcome : Outcome) (step : Option Answer) → ended ≡ Some (record { at = e; outcome = outcome; step = step }) → Starts (max y e) timeline.due timeline.ending later
-        → Follows job ticks later timeline.due timeline.ending ((e, number_of outcome) ∷ history_after p) (max y e))
-        → EndsAt job ticks (Follows job ticks later timeline.due timeline.ending) (history_after p) later timeline.due timeline.ending (saturated (s + (beat_after job (history_after p)).ms)) ended
-    down-end p later s None all is again =
-        let a : AttemptedValue = record { begun = s; ended = None } in
-        let count : length p ≡ length (history_after p) = sym (length-history_after p all) in
-        let at : first_tick_from ticks (saturated (s + (entry_at job.script (length p + 1)).ms)) ≡ None = t.ends p later a is in
-        let empty : later ≡ [] = no-later p later a is (λ b begins. begins) in
-        let stops : (timeline.due ≡ Some (saturated (s + (entry_at job.script (length p + 1)).ms))) × (timeline.ending ≡ None) = t.last p a (is ∙ ap (λ (l : List AttemptedValue). p ++ a ∷ l) empty) in
-        let waits : timeline.due ≡ Some (saturated (s + (entry_at job.script (length p + 1)).ms)) = stops.0 in
-        (rw count at at, empty, rw count at waits, stops.1)
-    down-end p later s (Some end) all is again =
-        let a : AttemptedValue = record { begun = s; ended = Some end } in
-        let count : length p ≡ length (history_after p) = sym (length-history_after p all) in
-        let ends : EndsBy job ticks p s end = t.ends p later a is in
-        let at : first_tick_from ticks (saturated (s + (entry_at job.script (length p + 1)).ms)) ≡ Some end.at = ends.at in
-        let own : end.outcome ≡ (entry_at job.script (length p + 1)).outcome = ends.outcome in
-        let late : first_tick_from ticks (saturated (s + (beat_after job (history_after p)).ms)) ≡ Some end.at = rw count at at in (
-          late,
-          rw count at own,
-          down-asked p later s (saturated (s + (beat_after job (history_after p)).ms)) end.at end.outcome end.step (ending_by_outcome job.mode end.outcome) is late refl ends.step
-              (λ y output stepped. again end.at y end.outcome end.step refl),
-        )
+  module _ (t u : Timeline) (one : IsTimeline job ticks t) (other : IsTimeline job ticks u) where
+    same-parts : t.attempts ≡ u.attempts → t.due ≡ u.due → t.ending ≡ u.ending → t ≡ u
+    same-parts attempts due ending = λ i. record { attempts = attempts i; due = due i; ending = ending i }
 
-    down : (attempts p : List AttemptedValue) (x : ℕ) → AllEnded p → timeline.attempts ≡ p ++ attempts → Starts x timeline.due timeline.ending attempts
-        → Follows job ticks attempts timeline.due timeline.ending (history_after p) x
-    unfolding Follows
-    down [] p x all is starts = starts
-    down (a ∷ later) p x all is starts = (
-      starts,
-      down-end p later a.begun a.ended all is (λ e y outcome step ended begins.
-          let q : AttemptedValue = ended_attempt a.begun e outcome step in
-          let same : a ≡ q = ap (λ (o : Option EndedValue). record { begun = a.begun; ended = o }) ended in
-          let split : timeline.attempts ≡ (p ++ q ∷ []) ++ later = is ∙ ap (λ (b : AttemptedValue). p ++ b ∷ later) same ∙ sym (append_assoc p (q ∷ []) later) in
-          subst (λ (h : History). Follows job ticks later timeline.due timeline.ending h (max y e)) (history_after-ended p a.begun e outcome step)
-          (down later (p ++ q ∷ []) (max y e) (AllEnded-append p a.begun e outcome step all) split begins)),
-    )
+    -- two attempts at one place that begin at one moment
+    same-attempt : (earlier xs ys : List AttemptedValue) (x y : AttemptedValue) → t.attempts ≡ earlier ++ x ∷ xs → u.attempts ≡ earlier ++ y ∷ ys
+        → x.begun ≡ y.begun → x ≡ y
+    same-attempt earlier xs ys x y left right begun =
+        let ended : x.ended ≡ y.ended = one-end earlier x.begun x.ended y.ended (one.ends earlier xs x left) (rw begun (other.ends earlier ys y right)) in
+        λ i. record { begun = begun i; ended = ended i }
 
-    starts-first : (attempts : List AttemptedValue) → timeline.attempts ≡ attempts → Starts job.start timeline.due timeline.ending attempts
-    starts-first [] is = t.none is
-    starts-first (a ∷ later) is = t.first a later is
+    -- the same attempts so far, and so the same ones from there on
+    same-from : (xs ys earlier : List AttemptedValue) (a : AttemptedValue) → t.attempts ≡ earlier ++ a ∷ xs → u.attempts ≡ earlier ++ a ∷ ys → t ≡ u
+    same-from [] [] earlier a before also =
+        let same = one-last earlier a.begun t.due u.due t.ending u.ending a.ended (one.last earlier a before) (other.last earlier a also) in
+        same-parts (before ∙ sym also) same.0 same.1
+    same-from [] (y ∷ ys) earlier a left right =
+        absurd (none-after earlier a.begun y.begun t.due t.ending a.ended (one.ends earlier [] a left) (one.last earlier a left) (other.next earlier ys a y right))
+    same-from (x ∷ xs) [] earlier a left right =
+        absurd (none-after earlier a.begun x.begun u.due u.ending a.ended (other.ends earlier [] a right) (other.last earlier a right) (one.next earlier xs a x left))
+    same-from (x ∷ xs) (y ∷ ys) earlier a left right =
+        let begun = one-begin x.begun y.begun a.ended (one.next earlier xs a x left) (other.next earlier ys a y right) in
+        let so = left ∙ sym (append_assoc earlier (a ∷ []) (x ∷ xs)) in
+        let also = right ∙ sym (append_assoc earlier (a ∷ []) (y ∷ ys)) in
+        same-from xs ys (earlier ++ a ∷ []) x so (rw (same-attempt (earlier ++ a ∷ []) xs ys x y so also begun) also)
 
-    -- a timeline that satisfies the rules at each place follows from the start on
-    pub follows-timeline : Follows job ticks timeline.attempts timeline.due timeline.ending [] job.start
-    unfolding AllEnded
-    follows-timeline = down timeline.attempts [] job.start tt refl (starts-first timeline.attempts refl)
+    same-timeline : (xs ys : List AttemptedValue) → t.attempts ≡ xs → u.attempts ≡ ys → t ≡ u
+    same-timeline [] [] left right = same-parts (left ∙ sym right) ((one.none left).1 ∙ sym (other.none right).1) ((one.none left).2 ∙ sym (other.none right).2)
+    same-timeline [] (y ∷ ys) left right = let none = one.none left in let some = other.first y ys right in cc
+    same-timeline (x ∷ xs) [] left right = let some = one.first x xs left in let none = other.none right in cc
+    same-timeline (x ∷ xs) (y ∷ ys) left right =
+        let begun : x.begun ≡ y.begun = let first = one.first x xs left in let also = other.first y ys right in cc in
+        same-from xs ys [] x left (rw (same-attempt [] xs ys x y left right begun) right)
+
+  module _ (script : IsScript job.script) (c : ℕ) (small : c ≤ 2 ^ 64 - 1) (all : AllBefore ticks c) where
+    pub timeline_of-rules : IsTimeline job ticks (timeline_of job ticks)
+    timeline_of-rules = timeline-follows job ticks (timeline_of job ticks) (timeline_of-keeps job ticks script c small all)
+
+    pub timeline_of-only : (timeline : Timeline) → IsTimeline job ticks timeline → timeline ≡ timeline_of job ticks
+    timeline_of-only timeline rules = same-timeline timeline (timeline_of job ticks) rules timeline_of-rules timeline.attempts (timeline_of job ticks).attempts refl refl
+
+    -- a greater bound on the attempts changes nothing
+    pub timeline_of-bound : (n : ℕ) → length ticks ≤ n → from job ticks n [] job.start ≡ timeline_of job ticks
+    timeline_of-bound n fits =
+        let some : left ticks job.start ≤ n = let few = left-length ticks job.start in omega arith in
+        timeline_of-only (from job ticks n [] job.start) (timeline-follows job ticks (from job ticks n [] job.start) (from-keeps job ticks script c small all n [] job.start some))

@@ -29,3 +29,5 @@ module _ (t : Inside) (is : IsTask t) (task : TaskValue) (view : task_of t ≡ t
       let counted = is.progress.on_timeline.counted in
       let clock = length-clock (poll_moments (attempts_of t.progress.value)) is.progress.on_timeline.clock in
       rw stands (omega (arith, few, counted, clock))
+
+pub ruleset standing = (stands, polled-moments, polls-counted, attempts-few)

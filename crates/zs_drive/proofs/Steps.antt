@@ -1,64 +1,27 @@
 -- What a due poll does to the records, by what was due and by the schedule's result.
-use Rattle.std.proofs.Common.{◌≡◌, ℕ, suc, ◌+◌, ◌≤◌, ◌<◌, max, List, [], ◌∷◌, ◌++◌, length, length-append, append_assoc, append-nil, Option, if◌then◌else◌, refl, sym, ◌∙◌, ap, arith}
-use Rattle.std.specs.Prelude.{Some, None, IsSome, flat_map, slice_set}
+use Rattle.std.proofs.Common.{◌≡◌, ℕ, ◌+◌, ◌≤◌, ◌<◌, max, List, [], ◌∷◌, ◌++◌, length, length-append, append-nil, sym, ◌∙◌, ap, arith}
+use Rattle.std.specs.Prelude.{Some, None}
 use Rattle.zs_term.specs.Saturating.{saturated}
 use Rattle.zs_effect.specs.Scripts.{entry_at}
 use Rattle.zs_effect.specs.declared.script.Outcome.{Outcome}
 use Rattle.zs_term.specs.Output.{Output}
-use Rattle.zs_step.specs.History.{History}
-use Rattle.zs_step.specs.Answer.{Answer, answer, answer_of}
+use Rattle.zs_step.specs.Answer.{answer, answer_of}
 use Rattle.zs_step.specs.declared.decision.Decision.{Decision}
 use Rattle.zs_step.specs.declared.decision.Decision.TheVariants.{Stop, Next}
 use Rattle.zs_drive.specs.declared.record.Ending.{Ending}
 use Rattle.zs_drive.specs.Values.{JobRecord, AttemptedValue}
-use Rattle.zs_drive.specs.Timeline.{Timeline, before, waiting, running, number_of, ended_attempt, ending_by_outcome, ending_by_schedule, beat_after, by_answer, by_outcome, moments_of}
+use Rattle.zs_drive.specs.Timeline.{Timeline, before, number_of, ended_attempt, ending_by_outcome, ending_by_schedule, beat_after, by_answer, by_outcome}
 use Rattle.zs_drive.specs.Recorded.{AllEnded}
-use Rattle.zs_drive.specs.DriverRules.{pair_of, longer_by, history_from, history_after}
-use Rattle.zs_drive.proofs.Ticks.{lt_cases}
-use Rattle.zs_drive.proofs.Moments.{fold-append, flat_map-append}
-use Rattle.zs_drive.proofs.Extending.{resume, close, extend, extend_none, extend_last, extended}
+use Rattle.zs_drive.specs.DriverRules.{history_after}
+use Rattle.zs_drive.proofs.Extending.{resume, extend, extend_none, extend_last, extended, resume-soon, resume-late, close-soon}
+use Rattle.zs_drive.proofs.Timing.{length-history_after}
 use Rattle.zs_drive.proofs.Records.{after, extend-ended}
 
 -- an attempt that began at s and is running
 abbrev pub runs : ℕ → AttemptedValue
 runs s = record { begun = s; ended = None }
 
-length-history_from : (h : History) (attempts : List AttemptedValue) → AllEnded attempts → length (history_from h attempts) ≡ length h + length attempts
-unfolding AllEnded
-length-history_from h [] all = omega arith
-length-history_from h (attempt ∷ attempts) all =
-    elim attempt.ended as (λ o. IsSome o → length (history_from (longer_by h o) attempts) ≡ length h + suc (length attempts))
-    [ None ↦ λ some. cc | Some end ↦ λ some. let rest = length-history_from (pair_of end ∷ h) attempts all.1 in omega arith ] all.0
-
-pub length-history_after : (attempts : List AttemptedValue) → AllEnded attempts → length (history_after attempts) ≡ length attempts
-length-history_after attempts all = length-history_from [] attempts all ∙ omega arith
-
-pub AllEnded-append : (attempts : List AttemptedValue) (s e : ℕ) (outcome : Outcome) (step : Option Answer) → AllEnded attempts
-    → AllEnded (attempts ++ ended_attempt s e outcome step ∷ [])
-unfolding AllEnded
-AllEnded-append [] s e outcome step all = (refl, tt)
-AllEnded-append (attempt ∷ attempts) s e outcome step all = (all.0, AllEnded-append attempts s e outcome step all.1)
-
-pub history_after-ended : (attempts : List AttemptedValue) (s e : ℕ) (outcome : Outcome) (step : Option Answer)
-    → history_after (attempts ++ ended_attempt s e outcome step ∷ []) ≡ (e, number_of outcome) ∷ history_after attempts
-history_after-ended attempts s e outcome step = fold-append _ [] attempts (ended_attempt s e outcome step ∷ [])
-
--- an element in the middle of a list is replaced
-pub set-middle : {A : Type 0} (xs : List A) (y z : A) (ys : List A) → slice_set (xs ++ y ∷ ys) (length xs) z ≡ xs ++ z ∷ ys
-set-middle [] y z ys = refl
-set-middle (x ∷ xs) y z ys = ap (◌∷◌ x) (set-middle xs y z ys)
-
 module _ (job : JobRecord) (seen : ℕ) where
-  resume-soon : (h : History) (x : ℕ) → x ≤ seen → resume job seen h x ≡ running seen (saturated (seen + (beat_after job h).ms))
-  unfolding resume
-  resume-soon h x le = lt_cases seen x (λ b. (if b then waiting x else running seen (saturated (seen + (beat_after job h).ms))) ≡ running seen (saturated (seen + (beat_after job h).ms)))
-      (λ l. absurd (omega arith)) (λ _. refl)
-
-  resume-late : (h : History) (x : ℕ) → seen < x → resume job seen h x ≡ waiting x
-  unfolding resume
-  resume-late h x lt = lt_cases seen x (λ b. (if b then waiting x else running seen (saturated (seen + (beat_after job h).ms))) ≡ waiting x)
-      (λ _. refl) (λ l. absurd (omega arith))
-
   -- the due attempt begins
   pub begins : (attempts : List AttemptedValue) (x : ℕ) → AllEnded attempts → x ≤ seen
       → record { attempts = attempts ++ runs seen ∷ []; due = Some (saturated (seen + (entry_at job.script (length attempts + 1)).ms)); ending = None }
@@ -67,19 +30,15 @@ module _ (job : JobRecord) (seen : ℕ) where
   begins attempts x all due =
       let same : length (history_after attempts) ≡ length attempts = length-history_after attempts all in
       let whole = rw (append-nil attempts) at (extend-ended job seen [] attempts [] (Some x) None all) in
-      let soon = rw same at (resume-soon (history_after attempts) x due) in
+      let soon = rw same at (resume-soon job seen (history_after attempts) x due) in
       sym (whole ∙ ap (after attempts) soon)
 
   -- the attempt that runs ends
   pub closes : (others : List AttemptedValue) (s w : ℕ) → AllEnded others → w ≤ seen
       → extended job seen [] (record { attempts = others ++ runs s ∷ []; due = Some w; ending = None })
       ≡ after others (let outcome = (beat_after job (history_after others)).outcome in by_outcome job (resume job seen) (history_after others) s seen outcome (ending_by_outcome job.mode outcome))
-  unfolding extend extend_last close
-  closes others s w all due =
-      extend-ended job seen [] others (runs s ∷ []) (Some w) None all
-      ∙ ap (after others) (lt_cases seen w (λ b. (if b then running s w else (let outcome = (beat_after job (history_after others)).outcome in by_outcome job (resume job seen) (history_after others) s seen outcome (ending_by_outcome job.mode outcome)))
-      ≡ (let outcome = (beat_after job (history_after others)).outcome in by_outcome job (resume job seen) (history_after others) s seen outcome (ending_by_outcome job.mode outcome)))
-      (λ l. absurd (omega arith)) (λ _. refl))
+  unfolding extend extend_last
+  closes others s w all due = extend-ended job seen [] others (runs s ∷ []) (Some w) None all ∙ ap (after others) (close-soon job seen (history_after others) s w due)
 
   module _ (others : List AttemptedValue) (s w : ℕ) (outcome : Outcome) (all : AllEnded others) (due : w ≤ seen) (is : outcome ≡ (beat_after job (history_after others)).outcome) where
     -- the outcome itself ends the job
@@ -90,67 +49,47 @@ module _ (job : JobRecord) (seen : ℕ) where
     ends-by_outcome ending by =
         let whole = rw (← is, by) at (closes others s w all due) in sym whole
 
-    -- the schedule is stepped, and returns this
-    module _ (none : ending_by_outcome job.mode outcome ≡ None) where
-      pub ends-by_answer : (output : Output) (decision : Decision) → answer output decision ≡ answer_of job.schedule ((seen, number_of outcome) ∷ history_after others)
+    module _ (none : ending_by_outcome job.mode outcome ≡ None) (output : Output) where
+      -- the schedule is stepped, and returns this
+      ends-by_answer : (decision : Decision) → answer output decision ≡ answer_of job.schedule ((seen, number_of outcome) ∷ history_after others)
           → extended job seen [] (record { attempts = others ++ runs s ∷ []; due = Some w; ending = None })
           ≡ after others (by_answer job (resume job seen) ((seen, number_of outcome) ∷ history_after others) s seen outcome output decision)
       unfolding by_outcome
-      ends-by_answer output decision answered =
+      ends-by_answer decision answered =
           let whole = rw (← is, none, ← answered) at (closes others s w all due) in whole
 
-  module _ (others : List AttemptedValue) (s w : ℕ) (outcome : Outcome) (all : AllEnded others) (due : w ≤ seen) (is : outcome ≡ (beat_after job (history_after others)).outcome)
-      (none : ending_by_outcome job.mode outcome ≡ None) (output : Output) where
-    -- the schedule is done
-    pub stops : answer output Stop ≡ answer_of job.schedule ((seen, number_of outcome) ∷ history_after others)
-        → record { attempts = others ++ ended_attempt s seen outcome (Some (answer output Stop)) ∷ []; due = None; ending = Some (ending_by_schedule job.mode outcome) }
-        ≡ extended job seen [] (record { attempts = others ++ runs s ∷ []; due = Some w; ending = None })
-    unfolding by_answer
-    stops answered = sym (ends-by_answer others s w outcome all due is none output Stop answered)
+      -- the schedule is done
+      pub stops : answer output Stop ≡ answer_of job.schedule ((seen, number_of outcome) ∷ history_after others)
+          → record { attempts = others ++ ended_attempt s seen outcome (Some (answer output Stop)) ∷ []; due = None; ending = Some (ending_by_schedule job.mode outcome) }
+          ≡ extended job seen [] (record { attempts = others ++ runs s ∷ []; due = Some w; ending = None })
+      unfolding by_answer
+      stops answered = sym (ends-by_answer Stop answered)
 
-    -- the next attempt is later
-    pub waits : (x : ℕ) → answer output (Next x) ≡ answer_of job.schedule ((seen, number_of outcome) ∷ history_after others) → seen < x
-        → record { attempts = others ++ ended_attempt s seen outcome (Some (answer output (Next x))) ∷ []; due = Some x; ending = None }
-        ≡ extended job seen [] (record { attempts = others ++ runs s ∷ []; due = Some w; ending = None })
-    unfolding by_answer
-    waits x answered later =
-        let greater : max x seen ≡ x = omega arith in
-        let whole = rw (greater, resume-late ((seen, number_of outcome) ∷ history_after others) x later)
-        at (ends-by_answer others s w outcome all due is none output (Next x) answered) in
-        sym whole
+      -- the next attempt is later
+      pub waits : (x : ℕ) → answer output (Next x) ≡ answer_of job.schedule ((seen, number_of outcome) ∷ history_after others) → seen < x
+          → record { attempts = others ++ ended_attempt s seen outcome (Some (answer output (Next x))) ∷ []; due = Some x; ending = None }
+          ≡ extended job seen [] (record { attempts = others ++ runs s ∷ []; due = Some w; ending = None })
+      unfolding by_answer
+      waits x answered later =
+          let greater : max x seen ≡ x = omega arith in
+          let whole = rw (greater, resume-late job seen ((seen, number_of outcome) ∷ history_after others) x later)
+          at (ends-by_answer (Next x) answered) in
+          sym whole
 
-    -- the next attempt begins in the same poll
-    pub restarts : (x : ℕ) → answer output (Next x) ≡ answer_of job.schedule ((seen, number_of outcome) ∷ history_after others) → x ≤ seen
-        → record {
-          attempts = others ++ ended_attempt s seen outcome (Some (answer output (Next x))) ∷ runs seen ∷ [];
-          due = Some (saturated (seen + (entry_at job.script (length (others ++ runs s ∷ []) + 1)).ms));
-          ending = None;
-        }
-        ≡ extended job seen [] (record { attempts = others ++ runs s ∷ []; due = Some w; ending = None })
-    unfolding by_answer
-    restarts x answered soon =
-        let greater : max x seen ≡ seen = omega arith in
-        let longer = (seen, number_of outcome) ∷ history_after others in
-        let same : length longer ≡ length (others ++ runs s ∷ []) =
-        let n = length-history_after others all in let m = length-append others (runs s ∷ []) in omega arith in
-        let begun = rw same at (resume-soon longer seen (omega arith)) in
-        let whole = rw greater at (ends-by_answer others s w outcome all due is none output (Next x) answered) in
-        sym (whole ∙ ap (λ (timeline : Timeline). after others (before (ended_attempt s seen outcome (Some (answer output (Next x)))) timeline)) begun)
-
--- the moments of the records, as they grow
-pub moments-begun : (attempts : List AttemptedValue) (c : ℕ) → flat_map moments_of (attempts ++ runs c ∷ []) ≡ flat_map moments_of attempts ++ c ∷ []
-moments-begun attempts c = flat_map-append moments_of attempts (runs c ∷ [])
-
-pub moments-ended : (others : List AttemptedValue) (s c : ℕ) (outcome : Outcome) (step : Option Answer)
-    → flat_map moments_of (others ++ ended_attempt s c outcome step ∷ []) ≡ flat_map moments_of (others ++ runs s ∷ []) ++ c ∷ []
-moments-ended others s c outcome step =
-    flat_map-append moments_of others (ended_attempt s c outcome step ∷ [])
-    ∙ sym (append_assoc (flat_map moments_of others) (s ∷ []) (c ∷ []))
-    ∙ ap (λ (xs : List ℕ). xs ++ c ∷ []) (sym (flat_map-append moments_of others (runs s ∷ [])))
-
-pub moments-restarted : (others : List AttemptedValue) (s c : ℕ) (outcome : Outcome) (step : Option Answer)
-    → flat_map moments_of (others ++ ended_attempt s c outcome step ∷ runs c ∷ []) ≡ flat_map moments_of (others ++ runs s ∷ []) ++ c ∷ c ∷ []
-moments-restarted others s c outcome step =
-    flat_map-append moments_of others (ended_attempt s c outcome step ∷ runs c ∷ [])
-    ∙ sym (append_assoc (flat_map moments_of others) (s ∷ []) (c ∷ c ∷ []))
-    ∙ ap (λ (xs : List ℕ). xs ++ c ∷ c ∷ []) (sym (flat_map-append moments_of others (runs s ∷ [])))
+      -- the next attempt begins in the same poll
+      pub restarts : (x : ℕ) → answer output (Next x) ≡ answer_of job.schedule ((seen, number_of outcome) ∷ history_after others) → x ≤ seen
+          → record {
+            attempts = others ++ ended_attempt s seen outcome (Some (answer output (Next x))) ∷ runs seen ∷ [];
+            due = Some (saturated (seen + (entry_at job.script (length (others ++ runs s ∷ []) + 1)).ms));
+            ending = None;
+          }
+          ≡ extended job seen [] (record { attempts = others ++ runs s ∷ []; due = Some w; ending = None })
+      unfolding by_answer
+      restarts x answered soon =
+          let greater : max x seen ≡ seen = omega arith in
+          let longer = (seen, number_of outcome) ∷ history_after others in
+          let same : length longer ≡ length (others ++ runs s ∷ []) =
+          let n = length-history_after others all in let m = length-append others (runs s ∷ []) in omega arith in
+          let begun = rw same at (resume-soon job seen longer seen (omega arith)) in
+          let whole = rw greater at (ends-by_answer (Next x) answered) in
+          sym (whole ∙ ap (λ (timeline : Timeline). after others (before (ended_attempt s seen outcome (Some (answer output (Next x)))) timeline)) begun)

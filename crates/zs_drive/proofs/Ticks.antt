@@ -1,9 +1,12 @@
--- The least tick of a clock, and of one with one more tick.
-use Rattle.std.proofs.Common.{◌≡◌, ℕ, suc, ◌≤◌, ◌<◌, List, [], ◌∷◌, ◌++◌, length, nat_lt, nat_le, true, false, Bool, if◌then◌else◌, refl, arith}
+-- The least tick of a clock, and of one with one more tick; attempts take time.
+use Rattle.std.proofs.Common.{◌≡◌, ℕ, suc, ◌+◌, ◌-◌, ◌^◌, ◌≤◌, ◌<◌, min, List, [], ◌∷◌, ◌++◌, length, nat_lt, nat_le, true, false, Bool, if◌then◌else◌, refl, arith}
 use Rattle.std.specs.Prelude.{Some, None}
 use Rattle.std.proofs.lemmas.Bool.{ltb-true}
 use Rattle.std.proofs.lemmas.Bool.Decides.{nat_tests}
 use borrow.Author.Tests.{ltb-false}
+use Rattle.zs_term.specs.Saturating.{saturated}
+use Rattle.zs_effect.specs.Scripts.{IsScript, entry_at, no_entry}
+use Rattle.zs_effect.specs.declared.script.Beat.{Beat}
 use Rattle.zs_drive.specs.Clocks.{first_tick_from, AllBefore}
 
 -- by cases on a test
@@ -80,6 +83,19 @@ AllBefore-none (t ∷ ticks) x =
     tick_cases t x (λ b. (if b then Some t else first_tick_from ticks x) ≡ None → (t < x) × AllBefore ticks x)
     (λ l e. (l, AllBefore-none ticks x e)) (λ _ e. cc)
 
+-- the least tick at or after x is the least at or after itself
+pub first_tick_from-again : (ticks : List ℕ) (x e : ℕ) → first_tick_from ticks x ≡ Some e → first_tick_from ticks e ≡ Some e
+unfolding first_tick_from
+first_tick_from-again [] x e = λ is. cc
+first_tick_from-again (t ∷ ticks) x e =
+    tick_cases t x (λ b. (if b then Some t else first_tick_from ticks x) ≡ Some e → first_tick_from (t ∷ ticks) e ≡ Some e)
+    (λ l is.
+    let from : x ≤ e = first_tick_from-from ticks x e is in
+    tick_cases t e (λ b. (if b then Some t else first_tick_from ticks e) ≡ Some e) (λ _. first_tick_from-again ticks x e is) (λ k. absurd (omega arith)))
+    (λ l is.
+    let same : t ≡ e = cc in
+    tick_cases t e (λ b. (if b then Some t else first_tick_from ticks e) ≡ Some e) (λ k. absurd (omega arith)) (λ _. is))
+
 pub left-none : (ticks : List ℕ) (x : ℕ) → left ticks x ≤ 0 → first_tick_from ticks x ≡ None
 unfolding first_tick_from left
 left-none [] x = λ h. refl
@@ -117,3 +133,13 @@ left-after (t ∷ ticks) x s y n =
     let same : t ≡ s = cc in
     let fewer : left ticks y ≤ left ticks x = left-later ticks x y (omega arith) in
     tick_cases t y (λ b. (if b then suc (left ticks y) else left ticks y) ≤ n) (λ _. omega arith) (λ k. absurd (omega arith)))
+
+-- an attempt takes at least 1 ms
+pub beat-takes : (beats : List Beat) (k : ℕ) → IsScript beats → 1 ≤ (entry_at beats k).ms
+beat-takes beats k script =
+    let index : min k (length beats) - 1 < length beats = omega (arith, script.some) in
+    script.timed (min k (length beats) - 1) no_entry index
+
+-- so it ends after it began
+pub saturated-after : (s c ms : ℕ) → s ≤ c → c < 2 ^ 64 - 1 → 1 ≤ ms → s < saturated (s + ms)
+saturated-after s c ms h k l = omega arith

@@ -1,156 +1,142 @@
 -- A timeline that follows from the start on satisfies the rules of the drivers at each place.
-use Rattle.std.proofs.Common.{◌≡◌, ℕ, ◌+◌, ◌<◌, max, List, [], ◌∷◌, ◌++◌, length, append_assoc, append-nil, Option, refl, sym, ◌∙◌, ap, subst, arith}
-use Rattle.std.specs.Prelude.{Some, None}
-use Rattle.zs_term.specs.Saturating.{saturated}
-use Rattle.zs_effect.specs.Scripts.{entry_at}
+use Rattle.std.proofs.Common.{◌≡◌, ℕ, suc, ◌+◌, max, List, [], ◌∷◌, ◌++◌, length, length-append, append_assoc, append-nil, Option, refl, sym, ◌∙◌, ap, subst, arith}
+use Rattle.std.specs.Prelude.{Some, None, IsSome}
+use Rattle.std.proofs.lemmas.Grind.{fold-append}
 use Rattle.zs_effect.specs.declared.script.Outcome.{Outcome}
+use Rattle.zs_term.specs.Saturating.{saturated}
 use Rattle.zs_term.specs.Output.{Output}
-use Rattle.zs_step.specs.declared.decision.Decision.{Decision}
 use Rattle.zs_step.specs.declared.decision.Decision.TheVariants.{Stop, Next}
 use Rattle.zs_step.specs.History.{History}
 use Rattle.zs_step.specs.Answer.{Answer, answer, answer_of}
-use Rattle.zs_drive.specs.declared.record.Ending.{Ending}
 use Rattle.zs_drive.specs.Clocks.{first_tick_from}
 use Rattle.zs_drive.specs.Values.{JobRecord, AttemptedValue, EndedValue}
 use Rattle.zs_drive.specs.Timeline.{Timeline, number_of, ending_by_outcome, ended_attempt, beat_after}
 use Rattle.zs_drive.specs.Recorded.{AllEnded}
-use Rattle.zs_drive.specs.DriverRules.{history_after}
+use Rattle.zs_drive.specs.DriverRules.{pair_of, longer_by, history_from, history_after, IsTimeline, IsEnd, IsLast, StopsBy, StopsOn, BeginsAfter, asked_unless}
 use Rattle.zs_drive.proofs.Follows.{GoesOn, IsAsked, EndsAt, Follows}
-use Rattle.zs_drive.specs.DriverRules.{IsTimeline, IsEnd, IsLast, StopsBy, StopsOn, BeginsAfter, asked_unless}
-use Rattle.zs_drive.proofs.Ticks.{lt_cases}
-use Rattle.zs_drive.proofs.Steps.{length-history_after, history_after-ended, AllEnded-append}
-use Rattle.zs_drive.proofs.Ruling.{first_tick_from-again}
+use Rattle.zs_drive.proofs.Ticks.{lt_cases, first_tick_from-again}
 
-not-empty : (xs ys : List AttemptedValue) (a : AttemptedValue) → xs ++ a ∷ ys ≡ [] → ⊥
-not-empty [] ys a is = cc
-not-empty (x ∷ xs) ys a is = cc
+length-history_from : (h : History) (attempts : List AttemptedValue) → AllEnded attempts → length (history_from h attempts) ≡ length h + length attempts
+unfolding AllEnded
+length-history_from h [] all = omega arith
+length-history_from h (attempt ∷ attempts) all =
+    elim attempt.ended as (λ o. IsSome o → length (history_from (longer_by h o) attempts) ≡ length h + suc (length attempts))
+    [ None ↦ λ some. cc | Some end ↦ λ some. let rest = length-history_from (pair_of end ∷ h) attempts all.1 in omega arith ] all.0
 
-module _ (job : JobRecord) (ticks : List ℕ) (due : Option ℕ) (ending : Option Ending) where
+pub length-history_after : (attempts : List AttemptedValue) → AllEnded attempts → length (history_after attempts) ≡ length attempts
+length-history_after attempts all = length-history_from [] attempts all ∙ omega arith
+
+pub AllEnded-append : (attempts : List AttemptedValue) (s e : ℕ) (outcome : Outcome) (step : Option Answer) → AllEnded attempts
+    → AllEnded (attempts ++ ended_attempt s e outcome step ∷ [])
+unfolding AllEnded
+AllEnded-append [] s e outcome step all = (refl, tt)
+AllEnded-append (attempt ∷ attempts) s e outcome step all = (all.0, AllEnded-append attempts s e outcome step all.1)
+
+pub history_after-ended : (attempts : List AttemptedValue) (s e : ℕ) (outcome : Outcome) (step : Option Answer)
+    → history_after (attempts ++ ended_attempt s e outcome step ∷ []) ≡ (e, number_of outcome) ∷ history_after attempts
+history_after-ended attempts s e outcome step = fold-append _ [] attempts (ended_attempt s e outcome step ∷ [])
+
+module _ (job : JobRecord) (ticks : List ℕ) (timeline : Timeline) where
+  -- what is required of the attempts after history h and moment x
+  abbrev Rest : List AttemptedValue → History → ℕ → Type 0
+  Rest later = Follows job ticks later timeline.due timeline.ending
+
+  -- what is required of the end of an attempt that began at s after history h
+  abbrev Ends : List AttemptedValue → History → ℕ → Option EndedValue → Type 0
+  Ends later h s ended = EndsAt job ticks (Rest later) h later timeline.due timeline.ending (saturated (s + (beat_after job h).ms)) ended
+
   -- an attempt that ended, after which the schedule continued at y
-  record Goes (later : List AttemptedValue) (h : History) (w : ℕ) (ended : Option EndedValue) : Type 0 where
-    pub e : ℕ
-    pub outcome : Outcome
+  record Goes (later : List AttemptedValue) (h : History) (s : ℕ) (ended : Option EndedValue) : Type 0 where
+    pub end : EndedValue
     pub output : Output
     pub y : ℕ
-    pub is : ended ≡ Some (record { at = e; outcome = outcome; step = Some (answer output (Next y)) })
-    pub at : first_tick_from ticks w ≡ Some e
-    pub follows : Follows job ticks later due ending ((e, number_of outcome) ∷ h) (max y e)
+    pub is : ended ≡ Some end
+    pub at : first_tick_from ticks (saturated (s + (beat_after job h).ms)) ≡ Some end.at
+    pub step : end.step ≡ Some (answer output (Next y))
+    pub follows : Rest later ((end.at, number_of end.outcome) ∷ h) (max y end.at)
 
-  goes-on : (later : List AttemptedValue) (h : History) (w e : ℕ) (outcome : Outcome) (step : Option Answer) (output : Output) (decision : Decision)
-      → (later ≡ [] → ⊥) → first_tick_from ticks w ≡ Some e → step ≡ Some (answer output decision)
-      → GoesOn job ticks (Follows job ticks later due ending) h later due ending (record { at = e; outcome = outcome; step = step }) decision
-      → Goes later h w (Some (record { at = e; outcome = outcome; step = step }))
-  goes-on later h w e outcome step output Stop some at is goes = absurd (some goes.0)
-  goes-on later h w e outcome step output (Next x) some at is goes =
-      record { e = e; outcome = outcome; output = output; y = x; is = rw is refl; at = at; follows = goes }
-
-  goes-asked : (later : List AttemptedValue) (h : History) (w e : ℕ) (outcome : Outcome) (step : Option Answer) (by : Option Ending)
-      → (later ≡ [] → ⊥) → first_tick_from ticks w ≡ Some e
-      → IsAsked job ticks (Follows job ticks later due ending) h later due ending (record { at = e; outcome = outcome; step = step }) by
-      → Goes later h w (Some (record { at = e; outcome = outcome; step = step }))
-  goes-asked later h w e outcome step (Some x) some at asked = absurd (some asked.1)
-  goes-asked later h w e outcome step None some at asked =
-      let answered = answer_of job.schedule ((e, number_of outcome) ∷ h) in
-      goes-on later h w e outcome step answered.output answered.decision some at asked.0 asked.1
-
-  goes : (later : List AttemptedValue) (h : History) (w : ℕ) (ended : Option EndedValue) → (later ≡ [] → ⊥)
-      → EndsAt job ticks (Follows job ticks later due ending) h later due ending w ended → Goes later h w ended
-  goes later h w None some ends = absurd (some ends.1)
-  goes later h w (Some end) some ends = goes-asked later h w end.at end.outcome end.step (ending_by_outcome job.mode end.outcome) some ends.0 ends.2
+  goes : (later : List AttemptedValue) (h : History) (s : ℕ) (ended : Option EndedValue) → (later ≡ [] → ⊥) → Ends later h s ended → Goes later h s ended
+  goes later h s None some ends = absurd (some ends.1)
+  goes later h s (Some end) some ends =
+      let answered = answer_of job.schedule ((end.at, number_of end.outcome) ∷ h) in
+      elim (ending_by_outcome job.mode end.outcome) as (λ by. IsAsked job ticks (Rest later) h later timeline.due timeline.ending end by → Goes later h s (Some end)) [
+        | Some x ↦ λ asked. absurd (some asked.1)
+        | None ↦ λ asked. elim answered.decision as (λ d. end.step ≡ Some (answer answered.output d) → GoesOn job ticks (Rest later) h later timeline.due timeline.ending end d → Goes later h s (Some end)) [
+          | Stop ↦ λ step on. absurd (some on.0)
+          | Next y ↦ λ step on. record { end = end; output = answered.output; y = y; is = refl; at = ends.0; step = step; follows = on }
+        ] asked.0 asked.1
+      ] ends.2
 
   -- the rules from an attempt on, which follows others that ended
   record Reaches (p later : List AttemptedValue) (a : AttemptedValue) : Type 0 where
     pub x : ℕ
     pub all : AllEnded p
-    pub follows : Follows job ticks (a ∷ later) due ending (history_after p) x
+    pub follows : Rest (a ∷ later) (history_after p) x
 
   reaches : (earlier later : List AttemptedValue) (a : AttemptedValue) (p : List AttemptedValue) (x : ℕ) → AllEnded p
-      → Follows job ticks (earlier ++ a ∷ later) due ending (history_after p) x → Reaches (p ++ earlier) later a
+      → Rest (earlier ++ a ∷ later) (history_after p) x → Reaches (p ++ earlier) later a
   unfolding Follows
   reaches [] later a p x all follows = rw (append-nil p) (record { x = x; all = all; follows = follows })
   reaches (b ∷ earlier) later a p x all follows =
-      let g = goes (earlier ++ a ∷ later) (history_after p) (saturated (b.begun + (beat_after job (history_after p)).ms)) b.ended (not-empty earlier later a) follows.1 in
-      let step : Option Answer = Some (answer g.output (Next g.y)) in
-      let q : AttemptedValue = ended_attempt b.begun g.e g.outcome step in
-      let same : b ≡ q = ap (λ (o : Option EndedValue). record { begun = b.begun; ended = o }) g.is in
-      let rest : Reaches ((p ++ q ∷ []) ++ earlier) later a =
-      reaches earlier later a (p ++ q ∷ []) (max g.y g.e) (AllEnded-append p b.begun g.e g.outcome step all)
-      (subst (λ (h : History). Follows job ticks (earlier ++ a ∷ later) due ending h (max g.y g.e)) (sym (history_after-ended p b.begun g.e g.outcome step)) g.follows) in
-      subst (λ (ps : List AttemptedValue). Reaches ps later a) (append_assoc p (q ∷ []) earlier ∙ ap (λ (c : AttemptedValue). p ++ c ∷ earlier) (sym same)) rest
+      let g = goes (earlier ++ a ∷ later) (history_after p) b.begun b.ended (λ none. omega (arith, ap (λ (xs : List AttemptedValue). length xs) none, length-append earlier (a ∷ later))) follows.1 in
+      let q : AttemptedValue = record { begun = b.begun; ended = Some g.end } in
+      let rest = reaches earlier later a (p ++ q ∷ []) (max g.y g.end.at) (AllEnded-append p b.begun g.end.at g.end.outcome g.end.step all)
+      (rw (history_after-ended p b.begun g.end.at g.end.outcome g.end.step) g.follows) in
+      subst (λ (ps : List AttemptedValue). Reaches ps later a) (append_assoc p (q ∷ []) earlier ∙ ap (λ (o : Option EndedValue). p ++ record { begun = b.begun; ended = o } ∷ earlier) (sym g.is)) rest
 
   -- how an attempt ended
-  step-asked : (later : List AttemptedValue) (h : History) (end : EndedValue) (by : Option Ending)
-      → IsAsked job ticks (Follows job ticks later due ending) h later due ending end by
-      → end.step ≡ asked_unless job ticks by (answer_of job.schedule ((end.at, number_of end.outcome) ∷ h))
-  step-asked later h end (Some x) asked = asked.0
-  step-asked later h end None asked = asked.0
-
-  end-keeps : (p later : List AttemptedValue) (s : ℕ) (ended : Option EndedValue) → AllEnded p
-      → EndsAt job ticks (Follows job ticks later due ending) (history_after p) later due ending (saturated (s + (beat_after job (history_after p)).ms)) ended
-      → IsEnd job ticks p s ended
-  end-keeps p later s None all ends =
-      let count : length (history_after p) ≡ length p = length-history_after p all in
-      let at : first_tick_from ticks (saturated (s + (entry_at job.script (length (history_after p) + 1)).ms)) ≡ None = ends.0 in rw count at at
+  end-keeps : (p later : List AttemptedValue) (s : ℕ) (ended : Option EndedValue) → AllEnded p → Ends later (history_after p) s ended → IsEnd job ticks p s ended
+  end-keeps p later s None all ends = let own = rw (length-history_after p all) at ends in own.0
   end-keeps p later s (Some end) all ends =
-      let count : length (history_after p) ≡ length p = length-history_after p all in
-      let at : first_tick_from ticks (saturated (s + (entry_at job.script (length (history_after p) + 1)).ms)) ≡ Some end.at = ends.0 in
-      let own : end.outcome ≡ (entry_at job.script (length (history_after p) + 1)).outcome = ends.1 in
-      record { at = rw count at at; outcome = rw count at own; step = step-asked later (history_after p) end (ending_by_outcome job.mode end.outcome) ends.2 }
+      let own = rw (length-history_after p all) at ends in
+      record {
+        at = own.0;
+        outcome = own.1;
+        step = elim (ending_by_outcome job.mode end.outcome) as (λ by. IsAsked job ticks (Rest later) (history_after p) later timeline.due timeline.ending end by
+            → end.step ≡ asked_unless job ticks by (answer_of job.schedule ((end.at, number_of end.outcome) ∷ history_after p))) [ Some x ↦ λ asked. asked.0 | None ↦ λ asked. asked.0 ] ends.2;
+      }
 
   -- when the next attempt begins
-  next-keeps : (later : List AttemptedValue) (b : AttemptedValue) (h : History) (w : ℕ) (ended : Option EndedValue) → Goes (b ∷ later) h w ended → BeginsAfter job ticks b.begun ended
+  next-keeps : (later : List AttemptedValue) (b : AttemptedValue) (h : History) (s : ℕ) (ended : Option EndedValue) → Goes (b ∷ later) h s ended → BeginsAfter job ticks b.begun ended
   unfolding Follows
-  next-keeps later b h w ended g =
-      let first : first_tick_from ticks (max g.y g.e) ≡ Some b.begun = g.follows.0 in
-      let again : first_tick_from ticks g.e ≡ Some g.e = first_tick_from-again ticks w g.e g.at in
-      rw g.is (
-        λ l. (let greater : max g.y g.e ≡ g.e = omega arith in let both : first_tick_from ticks g.e ≡ Some b.begun = rw greater at first in cc),
-        λ l. (let greater : max g.y g.e ≡ g.y = omega arith in rw greater at first),
+  next-keeps later b h s ended g =
+      let first : first_tick_from ticks (max g.y g.end.at) ≡ Some b.begun = g.follows.0 in
+      let again : first_tick_from ticks g.end.at ≡ Some g.end.at = first_tick_from-again ticks (saturated (s + (beat_after job h).ms)) g.end.at g.at in
+      rw (g.is, g.step) (
+        λ l. (let greater : max g.y g.end.at ≡ g.end.at = omega arith in let both : first_tick_from ticks g.end.at ≡ Some b.begun = rw greater at first in cc),
+        λ l. (let greater : max g.y g.end.at ≡ g.y = omega arith in rw greater at first),
       )
 
   -- how the list ends
-  last-on : (h : History) (w : ℕ) (end : EndedValue) (decision : Decision) → first_tick_from ticks w ≡ Some end.at
-      → GoesOn job ticks (Follows job ticks [] due ending) h [] due ending end decision → StopsOn job ticks end due ending decision
+  last-keeps : (p : List AttemptedValue) (s : ℕ) (ended : Option EndedValue) → AllEnded p → Ends [] (history_after p) s ended → IsLast job ticks p s timeline.due timeline.ending ended
   unfolding Follows
-  last-on h w end Stop at goes = (goes.1, goes.2)
-  last-on h w end (Next y) at goes =
-      lt_cases end.at y (λ _. (end.at < y) × (first_tick_from ticks y ≡ None) × (due ≡ Some y) × (ending ≡ None))
-      (λ l. let greater : max y end.at ≡ y = omega arith in let all = rw greater at goes in (l, all.0, all.1, all.2))
-      (λ l.
-      let greater : max y end.at ≡ end.at = omega arith in
-      let none : first_tick_from ticks end.at ≡ None = rw greater at goes.0 in
-      let again : first_tick_from ticks end.at ≡ Some end.at = first_tick_from-again ticks w end.at at in absurd cc)
-
-  last-by : (h : History) (w : ℕ) (end : EndedValue) (by : Option Ending) → first_tick_from ticks w ≡ Some end.at
-      → IsAsked job ticks (Follows job ticks [] due ending) h [] due ending end by → StopsBy job ticks end due ending by end.step
-  last-by h w end (Some x) at asked = (asked.2, asked.3)
-  last-by h w end None at asked =
-      rw asked.0 (last-on h w end (answer_of job.schedule ((end.at, number_of end.outcome) ∷ h)).decision at asked.1)
-
-  last-keeps : (p : List AttemptedValue) (s : ℕ) (ended : Option EndedValue) → AllEnded p
-      → EndsAt job ticks (Follows job ticks [] due ending) (history_after p) [] due ending (saturated (s + (beat_after job (history_after p)).ms)) ended
-      → IsLast job ticks p s due ending ended
-  last-keeps p s None all ends =
-      let count : length (history_after p) ≡ length p = length-history_after p all in
-      let waits : due ≡ Some (saturated (s + (entry_at job.script (length (history_after p) + 1)).ms)) = ends.2 in (rw count at waits, ends.3)
+  last-keeps p s None all ends = let own = rw (length-history_after p all) at ends in (own.2, own.3)
   last-keeps p s (Some end) all ends =
-      last-by (history_after p) (saturated (s + (beat_after job (history_after p)).ms)) end (ending_by_outcome job.mode end.outcome) ends.0 ends.2
+      let again : first_tick_from ticks end.at ≡ Some end.at = first_tick_from-again ticks (saturated (s + (beat_after job (history_after p)).ms)) end.at ends.0 in
+      elim (ending_by_outcome job.mode end.outcome) as (λ by. IsAsked job ticks (Rest []) (history_after p) [] timeline.due timeline.ending end by → StopsBy job ticks end timeline.due timeline.ending by end.step) [
+        | Some x ↦ λ asked. (asked.2, asked.3)
+        | None ↦ λ asked. rw asked.0 (elim (answer_of job.schedule ((end.at, number_of end.outcome) ∷ history_after p)).decision
+            as (λ d. GoesOn job ticks (Rest []) (history_after p) [] timeline.due timeline.ending end d → StopsOn job ticks end timeline.due timeline.ending d) [
+              | Stop ↦ λ on. (on.1, on.2)
+              | Next y ↦ λ on. lt_cases end.at y (λ _. StopsOn job ticks end timeline.due timeline.ending (Next y))
+                  (λ l. let greater : max y end.at ≡ y = omega arith in let all = rw greater at on in (l, all.0, all.1, all.2))
+                  (λ l. let greater : max y end.at ≡ end.at = omega arith in let none : first_tick_from ticks end.at ≡ None = rw greater at on.0 in absurd cc)
+            ] asked.1)
+      ] ends.2
 
-module _ (job : JobRecord) (ticks : List ℕ) where
   -- a timeline that follows from the start on satisfies the rules at each place
-  pub timeline-follows : (timeline : Timeline) → Follows job ticks timeline.attempts timeline.due timeline.ending [] job.start → IsTimeline job ticks timeline
+  pub timeline-follows : Follows job ticks timeline.attempts timeline.due timeline.ending [] job.start → IsTimeline job ticks timeline
   unfolding Follows AllEnded
-  timeline-follows timeline follows =
-      let at : (earlier later : List AttemptedValue) (a : AttemptedValue) → timeline.attempts ≡ earlier ++ a ∷ later → Reaches job ticks timeline.due timeline.ending earlier later a =
-      λ earlier later a is. reaches job ticks timeline.due timeline.ending earlier later a [] job.start tt
-      (subst (λ (xs : List AttemptedValue). Follows job ticks xs timeline.due timeline.ending [] job.start) is follows) in
+  timeline-follows follows =
+      let from : (attempts : List AttemptedValue) → timeline.attempts ≡ attempts → Rest attempts [] job.start = λ attempts is. rw is at follows in
+      let at : (earlier later : List AttemptedValue) (a : AttemptedValue) → timeline.attempts ≡ earlier ++ a ∷ later → Reaches earlier later a =
+      λ earlier later a is. reaches earlier later a [] job.start tt (from (earlier ++ a ∷ later) is) in
       record {
-        none = λ is. subst (λ (xs : List AttemptedValue). Follows job ticks xs timeline.due timeline.ending [] job.start) is follows;
-        first = λ a later is. (subst (λ (xs : List AttemptedValue). Follows job ticks xs timeline.due timeline.ending [] job.start) is follows).0;
-        ends = λ earlier later a is. let r = at earlier later a is in end-keeps job ticks timeline.due timeline.ending earlier later a.begun a.ended r.all r.follows.1;
+        none = from [];
+        first = λ a later is. (from (a ∷ later) is).0;
+        ends = λ earlier later a is. let r = at earlier later a is in end-keeps earlier later a.begun a.ended r.all r.follows.1;
         next = λ earlier later a b is.
             let r = at earlier (b ∷ later) a is in
-            next-keeps job ticks timeline.due timeline.ending later b (history_after earlier) (saturated (a.begun + (beat_after job (history_after earlier)).ms)) a.ended
-            (goes job ticks timeline.due timeline.ending (b ∷ later) (history_after earlier) (saturated (a.begun + (beat_after job (history_after earlier)).ms)) a.ended (not-empty [] later b) r.follows.1);
-        last = λ earlier a is. let r = at earlier [] a is in last-keeps job ticks timeline.due timeline.ending earlier a.begun a.ended r.all r.follows.1;
+            next-keeps later b (history_after earlier) a.begun a.ended (goes (b ∷ later) (history_after earlier) a.begun a.ended (λ none. cc) r.follows.1);
+        last = λ earlier a is. let r = at earlier [] a is in last-keeps earlier a.begun a.ended r.all r.follows.1;
       }

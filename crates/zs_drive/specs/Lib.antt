@@ -10,7 +10,8 @@ pub mod DriverRules
 pub mod DriverLaws
 -- Named by the clauses of calls on which no headline depends.
 pub mod Told
--- What the code stores. Only private contracts, and the views and invariants of models, name these.
+-- What the code stores and writes. Only private contracts, views and invariants name these.
+pub mod Pieces
 pub mod Recorded
 pub mod Log
 pub mod Progress

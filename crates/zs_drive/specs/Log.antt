@@ -1,5 +1,5 @@
 -- What a log stores: some attempts as lines with their moments, and the others as records.
-use Rattle.std.specs.Prelude.{◌≡◌, ℕ, ◌+◌, ◌≤◌, ⊤, List, [], ◌∷◌, ◌++◌, length, map, flat_map, fold, option_to_list, string_bytes, Some, vec_len}
+use Rattle.std.specs.Prelude.{◌≡◌, ℕ, ◌+◌, ◌≤◌, ⊤, List, [], ◌++◌, length, map, flat_map, fold, option_to_list, string_bytes, Some, vec_len}
 use Rattle.std.specs.Vec.{vec_capacity}
 use Rattle.zs_drive.specs.declared.record.Attempted.{Attempted}
 use Rattle.zs_drive.specs.declared.record.Keeping.{Keeping}

@@ -1,5 +1,5 @@
 -- What one poll does to the fields of a task.
-use Rattle.std.specs.Prelude.{◌≡◌, ℕ, ◌≤◌, ◌<◌, [], ◌∷◌, ◌++◌, None, ⊤}
+use Rattle.std.specs.Prelude.{◌≡◌, ℕ, ◌≤◌, ◌<◌, [], ◌∷◌, ◌++◌, None, IsSomeAnd, ⊤}
 use Rattle.zs_effect.specs.declared.script.Outcome.{Outcome}
 use Rattle.zs_step.specs.Compiled.{StandsFor}
 use Rattle.zs_drive.specs.declared.job.Mode.{Mode}
@@ -8,7 +8,7 @@ use Rattle.zs_drive.specs.declared.progress.Phase.TheVariants.{Waiting, Running,
 use Rattle.zs_drive.specs.declared.progress.Progress.{Progress}
 use Rattle.zs_drive.specs.Timeline.{number_of, ending_by_outcome}
 use Rattle.zs_drive.specs.DriverRules.{history_after}
-use Rattle.zs_drive.specs.Log.{IsLog, keeping_of}
+use Rattle.zs_drive.specs.Log.{keeping_of}
 use Rattle.zs_drive.specs.Progress.{due_of, ending_of, job_value_in, attempts_of, moments_in, IsProgress, HasState}
 
 -- one due poll was done at the moment seen
@@ -26,15 +26,6 @@ IsWaitingTo seen (Waiting due) = due ≤ seen
 IsWaitingTo seen (Running attempt) = ⊥
 IsWaitingTo seen (Over ending) = ⊥
 
--- nothing was done, but the schedule may have been stepped
-pub record Stays (old new : Progress) : Type 0 where
-  pub log : IsLog old.log (attempts_of old) → IsLog new.log (attempts_of old)
-  pub phase : new.phase ≡ old.phase
-  pub job : job_value_in new ≡ job_value_in old
-  pub keeps : keeping_of new.log ≡ keeping_of old.log
-  pub seen : new.seen ≡ old.seen
-  pub polls : new.polls ≡ old.polls
-
 -- its attempt ends with this outcome, by the moment seen
 abbrev pub HasRunTo : ℕ → Outcome → Phase → Type 0
 HasRunTo seen outcome (Waiting due) = ⊥
@@ -47,21 +38,15 @@ WasAsked p outcome = StandsFor p.compiled ((p.seen, number_of outcome) ∷ histo
 
 -- the job is over
 abbrev pub IsOver : Phase → Type 0
-IsOver (Waiting due) = ⊥
-IsOver (Running attempt) = ⊥
-IsOver (Over ending) = ⊤
+IsOver phase = IsSomeAnd (ending_of phase) (λ _. ⊤)
 
 -- the due moment is after the moment seen
 abbrev pub IsEarly : ℕ → Phase → Type 0
-IsEarly seen (Waiting due) = seen < due
-IsEarly seen (Running attempt) = seen < attempt.end
-IsEarly seen (Over ending) = ⊥
+IsEarly seen phase = IsSomeAnd (due_of phase) (λ due. seen < due)
 
 -- the due moment is at or before the moment seen
 abbrev pub IsDuePhase : ℕ → Phase → Type 0
-IsDuePhase seen (Waiting due) = due ≤ seen
-IsDuePhase seen (Running attempt) = attempt.end ≤ seen
-IsDuePhase seen (Over ending) = ⊥
+IsDuePhase seen phase = IsSomeAnd (due_of phase) (λ due. due ≤ seen)
 
 -- a due poll may allocate memory: an attempt begins, or its outcome does not itself end the job
 abbrev pub TakesMemory : Mode → Phase → Type 0

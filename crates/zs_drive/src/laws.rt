@@ -18,6 +18,7 @@ pub fn timelines_are_whole()
 {}
 
 /// Attempts follow one another, and their moments are rising ticks: at most one poll for each tick.
+#[tactic(auto, using(crate::proofs::Rising::rising))]
 pub fn moments_rise()
     ensures ends { OnEachClock EndsLater }
     ensures begins { OnEachClock BeginsLater }

@@ -8,10 +8,10 @@ use std::alloc::AllocError;
 use std::marker::Model;
 use std::str::from_utf8_unchecked;
 
-// The bytes of the longest lines of an attempt whose output is one or two numbers, and a few more.
-const ROOM: usize = 208;
+/// The bytes of the longest lines of an attempt whose output is one or two numbers, and a few more.
+pub const ROOM: usize = 208;
 
-/// A text of at most 208 bytes, whose beginning is written last.
+/// A text of at most `ROOM` bytes, whose beginning is written last.
 #[derive(Drop)]
 pub struct Line {
     bytes: [u8; ROOM],
@@ -20,12 +20,13 @@ pub struct Line {
 
 impl Model for Line {
     ghost use Rattle.std.specs.Prelude.{ℕ, ◌≤◌, List, drop, IsUtf8};
+    ghost use Rattle.zs_drive.specs.declared.line.TheConstants.{ROOM};
 
     ghost Value = { List ℕ };
 
     ghost view = { λ l. drop l.start l.bytes };
 
-    ghost invariant = { λ l. (l.start ≤ 208) × IsUtf8 (drop l.start l.bytes) };
+    ghost invariant = { λ l. (l.start ≤ ROOM) × IsUtf8 (drop l.start l.bytes) };
 }
 
 impl Line {
@@ -43,7 +44,7 @@ impl Line {
     /// Writes a text before the rest.
     #[inline(always)]
     pub fn put(&mut self, text: &str)
-        requires room { length text.now + length self.old ≤ 208 }
+        requires room { length text.now + length self.old ≤ ROOM }
         ensures put { self.new ≡ text.now ++ self.old }
         ensures len { length self.new ≡ length text.now + length self.old }
     {
@@ -55,7 +56,7 @@ impl Line {
     /// Writes the digits of a number before the rest.
     #[inline(always)]
     pub fn put_number(&mut self, n: u64)
-        requires room { 20 + length self.old ≤ 208 }
+        requires room { 20 + length self.old ≤ ROOM }
         ensures put { self.new ≡ decimal n ++ self.old }
         ensures len { length self.new ≤ 20 + length self.old }
     {

@@ -1,13 +1,16 @@
 //! Attempts as lines of text. Lines are written from their end, so that they are appended by one
 //! push.
-ghost use Rattle.std.specs.Prelude.{◌≡◌, ◌++◌, ◌+◌, ◌≤◌, [], length, true, false, codes, OnOk, OnErr, string_bytes};
+ghost use Rattle.std.specs.Prelude.{◌≡◌, ◌++◌, ◌+◌, ◌≤◌, [], length, true, false, Some, codes, OnOk, OnErr, string_bytes};
 ghost use Rattle.std.specs.Fmt.{decimal};
 ghost use Rattle.zs_term.specs.Output.{output_of};
 ghost use Rattle.zs_term.specs.OutputText.{IsBeginning, output_text};
 ghost use Rattle.zs_drive.specs.Values.{attempted_of};
+ghost use Rattle.zs_step.specs.Answer.{answer};
+ghost use Rattle.zs_drive.specs.Timeline.{ended_attempt};
 ghost use Rattle.zs_drive.specs.Lines.{attempt_lines, decision_text, outcome_text};
+ghost use Rattle.zs_drive.specs.Pieces.{begun_text, ended_text, stepped_text};
 
-use crate::line::Line;
+use crate::line::{Line, ROOM};
 use crate::record::{Attempted, Ended};
 use std::alloc::AllocError;
 use zs_effect::Outcome;
@@ -17,7 +20,7 @@ use zs_term::{Out, append_out};
 // Puts a space and how an attempt ended before the rest.
 #[inline(always)]
 fn put_outcome(line: &mut Line, outcome: Outcome)
-    requires room { 25 + length line.old ≤ 208 }
+    requires room { 25 + length line.old ≤ ROOM }
     ensures text { line.new ≡ codes " " ++ outcome_text outcome ++ line.old }
     ensures len { length line.new ≤ 25 + length line.old }
 {
@@ -36,7 +39,7 @@ fn put_outcome(line: &mut Line, outcome: Outcome)
 // Puts a space and what a schedule decided before the rest.
 #[inline(always)]
 fn put_decision(line: &mut Line, decision: Decision)
-    requires room { 26 + length line.old ≤ 208 }
+    requires room { 26 + length line.old ≤ ROOM }
     ensures text { line.new ≡ codes " " ++ decision_text decision ++ line.old }
     ensures len { length line.new ≤ 26 + length line.old }
 {
@@ -49,25 +52,10 @@ fn put_decision(line: &mut Line, decision: Decision)
     }
 }
 
-// Puts a pair of numbers before the rest.
-#[inline(always)]
-fn put_pair(line: &mut Line, a: u64, b: u64)
-    requires room { 43 + length line.old ≤ 208 }
-    ensures text { line.new
-        ≡ codes "(" ++ decimal a ++ codes "," ++ decimal b ++ codes ")" ++ line.old }
-    ensures len { length line.new ≤ 43 + length line.old }
-{
-    line.put(")");
-    line.put_number(b);
-    line.put(",");
-    line.put_number(a);
-    line.put("(");
-}
-
 // Puts an output before the rest if it is a number or a pair of numbers, and returns whether it is.
 #[inline(always)]
 fn put_numbers(line: &mut Line, out: &Out) -> bool
-    requires room { 43 + length line.old ≤ 208 }
+    requires room { 43 + length line.old ≤ ROOM }
     ensures text { result ≡ true → line.new ≡ output_text (output_of out.now) ++ line.old }
     ensures same { result ≡ false → line.new ≡ line.old }
     ensures len { length line.new ≤ 43 + length line.old }
@@ -79,7 +67,11 @@ fn put_numbers(line: &mut Line, out: &Out) -> bool
         }
         Out::Pair(a, b) => match (a.as_ref(), b.as_ref()) {
             (Out::Num(a), Out::Num(b)) => {
-                put_pair(line, *a, *b);
+                line.put(")");
+                line.put_number(*b);
+                line.put(",");
+                line.put_number(*a);
+                line.put("(");
                 true
             }
             (_, _) => false,
@@ -91,10 +83,8 @@ fn put_numbers(line: &mut Line, out: &Out) -> bool
 // Puts the beginning of an attempt before the rest.
 #[inline(always)]
 fn put_begun(line: &mut Line, number: u64, begun: u64)
-    requires room { 51 + length line.old ≤ 208 }
-    ensures text { line.new
-        ≡ codes "attempt "
-        ++ decimal number ++ codes " " ++ decimal begun ++ codes ".." ++ line.old }
+    requires room { 51 + length line.old ≤ ROOM }
+    ensures text { line.new ≡ begun_text number begun ++ line.old }
     ensures len { length line.new ≤ 51 + length line.old }
 {
     line.put("..");
@@ -107,14 +97,8 @@ fn put_begun(line: &mut Line, number: u64, begun: u64)
 // Puts the line of an attempt that has ended, without the end of the line, before the rest.
 #[inline(always)]
 fn put_ended(line: &mut Line, number: u64, begun: u64, at: u64, outcome: Outcome)
-    requires room { 96 + length line.old ≤ 208 }
-    ensures text { line.new
-        ≡ codes "attempt "
-        ++ decimal number
-        ++ codes " "
-        ++ decimal begun
-        ++ codes ".."
-        ++ decimal at ++ codes " " ++ outcome_text outcome ++ line.old }
+    requires room { 96 + length line.old ≤ ROOM }
+    ensures text { line.new ≡ ended_text number begun at outcome ++ line.old }
     ensures len { length line.new ≤ 96 + length line.old }
 {
     put_outcome(line, outcome);
@@ -125,16 +109,8 @@ fn put_ended(line: &mut Line, number: u64, begun: u64, at: u64, outcome: Outcome
 // Puts what is before the output of a step before the rest.
 #[inline(always)]
 fn put_stepped(line: &mut Line, number: u64, begun: u64, at: u64, outcome: Outcome)
-    requires room { 127 + length line.old ≤ 208 }
-    ensures text { line.new
-        ≡ codes "attempt "
-        ++ decimal number
-        ++ codes " "
-        ++ decimal begun
-        ++ codes ".."
-        ++ decimal at
-        ++ codes " "
-        ++ outcome_text outcome ++ codes "\nstep " ++ decimal number ++ codes " out " ++ line.old }
+    requires room { 127 + length line.old ≤ ROOM }
+    ensures text { line.new ≡ stepped_text number begun at outcome ++ line.old }
     ensures len { length line.new ≤ 127 + length line.old }
 {
     line.put(" out ");
@@ -171,19 +147,9 @@ fn push_stepped(
 ) -> Result<(), AllocError>
     ensures text { OnOk result (string_bytes text.new
         ≡ string_bytes text.old
-        ++ codes "attempt "
-        ++ decimal number
-        ++ codes " "
-        ++ decimal begun
-        ++ codes ".."
-        ++ decimal ended.now.at
-        ++ codes " "
-        ++ outcome_text ended.now.outcome
-        ++ codes "\nstep "
-        ++ decimal number
-        ++ codes " out "
-        ++ output_text (output_of out.now)
-        ++ codes " " ++ decision_text decision ++ codes "\n") }
+        ++ attempt_lines number
+        (ended_attempt begun ended.now.at ended.now.outcome
+        (Some (answer (output_of out.now) decision)))) }
     ensures kept { IsBeginning (string_bytes text.old) (string_bytes text.new) }
 {
     let at = ended.at;

@@ -13,7 +13,7 @@ ghost use Rattle.zs_drive.specs.Log.{IsFull, IsLog, keeping_of, log_count};
 ghost use Rattle.zs_drive.specs.Values.{AttemptedValue, step_of};
 ghost use Rattle.zs_drive.specs.DriverRules.{history_after};
 ghost use Rattle.zs_drive.specs.Progress.{IsProgress, HasState, attempts_of, due_of, ending_of};
-ghost use Rattle.zs_drive.specs.Turns.{Advances, Stays, IsWaitingTo, HasRunTo, WasAsked, IsOver, IsEarly, IsDuePhase, StandsStill, IsSame, TakesMemory};
+ghost use Rattle.zs_drive.specs.Turns.{Advances, IsWaitingTo, HasRunTo, WasAsked, IsOver, IsEarly, IsDuePhase, StandsStill, IsSame, TakesMemory};
 
 use crate::fault::DriveFault;
 use crate::job::Mode;
@@ -135,6 +135,7 @@ impl Progress {
     }
 
     // The entry of the script for the next attempt.
+    #[tactic(auto, using(crate::proofs::Advancing::counts))]
     fn next_beat(&self) -> Beat
         requires progress { IsProgress self.now }
         ensures value { result ≡ entry_at self.now.script (log_count self.now.log + 1) }
@@ -143,13 +144,14 @@ impl Progress {
     }
 
     // Begins the attempt that was waited for.
+    #[tactic(auto, using(crate::proofs::Advancing::counts))]
     fn begin(&mut self) -> Result<(), DriveFault>
         requires progress { IsProgress self.old }
         requires state { HasState self.old }
         requires waits { IsWaitingTo self.old.seen self.old.phase }
         requires script { IsScript self.old.script }
         ensures ok { OnOk result (Advances self.old self.new) }
-        ensures err { OnErr result (Stays self.old self.new) }
+        ensures err { OnErr result (StandsStill self.old self.new) }
         ensures full { OnErr result (IsFull self.old.log) }
     {
         let begun = self.seen;
@@ -187,7 +189,7 @@ impl Progress {
         requires running { HasRunTo self.old.seen outcome self.old.phase }
         requires script { IsScript self.old.script }
         ensures ok { OnOk result (Advances self.old self.new) }
-        ensures err { OnErr result (Stays self.old self.new) }
+        ensures err { OnErr result (StandsStill self.old self.new) }
         ensures asked { OnErr result (ending_by_outcome self.old.mode outcome ≡ None) }
     {
         match end_by_outcome(self.mode, outcome) {
@@ -224,7 +226,7 @@ impl Progress {
             ((self.old.seen, number_of outcome) ∷ history_after (attempts_of self.old)) }
         requires script { IsScript self.old.script }
         ensures ok { OnOk result (Advances self.old self.new) }
-        ensures err { OnErr result (Stays self.old self.new) }
+        ensures err { OnErr result (StandsStill self.old self.new) }
         ensures full { OnErr result (IsFull self.old.log) }
     {
         match decision {
@@ -245,6 +247,7 @@ impl Progress {
     }
 
     // The last attempt ends, and none begins.
+    #[tactic(auto, using(crate::proofs::Advancing::counts))]
     fn end_attempt(&mut self, outcome: Outcome, step: Option<(Out, Decision)>, phase: Phase)
         requires progress { IsProgress self.old }
         requires running { HasRunTo self.old.seen outcome self.old.phase }
@@ -263,6 +266,7 @@ impl Progress {
     }
 
     // The last attempt ends, and the next begins.
+    #[tactic(auto, using(crate::proofs::Advancing::counts))]
     fn restart(
         &mut self,
         outcome: Outcome,
@@ -292,7 +296,7 @@ impl Progress {
             (others ++ ended_attempt s self.old.seen outcome (step_of (Some step))
             ∷ record { begun = self.old.seen; ended = None }
             ∷ [])) }
-        ensures err { OnErr result (Stays self.old self.new) }
+        ensures err { OnErr result (StandsStill self.old self.new) }
         ensures full { OnErr result (IsFull self.old.log) }
     {
         let at = self.seen;

@@ -132,6 +132,7 @@ impl Task {
     }
 
     /// The number of moments at which it was polled while it was due.
+    #[tactic(auto, using(crate::proofs::Standing::standing))]
     pub fn polls(&self) -> u64
         ensures value { result ≡ length self.now.moments }
         ensures moments { self.now.moments ≡ poll_moments (current_timeline self.now).attempts }
@@ -147,6 +148,7 @@ impl Task {
     }
 
     /// The records of its attempts so far, in order: of all if it stores records, else of the last.
+    #[tactic(auto, using(crate::proofs::Standing::standing))]
     pub fn records(&self) -> &[Attempted]
         ensures attempts { map attempted_of result.now
             ≡ recorded_of self.now.keeps (current_timeline self.now).attempts }
@@ -180,6 +182,7 @@ impl Task {
     }
 
     /// The number of attempts that these lines show.
+    #[tactic(auto, using(crate::proofs::Standing::standing))]
     pub fn told_count(&self) -> u64
         ensures value { result
             ≡ length (told_of self.now.keeps (current_timeline self.now).attempts) }
@@ -190,6 +193,7 @@ impl Task {
     }
 
     /// How the job ended, if it has. That of a broken task has not.
+    #[tactic(auto, using(crate::proofs::Standing::standing))]
     pub fn ending(&self) -> Option<Ending>
         ensures value { result ≡ (current_timeline self.now).ending }
         ensures unbroken { IfSome result (λ _. self.now.broken ≡ false) }
@@ -206,6 +210,7 @@ impl Task {
 
     /// The moment that it waits for, in milliseconds: its start, the end of its attempt, or what
     /// its schedule decided.
+    #[tactic(auto, using(crate::proofs::Standing::standing))]
     pub fn due(&self) -> Option<u64>
         ensures value { result ≡ (current_timeline self.now).due }
     {

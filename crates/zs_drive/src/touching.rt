@@ -3,7 +3,7 @@
 use zs_term::Out;
 
 /// A number for each form of an output. To know it, the output's memory has to be read.
-pub fn form(out: &Out) -> u64 {
+pub(crate) fn form(out: &Out) -> u64 {
     match out {
         Out::Num(n) => *n,
         Out::Pair(_, _) => 1,

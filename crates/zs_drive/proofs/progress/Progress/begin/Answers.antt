@@ -1,14 +1,8 @@
 use Rattle.std.proofs.Common.{refl}
-use Rattle.zs_drive.proofs.Advancing.{polls-fit, attempts-fit, begin-advances}
+use Rattle.zs_drive.proofs.Advancing.{begin-advances}
 use Rattle.zs_drive.proofs.progress.Progress.begin.Goals as goal
-
-pub overflow_add-self : goal.overflow_add-self
-overflow_add-self c = polls-fit c.args.self.now c.requires.progress
 
 pub returns-clause-ok : goal.returns-clause-ok
 returns-clause-ok c =
     begin-advances c.args.self.now c.begin.new.self c.begin.new.spare c.next_beat-beat.result c.start.result c.args.self.now.phase refl
     c.requires.progress c.requires.state c.requires.waits c.next_beat-beat.ensures.value c.requires.script c.begin.ensures.keeps c.in_ok-begin.ensures.begun c.start.ensures.value
-
-pub begin-requires : goal.begin-requires
-begin-requires c = record { few = attempts-fit c.args.self.now c.requires.progress }
