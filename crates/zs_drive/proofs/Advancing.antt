@@ -42,7 +42,7 @@ attempts-fit p progress =
     let few = progress.on_timeline.few in
     omega (arith, log-count p.log (attempts_of p) progress.log)
 
--- an attempt that runs has reached its end: it began at s, after others that ended, and was due at w
+-- an attempt that runs has reached its end: it began at s, after others that ended, due at w
 pub record Ran (p : Progress) (outcome : Outcome) : Type 0 where
   pub others : List AttemptedValue
   pub s : ℕ
