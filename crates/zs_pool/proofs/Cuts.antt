@@ -1,9 +1,6 @@
 -- How a list of tasks is cut.
-use Rattle.std.proofs.Common.{◌≡◌, ◌+◌, ◌-◌, ◌*◌, ◌≤◌, ◌<◌, ◌⊎◌, ℕ, zero, suc, List, [], ◌∷◌, ◌++◌, length, take, drop, Some, sym, ap, ◌∙◌, subst, ap₂, inl, inr, ⊎_elim, length-append, length-take, length-drop, append_assoc, arith, refl}
-use Rattle.std.specs.Prelude.{All, slice_get}
-use Rattle.std.specs.Int.{div_ceil}
-use Rattle.std.proofs.lemmas.Grind.{div_ceil_times}
-use Rattle.std.proofs.lemmas.List.{append-nil, nil_from_length, take-append-drop}
+use Rattle.std.proofs.Common.{◌≡◌, ◌+◌, ◌-◌, ◌*◌, ◌≤◌, ◌<◌, ◌⊎◌, ℕ, zero, suc, List, [], ◌∷◌, ◌++◌, length, take, drop, Some, sym, ap, ◌∙◌, subst, ap₂, inl, inr, ⊎_elim, length-append, length-take, length-drop, append_assoc, arith, All, slice_get}
+use Rattle.std.proofs.lemmas.List.{take-append-drop}
 use Rattle.std.proofs.lemmas.List.Elements.{All-head, All-tail, All-nil, All-cons}
 use Rattle.zs_drive.specs.Tasks.{TaskValue}
 use Rattle.zs_pool.specs.Batches.{BatchValue, IsFull, AreCut, tasks_of}
@@ -20,23 +17,6 @@ pub record Cutting (grain number : ℕ) (all left : List TaskValue) (bs : List B
   pub enough : length left ≤ number * grain
   pub short : number * grain < length left + grain
   pub full : (bs ≡ []) ⊎ (length left ≡ number * grain)
-
-pub cut_none : (grain number : ℕ) (all left : List TaskValue) (bs : List BatchValue) → 1 ≤ grain → left ≡ all → bs ≡ [] → number ≡ div_ceil (length all) grain → Cutting grain number all left bs
-cut_none grain number all left bs one same none count =
-    let P : List BatchValue → Type 0 = λ l. Cutting grain number all left l in
-    let bounds = div_ceil_times (length all) grain one in
-    let size : number * grain ≡ div_ceil (length all) grain * grain = ap (λ n. n * grain) count in
-    let sizes : length left ≡ length all = ap (λ l. length l) same in
-    let empty : Cutting grain number all left [] = record {
-      whole = append-nil left ∙ same;
-      numbered = λ k b at. cc;
-      cut = (All-nil (Within grain), All-nil (IsFull grain));
-      enough = omega (arith, bounds.0, size, sizes);
-      short = omega (arith, bounds.1, size, sizes);
-      full = inl refl;
-    }
-    in
-    subst P (sym none) empty
 
 suc_less : {X : Type 0} (xs : List X) → suc (length xs) ≡ suc (suc (length xs)) - 1
 suc_less xs = omega arith
@@ -72,12 +52,6 @@ cut_more grain number all left rest bs b kept own mine was =
       short = omega (arith, rest_size, was.enough, was.short, step);
       full = inr rest_size;
     }
-
--- all batches are cut off
-pub cut_all : (grain : ℕ) (all left : List TaskValue) (bs : List BatchValue) → Cutting grain 0 all left bs → tasks_of bs ≡ all
-cut_all grain all left bs was =
-    let none : left ≡ [] = nil_from_length left (omega (arith, was.enough)) in
-    ap (λ l. l ++ tasks_of bs) (sym none) ∙ was.whole
 
 -- the number of batches is at most that of tasks
 pub few_batches : (grain : ℕ) (bs : List BatchValue) → All (Within grain) bs → length bs ≤ length (tasks_of bs)

@@ -1,11 +1,7 @@
 -- How a round ends.
-use Rattle.std.proofs.Common.{◌≡◌, ◌+◌, ◌≤◌, ℕ, true, Vec, Ok, IfOk, List, [], ◌∷◌, ◌++◌, length, ap, ◌∙◌, subst, length-append, arith}
-use Rattle.std.specs.Prelude.{All}
-use Rattle.std.specs.Global.{Global}
+use Rattle.std.proofs.Common.{◌≡◌, ◌+◌, ◌≤◌, ℕ, true, Vec, Ok, IfOk, List, [], ◌∷◌, ◌++◌, length, ap, ◌∙◌, subst, arith, All, Global, IsPermutation}
 use Rattle.std.specs.List.{range_with_len}
-use Rattle.std.specs.List.Sorted.{IsPermutation}
 use Rattle.std.proofs.Math.Seq.{drop-append_seam}
-use Rattle.std.proofs.lemmas.List.{get_or_append_left}
 use Rattle.std.proofs.lemmas.List.Elements.{All-nil, All-cons, All-drop}
 use Rattle.zs_drive.specs.Tasks.{TaskValue}
 use Rattle.zs_pool.specs.Batches.{BatchValue, tasks_of}
@@ -13,11 +9,8 @@ use Rattle.zs_pool.specs.Messages.{PolledValue, IsPollAmong, numbers_of}
 use Rattle.zs_pool.specs.declared.rounds.shared.Rights.{Rights}
 use Rattle.zs_pool.specs.Shares.{Overflow}
 use Rattle.zs_pool.specs.Joined.{IsPart, IsWhole}
+use Rattle.zs_pool.proofs.BoardMoves.{all_front}
 use Rattle.zs_pool.proofs.Served.{collected, counted_all}
-
--- what is true of the value of an `Ok`
-at_ok : (P : Vec PolledValue Global → Type 0) (kept : Overflow) (v : Vec PolledValue Global) → kept ≡ Ok v → IfOk kept P → P v
-at_ok P kept v is h = let K : Overflow → Type 0 = λ k. IfOk k P in subst K is h
 
 -- all messages are there, and each task was counted
 pub record Ended (now : ℕ) (all : List BatchValue) (first : ℕ) (room : ℕ) (r : Rights) (ms : List PolledValue) : Type 0 where
@@ -33,7 +26,8 @@ pub ended : (now : ℕ) (all : List BatchValue) (first r : Rights) (kept : Overf
 ended now all first r kept messages left k w same is some whole moved =
     let bs = first.board_pass.batches in let count = first.seat.count in let room = first.seat.allowance in
     let E : List BatchValue → Type 0 = λ l. Ended now l count room r ((messages ++ left) ++ k.items) in
-    let p : IsPart now bs count room 0 r k.items = at_ok (λ ps. IsPart now bs count room 0 r ps.items) kept k is w.part in
+    let K : Overflow → Type 0 = λ o. IfOk o (λ ps. IsPart now bs count room 0 r ps.items) in
+    let p : K (Ok k) = subst K is w.part in
     let every : length r.board_pass.taken ≡ length bs = whole p.none ∙ ap length w.same in
     let N : ℕ → Type 0 = λ n. IsPermutation (range_with_len 0 n) r.board_pass.taken in
     let taken : N (length bs) = subst N every some in
@@ -51,9 +45,6 @@ ended now all first r kept messages left k w same is some whole moved =
 pub some_batches : (bs : List BatchValue) → 1 ≤ length (tasks_of bs) → 1 ≤ length bs
 some_batches [] some = absurd (omega arith)
 some_batches (b ∷ bs) some = omega arith
-
-all_front : {X : Type 0} (P : X → Type 0) (xs ys : List X) → All P (xs ++ ys) → All P xs
-all_front P xs ys h k d lt = subst P (get_or_append_left xs ys d k lt) (h k d (omega (arith, length-append xs ys)))
 
 all_back : {X : Type 0} (P : X → Type 0) (xs ys : List X) → All P (xs ++ ys) → All P ys
 all_back {X} P xs ys h = let Q : List X → Type 0 = λ l. All P l in subst Q (drop-append_seam xs ys) (All-drop P (length xs) (xs ++ ys) h)

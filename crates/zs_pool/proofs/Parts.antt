@@ -1,6 +1,6 @@
 -- What is joined so far, while workers are joined one after the other.
-use Rattle.std.proofs.Common.{◌≡◌, ◌+◌, ◌||◌, ℕ, Bool, true, false, Ok, Err, IfOk, List, ◌∷◌, ◌++◌, length, refl, sym, ap, ◌∙◌, subst, append-nil, arith}
-use Rattle.std.specs.Prelude.{All}
+use Rattle.std.proofs.Common.{◌≡◌, ◌+◌, ◌||◌, ℕ, true, Ok, Err, IfOk, List, ◌∷◌, ◌++◌, length, sym, ap, ◌∙◌, subst, append-nil, arith, All}
+use Rattle.std.proofs.Math.Bool.{or-true}
 use Rattle.std.proofs.lemmas.List.Sums.{sum_by-cons}
 use Rattle.std.proofs.lemmas.List.Elements.{All-head, All-tail}
 use Rattle.zs_pool.specs.Batches.{BatchValue}
@@ -22,17 +22,6 @@ pub record Joins {G : Type 0} (shared : Shared G) (first : Rights) (before : Ove
   pub taken : r.shelf_pass.taken ≡ first.shelf_pass.taken
   pub part : (count room : ℕ) → IfOk before (λ ps. IsPart shared.moment first.board_pass.batches count room (allowed all) first ps.items) → IfOk kept (λ ps. IsPart shared.moment first.board_pass.batches count room (allowed rest) r ps.items)
 
-pub joins_none : {G : Type 0} (shared : Shared G) (first : Rights) (kept : Overflow) (all rest : List Worker) → rest ≡ all → IsOf shared first → All (Promised shared first.board_pass.batches) all
-    → Joins shared first kept all rest first kept
-joins_none shared first kept all rest is of each =
-    let P : List Worker → Type 0 = λ ws. Joins shared first kept all ws first kept in
-    let whole : P all = record { each = each; of = of; batches = refl; board_share = refl; shelf_share = refl; taken = refl; part = λ count room h. h } in
-    subst P (sym is) whole
-
-or_true : (b c : Bool) → c ≡ true → (b || c) ≡ true
-or_true true c e = refl
-or_true false c e = e
-
 -- the part of one more thread
 abbrev IsTheirs : ℕ → List BatchValue → ℕ → Rights → List PolledValue → Type 0
 IsTheirs now batches room u ps = Serves now batches u.board_pass.taken (u.shelf_pass.put ++ ps) × (u.board_pass.none ≡ true) × (u.seat.count ≡ 0 + sizes batches u.board_pass.taken) × (u.seat.allowance + sizes batches u.board_pass.taken ≡ room)
@@ -51,7 +40,7 @@ part_more now batches count room mine spare r u next a b sums theirs ours =
     let size = ap (sizes batches) sums.taken ∙ sizes_both batches r.board_pass.taken u.board_pass.taken in
     record {
       served = subst S (λ i. (sym sums.taken i, sym sums.put i)) (serves_both now batches r.board_pass.taken u.board_pass.taken r.shelf_pass.put a u.shelf_pass.put b ours.served theirs.0);
-      none = sums.none ∙ or_true r.board_pass.none u.board_pass.none theirs.1;
+      none = sums.none ∙ ap (λ c. r.board_pass.none || c) theirs.1 ∙ or-true r.board_pass.none;
       count = omega (arith, sums.count, ours.count, theirs.2, size);
       left = omega (arith, sums.left, ours.left, theirs.3, size);
     }
@@ -68,13 +57,6 @@ part_both now batches count room mine spare r u next kept more (Ok v) sums told 
     let ours : K (Ok a) = subst K is.2 was in
     let P : List PolledValue → Type 0 = λ ms. IsPart now batches count room spare next ms in
     subst P (sym is.4) (part_more now batches count room mine spare r u next a.items b.items sums theirs ours)
-
-allowed_more : (w : Worker) (rest : List Worker) → allowed (w ∷ rest) ≡ w.promise.rights.value.seat.allowance + allowed rest
-allowed_more w rest = sum_by-cons (λ x. x.promise.rights.value.seat.allowance) w rest
-
-spared : (now : ℕ) (batches : List BatchValue) (count room : ℕ) (w : Worker) (rest : List Worker) (r : Rights) (kept : Overflow)
-    → IfOk kept (λ ps. IsPart now batches count room (allowed (w ∷ rest)) r ps.items) → IfOk kept (λ ps. IsPart now batches count room (w.promise.rights.value.seat.allowance + allowed rest) r ps.items)
-spared now batches count room w rest r kept h = let P : ℕ → Type 0 = λ n. IfOk kept (λ ps. IsPart now batches count room n r ps.items) in subst P (allowed_more w rest) h
 
 pub joins_more : {G : Type 0} (shared : Shared G) (first : Rights) (before : Overflow) (all was rest : List Worker) (w : Worker) (r u next : Rights) (kept more both : Overflow) (seen : ℕ)
     → was ≡ w ∷ rest → IsSame w.promise.rights.value u × HasServed w.promise.moment w.promise.rights.value u more
@@ -108,7 +90,7 @@ joins_more shared first before all was rest w r u next kept more both seen step 
       board_share = omega (arith, ap (λ p. p.share) board_pass, same.2, fresh.board_share, b.board_share);
       shelf_share = omega (arith, ap (λ h. h.share) shelf_pass, same.3, fresh.shelf_share, b.shelf_share);
       taken = ap (λ h. h.taken) shelf_pass ∙ none ∙ b.taken;
-      part = λ count room h. part_both now bs count room v.seat.allowance (allowed rest) r u next kept more both sums theirs is (spared now bs count room w rest r kept (b.part count room h));
+      part = λ count room h. part_both now bs count room v.seat.allowance (allowed rest) r u next kept more both sums theirs is (let P : ℕ → Type 0 = λ n. IfOk kept (λ ps. IsPart now bs count room n r ps.items) in subst P (sum_by-cons (λ x. x.promise.rights.value.seat.allowance) w rest) (b.part count room h));
     }
 
 -- the part of the calling thread, after it collected

@@ -1,12 +1,13 @@
 -- Messages in the slots of their numbers.
-use Rattle.std.proofs.Common.{◌≡◌, ◌≢◌, ◌<◌, ◌⊎◌, true, append_assoc, length-set, ℕ, zero, suc, List, [], ◌∷◌, ◌++◌, length, get_or, set, map, Option, Some, None, refl, sym, ap, ◌∙◌, subst, inl, inr, ⊎_elim, arith}
-use Rattle.std.specs.Prelude.{slice_get, Contains}
+use Rattle.std.proofs.Common.{◌≡◌, ◌≢◌, ◌<◌, ◌⊎◌, true, append_assoc, length-set, ℕ, zero, suc, List, [], ◌∷◌, ◌++◌, length, set, map, Option, Some, None, refl, sym, ap, ◌∙◌, subst, inl, inr, ⊎_elim, arith, slice_get, Contains, IsPermutation}
 use Rattle.std.specs.List.{AllZip, range_with_len}
-use Rattle.std.specs.List.Sorted.{IsPermutation}
 use Rattle.std.proofs.lemmas.Bool.Decides.{eqb_tells}
+use Rattle.std.proofs.lemmas.Option.{slice_get_read, slice_get_within}
+use Rattle.std.proofs.lemmas.Slice.Zip.{AllZip-long}
+use Rattle.std.proofs.lemmas.List.Elements.{All-cons, All-contains, All-nil, Contains-append_cases}
 use Rattle.std.proofs.lemmas.List.FromFn.{length-range_with_len, get_or-range_with_len}
 use Rattle.std.proofs.lemmas.List.Sorted.{Contains-permutation}
-use Rattle.std.proofs.lemmas.List.{append-nil, nil_from_length, map-append}
+use Rattle.std.proofs.lemmas.List.{append-nil, get_or-set_same, nil_from_length, map-append}
 use Rattle.zs_drive.specs.Tasks.{TaskValue}
 use Rattle.zs_pool.specs.Rounds.{IsPolled, polled_at, broken_at}
 use Rattle.zs_pool.specs.Batches.{BatchValue, tasks_of}
@@ -15,34 +16,14 @@ use Rattle.zs_pool.specs.Messages.{PolledValue, IsPollAmong, IsPollOf, HasPoll, 
 same_or_not : (a b : ℕ) → (a ≡ b) ⊎ (a ≢ b)
 same_or_not a b = ⊎_elim (λ h. inl h.1) (λ h. inr h.1) (eqb_tells a b)
 
--- x is in the list
-abbrev pub Has : {X : Type 0} → List X → X → Type 0
-Has [] x = ⊥
-Has (y ∷ ys) x = (y ≡ x) ⊎ Has ys x
-
-has_at : {X : Type 0} (xs : List X) (k : ℕ) (x : X) → k < length xs → get_or xs k x ≡ x → Has xs x
-has_at [] k x lt e = absurd (omega arith)
-has_at (y ∷ ys) zero x lt e = inl e
-has_at (y ∷ ys) (suc k) x lt e = inr (has_at ys k x (omega arith) e)
-
 -- each number below n is in a permutation of 0 to n - 1
-pub has_each : (n : ℕ) (ys : List ℕ) → IsPermutation (range_with_len 0 n) ys → (k : ℕ) → k < n → Has ys k
-has_each n ys moved k lt =
-    let in_range : Contains (range_with_len 0 n) k = (k, omega (arith, length-range_with_len 0 n), get_or-range_with_len 0 n k k lt ∙ omega arith) in
-    let there = Contains-permutation (range_with_len 0 n) ys k moved in_range in
-    has_at ys there.0 k there.1 there.2
+has_each : (n : ℕ) (ys : List ℕ) → IsPermutation (range_with_len 0 n) ys → (k : ℕ) → k < n → Contains ys k
+has_each n ys moved k lt = Contains-permutation (range_with_len 0 n) ys k moved (k, omega (arith, length-range_with_len 0 n), get_or-range_with_len 0 n k k lt ∙ omega arith)
 
-pub get_below : {X : Type 0} (xs : List X) (k : ℕ) (x : X) → slice_get xs k ≡ Some x → k < length xs
-get_below [] k x e = cc
-get_below (y ∷ ys) zero x e = omega arith
-get_below (y ∷ ys) (suc k) x e = omega (arith, get_below ys k x e)
+get_set : {X : Type 0} (xs : List X) (k : ℕ) (x : X) → k < length xs → slice_get (set xs k x) k ≡ Some x
+get_set xs k x lt = slice_get_read (set xs k x) (length xs) k x (sym (length-set xs k x)) lt (sym (get_or-set_same xs k x x lt))
 
-pub get_set : {X : Type 0} (xs : List X) (k : ℕ) (x : X) → k < length xs → slice_get (set xs k x) k ≡ Some x
-get_set [] k x lt = absurd (omega arith)
-get_set (y ∷ ys) zero x lt = refl
-get_set (y ∷ ys) (suc k) x lt = get_set ys k x (omega arith)
-
-pub get_else : {X : Type 0} (xs : List X) (i k : ℕ) (x : X) → k ≢ i → slice_get (set xs i x) k ≡ slice_get xs k
+get_else : {X : Type 0} (xs : List X) (i k : ℕ) (x : X) → k ≢ i → slice_get (set xs i x) k ≡ slice_get xs k
 get_else [] i k x n = refl
 get_else (y ∷ ys) zero zero x n = absurd (n refl)
 get_else (y ∷ ys) zero (suc k) x n = refl
@@ -59,27 +40,21 @@ module _ {X Y : Type 0} (R : X → Y → Type 0) where
       let first = h 0 x refl in let same : y ≡ first.0 = cc in
       (subst (R x) (sym same) first.2, zip_slots xs ys (omega arith) (λ k z at. h (suc k) z at))
 
-pub zip_get : {X Y : Type 0} (R : X → Y → Type 0) (xs : List X) (ys : List Y) → AllZip R xs ys → length xs ≡ length ys
-zip_get R [] [] h = refl
-zip_get R [] (y ∷ ys) h = absurd h
-zip_get R (x ∷ xs) [] h = absurd h
-zip_get R (x ∷ xs) (y ∷ ys) h = ap suc (zip_get R xs ys h.1)
-
 -- each batch has its poll in its slot, or will get it
 abbrev pub Slotted : ℕ → List BatchValue → List (Option PolledValue) → List PolledValue → Type 0
 Slotted now bs slots rest =
     (length slots ≡ length bs)
-    × ((k : ℕ) (b : BatchValue) → slice_get bs k ≡ Some b → ((o : Option PolledValue) × (slice_get slots k ≡ Some o) × HasPoll now b o) ⊎ Has (numbers_of rest) k)
+    × ((k : ℕ) (b : BatchValue) → slice_get bs k ≡ Some b → ((o : Option PolledValue) × (slice_get slots k ≡ Some o) × HasPoll now b o) ⊎ Contains (numbers_of rest) k)
 
 pub slotted_none : (now n : ℕ) (bs : List BatchValue) (slots : List (Option PolledValue)) (rest : List PolledValue) → n ≡ length bs → length slots ≡ n → IsPermutation (range_with_len 0 n) (numbers_of rest) → Slotted now bs slots rest
-slotted_none now n bs slots rest e f moved = (f ∙ e, λ k b at. inr (has_each n (numbers_of rest) moved k (omega (arith, get_below bs k b at))))
+slotted_none now n bs slots rest e f moved = (f ∙ e, λ k b at. inr (has_each n (numbers_of rest) moved k (omega (arith, slice_get_within bs k b at))))
 
 pub slotted_more : (now : ℕ) (bs : List BatchValue) (slots new : List (Option PolledValue)) (p : PolledValue) (was rest : List PolledValue) → was ≡ p ∷ rest → new ≡ set slots p.number (Some p) → IsPollAmong now bs p → Slotted now bs slots was → Slotted now bs new rest
 slotted_more now bs slots new p was rest e written among h =
     let W : List (Option PolledValue) → Type 0 = λ l. Slotted now bs l rest in
-    let at_p : BatchValue = among.0 in
-    let below : p.number < length slots = omega (arith, get_below bs p.number at_p among.1, h.0) in
-    let P : List PolledValue → Type 0 = λ l. (k : ℕ) (b : BatchValue) → slice_get bs k ≡ Some b → ((o : Option PolledValue) × (slice_get slots k ≡ Some o) × HasPoll now b o) ⊎ Has (numbers_of l) k in
+    let at_p : BatchValue = among.0 in let I : ℕ → Type 0 = λ n. p.number ≡ n in
+    let below : p.number < length slots = omega (arith, slice_get_within bs p.number at_p among.1, h.0) in
+    let P : List PolledValue → Type 0 = λ l. (k : ℕ) (b : BatchValue) → slice_get bs k ≡ Some b → ((o : Option PolledValue) × (slice_get slots k ≡ Some o) × HasPoll now b o) ⊎ Contains (numbers_of l) k in
     let was_so : P (p ∷ rest) = subst P e h.1 in
     subst W (sym written) (
       omega (arith, length-set slots p.number (Some p), h.0),
@@ -95,13 +70,13 @@ slotted_more now bs slots new p was rest e written among h =
           (λ (other : k ≢ p.number).
           ⊎_elim
           (λ (have : (o : Option PolledValue) × (slice_get slots k ≡ Some o) × HasPoll now b o). inl (have.0, get_else slots p.number k (Some p) other ∙ have.1, have.2))
-          (λ (later : Has (p.number ∷ numbers_of rest) k). inr (⊎_elim (λ (x : p.number ≡ k). absurd (other (sym x))) (λ (y : Has (numbers_of rest) k). y) later))
+          (λ (later : Contains (p.number ∷ numbers_of rest) k). inr (⊎_elim (λ x. absurd (other (sym (All-contains I (p.number ∷ []) k (All-cons I p.number [] refl (All-nil I)) x)))) (λ (y : Contains (numbers_of rest) k). y) (Contains-append_cases (p.number ∷ []) (numbers_of rest) k later)))
           (was_so k b at))
           (same_or_not k p.number),
     )
 
 pub slotted_all : (now : ℕ) (bs : List BatchValue) (slots : List (Option PolledValue)) (rest : List PolledValue) → length rest ≡ 0 → Slotted now bs slots rest → AllZip (HasPoll now) bs slots
-slotted_all now bs slots [] none h = zip_slots (HasPoll now) bs slots h.0 (λ k b at. ⊎_elim (λ x. x) (λ x. absurd x) (h.1 k b at))
+slotted_all now bs slots [] none h = zip_slots (HasPoll now) bs slots h.0 (λ k b at. ⊎_elim (λ x. x) (λ (x : Contains [] k). absurd (omega (arith, x.1))) (h.1 k b at))
 slotted_all now bs slots (p ∷ ps) none h = absurd (omega arith)
 
 -- no task was broken
@@ -153,5 +128,5 @@ goes_on now all done new slots rest p e told h =
 
 pub goes_all : (now : ℕ) (all : List BatchValue) (done : List TaskValue) (slots : List (Option PolledValue)) → length slots ≡ 0 → Goes now all done slots → done ≡ map (polled_at now) (tasks_of all)
 goes_all now all done slots none h =
-    let bs = h.0 in let no : bs ≡ [] = nil_from_length bs (zip_get (HasPoll now) bs slots h.1 ∙ none) in
+    let bs = h.0 in let no : bs ≡ [] = nil_from_length bs (sym (AllZip-long (HasPoll now) bs slots h.1) ∙ none) in
     sym (append-nil done) ∙ ap (λ l. done ++ map (polled_at now) (tasks_of l)) (sym no) ∙ h.2

@@ -1,6 +1,5 @@
 -- What a due poll does to a task.
-use Rattle.std.proofs.Common.{◌≡◌, ℕ, ◌≤◌, true, false, ◌⊎◌, inl, inr, ⊎_elim, Option, Some, None, Ok, Err, Result, nat_lt, if◌then◌else◌, refl, ◌∙◌, arith}
-use Rattle.std.proofs.lemmas.Bool.{ltb-true}
+use Rattle.std.proofs.Common.{◌≡◌, ℕ, ◌≤◌, true, false, ◌⊎◌, inl, inr, ⊎_elim, Option, Some, None, Ok, Err, Result, nat_lt, if◌then◌else◌, refl, ◌∙◌, arith, ltb-true}
 use Rattle.std.specs.Prelude.{IsSomeAnd, ⊤}
 use Rattle.futures.specs.declared.task.Poll.{Poll}
 use Rattle.futures.specs.declared.task.Poll.TheVariants.{Ready, Pending}

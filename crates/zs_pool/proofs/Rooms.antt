@@ -1,9 +1,7 @@
 -- How the allowance is shared among the seats of all workers.
-use Rattle.std.proofs.Common.{◌≡◌, ◌+◌, ◌*◌, ◌<◌, ◌≤◌, ℕ, suc, zero, false, List, [], ◌∷◌, ◌++◌, length, sym, ap, ◌∙◌, subst, refl, arith}
-use Rattle.std.specs.Prelude.{All}
+use Rattle.std.proofs.Common.{◌≡◌, ◌+◌, ◌*◌, ◌<◌, ◌≤◌, ℕ, suc, zero, false, List, [], ◌∷◌, ◌++◌, length, sym, ap, ◌∙◌, subst, refl, mul-le-mul_right, arith, All, suc-mul}
 use Rattle.std.proofs.lemmas.List.Sums.{sum_by-append, sum_by-cons}
 use Rattle.std.proofs.lemmas.List.Elements.{All-push}
-use Rattle.std.proofs.Math.Nat.{suc-mul}
 use Rattle.zs_pool.specs.Batches.{BatchValue, AllPollable, tasks_of}
 use Rattle.zs_pool.specs.Board.{Claimer, claimer}
 use Rattle.zs_pool.specs.Shelf.{shelver}
@@ -15,20 +13,16 @@ use Rattle.zs_pool.specs.Joined.{Worker, Promised, allowed}
 pub rooms_more : (n t : ℕ) → rooms (n + 1) t ≡ rooms n t + t
 rooms_more n t = let e : n + 1 ≡ suc n = omega arith in ap (λ k. rooms k t) e ∙ omega arith
 
--- there is room for one more
-pub rooms_fit : (i n t : ℕ) → i < n → rooms i t + t ≤ rooms n t
-rooms_fit i zero t lt = absurd (omega arith)
-rooms_fit zero (suc n) t lt = omega arith
-rooms_fit (suc i) (suc n) t lt = omega (arith, rooms_fit i n t (omega arith))
-
-rooms_grow : (i n t : ℕ) → i ≤ n → rooms i t ≤ rooms n t
-rooms_grow zero n t le = omega arith
-rooms_grow (suc i) zero t le = absurd (omega arith)
-rooms_grow (suc i) (suc n) t le = omega (arith, rooms_grow i n t (omega arith))
-
 rooms_times : (n t : ℕ) → rooms n t ≡ n * t
 rooms_times zero t = omega arith
 rooms_times (suc n) t = omega (arith, rooms_times n t, suc-mul n t)
+
+rooms_grow : (i n t : ℕ) → i ≤ n → rooms i t ≤ rooms n t
+rooms_grow i n t le = let e : i * t ≤ n * t = mul-le-mul_right t le in omega (arith, rooms_times i t, rooms_times n t)
+
+-- there is room for one more
+pub rooms_fit : (i n t : ℕ) → i < n → rooms i t + t ≤ rooms n t
+rooms_fit i n t lt = omega (arith, rooms_more i t, rooms_grow (i + 1) n t (omega arith))
 
 -- the calling thread and its helpers are at most the workers of the cut
 pub rooms_within : (helpers workers most room : ℕ) → helpers + 1 ≤ workers → workers * most ≤ room → most + rooms helpers most ≤ room

@@ -1,15 +1,15 @@
 -- What a worker with a shelf and a seat has done.
-use Rattle.std.proofs.Common.{◌≡◌, ◌+◌, ◌<◌, ◌≤◌, ℕ, zero, suc, List, [], ◌∷◌, ◌++◌, length, Some, refl, sym, ap, ◌∙◌, subst, append_assoc, length-append, arith}
-use Rattle.std.specs.Prelude.{All, slice_get}
+use Rattle.std.proofs.Common.{false, ◌≡◌, ◌+◌, ◌<◌, ◌≤◌, ℕ, zero, suc, List, [], ◌∷◌, ◌++◌, length, Some, refl, sym, ap, ◌∙◌, subst, append_assoc, length-append, arith, All, slice_get, IsPermutation}
 use Rattle.std.specs.List.{range_with_len}
-use Rattle.std.specs.List.Sorted.{IsPermutation}
 use Rattle.std.proofs.lemmas.List.{map-append}
 use Rattle.std.proofs.lemmas.List.Sums.{sum_by-append, sum_by-cons}
 use Rattle.std.proofs.lemmas.List.Elements.{All-push, All-append, All-contains, Contains-push, All-head, All-tail}
 use Rattle.std.proofs.lemmas.List.Sorted.{All-permutation, sum_by-IsPermutation, IsPermutation-append, IsPermutation-append_comm, IsPermutation-trans, IsPermutation-append_left, IsPermutation-append_right, IsPermutation-map, IsPermutation-refl, IsPermutation-to_front}
 use Rattle.zs_pool.specs.Batches.{BatchValue, tasks_of}
 use Rattle.zs_pool.specs.Messages.{PolledValue, IsPollOf, IsPollAmong, numbers_of}
-use Rattle.zs_pool.specs.Shares.{size_at, sizes, Serves, HandsIn}
+use Rattle.zs_pool.specs.Board.{BoardId, claimer}
+use Rattle.zs_pool.specs.declared.rounds.shared.Rights.{Rights}
+use Rattle.zs_pool.specs.Shares.{size_at, sizes, IsSame, HasCounted, Serves, HandsIn}
 
 -- the number of tasks of the first n batches
 abbrev pub before : List BatchValue → ℕ → ℕ
@@ -57,9 +57,9 @@ hands_keep put kept kept' m is =
     let P : List PolledValue → Type 0 = λ l. IsPermutation ((put ++ kept) ++ m ∷ []) l in
     subst P (append_assoc put kept (m ∷ []) ∙ ap (λ l. put ++ l) (sym is)) (IsPermutation-refl ((put ++ kept) ++ m ∷ []))
 
-pub serves_more : (now : ℕ) (bs : List BatchValue) (taken taken' : List ℕ) (k : ℕ) (b : BatchValue) (m : PolledValue) (put kept put' kept' : List PolledValue)
+serves_more : (now : ℕ) (bs : List BatchValue) (taken taken' : List ℕ) (b : BatchValue) (m : PolledValue) (put kept put' kept' : List PolledValue)
     → slice_get bs b.number ≡ Some b → taken' ≡ taken ++ b.number ∷ [] → IsPollOf now b m → HandsIn put kept m put' kept' → Serves now bs taken (put ++ kept) → Serves now bs taken' (put' ++ kept')
-serves_more now bs taken taken' k b m put kept put' kept' there is poll moved h =
+serves_more now bs taken taken' b m put kept put' kept' there is poll moved h =
     let N : ℕ → Type 0 = λ n. slice_get bs n ≡ Some b in
     let among : IsPollAmong now bs m = (b, subst N (sym poll.number) there, poll) in
     let old = put ++ kept in let more = old ++ m ∷ [] in
@@ -72,6 +72,35 @@ serves_more now bs taken taken' k b m put kept put' kept' there is poll moved h 
       IsPermutation-trans taken' (numbers_of more) (numbers_of (put' ++ kept')) two (IsPermutation-map (λ x. x.number) more (put' ++ kept') moved),
     )
 
+-- what a worker has done since it began with `first`, with the messages that it stored beside the shelf
+pub record Serving (now : ℕ) (first r : Rights) (kept : List PolledValue) : Type 0 where
+  pub same : IsSame first r
+  pub served : Serves now first.board_pass.batches r.board_pass.taken (r.shelf_pass.put ++ kept)
+  pub count : r.seat.count ≡ first.seat.count + sizes first.board_pass.batches r.board_pass.taken
+  pub left : r.seat.allowance + sizes first.board_pass.batches r.board_pass.taken ≡ first.seat.allowance
+  pub fits : Fits first.board_pass.batches r.board_pass.taken
+
+-- one more batch is claimed, polled and handed in
+pub serving_more : (now : ℕ) (first r next : Rights) (kept kept' : List PolledValue) (b : BatchValue) (m : PolledValue) (board : BoardId)
+    → slice_get r.board_pass.batches b.number ≡ Some b → All (λ j. j < b.number) r.board_pass.taken → board ≡ first.board_pass.board
+    → next.board_pass ≡ claimer board r.board_pass.share r.board_pass.batches (r.board_pass.taken ++ b.number ∷ []) false
+    → (next.shelf_pass.shelf ≡ first.shelf_pass.shelf) × (next.shelf_pass.share ≡ r.shelf_pass.share) × (next.shelf_pass.taken ≡ r.shelf_pass.taken)
+    → HasCounted r.seat (length b.tasks) next.seat → IsPollOf now b m → HandsIn r.shelf_pass.put kept m next.shelf_pass.put kept' → Serving now first r kept → Serving now first next kept'
+serving_more now first r next kept kept' b m board there below of is shelf counted poll moved was =
+    let bs = first.board_pass.batches in
+    let B : List BatchValue → Type 0 = λ l. slice_get l b.number ≡ Some b in
+    let at : B bs = subst B was.same.1 there in
+    let taken : next.board_pass.taken ≡ r.board_pass.taken ++ b.number ∷ [] = ap (λ p. p.taken) is in
+    let size : sizes bs next.board_pass.taken ≡ sizes bs r.board_pass.taken + size_at bs b.number = ap (sizes bs) taken ∙ sizes_more bs r.board_pass.taken b.number in
+    let F : List ℕ → Type 0 = Fits bs in
+    record {
+      same = ((ap (λ p. p.board) is ∙ of, shelf.0, counted.0 ∙ was.same.0.2), ap (λ p. p.batches) is ∙ was.same.1, ap (λ p. p.share) is ∙ was.same.2, shelf.1 ∙ was.same.3, shelf.2 ∙ was.same.4);
+      served = serves_more now bs r.board_pass.taken next.board_pass.taken b m r.shelf_pass.put kept next.shelf_pass.put kept' at taken poll moved was.served;
+      count = omega (arith, counted.1, was.count, size, size_is bs b.number b at);
+      left = omega (arith, counted.2, was.left, size, size_is bs b.number b at);
+      fits = subst F (sym taken) (fits_more bs r.board_pass.taken b.number below was.fits);
+    }
+
 pub all_get : {X : Type 0} (P : X → Type 0) (xs : List X) (k : ℕ) (x : X) → All P xs → slice_get xs k ≡ Some x → P x
 all_get P [] k x h e = cc
 all_get P (y ∷ ys) zero x h e = let same : y ≡ x = cc in subst P same (All-head P y ys h)
@@ -82,9 +111,6 @@ pub claim_fits : (bs : List BatchValue) (taken : List ℕ) (b : BatchValue) (all
     → length b.tasks ≤ allowance
 claim_fits bs taken b allowance first there below fits left room =
     omega (arith, fits b.number below, size_is bs b.number b there, before_more bs b.number (suc b.number) (omega arith), before_all bs (suc b.number), left, room)
-
-pub fits_none : (bs : List BatchValue) → Fits bs []
-fits_none bs n all = omega arith
 
 -- what two workers did, together
 pub serves_both : (now : ℕ) (bs : List BatchValue) (t u : List ℕ) (p k q l : List PolledValue) → Serves now bs t (p ++ k) → Serves now bs u (q ++ l) → Serves now bs (t ++ u) ((p ++ q) ++ (k ++ l))

@@ -1,12 +1,11 @@
 -- Lists that agree place by place.
-use Rattle.std.proofs.Common.{◌≡◌, ℕ, ◌+◌, ◌<◌, ◌≤◌, List, [], ◌∷◌, ◌++◌, length, get_or, set, take, refl, sym, subst}
+use Rattle.std.proofs.Common.{◌≡◌, ℕ, ◌+◌, ◌<◌, ◌≤◌, List, [], ◌∷◌, ◌++◌, length, get_or, set, take, refl, sym, subst, ⊎_elim, inl, inr}
 use Rattle.std.specs.List.{All, AllZip}
-use Rattle.std.proofs.Common.{⊎_elim, inl, inr, append_assoc}
 use Rattle.std.proofs.lemmas.List.Elements.{All-nil, All-cons}
 use Rattle.zs_drive.specs.Tasks.{TaskValue}
 use Rattle.zs_pool.specs.Rounds.{IsPolled, polled_at, broken_at}
 use Rattle.zs_pool.specs.Messages.{Saw}
-use Rattle.std.proofs.lemmas.List.{take_more, take_more_set, take_all, nil_from_length, append-nil}
+use Rattle.std.proofs.lemmas.List.{take_more, take_more_set, take_all}
 
 module _ {X Y : Type 0} (R : X → Y → Type 0) where
   pub zip_append : (xs : List X) (ys : List Y) (us : List X) (vs : List Y) → AllZip R xs ys → AllZip R us vs → AllZip R (xs ++ us) (ys ++ vs)
@@ -21,6 +20,9 @@ module _ {X Y : Type 0} (R : X → Y → Type 0) where
       let now = zip_append (take i xs) (take i ys) (get_or xs i d ∷ []) (y ∷ []) before (here, tt) in
       rw (take_more xs i d in_x, take_more_set ys i y in_y) now
 
+  pub zip_whole : (xs : List X) (ys : List Y) (i : ℕ) → length xs ≤ i → length ys ≤ i → AllZip R (take i xs) (take i ys) → AllZip R xs ys
+  zip_whole xs ys i in_x in_y h = rw (take_all i xs in_x, take_all i ys in_y) at h
+
 saw_one : (now : ℕ) (x y : TaskValue) → IsPolled now x y → Saw now y
 saw_one now x y h =
     ⊎_elim
@@ -33,28 +35,3 @@ saw_all now [] [] h = All-nil (Saw now)
 saw_all now [] (y ∷ ys) h = absurd h
 saw_all now (x ∷ xs) [] h = absurd h
 saw_all now (x ∷ xs) (y ∷ ys) h = All-cons (Saw now) y ys (saw_one now x y h.0) (saw_all now xs ys h.1)
-
-module _ {X Y : Type 0} (R : X → Y → Type 0) where
-  pub zip_whole : (xs : List X) (ys : List Y) (i : ℕ) → length xs ≤ i → length ys ≤ i → AllZip R (take i xs) (take i ys) → AllZip R xs ys
-  zip_whole xs ys i in_x in_y h = rw (take_all i xs in_x, take_all i ys in_y) at h
-
--- a loop that makes one item of each: what is made so far, followed by what fits the rest, fits the
--- whole
-module _ {X Y : Type 0} (R : X → Y → Type 0) where
-  abbrev pub Finishes : List X → List X → List Y → Type 0
-  Finishes all rest ys = (zs : List Y) → AllZip R rest zs → AllZip R all (ys ++ zs)
-
-  pub finishes_none : (all rest : List X) (ys : List Y) → rest ≡ all → ys ≡ [] → Finishes all rest ys
-  finishes_none all rest ys e n zs h = rw n (rw e at h)
-
-  pub finishes_more : (all was rest : List X) (ys new : List Y) (x : X) (y : Y) → was ≡ x ∷ rest → new ≡ ys ++ y ∷ [] → R x y → Finishes all was ys → Finishes all rest new
-  finishes_more all was rest ys new x y e n here before zs h =
-      let P : List X → Type 0 = λ xs. AllZip R xs (y ∷ zs) in
-      let more : AllZip R all (ys ++ y ∷ zs) = before (y ∷ zs) (subst P (sym e) (here, h)) in
-      rw (n, append_assoc ys (y ∷ []) zs) more
-
-  pub finishes_all : (all rest : List X) (ys : List Y) → length rest ≡ 0 → Finishes all rest ys → AllZip R all ys
-  finishes_all all rest ys none before =
-      let P : List X → Type 0 = λ xs. AllZip R xs [] in
-      let whole : AllZip R all (ys ++ []) = before [] (subst P (sym (nil_from_length rest none)) tt) in
-      rw (append-nil ys) at whole

@@ -1,6 +1,5 @@
 -- How the due tasks of one moment are cut into batches.
-use Rattle.std.specs.Prelude.{◌≡◌, ◌≤◌, ◌-◌, length, take, ℕ, List, All, Some, slice_get}
-use Rattle.std.specs.List.{flat_map}
+use Rattle.std.specs.Prelude.{◌≡◌, ◌≤◌, ◌-◌, length, take, ℕ, List, All, Some, slice_get, flat_map}
 use Rattle.zs_drive.specs.Tasks.{TaskValue}
 use Rattle.zs_pool.specs.Limits.{max_workers, max_tasks}
 use Rattle.zs_pool.specs.Rounds.{IsPollable}

@@ -1,8 +1,6 @@
 -- The rule of a board: batches are claimed from the front, each once; the rest is queued in order.
-use Rattle.std.specs.Prelude.{◌≡◌, ℕ, ◌<◌, ◌≤◌, List, [], ◌∷◌, ◌++◌, length, drop, Some, slice_get, All}
+use Rattle.std.specs.Prelude.{◌≡◌, ℕ, ◌<◌, ◌≤◌, List, [], ◌∷◌, ◌++◌, length, drop, Some, slice_get, All, Bool, true, IsPermutation}
 use Rattle.std.specs.List.{flat_map, sum_by, range_with_len}
-use Rattle.std.specs.List.Sorted.{IsPermutation}
-use Rattle.std.specs.Prelude.{Bool, true}
 use Rattle.atomic_table.specs.Seated.{TableId}
 use Rattle.zs_pool.specs.Batches.{BatchValue, AreNumbered}
 use Rattle.zs_pool.specs.Counter.{Counting}

@@ -1,7 +1,6 @@
 -- The rule of a counter beside a queue: its word is the sum of what all seats counted, modulo
 -- 2^64, and no seat saw more than the sum.
-use Rattle.std.specs.Prelude.{◌≡◌, ℕ, ◌+◌, ◌%◌, ◌^◌, ◌≤◌, max, List, [], ◌∷◌}
-use Rattle.std.specs.List.{sum_by}
+use Rattle.std.specs.Prelude.{◌≡◌, ℕ, ◌+◌, ◌%◌, ◌^◌, ◌≤◌, max, List, [], ◌∷◌, sum_by}
 use Rattle.atomic_table.specs.Seated.{TableId}
 use Rattle.atomic_table.specs.Table.{State, Step, Me}
 use Rattle.zs_pool.specs.Runs.{Every}

@@ -1,7 +1,6 @@
 -- What the calling thread has while it joins the workers.
-use Rattle.std.specs.Prelude.{◌≡◌, ℕ, ◌+◌, true, List, ◌++◌, Ok, IfOk, Vec}
+use Rattle.std.specs.Prelude.{◌≡◌, ℕ, ◌+◌, true, List, ◌++◌, Ok, IfOk, Vec, sum_by}
 use Rattle.std.specs.Global.{Global}
-use Rattle.std.specs.List.{sum_by}
 use Rattle.std.specs.declared.thread.PromisedHandle.{PromisedHandle}
 use Rattle.zs_pool.specs.Batches.{BatchValue}
 use Rattle.zs_pool.specs.Messages.{PolledValue}

@@ -26,10 +26,6 @@ pub record IsPollOf (now : ℕ) (b : BatchValue) (p : PolledValue) : Type 0 wher
   pub at : p.now ≡ now
   pub tasks : AllZip (IsPolled now) b.tasks p.tasks
 
--- each message is the poll of the batch at its place
-abbrev pub ArePollsOf : ℕ → List BatchValue → List PolledValue → Type 0
-ArePollsOf now bs ps = AllZip (IsPollOf now) bs ps
-
 -- the message is the poll of the batch that has its number
 abbrev pub IsPollAmong : ℕ → List BatchValue → PolledValue → Type 0
 IsPollAmong now batches p = (b : BatchValue) × (slice_get batches p.number ≡ Some b) × IsPollOf now b p

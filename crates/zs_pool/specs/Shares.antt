@@ -1,8 +1,6 @@
 -- What a thread of a round gets, and what it returns.
-use Rattle.std.specs.Prelude.{◌≡◌, ℕ, zero, suc, ◌+◌, ◌≤◌, length, true, false, List, [], ◌∷◌, ◌++◌, All, Result, IfOk, Vec}
+use Rattle.std.specs.Prelude.{◌≡◌, ℕ, zero, suc, ◌+◌, ◌≤◌, length, true, false, List, [], ◌∷◌, ◌++◌, All, Result, IfOk, Vec, sum_by, IsPermutation}
 use Rattle.std.specs.Global.{Global}
-use Rattle.std.specs.List.{sum_by}
-use Rattle.std.specs.List.Sorted.{IsPermutation}
 use Rattle.std.specs.declared.alloc.AllocError.{AllocError}
 use Rattle.zs_term.specs.Saturating.{max_moment}
 use Rattle.zs_pool.specs.Limits.{max_workers}

@@ -1,7 +1,5 @@
 -- The rule of a shelf: what was put is a permutation of what was taken and what is queued.
-use Rattle.std.specs.Prelude.{◌≡◌, ℕ, List, [], ◌++◌}
-use Rattle.std.specs.List.{flat_map, sum_by}
-use Rattle.std.specs.List.Sorted.{IsPermutation}
+use Rattle.std.specs.Prelude.{◌≡◌, ℕ, List, [], ◌++◌, flat_map, sum_by, IsPermutation}
 use Rattle.atomic_table.specs.Seated.{TableId}
 use Rattle.zs_pool.specs.Messages.{PolledValue}
 use Rattle.zs_pool.specs.Runs.{Every}

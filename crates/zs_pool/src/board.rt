@@ -9,9 +9,8 @@
 //! - `split` splits both handles. `join` joins both, looks at the queue and loads the counter.
 //! - `close` loads the counter, looks at the queue, and pops until it is empty.
 
-ghost use Rattle.std.specs.Prelude.{◌≡◌, ◌∷◌, [], ◌++◌, ◌+◌, ◌-◌, ◌≤◌, ◌<◌, ◌||◌, true, false, length, drop, All, IsOk, IfOk, IfErr, IfSome, IfNone, Some, slice_get};
+ghost use Rattle.std.specs.Prelude.{◌≡◌, ◌∷◌, [], ◌++◌, ◌+◌, ◌-◌, ◌≤◌, ◌<◌, ◌||◌, true, false, length, drop, All, IsOk, IfOk, IfErr, IfSome, IfNone, Some, slice_get, IsPermutation};
 ghost use Rattle.std.specs.List.{range_with_len};
-ghost use Rattle.std.specs.List.Sorted.{IsPermutation};
 ghost use Rattle.crossbeam_queue.specs.Passes.{view, IsPassOf};
 ghost use Rattle.zs_term.specs.Saturating.{max_moment};
 ghost use Rattle.zs_pool.specs.Batches.{AreNumbered};
@@ -179,6 +178,7 @@ impl Board {
 
     /// Splits off a pass with a share of 1. The first pass retains the list of batches taken. After
     /// a `None`, both return `None`.
+    #[tactic(auto, using(crate::proofs::BoardMoves::forks))]
     pub fn split<R>(
         &self,
         _rt: &R,
@@ -202,6 +202,7 @@ impl Board {
     }
 
     /// Joins two passes into one, which took what both took.
+    #[tactic(auto, using(crate::proofs::BoardMoves::merges))]
     pub fn join<R>(&self, _rt: &R, mut pass: BoardPass, other: BoardPass) -> BoardPass
         requires pass { pass.board ≡ self.now }
         requires other { other.board ≡ self.now }

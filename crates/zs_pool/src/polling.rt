@@ -58,9 +58,7 @@ fn poll_each<G: Gate>(
     requires tally { seat.old.tally ≡ tally.now }
     requires allowance { length tasks.old ≤ seat.old.allowance }
     requires pollable { All (IsPollable now) tasks.old }
-    ensures tally { seat.new.tally ≡ tally.now }
-    ensures count { seat.new.count ≡ seat.old.count + length tasks.old }
-    ensures allowance { seat.new.allowance + length tasks.old ≡ seat.old.allowance }
+    ensures counted { HasCounted seat.old (length tasks.old) seat.new }
     ensures polled { AllZip (IsPolled now) tasks.old tasks.new }
     ensures saw { AllSaw now tasks.new }
 {

@@ -3,8 +3,7 @@
 //! Atomic steps, each under the rule of the queue (`shelf/rule.rt`): `put` pushes, `take` pops,
 //! `split` splits a handle, `join` joins two, and `close` pops until the queue is empty.
 
-ghost use Rattle.std.specs.Prelude.{◌≡◌, ◌∷◌, [], ◌++◌, ◌+◌, ◌-◌, ◌≤◌, ◌<◌, length, IsOk, IfOk, IfErr, OnOk, IfSome, IfNone};
-ghost use Rattle.std.specs.List.Sorted.{IsPermutation};
+ghost use Rattle.std.specs.Prelude.{◌≡◌, ◌∷◌, [], ◌++◌, ◌+◌, ◌-◌, ◌≤◌, ◌<◌, length, IsOk, IfOk, IfErr, OnOk, IfSome, IfNone, IsPermutation};
 ghost use Rattle.crossbeam_queue.specs.Passes.{view, IsPassOf};
 ghost use Rattle.zs_term.specs.Saturating.{max_moment};
 ghost use Rattle.zs_pool.specs.declared.fault.PoolFault.TheVariants.{Memory, Full};
@@ -64,6 +63,7 @@ impl Model for ShelfPass {
 
 impl Shelf {
     /// Makes a shelf for 1 to 10,000 batches, and its first pass. Fails only with `Memory`.
+    #[tactic(auto, using(crate::proofs::ShelfMoves::begins))]
     pub fn new<R>(_rt: &R, alloc: Global, capacity: u64) -> Result<(Shelf, ShelfPass), PoolFault>
         requires capacity { (1 ≤ capacity) × (capacity ≤ max_tasks) }
         ensures ok { IfOk result (λ r. r.1 ≡ shelver r.0 max_moment [] []) }

@@ -1,7 +1,6 @@
 //! Cuts the due tasks of one moment into batches, and merges the polled batches in order.
-ghost use Rattle.std.specs.Prelude.{◌≡◌, ◌≤◌, map, length, All, IfOk, IfErr};
+ghost use Rattle.std.specs.Prelude.{◌≡◌, ◌≤◌, map, length, All, IfOk, IfErr, IsPermutation};
 ghost use Rattle.std.specs.List.{AllZip, range_with_len};
-ghost use Rattle.std.specs.List.Sorted.{IsPermutation};
 ghost use Rattle.zs_pool.specs.Rounds.{polled_at};
 ghost use Rattle.zs_pool.specs.Batches.{AreNumbered, AreCut, tasks_of};
 ghost use Rattle.zs_pool.specs.Messages.{HasPoll, IsPollAmong, numbers_of};

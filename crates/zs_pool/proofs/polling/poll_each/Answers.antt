@@ -1,8 +1,7 @@
 use Rattle.std.proofs.Common.{◌≡◌, ◌≢◌, length, get_or, arith, subst, sym, ◌∙◌, get_or-set_other}
 use Rattle.std.specs.List.{AllZip}
 use Rattle.zs_drive.specs.Tasks.{TaskValue}
-use Rattle.zs_pool.specs.Rounds.{IsPolled}
-use Rattle.zs_pool.specs.Rounds.{IsPollable}
+use Rattle.zs_pool.specs.Rounds.{IsPolled, IsPollable}
 use Rattle.zs_pool.proofs.Zips.{zip_write, zip_whole, saw_all}
 use Rattle.zs_pool.proofs.polling.poll_each.Goals as goal
 
@@ -35,9 +34,7 @@ returns g c =
     in
     let end : c.loop-place.place ≡ length c.args.tasks.now = omega arith in
     record {
-      tally = c.loop-place.invariant.2;
-      count = omega (arith, c.loop-place.invariant.3, end);
-      allowance = omega (arith, c.loop-place.invariant.4, end);
+      counted = (c.loop-place.invariant.2 ∙ sym c.requires.tally, omega (arith, c.loop-place.invariant.3, end), omega (arith, c.loop-place.invariant.4, end));
       polled = whole;
       saw = saw_all c.args.now c.args.tasks.now c.loop-place.tasks whole;
     }

@@ -1,5 +1,4 @@
-use Rattle.std.proofs.Common.{List, sym, subst}
-use Rattle.std.specs.Prelude.{All}
+use Rattle.std.proofs.Common.{List, sym, subst, All}
 use Rattle.zs_drive.specs.Tasks.{TaskValue}
 use Rattle.zs_pool.specs.declared.tasks.Tasks.{Tasks}
 use Rattle.zs_pool.specs.Rounds.{IsPollable}

@@ -1,6 +1,5 @@
-use Rattle.std.proofs.Common.{◌≡◌, true, length, subst}
+use Rattle.std.proofs.Common.{◌≡◌, true, length, subst, IsPermutation}
 use Rattle.std.specs.List.{range_with_len}
-use Rattle.std.specs.List.Sorted.{IsPermutation}
 use Rattle.crossbeam_queue.specs.Passes.{view}
 use Rattle.zs_pool.specs.Board.{Claimer}
 use Rattle.zs_term.specs.Saturating.{max_moment}

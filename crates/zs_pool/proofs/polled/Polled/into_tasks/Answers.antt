@@ -1,5 +1,4 @@
-use Rattle.std.proofs.Common.{◌≡◌, ◌≢◌, ℕ, Bool, true, false, Some, ap, ◌∙◌, IsTrue}
-use Rattle.std.specs.Prelude.{slice_get}
+use Rattle.std.proofs.Common.{◌≡◌, ◌≢◌, ℕ, Bool, true, false, Some, ap, ◌∙◌, IsTrue, slice_get}
 use Rattle.zs_drive.specs.Tasks.{TaskValue}
 use Rattle.zs_pool.proofs.Places.{sound_polls}
 use Rattle.zs_pool.proofs.polled.Polled.into_tasks.Goals as goal

@@ -1,11 +1,10 @@
-use Rattle.std.proofs.Common.{◌≡◌, List, ◌∷◌, Some, set, ap, ap₂, sym, subst, arith}
-use Rattle.std.specs.Prelude.{All}
+use Rattle.std.proofs.Common.{◌≡◌, List, ◌∷◌, Some, set, ap, ap₂, sym, subst, arith, All, IsPermutation}
 use Rattle.std.specs.List.{range_with_len}
-use Rattle.std.specs.List.Sorted.{IsPermutation}
 use Rattle.std.specs.Vec.Iter.{into_iter_items}
 use Rattle.std.proofs.lemmas.List.Elements.{All-head, All-tail}
+use Rattle.std.proofs.lemmas.Option.{slice_get_within}
 use Rattle.zs_pool.specs.Messages.{PolledValue, IsPollAmong, numbers_of}
-use Rattle.zs_pool.proofs.Places.{slotted_none, slotted_more, slotted_all, get_below}
+use Rattle.zs_pool.proofs.Places.{slotted_none, slotted_more, slotted_all}
 use Rattle.zs_pool.proofs.rounds.batches.place_batches.Goals as goal
 
 pub loop-message-init : goal.loop-message-init
@@ -22,7 +21,7 @@ index_mut-requires c =
     let step = c.in-Some.ensures.steps.0 in let bs = c.args.batches.now.value.items in let p : PolledValue = c.in-Some.message in
     let P : List PolledValue → Type 0 = λ l. All (IsPollAmong c.args.now bs) l in
     let mine = All-head (IsPollAmong c.args.now bs) p (into_iter_items c.next.new.self) (subst P step c.loop-message.invariant.1) in
-    omega (arith, get_below bs p.number mine.0 mine.1, c.loop-message.invariant.0.0, ap (λ m. m.number) c.message.view_is)
+    omega (arith, slice_get_within bs p.number mine.0 mine.1, c.loop-message.invariant.0.0, ap (λ m. m.number) c.message.view_is)
 
 pub loop-message-preserved : goal.loop-message-preserved
 loop-message-preserved c =

@@ -1,7 +1,5 @@
-use Rattle.std.proofs.Common.{◌≡◌, List, length, ◌++◌, ap, sym, subst, ◌∙◌, rules, arith}
-use Rattle.std.specs.Prelude.{All}
+use Rattle.std.proofs.Common.{◌≡◌, List, length, ◌++◌, ap, sym, subst, ◌∙◌, rules, arith, All, IsPermutation}
 use Rattle.std.specs.List.{range_with_len}
-use Rattle.std.specs.List.Sorted.{IsPermutation}
 use Rattle.zs_pool.specs.Batches.{BatchValue, AllPollable, tasks_of}
 use Rattle.zs_pool.specs.Messages.{IsPollAmong, numbers_of}
 use Rattle.zs_pool.specs.Shares.{HasCounted}

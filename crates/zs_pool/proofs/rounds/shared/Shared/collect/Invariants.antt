@@ -1,5 +1,4 @@
-use Rattle.std.proofs.Common.{◌≡◌, ◌≤◌, ◌+◌, ◌-◌, length}
-use Rattle.std.specs.Vec.{vec_capacity}
+use Rattle.std.proofs.Common.{◌≡◌, ◌≤◌, ◌+◌, ◌-◌, length, vec_capacity}
 use Rattle.zs_pool.proofs.rounds.shared.Shared.collect.Given as goal
 
 abbrev pub invariant-loop-empty : goal.invariant-loop-empty

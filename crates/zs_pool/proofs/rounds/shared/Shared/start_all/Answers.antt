@@ -1,5 +1,4 @@
-use Rattle.std.proofs.Common.{rules, ◌≡◌, ◌+◌, ◌-◌, ◌∷◌, [], List, false, ap, sym, ◌∙◌, subst, length, length-append, arith}
-use Rattle.std.specs.Prelude.{All}
+use Rattle.std.proofs.Common.{rules, ◌≡◌, ◌+◌, ◌-◌, ◌∷◌, [], List, false, ap, sym, ◌∙◌, subst, length, length-append, arith, All}
 use Rattle.zs_pool.specs.Board.{Claimer, claimer}
 use Rattle.zs_pool.specs.Shelf.{Shelver, shelver}
 use Rattle.zs_term.specs.Saturating.{max_moment}

@@ -1,6 +1,4 @@
-use Rattle.std.proofs.Common.{◌≡◌, ◌+◌, ◌-◌, ◌≤◌, [], false, length}
-use Rattle.std.specs.Prelude.{All}
-use Rattle.std.specs.Vec.{vec_capacity}
+use Rattle.std.proofs.Common.{◌≡◌, ◌+◌, ◌-◌, ◌≤◌, [], false, length, All, vec_capacity}
 use Rattle.zs_pool.specs.Board.{claimer}
 use Rattle.zs_pool.specs.Shelf.{shelver}
 use Rattle.zs_term.specs.Saturating.{max_moment}
