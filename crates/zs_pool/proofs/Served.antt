@@ -72,7 +72,7 @@ serves_more now bs taken taken' b m put kept put' kept' there is poll moved h =
       IsPermutation-trans taken' (numbers_of more) (numbers_of (put' ++ kept')) two (IsPermutation-map (λ x. x.number) more (put' ++ kept') moved),
     )
 
--- what a worker has done since it began with `first`, with the messages that it stored beside the shelf
+-- what a worker has done since it began with `first`, and which messages it stored itself
 pub record Serving (now : ℕ) (first r : Rights) (kept : List PolledValue) : Type 0 where
   pub same : IsSame first r
   pub served : Serves now first.board_pass.batches r.board_pass.taken (r.shelf_pass.put ++ kept)
