@@ -73,7 +73,8 @@ class Cost:
 @dataclasses.dataclass
 class Row:
     """What grows: its name, a function that makes the input of n things, the smaller n, and the limit for each further
-    thing. If n is 0 nothing grows, and the limit is for the whole run. `runs` names the program, which ends so."""
+    thing. If n is 0 nothing grows, and the limit is for the whole run. `runs` names the program; `status` is its
+    exit status."""
     name: str
     make: Callable
     size: int

@@ -178,7 +178,6 @@ impl Board {
 
     /// Splits off a pass with a share of 1. The first pass retains the list of batches taken. After
     /// a `None`, both return `None`.
-    #[tactic(auto, using(crate::proofs::BoardMoves::forks))]
     pub fn split<R>(
         &self,
         _rt: &R,
@@ -202,7 +201,6 @@ impl Board {
     }
 
     /// Joins two passes into one, which took what both took.
-    #[tactic(auto, using(crate::proofs::BoardMoves::merges))]
     pub fn join<R>(&self, _rt: &R, mut pass: BoardPass, other: BoardPass) -> BoardPass
         requires pass { pass.board ≡ self.now }
         requires other { other.board ≡ self.now }

@@ -63,7 +63,6 @@ impl Model for ShelfPass {
 
 impl Shelf {
     /// Makes a shelf for 1 to 10,000 batches, and its first pass. Fails only with `Memory`.
-    #[tactic(auto, using(crate::proofs::ShelfMoves::begins))]
     pub fn new<R>(_rt: &R, alloc: Global, capacity: u64) -> Result<(Shelf, ShelfPass), PoolFault>
         requires capacity { (1 ≤ capacity) × (capacity ≤ max_tasks) }
         ensures ok { IfOk result (λ r. r.1 ≡ shelver r.0 max_moment [] []) }

@@ -1,5 +1,6 @@
 //! Polls batches on several threads.
-ghost use Rattle.std.specs.Prelude.{◌≡◌, ◌≢◌, ◌+◌, ◌≤◌, All, IfOk, IfErr, length, vec_capacity, IsPermutation};
+ghost use Rattle.std.specs.Prelude.{◌≡◌, ◌≢◌, ◌+◌, ◌≤◌, All, IfOk, IfErr, length, IsPermutation};
+ghost use Rattle.std.specs.Vec.{vec_capacity};
 ghost use Rattle.std.specs.List.{range_with_len};
 ghost use Rattle.zs_pool.specs.Limits.{max_workers, max_tasks};
 ghost use Rattle.zs_pool.specs.Batches.{AllPollable, AreNumbered, tasks_of};
