@@ -24,7 +24,6 @@ import time
 
 sys.dont_write_bytecode = True
 
-import left_libraries
 import quick
 import yardstick
 from support import STAMP, TOP, ZSCHED, is_built, parser_of, sources_sum
@@ -291,7 +290,6 @@ def end(gate, whole, before, yard, begun):
     if whole and not failed:
         if before == sources_sum():
             STAMP.write_text(f"{before}\n")
-            left_libraries.stamp()
             quick.take_as_proved(quick.crates())
         else:
             failed += 1

@@ -73,8 +73,7 @@ class Cost:
 @dataclasses.dataclass
 class Row:
     """What grows: its name, a function that makes the input of n things, the smaller n, and the limit for each further
-    thing. If n is 0 nothing grows, and the limit is for the whole run. `runs` names the program; `status` is its
-    exit status."""
+    thing. If n is 0 nothing grows, and the limit is for the whole run. `runs` is the program, and `status` its status."""
     name: str
     make: Callable
     size: int

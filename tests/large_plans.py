@@ -27,8 +27,7 @@ LEAVES = ["forever", "recurs(600)", "spaced(3)", "fixed(7)", "windowed(7)", "exp
 
 def job(number, schedule, values=(0,), ms=1, mode="repeat"):
     """A job that the schedule alone ends."""
-    how = "ok" if mode == "repeat" else "err"
-    script = [{"ms": ms, how: value} for value in values]
+    script = [{"ms": ms, "ok" if mode == "repeat" else "err": value} for value in values]
     return {"name": f"j{number}", "mode": mode, "schedule": schedule, "script": script}
 
 
@@ -51,8 +50,7 @@ def attempts_over_each_operator():
                  "(recurs(2) andThenEither recurs(3)).map(merge).resetWhen(= 3)",
                  "identity.collectAll.resetWhen(size = 9)", "identity.collectAll.map(size)",
                  "(linear(1) && forever.collectAll.map(size)).resetWhen(_1 > 50).resetWhen(_2 = 9)"]
-    jobs = [job(number, schedule, range(9), 2) for number, schedule in enumerate(schedules)]
-    return plan(jobs, horizon=1100, workers=2)
+    return plan([job(number, schedule, range(9), 2) for number, schedule in enumerate(schedules)], horizon=1100, workers=2)
 
 
 def collected(length, value):

@@ -2,7 +2,7 @@
 """Runs `rt ci`: each proof, each test of the crates, and each program as two compilers build it. The toolchain may store what
 passed on this machine, by the checksums of everything that it read, and then skips it; --anew proves everything. After its
 output come the seconds and the processor seconds of each crate's proofs, sampled once a second. It notes the libraries that
-were built, for tools/make-library. The last line is 'N passed, M failed'."""
+were built, for tools/make-library and `rt check`. The last line is 'N passed, M failed'."""
 import collections
 import os
 import pathlib
@@ -113,6 +113,7 @@ def main():
         usage.is_done.set()
     if not failed and not running.returncode:
         left_libraries.note(before)
+        left_libraries.stamp()
     print("\n".join(usage.rows()))
     print(f"{passed} passed, {failed} failed")
     return 1 if failed or running.returncode else 0

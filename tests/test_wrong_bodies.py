@@ -134,16 +134,13 @@ def test_followed(count):
 
 def test_turns(count):
     """Of a crate over whose files all edits were rejected before, each has its turn once in 25 days; of others each day."""
-    edits = [f"edit {number}" for number in range(7)]
-    trials = [Trial(Crate(pathlib.Path(), name, []), edits, None) for name in ["a", "b", "c", "d"]]
+    edits, turns = [f"edit {number}" for number in range(7)], collections.Counter()
     # The checksum of a crate as it is is its name.
     passed = types.SimpleNamespace(listed=lambda: {"a": "a", "b": "b", "c": "older"}, sum_of_all=lambda crate, _: crate.name)
-    turns = collections.Counter()
     for day in range(25):
+        trials = [Trial(Crate(pathlib.Path(), name, []), edits, None) for name in ["a", "b", "c", "d"]]
         give_turns(trials, passed, datetime.date(2026, 1, 1) + datetime.timedelta(day))
         turns.update((it.crate.name, edit) for it in trials for edit in it.in_turn)
-        for it in trials:
-            it.in_turn = set(edits)
     for name, wanted in [("a", 1), ("b", 1), ("c", 25), ("d", 25)]:
         for edit in edits:
             count.test(f"turns of {edit} of {name} in 25 days", turns[name, edit], wanted)
