@@ -1,11 +1,13 @@
 """The libraries that `rt ci` proved and left in the checkout: tools/make-library reads those below zs_c and never writes them,
 and other commands of the toolchain take them as up to date."""
 import hashlib
+import os
 import pathlib
+import shutil
 import sys
 
 import support
-from prover import Toolchain, crates_of
+from prover import crates_of
 from support import TOP
 
 CRATE = "zs_c"
@@ -42,7 +44,7 @@ def are_left(total):
 def stamp():
     """Gives each library the stamp by which other commands know that it is up to date, which `rt ci` doesn't leave. Without
     it the first check of a crate proves all crates below it again."""
-    sys.path.append(str(Toolchain().kit / "bin"))
+    sys.path.append(os.path.dirname(os.path.realpath(shutil.which("rt"))))
     import rtlib
     for crate in rtlib.crates_below(str(TOP / "crates")):
         if crate.makes_rlib() and pathlib.Path(crate.rlib, "format").exists():
