@@ -20,10 +20,10 @@ same_or_not a b = ⊎_elim (λ h. inl h.1) (λ h. inr h.1) (eqb_tells a b)
 has_each : (n : ℕ) (ys : List ℕ) → IsPermutation (range_with_len 0 n) ys → (k : ℕ) → k < n → Contains ys k
 has_each n ys moved k lt = Contains-permutation (range_with_len 0 n) ys k moved (k, omega (arith, length-range_with_len 0 n), get_or-range_with_len 0 n k k lt ∙ omega arith)
 
-get_set : {X : Type 0} (xs : List X) (k : ℕ) (x : X) → k < length xs → slice_get (set xs k x) k ≡ Some x
+pub get_set : {X : Type 0} (xs : List X) (k : ℕ) (x : X) → k < length xs → slice_get (set xs k x) k ≡ Some x
 get_set xs k x lt = slice_get_read (set xs k x) (length xs) k x (sym (length-set xs k x)) lt (sym (get_or-set_same xs k x x lt))
 
-get_else : {X : Type 0} (xs : List X) (i k : ℕ) (x : X) → k ≢ i → slice_get (set xs i x) k ≡ slice_get xs k
+pub get_else : {X : Type 0} (xs : List X) (i k : ℕ) (x : X) → k ≢ i → slice_get (set xs i x) k ≡ slice_get xs k
 get_else [] i k x n = refl
 get_else (y ∷ ys) zero zero x n = absurd (n refl)
 get_else (y ∷ ys) zero (suc k) x n = refl
