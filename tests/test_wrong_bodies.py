@@ -99,7 +99,7 @@ def test_kept(count):
         words = ["--edit", "the_lesser", "--edit", "no_limit"]
         source = pathlib.Path(folder) / "crates" / "two_numbers" / "src" / "lib.rt"
         for name, more, text, told in [("at first", [], SOURCE, "2 of 2 wrong bodies rejected"),
-                                       ("again", [], SOURCE, "2 of 2 wrong bodies were rejected by an earlier run"),
+                                       ("again", [], SOURCE, "2 of 2 wrong bodies were rejected by earlier runs"),
                                        ("anew", ["--anew"], SOURCE, "2 of 2 wrong bodies rejected"),
                                        ("with a comment more", [], SOURCE + "\n// More.\n", "2 of 2 wrong bodies were rejected by"),
                                        ("changed", [], SOURCE + "\nfn more() {}\n", "2 of 2 wrong bodies rejected")]:
