@@ -4,6 +4,7 @@ passed on this machine, by the checksums of everything that it read, and then sk
 output come the seconds and the processor seconds of each crate's proofs, sampled once a second. It notes the libraries that
 were built, for tools/make-library and `rt check`. The last line is 'N passed, M failed'."""
 import collections
+import concurrent.futures
 import os
 import pathlib
 import re
@@ -23,6 +24,8 @@ LAST = re.compile(r"(\d+) passed, (\d+) failed")
 TICK = os.sysconf("SC_CLK_TCK")
 # How often the processes are sampled.
 SECONDS = 1
+# How many crates are proved at a time while many wait for them.
+LANES = 2
 
 
 class Usage(threading.Thread):
@@ -66,18 +69,26 @@ class Usage(threading.Thread):
                 for crate in self.first]
 
 
-def needed_by_most():
-    """The crates that at least half of all crates name, lowest first."""
-    crates = crates_of(TOP)
-    named = collections.Counter(name for it in crates.values() for name in it.libraries)
-    return [name for name in crates if 2 * named[name] >= len(crates)]
+def prove(name):
+    """Proves a crate. What passes is stored, and what fails is told by the whole run, which alone is the gate."""
+    subprocess.run(["rt", "ci", name], cwd=TOP, capture_output=True, check=False,
+                   env={key: value for key, value in os.environ.items() if key != "CI"})
 
 
 def prove_first():
-    """Proves the crates that most others wait for, one after the other. So `rt ci` proves each on several processors;
-    among others it gives each one. What passes is stored, and what fails is told by the whole run."""
-    for name in needed_by_most():
-        subprocess.run(["rt", "ci", name], cwd=TOP, capture_output=True, check=False)
+    """Proves the crates that several others wait for, two at a time, and first those that most wait for. So `rt ci` proves
+    each on two processors; among others it gives each one. While only one of them can be proved, another crate is."""
+    crates = crates_of(TOP)
+    above = collections.Counter(below.name for it in crates.values() for below in it.below)
+    left, running, ended = sorted(crates, key=lambda name: -above[name]), {}, set()
+    with concurrent.futures.ThreadPoolExecutor(LANES) as lanes:
+        while any(above[name] > 1 for name in [*left, *running.values()]):
+            ready = [name for name in left if all(below.name in ended for below in crates[name].below)]
+            for name in ready[:LANES - len(running)]:
+                left.remove(name)
+                running[lanes.submit(prove, name)] = name
+            done, _ = concurrent.futures.wait(running, return_when=concurrent.futures.FIRST_COMPLETED)
+            ended |= {running.pop(it) for it in done}
 
 
 def main():
