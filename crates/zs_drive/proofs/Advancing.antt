@@ -16,7 +16,7 @@ use Rattle.zs_drive.specs.Values.{AttemptedValue}
 use Rattle.zs_effect.specs.declared.script.Outcome.{Outcome}
 use Rattle.zs_step.specs.History.{History}
 use Rattle.zs_step.specs.Answer.{Answer, answer_of}
-use Rattle.zs_step.specs.Compiled.{compiled_schedule}
+use Rattle.zs_step.specs.Compiled.{stepper_schedule}
 use Rattle.zs_drive.specs.Timeline.{Timeline, timeline_of, poll_moments, number_of, beat_after, ended_attempt}
 use Rattle.zs_drive.specs.Recorded.{AllEnded, IsStepped}
 use Rattle.zs_drive.specs.DriverRules.{history_after}
@@ -93,7 +93,7 @@ pub advances : (p q : Progress) (spare : Out) (phase : Phase) (x : ℕ) (attempt
     → q ≡ record p { log = q.log; spare = spare; phase = phase; polls = p.polls + 1 } → keeping_of q.log ≡ keeping_of p.log
     → due_of p.phase ≡ Some x → x ≤ p.seen
     → record { attempts = attempts; due = due_of phase; ending = ending_of phase } ≡ extended (job_in p) p.seen [] (timeline_in p)
-    → IsLog q.log attempts → IsPhase (job_in p) attempts p.seen phase → IsSteppedIn attempts p.compiled p.seen phase → Advances p q
+    → IsLog q.log attempts → IsPhase (job_in p) attempts p.seen phase → IsSteppedIn attempts p.stepper p.seen phase → Advances p q
 advances p q spare phase x attempts progress script rest keeps waits due made logged placed stepped =
     let job = job_in p in
     let new : Timeline = record { attempts = attempts; due = due_of phase; ending = ending_of phase } in
@@ -127,7 +127,7 @@ begin-advances p log spare beat attempt (Waiting x) is progress state waits next
     let attempts = attempts_of p in
     let all : AllEnded attempts = rw is at progress.phase in
     let due : x ≤ p.seen = rw is at waits in
-    let kept : IsStepped attempts p.compiled p.seen = rw is at state in
+    let kept : IsStepped attempts p.stepper p.seen = rw is at state in
     let entry : beat ≡ entry_at p.script (length attempts + 1) = rw (sym (log-count p.log attempts progress.log)) next in
     let after : length (history_after attempts) ≡ length attempts = length-history_after attempts all in
     advances p (record p { log = log; spare = spare; phase = Running attempt; polls = p.polls + 1 }) spare (Running attempt) x (attempts ++ runs p.seen ∷ []) progress script refl keeps (ap due_of is) due
@@ -142,13 +142,13 @@ pub asked-history : (p : Progress) (outcome : Outcome) (r : Ran p outcome) → h
 asked-history p outcome r = ap history_after r.last ∙ history_after-running r.others r.s
 
 pub asked-answer : (p : Progress) (outcome : Outcome) (r : Ran p outcome) (step : Answer)
-    → step ≡ answer_of (compiled_schedule p.compiled) ((p.seen, number_of outcome) ∷ history_after (attempts_of p))
+    → step ≡ answer_of (stepper_schedule p.stepper) ((p.seen, number_of outcome) ∷ history_after (attempts_of p))
     → step ≡ answer_of (job_in p).schedule ((p.seen, number_of outcome) ∷ history_after r.others)
-asked-answer p outcome r step answered = answered ∙ ap (λ (h : History). answer_of (compiled_schedule p.compiled) ((p.seen, number_of outcome) ∷ h)) (asked-history p outcome r)
+asked-answer p outcome r step answered = answered ∙ ap (λ (h : History). answer_of (stepper_schedule p.stepper) ((p.seen, number_of outcome) ∷ h)) (asked-history p outcome r)
 
 -- the schedule's state represents the records, once the attempt has ended
 pub IsStepped-asked : (p : Progress) (outcome : Outcome) (r : Ran p outcome) (step : Option Answer) → WasAsked p outcome
-    → IsStepped (r.others ++ ended_attempt r.s p.seen outcome step ∷ []) p.compiled p.seen
+    → IsStepped (r.others ++ ended_attempt r.s p.seen outcome step ∷ []) p.stepper p.seen
 IsStepped-asked p outcome r step asked = record {
   stands = rw (history_after-ended r.others r.s p.seen outcome step, ← asked-history p outcome r) asked;
   past = let seen = asked.last in omega arith;
@@ -161,7 +161,7 @@ pub end_attempt-advances : (p q : Progress) (outcome : Outcome) (step : Option A
     → record { attempts = r.others ++ ended_attempt r.s p.seen outcome step ∷ []; due = due_of phase; ending = ending_of phase }
     ≡ extended (job_in p) p.seen [] (record { attempts = r.others ++ runs r.s ∷ []; due = Some r.w; ending = None })
     → IsPhase (job_in p) (r.others ++ ended_attempt r.s p.seen outcome step ∷ []) p.seen phase
-    → IsSteppedIn (r.others ++ ended_attempt r.s p.seen outcome step ∷ []) p.compiled p.seen phase → Advances p q
+    → IsSteppedIn (r.others ++ ended_attempt r.s p.seen outcome step ∷ []) p.stepper p.seen phase → Advances p q
 end_attempt-advances p q outcome step phase r progress script rest keeps closed made placed stepped =
     advances p q p.spare phase r.w (r.others ++ ended_attempt r.s p.seen outcome step ∷ []) progress script rest keeps r.due r.soon
     (rw (r.last, r.due, r.going) made) (closed r.others r.s (subst (IsLog p.log) r.last progress.log)) placed stepped

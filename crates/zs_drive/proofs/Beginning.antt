@@ -32,7 +32,7 @@ unfolding timeline_of from
 timeline-none p is = ap (timeline_of (job_in p)) (moments-none p.log is)
 
 pub IsTask-new : (t : Inside) (p : Progress) → t.progress.value ≡ p → p.phase ≡ Waiting p.start → p.polls ≡ 0 → p.seen ≡ 0
-    → IsLog p.log [] → StandsFor p.compiled [] → IsScript p.script → t.broken ≡ false → IsTask t
+    → IsLog p.log [] → StandsFor p.stepper [] → IsScript p.script → t.broken ≡ false → IsTask t
 unfolding AllEnded
 IsTask-new t p is phase polls seen log stands script whole =
     let at = timeline-none p log in

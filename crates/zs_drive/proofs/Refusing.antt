@@ -24,7 +24,7 @@ use Rattle.zs_drive.specs.Values.{JobRecord}
 use Rattle.zs_drive.specs.Timeline.{number_of, ending_by_outcome, ending_by_schedule, by_answer, by_outcome, timeline_of}
 use Rattle.zs_drive.specs.Recorded.{AllEnded}
 use Rattle.zs_drive.specs.DriverRules.{history_after}
-use Rattle.zs_drive.specs.Progress.{IsProgress, HasState, job_in, job_value_in, attempts_of, moments_in, timeline_in, due_of}
+use Rattle.zs_drive.specs.Progress.{IsProgress, HasState, job_in, attempts_of, moments_in, timeline_in, due_of}
 use Rattle.zs_drive.specs.Turns.{Advances, StandsStill, IsSame, IsOver, IsEarly, IsDuePhase, TakesMemory}
 use Rattle.zs_drive.specs.Tasks.{TaskValue, current_timeline, polled, polled_when, EndsByOutcome}
 use Rattle.zs_drive.specs.Fields.{task_of, IsTask}
@@ -95,9 +95,9 @@ phase_cases seen (Over ending) P over early now = over tt
 pub done-whole : {A T E : Type 0} (old new : Progress) (turn : Poll (Result T E)) (done : T) → turn ≡ Ready (Ok done)
     → (IsOver old.phase → A × IsSame old new) → (IsEarly old.seen old.phase → (turn ≡ Pending) × IsSame old new)
     → (IsDuePhase old.seen old.phase → IfReady turn (λ answer. OnOk answer (Advances old new) × OnErr answer (StandsStill old new)))
-    → IsProgress new × HasState new × (job_value_in new ≡ job_value_in old)
+    → IsProgress new × HasState new × (job_in new ≡ job_in old)
 done-whole old new turn done is over early due =
-    phase_cases old.seen old.phase (IsProgress new × HasState new × (job_value_in new ≡ job_value_in old))
+    phase_cases old.seen old.phase (IsProgress new × HasState new × (job_in new ≡ job_in old))
     (λ o. let same = (over o).1 in (same.0.progress, same.1, same.0.job))
     (λ e. let other = (early e).0 in cc)
     (λ d. let all = rw is at (due d) in (all.0.progress, all.0.state, all.0.job))

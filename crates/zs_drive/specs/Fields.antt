@@ -4,11 +4,11 @@ use Rattle.zs_effect.specs.Scripts.{IsScript}
 use Rattle.zs_drive.specs.declared.task.Task.TheInside.{Inside}
 use Rattle.zs_drive.specs.Tasks.{TaskValue}
 use Rattle.zs_drive.specs.Log.{keeping_of}
-use Rattle.zs_drive.specs.Progress.{moments_in, job_value_in, ending_of, IsProgress, HasState}
+use Rattle.zs_drive.specs.Progress.{moments_in, job_in, ending_of, IsProgress, HasState}
 
 -- the task as contracts know it
 abbrev pub task_of : Inside → TaskValue
-task_of t = record { number = t.number; job = job_value_in t.progress.value; keeps = keeping_of t.progress.value.log; moments = moments_in t.progress.value; seen = t.progress.value.seen; broken = t.broken }
+task_of t = record { number = t.number; job = job_in t.progress.value; keeps = keeping_of t.progress.value.log; moments = moments_in t.progress.value; seen = t.progress.value.seen; broken = t.broken }
 
 -- the invariant of a task; a broken one may lack its schedule's state, and has no ending
 pub record IsTask (t : Inside) : Type 0 where

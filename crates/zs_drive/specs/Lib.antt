@@ -11,6 +11,7 @@ pub mod DriverLaws
 -- Named by the clauses of calls on which no headline depends.
 pub mod Told
 -- What the code stores and writes. Only private contracts, views and invariants name these.
+pub mod ScheduleCode
 pub mod Pieces
 pub mod Recorded
 pub mod Log

@@ -1,13 +1,13 @@
 -- What the fields of a task represent, and their invariant.
 use Rattle.std.specs.Prelude.{◌≡◌, ℕ, ◌≤◌, List, Option, Some, None, ⊤, string_bytes}
-use Rattle.zs_step.specs.declared.compiled.Compiled.{Compiled}
-use Rattle.zs_step.specs.Compiled.{compiled_term}
+use Rattle.zs_step.specs.declared.stepper.Stepper.{Stepper}
+use Rattle.zs_step.specs.Compiled.{stepper_schedule}
 use Rattle.zs_drive.specs.declared.record.Ending.{Ending}
 use Rattle.zs_drive.specs.declared.progress.Phase.{Phase}
 use Rattle.zs_drive.specs.declared.progress.Phase.TheVariants.{Waiting, Running, Over}
 use Rattle.zs_drive.specs.declared.progress.Progress.{Progress}
 use Rattle.zs_drive.specs.Clocks.{max_tick}
-use Rattle.zs_drive.specs.Values.{JobValue, JobRecord, record_of, AttemptedValue}
+use Rattle.zs_drive.specs.Values.{JobRecord, AttemptedValue}
 use Rattle.zs_drive.specs.Timeline.{Timeline, timeline_of}
 use Rattle.zs_drive.specs.Log.{IsLog, log_moments}
 use Rattle.zs_drive.specs.Recorded.{AllEnded, IsOnTimeline, IsStepped, IsRunning}
@@ -25,12 +25,8 @@ ending_of (Running attempt) = None
 ending_of (Over ending) = Some ending
 
 -- the job that the fields represent
-abbrev pub job_value_in : Progress → JobValue
-job_value_in p = record { name = string_bytes p.name; mode = p.mode; schedule = compiled_term p.compiled; start = p.start; script = p.script }
-
--- the same as plain mathematics
 abbrev pub job_in : Progress → JobRecord
-job_in p = record_of (job_value_in p)
+job_in p = record { name = string_bytes p.name; mode = p.mode; schedule = stepper_schedule p.stepper; start = p.start; script = p.script }
 
 -- the moments at which it was polled while it was due
 abbrev pub moments_in : Progress → List ℕ
@@ -51,10 +47,10 @@ IsPhase job attempts seen (Running attempt) = (others : List AttemptedValue) × 
 IsPhase job attempts seen (Over ending) = ⊤
 
 -- Until the job is over, the schedule's state represents its attempts.
-abbrev pub IsSteppedIn : List AttemptedValue → Compiled → ℕ → Phase → Type 0
-IsSteppedIn attempts compiled seen (Waiting due) = IsStepped attempts compiled seen
-IsSteppedIn attempts compiled seen (Running attempt) = IsStepped attempts compiled seen
-IsSteppedIn attempts compiled seen (Over ending) = ⊤
+abbrev pub IsSteppedIn : List AttemptedValue → Stepper → ℕ → Phase → Type 0
+IsSteppedIn attempts stepper seen (Waiting due) = IsStepped attempts stepper seen
+IsSteppedIn attempts stepper seen (Running attempt) = IsStepped attempts stepper seen
+IsSteppedIn attempts stepper seen (Over ending) = ⊤
 
 -- the log stores the attempts of the job on the clock of the log's moments
 pub record IsProgress (p : Progress) : Type 0 where
@@ -67,4 +63,4 @@ pub record IsProgress (p : Progress) : Type 0 where
 
 -- the schedule's state is the one that the phase needs
 abbrev pub HasState : Progress → Type 0
-HasState p = IsSteppedIn (attempts_of p) p.compiled p.seen p.phase
+HasState p = IsSteppedIn (attempts_of p) p.stepper p.seen p.phase

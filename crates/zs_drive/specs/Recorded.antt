@@ -1,7 +1,7 @@
 -- The invariant of a task's attempts, over plain values.
 use Rattle.std.specs.Prelude.{◌≡◌, ℕ, ◌≤◌, List, [], ◌∷◌, ◌++◌, length, None, IsSome}
 use Rattle.zs_effect.specs.Attempts.{AttemptValue}
-use Rattle.zs_step.specs.declared.compiled.Compiled.{Compiled}
+use Rattle.zs_step.specs.declared.stepper.Stepper.{Stepper}
 use Rattle.zs_step.specs.Compiled.{StandsFor, last_seen}
 use Rattle.zs_drive.specs.Clocks.{AreTicks}
 use Rattle.zs_drive.specs.Values.{JobRecord, AttemptedValue}
@@ -21,9 +21,9 @@ pub record IsOnTimeline (job : JobRecord) (timeline : Timeline) (polls : ℕ) : 
   pub few : length timeline.attempts ≤ polls
 
 -- the schedule's state represents the ended attempts, and was stepped at `seen` at the latest
-pub record IsStepped (attempts : List AttemptedValue) (compiled : Compiled) (seen : ℕ) : Type 0 where
-  pub stands : StandsFor compiled (history_after attempts)
-  pub past : last_seen compiled ≤ seen
+pub record IsStepped (attempts : List AttemptedValue) (stepper : Stepper) (seen : ℕ) : Type 0 where
+  pub stands : StandsFor stepper (history_after attempts)
+  pub past : last_seen stepper ≤ seen
 
 -- the last attempt runs: it began at s, after others that ended
 pub record IsRunning (job : JobRecord) (attempts : List AttemptedValue) (attempt : AttemptValue) (seen : ℕ) (others : List AttemptedValue) (s : ℕ) : Type 0 where

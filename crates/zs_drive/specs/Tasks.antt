@@ -6,13 +6,13 @@ use Rattle.zs_effect.specs.declared.script.Outcome.{Outcome}
 use Rattle.zs_drive.specs.declared.record.Ending.{Ending}
 use Rattle.zs_drive.specs.declared.record.Keeping.{Keeping}
 use Rattle.zs_drive.specs.declared.fault.DriveFault.{DriveFault}
-use Rattle.zs_drive.specs.Values.{JobValue, JobRecord, record_of}
+use Rattle.zs_drive.specs.Values.{JobRecord}
 use Rattle.zs_drive.specs.Timeline.{Timeline, timeline_of, ending_by_outcome}
 
 -- a job, how its attempts are stored, and the moments at which it was polled while it was due
 pub record TaskValue : Type 0 where
   pub number : ℕ
-  pub job : JobValue
+  pub job : JobRecord
   pub keeps : Keeping
   pub moments : List ℕ
   pub seen : ℕ
@@ -24,7 +24,7 @@ timeline_at job moments = timeline_of job moments
 
 -- the timeline of a task so far
 abbrev pub current_timeline : TaskValue → Timeline
-current_timeline task = timeline_at (record_of task.job) task.moments
+current_timeline task = timeline_at task.job task.moments
 
 -- its due moment is at or before the moment seen
 abbrev pub IsDue : TaskValue → Type 0

@@ -9,14 +9,14 @@ use Rattle.zs_drive.specs.declared.progress.Progress.{Progress}
 use Rattle.zs_drive.specs.Timeline.{number_of, ending_by_outcome}
 use Rattle.zs_drive.specs.DriverRules.{history_after}
 use Rattle.zs_drive.specs.Log.{keeping_of}
-use Rattle.zs_drive.specs.Progress.{due_of, ending_of, job_value_in, attempts_of, moments_in, IsProgress, HasState}
+use Rattle.zs_drive.specs.Progress.{due_of, ending_of, job_in, attempts_of, moments_in, IsProgress, HasState}
 
 -- one due poll was done at the moment seen
 pub record Advances (old new : Progress) : Type 0 where
   pub progress : IsProgress new
   pub state : HasState new
   pub moments : moments_in new ≡ moments_in old ++ old.seen ∷ []
-  pub job : job_value_in new ≡ job_value_in old
+  pub job : job_in new ≡ job_in old
   pub keeps : keeping_of new.log ≡ keeping_of old.log
   pub seen : new.seen ≡ old.seen
 
@@ -34,7 +34,7 @@ HasRunTo seen outcome (Over ending) = ⊥
 
 -- the schedule's state represents the attempts and the end of the one that has just ended
 abbrev pub WasAsked : Progress → Outcome → Type 0
-WasAsked p outcome = StandsFor p.compiled ((p.seen, number_of outcome) ∷ history_after (attempts_of p))
+WasAsked p outcome = StandsFor p.stepper ((p.seen, number_of outcome) ∷ history_after (attempts_of p))
 
 -- the job is over
 abbrev pub IsOver : Phase → Type 0
@@ -59,7 +59,7 @@ TakesMemory mode (Over ending) = ⊥
 pub record StandsStill (old new : Progress) : Type 0 where
   pub progress : IsProgress new
   pub moments : moments_in new ≡ moments_in old
-  pub job : job_value_in new ≡ job_value_in old
+  pub job : job_in new ≡ job_in old
   pub keeps : keeping_of new.log ≡ keeping_of old.log
   pub seen : new.seen ≡ old.seen
   pub due : due_of new.phase ≡ due_of old.phase

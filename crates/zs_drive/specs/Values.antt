@@ -2,7 +2,6 @@
 use Rattle.std.specs.Prelude.{ℕ, List, Option, Some, None, string_bytes}
 use Rattle.zs_effect.specs.declared.script.Beat.{Beat}
 use Rattle.zs_effect.specs.declared.script.Outcome.{Outcome}
-use Rattle.zs_term.specs.declared.term.Term.{Term}
 use Rattle.zs_term.specs.declared.outputs.Out.{Out}
 use Rattle.zs_term.specs.Output.{output_of}
 use Rattle.zs_term.specs.Schedule.{Schedule, schedule_of}
@@ -13,19 +12,7 @@ use Rattle.zs_drive.specs.declared.job.Job.{Job}
 use Rattle.zs_drive.specs.declared.record.Attempted.{Attempted}
 use Rattle.zs_drive.specs.declared.record.Ended.{Ended}
 
--- a job, by the values of its fields
-pub record JobValue : Type 0 where
-  pub name : List ℕ
-  pub mode : Mode
-  pub schedule : Term
-  pub start : ℕ
-  pub script : List Beat
-
--- the value of a job
-abbrev pub job_value : Job → JobValue
-job_value job = record { name = string_bytes job.name; mode = job.mode; schedule = job.schedule; start = job.start; script = job.script }
-
--- a job as plain mathematics: its schedule is a tree without places in memory
+-- a job, by the values of its fields; its schedule is a tree without places in memory
 pub record JobRecord : Type 0 where
   pub name : List ℕ
   pub mode : Mode
@@ -33,13 +20,9 @@ pub record JobRecord : Type 0 where
   pub start : ℕ
   pub script : List Beat
 
--- a job's value with the schedule that its term represents
-abbrev pub record_of : JobValue → JobRecord
-record_of job = record { name = job.name; mode = job.mode; schedule = schedule_of job.schedule; start = job.start; script = job.script }
-
--- the same of a job
+-- the record of a job
 abbrev pub job_record : Job → JobRecord
-job_record job = record_of (job_value job)
+job_record job = record { name = string_bytes job.name; mode = job.mode; schedule = schedule_of job.schedule; start = job.start; script = job.script }
 
 -- the end of an attempt: when, how, and the schedule's result if it was stepped
 pub record EndedValue : Type 0 where

@@ -8,7 +8,7 @@ ghost use Rattle.zs_drive.specs.Timeline.{ended_attempt, ending_by_outcome, endi
 ghost use Rattle.zs_term.specs.Output.{output_of};
 ghost use Rattle.zs_step.specs.History.{History};
 ghost use Rattle.zs_step.specs.Answer.{answer, answer_of};
-ghost use Rattle.zs_step.specs.Compiled.{StandsFor, last_seen, compiled_term, compiled_schedule};
+ghost use Rattle.zs_step.specs.Compiled.{StandsFor, last_seen, stepper_schedule};
 ghost use Rattle.zs_drive.specs.Log.{IsFull, IsLog, keeping_of, log_count};
 ghost use Rattle.zs_drive.specs.Values.{AttemptedValue, step_of};
 ghost use Rattle.zs_drive.specs.DriverRules.{history_after};
@@ -24,7 +24,7 @@ use futures::task::{Context, Poll};
 use futures::{Future, ready};
 use std::mem::replace;
 use zs_effect::{Attempt, Beat, Outcome, Script};
-use zs_step::{Compiled, Decision};
+use zs_step::{Decision, Stepper};
 use zs_term::Out;
 
 /// What a task waits for.
@@ -57,7 +57,7 @@ pub struct Progress {
     /// An output that was written as text, whose memory is used for the next one.
     pub spare: Out,
     /// The state of its schedule.
-    pub compiled: Compiled,
+    pub stepper: Stepper,
     /// The job's name.
     pub name: String,
     /// The job's start, in milliseconds.
@@ -121,7 +121,7 @@ fn end_by_schedule(mode: Mode, outcome: Outcome) -> Ending
 impl Progress {
     /// Reads some of the fields. The number has no meaning.
     pub fn touch(&self) -> u64 {
-        self.polls ^ self.log.touch() ^ form(&self.spare) ^ u64::from(self.compiled.broken())
+        self.polls ^ self.log.touch() ^ form(&self.spare) ^ u64::from(self.stepper.broken())
     }
 
     /// Reads what the next poll reads first of the memory that the fields point to. The number has
@@ -129,7 +129,7 @@ impl Progress {
     pub fn touch_parts(&self) -> u64 {
         match &self.phase {
             Phase::Waiting(_) => self.script.beat(1).ms ^ self.log.touch_parts(),
-            Phase::Running(_) => touch_parts(&self.spare) ^ self.compiled.touch(),
+            Phase::Running(_) => touch_parts(&self.spare) ^ self.stepper.touch(),
             Phase::Over(_) => 0,
         }
     }
@@ -164,21 +164,21 @@ impl Progress {
 
     // Steps the schedule after an outcome. If that fails, only the schedule's state may be lost.
     fn ask(&mut self, outcome: Outcome) -> Result<(Out, Decision), DriveFault>
-        requires past { last_seen self.old.compiled ≤ self.old.seen }
+        requires past { last_seen self.old.stepper ≤ self.old.seen }
         ensures rest { self.new
-            ≡ record self.old { compiled = self.new.compiled; spare = self.new.spare } }
-        ensures term { compiled_term self.new.compiled ≡ compiled_term self.old.compiled }
+            ≡ record self.old { stepper = self.new.stepper; spare = self.new.spare } }
+        ensures schedule { stepper_schedule self.new.stepper ≡ stepper_schedule self.old.stepper }
         ensures stands { OnOk result
-            ((h : History) → StandsFor self.old.compiled h
-            → StandsFor self.new.compiled ((self.old.seen, number_of outcome) ∷ h)) }
+            ((h : History) → StandsFor self.old.stepper h
+            → StandsFor self.new.stepper ((self.old.seen, number_of outcome) ∷ h)) }
         ensures answered { IfOk result (λ step.
-            (h : History) → StandsFor self.old.compiled h
+            (h : History) → StandsFor self.old.stepper h
             → answer (output_of step.0) step.1
-            ≡ answer_of (compiled_schedule self.old.compiled)
+            ≡ answer_of (stepper_schedule self.old.stepper)
             ((self.old.seen, number_of outcome) ∷ h)) }
     {
         let spare = replace(&mut self.spare, Out::Num(0));
-        let stepped = self.compiled.step_over(self.seen, number(outcome), spare)?;
+        let stepped = self.stepper.step_over(self.seen, number(outcome), spare)?;
         Ok((stepped.out, stepped.decision))
     }
 
@@ -222,7 +222,7 @@ impl Progress {
         requires running { HasRunTo self.old.seen outcome self.old.phase }
         requires goes_on { ending_by_outcome self.old.mode outcome ≡ None }
         requires answer { answer (output_of out) decision
-            ≡ answer_of (compiled_schedule self.old.compiled)
+            ≡ answer_of (stepper_schedule self.old.stepper)
             ((self.old.seen, number_of outcome) ∷ history_after (attempts_of self.old)) }
         requires script { IsScript self.old.script }
         ensures ok { OnOk result (Advances self.old self.new) }

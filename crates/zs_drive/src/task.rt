@@ -6,7 +6,7 @@ ghost use Rattle.zs_effect.specs.Scripts.{IsScript};
 ghost use Rattle.zs_drive.specs.Clocks.{AreTicks, max_tick};
 ghost use Rattle.zs_drive.specs.Lines.{attempts_lines};
 ghost use Rattle.zs_drive.specs.Told.{told_of, recorded_of};
-ghost use Rattle.zs_drive.specs.Values.{job_value, attempted_of};
+ghost use Rattle.zs_drive.specs.Values.{job_record, attempted_of};
 ghost use Rattle.zs_drive.specs.Timeline.{poll_moments};
 ghost use Rattle.zs_drive.specs.Tasks.{current_timeline, timeline_at, polled, reply_of, MatchMemory, IsDue, EndsByOutcome};
 
@@ -19,7 +19,7 @@ use futures::task::{Context, Poll};
 use futures::{Future, ready};
 use std::alloc::Global;
 use std::marker::Model;
-use zs_step::Compiled;
+use zs_step::Stepper;
 use zs_term::Out;
 
 /// A numbered job with the attempts so far. A poll that runs out of memory breaks it.
@@ -33,12 +33,12 @@ pub struct Task {
 
 impl Model for Task {
     ghost use Rattle.zs_drive.specs.Tasks.{TaskValue};
-    ghost use Rattle.zs_term.specs.contracts.term.Term as e;
+    ghost use Rattle.zs_drive.specs.ScheduleCode.{schedule_code};
     ghost use Rattle.std.specs.Coded.{codes};
 
     ghost Value = { TaskValue };
 
-    ghost coded = { Prim.hlevel (codes, e.the_row.coded) };
+    ghost coded = { Prim.hlevel (codes, schedule_code) };
 
     ghost use Rattle.zs_drive.specs.Fields.{task_of, IsTask};
 
@@ -55,7 +55,7 @@ impl Task {
             task
             ≡ record {
               number = number;
-              job = job_value job;
+              job = job_record job;
               keeps = Keeping.Records;
               moments = [];
               seen = 0;
@@ -73,7 +73,7 @@ impl Task {
             task
             ≡ record {
               number = number;
-              job = job_value job;
+              job = job_record job;
               keeps = keeps;
               moments = [];
               seen = 0;
@@ -89,13 +89,13 @@ impl Task {
             start,
             script,
         } = job;
-        let compiled = Compiled::new(alloc, schedule)?;
+        let stepper = Stepper::new(alloc, &schedule)?;
         let progress = Progress {
             name,
             mode,
             start,
             script,
-            compiled,
+            stepper,
             log: Log::new(alloc, keeps),
             spare: Out::Num(0),
             phase: Phase::Waiting(start),

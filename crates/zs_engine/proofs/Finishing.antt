@@ -10,7 +10,6 @@ use Rattle.zs_agenda.specs.Timers.{Timers, Moments}
 use Rattle.zs_agenda.specs.Ticks.{Ticks, horizon}
 use Rattle.zs_drive.specs.declared.job.Job.{Job}
 use Rattle.zs_drive.specs.declared.record.Keeping.{Keeping}
-use Rattle.zs_drive.specs.Values.{record_of}
 use Rattle.zs_drive.specs.Timeline.{Timeline, timeline_of, poll_moments}
 use Rattle.zs_drive.specs.Tasks.{TaskValue, current_timeline}
 use Rattle.zs_engine.specs.declared.answer.Answer.{Answer}
@@ -23,14 +22,14 @@ use Rattle.zs_engine.proofs.SlotLemmas.{full, jobs_in-full}
 module _ (ticks : List ℕ) where
   -- the task at slot b + i has that number, and the timeline of its job alone
   abbrev Ends : ℕ → List TaskValue → Type 0
-  Ends b ts = (i : ℕ) (t : TaskValue) → slice_get (full ts) i ≡ Some (Some t) → (t.number ≡ b + i) × (current_timeline t ≡ timeline_of (record_of t.job) ticks) × (t.broken ≡ false) × (t.moments ≡ poll_moments_of ticks (record_of t.job))
+  Ends b ts = (i : ℕ) (t : TaskValue) → slice_get (full ts) i ≡ Some (Some t) → (t.number ≡ b + i) × (current_timeline t ≡ timeline_of t.job ticks) × (t.broken ≡ false) × (t.moments ≡ poll_moments_of ticks t.job)
 
   record AllEnd (b : ℕ) (ts : List TaskValue) : Type 0 where
     numbered : map (λ t. t.number) ts ≡ moments_from b (length ts)
-    timelines : map current_timeline ts ≡ map (λ job. timeline_of (record_of job) ticks) (map (λ t. t.job) ts)
+    timelines : map current_timeline ts ≡ map (λ job. timeline_of job ticks) (map (λ t. t.job) ts)
     whole : AllByRecursion (λ (t : TaskValue). t.broken ≡ false) ts
-    moments : map (λ t. t.moments) ts ≡ map (λ job. poll_moments_of ticks (record_of job)) (map (λ t. t.job) ts)
-    polls : polls_in (full ts) ≡ poll_count_of ticks (map record_of (map (λ t. t.job) ts))
+    moments : map (λ t. t.moments) ts ≡ map (poll_moments_of ticks) (map (λ t. t.job) ts)
+    polls : polls_in (full ts) ≡ poll_count_of ticks (map (λ t. t.job) ts)
 
   all-end : (b : ℕ) (ts : List TaskValue) → Ends b ts → AllEnd b ts
   unfolding moments_from

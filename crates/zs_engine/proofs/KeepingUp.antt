@@ -3,7 +3,7 @@ use Rattle.std.proofs.Common.{◌≡◌, ℕ, ◌+◌, ◌≤◌, ◌<◌, List,
 use Rattle.std.specs.Prelude.{Some, None}
 use Rattle.zs_effect.specs.Scripts.{IsScript}
 use Rattle.zs_drive.specs.Clocks.{first_tick_from, RisesFrom, AllBefore, AreTicks, max_tick}
-use Rattle.zs_drive.specs.Values.{JobRecord, record_of}
+use Rattle.zs_drive.specs.Values.{JobRecord}
 use Rattle.zs_drive.specs.Timeline.{timeline_of, from, poll_moments}
 use Rattle.zs_drive.specs.Tasks.{TaskValue, current_timeline}
 use Rattle.zs_drive.proofs.Ticks.{tick_cases, AllBefore-none}
@@ -42,8 +42,8 @@ keeps_up-first ticks task clock fresh unseen whole script = record {
   polled = rw fresh tt;
   seen = omega arith;
   few = rw fresh (omega arith);
-  same = ap (timeline_of (record_of task.job)) fresh;
-  kept = rw fresh (fresh-kept (record_of task.job));
+  same = ap (timeline_of task.job) fresh;
+  kept = rw fresh (fresh-kept task.job);
   whole = whole;
   script = script;
 }
@@ -54,7 +54,7 @@ module _ (ticks : List ℕ) (task : TaskValue) where
   rest-next k None at = refl
   rest-next k (Some x) at =
       let small = k.small in
-      let past = AllBefore-none k.past x (timeline_of-waits (record_of task.job) k.past k.script k.low (omega arith) k.before x (rw k.same at at)) in
+      let past = AllBefore-none k.past x (timeline_of-waits task.job k.past k.script k.low (omega arith) k.before x (rw k.same at at)) in
       ap (λ (ts : List ℕ). first_tick_from ts x) k.split ∙ first_tick_from-skip k.past k.rest x past
 
   -- the next tick
@@ -70,7 +70,7 @@ module _ (ticks : List ℕ) (task : TaskValue) where
     polled = AllBefore-later task.moments k.low t k.polled from-low.0
 
     onto : (moments : List ℕ) (seen : ℕ) → AllBefore moments (t + 1) → seen ≤ t + 1 → length moments ≤ length k.past + 1
-        → timeline_of (record_of task.job) moments ≡ timeline_of (record_of task.job) (k.past ++ t ∷ []) → moments ≡ poll_moments (timeline_of (record_of task.job) moments).attempts
+        → timeline_of task.job moments ≡ timeline_of task.job (k.past ++ t ∷ []) → moments ≡ poll_moments (timeline_of task.job moments).attempts
         → (n : KeepsUp ticks (record task { moments = moments; seen = seen })) × (n.rest ≡ rest)
     unfolding RisesFrom AllBefore
     onto moments seen all soon few same kept =
@@ -100,7 +100,7 @@ module _ (ticks : List ℕ) (task : TaskValue) where
     skip : IsAfter t (current_timeline task).due → (n : KeepsUp ticks task) × (n.rest ≡ rest)
     skip after =
         onto task.moments task.seen (AllBefore-later task.moments t (t + 1) polled (omega arith)) (omega (arith, k.seen, from-low.0)) (omega (arith, k.few))
-        (k.same ∙ sym (timeline_of-skip (record_of task.job) k.script k.past t before from-low.1 (rw k.same at after))) k.kept
+        (k.same ∙ sym (timeline_of-skip task.job k.script k.past t before from-low.1 (rw k.same at after))) k.kept
 
     -- the due poll
     poll : (x : ℕ) → (current_timeline task).due ≡ Some x → x ≤ t → KeepsUp ticks (polled_at t task) × IsPollable t task × AllBefore task.moments t
@@ -109,8 +109,8 @@ module _ (ticks : List ℕ) (task : TaskValue) where
         let new =
         onto (task.moments ++ t ∷ []) t (AllBefore-append task.moments t (t + 1) (AllBefore-later task.moments t (t + 1) polled (omega arith)) (omega arith)) (omega arith)
         (omega (arith, k.few, length-append task.moments (t ∷ [])))
-        (timeline_of-both (record_of task.job) k.script k.past task.moments t before polled small k.same)
-        (poll_moments-append (record_of task.job) k.script task.moments t x polled (omega arith) due soon k.kept) in
+        (timeline_of-both task.job k.script k.past task.moments t before polled small k.same)
+        (poll_moments-append task.job k.script task.moments t x polled (omega arith) due soon k.kept) in
         (new.0, record { whole = k.whole; later = omega (arith, k.seen, from-low.0); bounded = small; due = rw due soon }, polled)
 
   -- the due poll at the next tick at or after x
@@ -129,12 +129,12 @@ module _ (ticks : List ℕ) (task : TaskValue) where
   due-poll k now (Some x) at e = poll-from k.rest k refl x now at (sym (rest-next k (Some x) at) ∙ e)
 
   -- there is no next tick
-  pub keeps_up-to : (k : KeepsUp ticks task) (due : Option ℕ) → (current_timeline task).due ≡ due → next_of ticks due ≡ None → current_timeline task ≡ timeline_of (record_of task.job) ticks
+  pub keeps_up-to : (k : KeepsUp ticks task) (due : Option ℕ) → (current_timeline task).due ≡ due → next_of ticks due ≡ None → current_timeline task ≡ timeline_of task.job ticks
   keeps_up-to k None at none =
-      k.same ∙ sym (timeline_of-over (record_of task.job) k.script k.past k.rest k.low k.before k.rises k.bounded (rw k.same at at)) ∙ ap (timeline_of (record_of task.job)) (sym k.split)
+      k.same ∙ sym (timeline_of-over task.job k.script k.past k.rest k.low k.before k.rises k.bounded (rw k.same at at)) ∙ ap (timeline_of task.job) (sym k.split)
   keeps_up-to k (Some x) at none =
       let late = AllBefore-none k.rest x (sym (rest-next k (Some x) at) ∙ none) in
-      k.same ∙ sym (timeline_of-skips (record_of task.job) k.script k.past k.rest k.low x k.before k.rises k.bounded (rw k.same at at) late) ∙ ap (timeline_of (record_of task.job)) (sym k.split)
+      k.same ∙ sym (timeline_of-skips task.job k.script k.past k.rest k.low x k.before k.rises k.bounded (rw k.same at at) late) ∙ ap (timeline_of task.job) (sym k.split)
 
 AllBefore-last : (xs : List ℕ) (n c : ℕ) → AllBefore (xs ++ n ∷ []) c → n < c
 unfolding AllBefore

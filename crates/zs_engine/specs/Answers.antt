@@ -3,7 +3,7 @@
 -- and what it names of zs_drive.
 use Rattle.std.specs.Prelude.{◌≡◌, ℕ, ◌+◌, false, List, [], ◌∷◌, All, length, map}
 use Rattle.zs_drive.specs.declared.record.Keeping.{Keeping}
-use Rattle.zs_drive.specs.Values.{JobValue, JobRecord, record_of}
+use Rattle.zs_drive.specs.Values.{JobRecord}
 use Rattle.zs_drive.specs.Timeline.{timeline_of, poll_moments}
 use Rattle.zs_drive.specs.Tasks.{TaskValue, current_timeline}
 use Rattle.zs_agenda.specs.Ticks.{Ticks, horizon}
@@ -21,13 +21,13 @@ poll_count_of ticks (job ∷ jobs) = length (poll_moments_of ticks job) + poll_c
 
 -- The tasks are those of the jobs, in order and numbered by their places. None is broken, and each
 -- has the timeline of its job alone on the whole clock. Every due poll was counted once.
-pub record IsAnswer (clock : Ticks) (jobs : List JobValue) (answer : Answer) : Type 0 where
+pub record IsAnswer (clock : Ticks) (jobs : List JobRecord) (answer : Answer) : Type 0 where
   pub numbered : map (λ task. task.number) answer.tasks.items ≡ moments_from 0 (length jobs)
   pub same_jobs : map (λ task. task.job) answer.tasks.items ≡ jobs
   pub whole : All (λ (task : TaskValue). task.broken ≡ false) answer.tasks.items
-  pub timelines : map current_timeline answer.tasks.items ≡ map (λ job. timeline_of (record_of job) (ticks_of clock)) jobs
-  pub moments : map (λ task. task.moments) answer.tasks.items ≡ map (λ job. poll_moments_of (ticks_of clock) (record_of job)) jobs
-  pub polls : answer.polls ≡ poll_count_of (ticks_of clock) (map record_of jobs)
+  pub timelines : map current_timeline answer.tasks.items ≡ map (λ job. timeline_of job (ticks_of clock)) jobs
+  pub moments : map (λ task. task.moments) answer.tasks.items ≡ map (poll_moments_of (ticks_of clock)) jobs
+  pub polls : answer.polls ≡ poll_count_of (ticks_of clock) jobs
   pub last : answer.horizon ≡ horizon clock
 
 -- each task stores its attempts in this way

@@ -10,7 +10,7 @@ use Rattle.zs_effect.specs.Scripts.{IsScript}
 use Rattle.zs_drive.specs.Clocks.{RisesFrom, AllBefore, max_tick}
 use Rattle.zs_drive.specs.declared.job.Job.{Job}
 use Rattle.zs_drive.specs.declared.record.Keeping.{Keeping}
-use Rattle.zs_drive.specs.Values.{JobValue, record_of, job_value}
+use Rattle.zs_drive.specs.Values.{JobRecord, job_record}
 use Rattle.zs_drive.specs.Timeline.{timeline_of, poll_moments}
 use Rattle.zs_drive.specs.Tasks.{TaskValue, current_timeline}
 use Rattle.zs_engine.specs.Times.{ticks_of, next_of}
@@ -30,7 +30,7 @@ pub record KeepsUp (ticks : List ℕ) (task : TaskValue) : Type 0 where
   pub polled : AllBefore task.moments low
   pub seen : task.seen ≤ low
   pub few : length task.moments ≤ length past
-  pub same : timeline_of (record_of task.job) task.moments ≡ timeline_of (record_of task.job) past
+  pub same : timeline_of task.job task.moments ≡ timeline_of task.job past
   pub kept : task.moments ≡ poll_moments (current_timeline task).attempts
   pub whole : task.broken ≡ false
   pub script : IsScript task.job.script
@@ -68,14 +68,14 @@ pub record Begins (ticks : List ℕ) (slots : Slots) (timers : Timers) (count no
 
 -- a job, and how its task stores its attempts
 abbrev pub KeptJob : Type 0
-KeptJob = JobValue × Keeping
+KeptJob = JobRecord × Keeping
 
 -- the value of a job whose task stores its attempts in this way
 abbrev pub job_kept : Keeping → Job → KeptJob
-job_kept keeps job = (job_value job, keeps)
+job_kept keeps job = (job_record job, keeps)
 
 -- the job without how its attempts are stored
-abbrev pub job_alone : KeptJob → JobValue
+abbrev pub job_alone : KeptJob → JobRecord
 job_alone kept = kept.0
 
 -- the job of a task, with how it stores its attempts

@@ -1,7 +1,7 @@
 //! Runs a list of jobs up to a clock's horizon.
 
 ghost use Rattle.std.specs.Prelude.{◌≤◌, length, map, IfOk};
-ghost use Rattle.zs_drive.specs.Values.{job_value};
+ghost use Rattle.zs_drive.specs.Values.{job_record};
 ghost use Rattle.zs_pool.specs.Limits.{max_tasks};
 ghost use Rattle.zs_engine.specs.Answers.{AllKeep, IsAnswer};
 
@@ -26,7 +26,7 @@ fn run_keeping<G: Gate, R: Threads + Wait + Sync>(
     keeps: Keeping,
 ) -> Result<Answer, EngineFault>
     requires few { length jobs.items ≤ max_tasks }
-    ensures answer { IfOk result (IsAnswer clock (map job_value jobs.items)) }
+    ensures answer { IfOk result (IsAnswer clock (map job_record jobs.items)) }
     ensures keeps { IfOk result (AllKeep keeps) }
 {
     let mut engine = Engine::new(alloc, clock)?;
@@ -46,7 +46,7 @@ pub fn run_jobs<G: Gate, R: Threads + Wait + Sync>(
 ) -> Result<Answer, EngineFault>
     requires few { length jobs.items ≤ max_tasks }
     // Each task has the timeline of its job alone, and each due poll was counted once.
-    ensures answer { IfOk result (IsAnswer clock (map job_value jobs.items)) }
+    ensures answer { IfOk result (IsAnswer clock (map job_record jobs.items)) }
     ensures keeps { IfOk result (AllKeep Keeping.Records) }
 {
     run_keeping(rt, alloc, cut, gate, clock, jobs, Keeping::Records)
@@ -64,7 +64,7 @@ pub fn run_to_lines<G: Gate, R: Threads + Wait + Sync>(
 ) -> Result<Answer, EngineFault>
     requires few { length jobs.items ≤ max_tasks }
     // The clauses of `run_jobs`.
-    ensures answer { IfOk result (IsAnswer clock (map job_value jobs.items)) }
+    ensures answer { IfOk result (IsAnswer clock (map job_record jobs.items)) }
     ensures keeps { IfOk result (AllKeep Keeping.Lines) }
 {
     run_keeping(rt, alloc, cut, gate, clock, jobs, Keeping::Lines)

@@ -5,7 +5,6 @@ use Rattle.std.specs.List.{range_with_len}
 use Rattle.std.specs.List.Sorted.{IsStrictlyIncreasing}
 use Rattle.std.proofs.lemmas.List.FromFn.{length-range_with_len, get_or-range_with_len}
 use Rattle.zs_drive.specs.Clocks.{max_tick}
-use Rattle.zs_drive.specs.Values.{record_of}
 use Rattle.zs_drive.specs.Timeline.{timeline_of, from}
 use Rattle.zs_drive.specs.Tasks.{TaskValue}
 use Rattle.zs_pool.specs.Rounds.{IsPollable}
@@ -17,7 +16,7 @@ IsNewTask number task = (task.number ≡ number) × (task.moments ≡ []) × (ta
 pub new_pollable : (number : ℕ) (task : TaskValue) → IsNewTask number task → (now : ℕ) → now ≤ max_tick → IsPollable now task
 unfolding timeline_of from
 new_pollable number task new now bounded =
-    let D : List ℕ → Type 0 = λ ms. IsSomeAnd (timeline_of (record_of task.job) ms).due (λ d. d ≤ now) in
+    let D : List ℕ → Type 0 = λ ms. IsSomeAnd (timeline_of task.job ms).due (λ d. d ≤ now) in
     let low : task.job.start ≤ now = omega (arith, new.4) in
     record { whole = new.3; later = omega (arith, new.2); bounded = bounded; due = subst D (sym new.1) low }
 

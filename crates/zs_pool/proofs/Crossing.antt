@@ -1,5 +1,5 @@
--- What a worker gets and returns may go to another thread, although terms, outputs, kinds and
--- states contain themselves.
+-- What a worker gets and returns may go to another thread, although outputs and states contain
+-- themselves.
 use Rattle.std.proofs.Common.{rules}
 use denote.Param.Send.{IsSend, IsSync, AllSend, sendable, shr_send, view_send, view_sync}
 use mathlib.Core.List.{List, [], ◌∷◌}
@@ -21,8 +21,6 @@ use Rattle.zs_step.proofs.decision.Decision.TheSendSync as decision
 use Rattle.std.specs.contracts.alloc.Global as global
 use Rattle.crossbeam_queue.specs.contracts.array_queue as queue
 use Rattle.zs_pool.specs.contracts as pool
-use Rattle.zs_term.proofs.term.Term.TheLaws.TheKnot as term_knot
-use Rattle.zs_term.proofs.kind.Kind.TheLaws.TheKnot as kind_knot
 use Rattle.zs_term.proofs.outputs.Out.TheLaws.TheKnot as out_knot
 use Rattle.zs_step.proofs.leaf_state.LeafState.TheSendSync as leaf_state
 use Rattle.zs_step.proofs.leaf_state.FixedState.TheSendSync as fixed_state
@@ -36,12 +34,6 @@ use Rattle.zs_pool.proofs.tally.TallySeat.TheSendSync as tally_seat_sent
 use Rattle.zs_pool.proofs.board.counter.CounterSeat.TheSendSync as counter_seat
 use Rattle.zs_pool.proofs.board.counter.Counter.TheSendSync as counter
 
-term_send : IsSend terms.term.Term.the_row
-term_send = as_row_send terms.term.Term.the_field (term_knot.send-Term (search (rules, sendable)) Box-send (search (rules, sendable)) (search (rules, sendable)) (search (rules, sendable)))
-
-kind_send : IsSend terms.kind.Kind.the_row
-kind_send = as_row_send terms.kind.Kind.the_field (kind_knot.send-Kind Box-send)
-
 out_send : IsSend terms.outputs.Out.the_row
 out_send = as_row_send terms.outputs.Out.the_field (search (crosses, out_knot.crosses_both, sendable) depth 60 fits 20000)
 
@@ -54,11 +46,8 @@ collected_send = declared_send steps.collected.Collected.the_type (outs_send, (o
 state_send : IsSend steps.state.State.the_row
 state_send = as_row_send steps.state.State.the_field (state_knot.send-State leaf_state.the_field_send fixed_state.the_field_send Box-send (search (rules, sendable)) (search (rules, sendable)) (search (rules, sendable)) (Box-send steps.collected.Collected.the_row collected_send) (search (rules, sendable)))
 
-checked_send : IsSend terms.checked.Checked.the_row
-checked_send = view_send terms.checked.Checked.TheInside.the_row _ _ _ _ (declared_send terms.checked.Checked.TheInside.the_type (term_send, (kind_send, tt)))
-
-compiled_send : IsSend steps.compiled.Compiled.the_row
-compiled_send = declared_send steps.compiled.Compiled.the_type (state_send, (search sendable, (search sendable, (heap_send, (checked_send, tt)))))
+stepper_send : IsSend steps.stepper.Stepper.the_row
+stepper_send = declared_send steps.stepper.Stepper.the_type (state_send, (search sendable, (search sendable, (heap_send, tt))))
 
 ended_send : IsSend drive.record.Ended.the_row
 ended_send = declared_send drive.record.Ended.the_type (search sendable, (search (rules, sendable), (option.the_send _ (search (rules, sendable, out_send, decision.the_send) depth 20), tt)))
@@ -73,7 +62,7 @@ log_send : IsSend drive.log.Log.the_row
 log_send = variants_send drive.log.Log.enum ((Vec-send drive.record.Attempted.the_row attempted_send, tt), ((told_send, tt), tt))
 
 progress_send : IsSend drive.progress.Progress.the_row
-progress_send = declared_send drive.progress.Progress.the_type (search (rules, sendable), (search sendable, (search sendable, (search (rules, sendable), (search (rules, sendable, crosses) depth 20, (log_send, (out_send, (compiled_send, (search (rules, sendable, crosses) depth 20, (search sendable, tt))))))))))
+progress_send = declared_send drive.progress.Progress.the_type (search (rules, sendable), (search sendable, (search sendable, (search (rules, sendable), (search (rules, sendable, crosses) depth 20, (log_send, (out_send, (stepper_send, (search (rules, sendable, crosses) depth 20, (search sendable, tt))))))))))
 
 task_send : IsSend drive.task.Task.the_row
 task_send = view_send drive.task.Task.TheInside.the_row _ _ _ _ (declared_send drive.task.Task.TheInside.the_type (search sendable, (Box-send drive.progress.Progress.the_row progress_send, (search sendable, tt))))

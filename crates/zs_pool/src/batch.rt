@@ -15,12 +15,12 @@ pub struct Batch {
 impl Model for Batch {
     ghost use Rattle.zs_pool.specs.Batches.{BatchValue};
     ghost use Rattle.zs_pool.specs.Listed.{listed};
-    ghost use Rattle.zs_term.specs.contracts.term.Term as e;
+    ghost use Rattle.zs_drive.specs.ScheduleCode.{schedule_code};
     ghost use Rattle.std.specs.Coded.{codes};
 
     ghost Value = { BatchValue };
 
-    ghost coded = { Prim.hlevel (codes, e.the_row.coded) };
+    ghost coded = { Prim.hlevel (codes, schedule_code) };
 
     ghost view = { λ b. record { number = b.number; tasks = listed b.tasks } };
 }

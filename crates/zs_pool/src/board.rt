@@ -63,12 +63,12 @@ pub struct BoardPass {
 impl Model for BoardPass {
     ghost use Rattle.std.specs.Prelude.{◌≡◌, [], length};
     ghost use Rattle.zs_pool.specs.Board.{Claimer, claimer, IsFit};
-    ghost use Rattle.zs_term.specs.contracts.term.Term as e;
+    ghost use Rattle.zs_drive.specs.ScheduleCode.{schedule_code};
     ghost use Rattle.std.specs.Coded.{codes};
 
     ghost Value = { Claimer };
 
-    ghost coded = { Prim.hlevel (codes, e.the_row.coded) };
+    ghost coded = { Prim.hlevel (codes, schedule_code) };
 
     ghost view = { λ p.
         let v = p.queue.me.0.client in

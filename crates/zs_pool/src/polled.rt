@@ -26,12 +26,12 @@ pub struct Polled {
 impl Model for Polled {
     ghost use Rattle.zs_pool.specs.Messages.{PolledValue, AllSaw};
     ghost use Rattle.zs_pool.specs.Listed.{listed};
-    ghost use Rattle.zs_term.specs.contracts.term.Term as e;
+    ghost use Rattle.zs_drive.specs.ScheduleCode.{schedule_code};
     ghost use Rattle.std.specs.Coded.{codes};
 
     ghost Value = { PolledValue };
 
-    ghost coded = { Prim.hlevel (codes, e.the_row.coded) };
+    ghost coded = { Prim.hlevel (codes, schedule_code) };
 
     ghost view = { λ p. record { number = p.number; now = p.now; tasks = listed p.tasks } };
 

@@ -47,12 +47,12 @@ pub struct ShelfPass {
 impl Model for ShelfPass {
     ghost use Rattle.std.specs.Prelude.{◌≡◌, ◌<◌, []};
     ghost use Rattle.zs_pool.specs.Shelf.{Shelver, shelver};
-    ghost use Rattle.zs_term.specs.contracts.term.Term as e;
+    ghost use Rattle.zs_drive.specs.ScheduleCode.{schedule_code};
     ghost use Rattle.std.specs.Coded.{codes};
 
     ghost Value = { Shelver };
 
-    ghost coded = { Prim.hlevel (codes, e.the_row.coded) };
+    ghost coded = { Prim.hlevel (codes, schedule_code) };
 
     ghost view = { λ p.
         let v = p.queue.me.0.client in

@@ -3,7 +3,7 @@ use Rattle.std.proofs.Common.{◌≡◌, ◌+◌, ℕ, List, [], ◌∷◌, leng
 use Rattle.std.specs.List.{flat_map}
 use Rattle.std.proofs.lemmas.List.Sums.{sum_by-cons}
 use Rattle.zs_agenda.specs.Ticks.{Ticks, horizon}
-use Rattle.zs_drive.specs.Values.{JobRecord, job_value, record_of, job_record}
+use Rattle.zs_drive.specs.Values.{JobRecord, job_record}
 use Rattle.zs_drive.specs.Timeline.{Timeline, timeline_of}
 use Rattle.zs_drive.specs.Tasks.{TaskValue, current_timeline}
 use Rattle.zs_drive.specs.declared.job.Job.{Job}
@@ -27,20 +27,20 @@ abbrev told : JobRecord → Timeline → List ℕ → JobReport
 told job timeline moments = record { name = job.name; mode = job.mode; attempts = timeline.attempts; ending = timeline.ending; polls = length moments }
 
 report_at : (ticks : List ℕ) (task : TaskValue)
-    → current_timeline task ≡ timeline_of (record_of task.job) ticks → task.moments ≡ poll_moments_of ticks (record_of task.job)
-    → task_report task ≡ job_report ticks (record_of task.job)
+    → current_timeline task ≡ timeline_of task.job ticks → task.moments ≡ poll_moments_of ticks task.job
+    → task_report task ≡ job_report ticks task.job
 report_at ticks task timeline moments =
-    ap (λ t. told (record_of task.job) t task.moments) timeline ∙ ap (told (record_of task.job) (timeline_of (record_of task.job) ticks)) moments
+    ap (λ t. told task.job t task.moments) timeline ∙ ap (told task.job (timeline_of task.job ticks)) moments
 
 -- the lines of each task are those of its job alone
 each_report : (ticks : List ℕ) (tasks : List TaskValue)
-    → map current_timeline tasks ≡ map (λ job. timeline_of (record_of job) ticks) (map (λ task. task.job) tasks)
-    → map (λ task. task.moments) tasks ≡ map (λ job. poll_moments_of ticks (record_of job)) (map (λ task. task.job) tasks)
-    → map task_report tasks ≡ map (job_report ticks) (map record_of (map (λ task. task.job) tasks))
+    → map current_timeline tasks ≡ map (λ job. timeline_of job ticks) (map (λ task. task.job) tasks)
+    → map (λ task. task.moments) tasks ≡ map (poll_moments_of ticks) (map (λ task. task.job) tasks)
+    → map task_report tasks ≡ map (job_report ticks) (map (λ task. task.job) tasks)
 each_report ticks [] timelines moments = refl
 each_report ticks (task ∷ tasks) timelines moments =
-    let here : task_report task ≡ job_report ticks (record_of task.job) = report_at ticks task (ap (first (current_timeline task)) timelines) (ap (first task.moments) moments) in
-    let rest : map task_report tasks ≡ map (job_report ticks) (map record_of (map (λ task. task.job) tasks)) = each_report ticks tasks (ap others timelines) (ap others moments) in
+    let here : task_report task ≡ job_report ticks task.job = report_at ticks task (ap (first (current_timeline task)) timelines) (ap (first task.moments) moments) in
+    let rest : map task_report tasks ≡ map (job_report ticks) (map (λ task. task.job) tasks) = each_report ticks tasks (ap others timelines) (ap others moments) in
     rw (here, rest) refl
 
 -- the due polls of all jobs are the sum of those of each
@@ -50,27 +50,23 @@ count_told ticks (job ∷ jobs) =
     ap (λ n. length (poll_moments_of ticks job) + n) (count_told ticks jobs)
     ∙ sym (sum_by-cons (λ (job : JobReport). job.polls) (job_report ticks job) (map (job_report ticks) jobs))
 
-records_of : (jobs : List Job) → map record_of (map job_value jobs) ≡ map job_record jobs
-records_of [] = refl
-records_of (job ∷ jobs) = ap (λ rest. job_record job ∷ rest) (records_of jobs)
-
 -- the lines of a result's tasks are those of the jobs
-pub lines_of_answer : (clock : Ticks) (jobs : List Job) (answer : Answer) → IsAnswer clock (map job_value jobs) answer
+pub lines_of_answer : (clock : Ticks) (jobs : List Job) (answer : Answer) → IsAnswer clock (map job_record jobs) answer
     → flat_map (job_lines answer.horizon) (map task_report answer.tasks.items) ≡ jobs_text clock (map job_record jobs)
 lines_of_answer clock jobs answer is =
     let ticks : List ℕ = ticks_of clock in
     let tasks : List TaskValue = answer.tasks.items in
-    let values : map (λ task. task.job) tasks ≡ map job_value jobs = is.same_jobs in
-    let timelines : map current_timeline tasks ≡ map (λ job. timeline_of (record_of job) ticks) (map (λ task. task.job) tasks) = is.timelines ∙ ap (map (λ job. timeline_of (record_of job) ticks)) (sym values) in
-    let moments : map (λ task. task.moments) tasks ≡ map (λ job. poll_moments_of ticks (record_of job)) (map (λ task. task.job) tasks) = is.moments ∙ ap (map (λ job. poll_moments_of ticks (record_of job))) (sym values) in
+    let values : map (λ task. task.job) tasks ≡ map job_record jobs = is.same_jobs in
+    let timelines : map current_timeline tasks ≡ map (λ job. timeline_of job ticks) (map (λ task. task.job) tasks) = is.timelines ∙ ap (map (λ job. timeline_of job ticks)) (sym values) in
+    let moments : map (λ task. task.moments) tasks ≡ map (poll_moments_of ticks) (map (λ task. task.job) tasks) = is.moments ∙ ap (map (poll_moments_of ticks)) (sym values) in
     let reports : map task_report tasks ≡ map (job_report ticks) (map job_record jobs) =
-    each_report ticks tasks timelines moments ∙ ap (λ vs. map (job_report ticks) (map record_of vs)) values ∙ ap (map (job_report ticks)) (records_of jobs) in
+    each_report ticks tasks timelines moments ∙ ap (map (job_report ticks)) values in
     ap (λ h. flat_map (job_lines h) (map task_report tasks)) is.last
     ∙ ap (λ rs. flat_map (job_lines (horizon clock)) rs) reports
 
 -- the polls of a result are those of the jobs
-pub polls_of_answer : (clock : Ticks) (jobs : List Job) (answer : Answer) → IsAnswer clock (map job_value jobs) answer
+pub polls_of_answer : (clock : Ticks) (jobs : List Job) (answer : Answer) → IsAnswer clock (map job_record jobs) answer
     → answer.polls ≡ polls_of clock (map job_record jobs)
 polls_of_answer clock jobs answer is =
     let ticks : List ℕ = ticks_of clock in
-    is.polls ∙ count_told ticks (map record_of (map job_value jobs)) ∙ ap (λ rs. sum_by (λ job. job.polls) (map (job_report ticks) rs)) (records_of jobs)
+    is.polls ∙ count_told ticks (map job_record jobs)

@@ -1,53 +1,36 @@
-//! A schedule that is stepped in place.
-
-ghost use Rattle.std.specs.Prelude.{◌≡◌, ◌<◌, ◌≤◌, ◌^◌};
-ghost use Rattle.zs_term.specs.Schedule.{weight};
-ghost use Rattle.zs_step.specs.State.{state_schedule};
+//! A schedule that is stepped in place, with its term.
 
 use crate::fault::StepFault;
-use crate::state::{State, state_of, touch_parts};
 use crate::stepped::Stepped;
-use crate::stepping::{Step, step_node};
+use crate::stepper::Stepper;
 use std::alloc::Global;
 use zs_term::{Checked, Out};
 
-/// A schedule with a state in place of its history.
-///
-/// The schedule's size bounds the nodes that a step visits and the memory of the state, however
-/// long the history is. Only the lists of `collectAll` grow with each step. A step copies such a
-/// list if an earlier output still shares its memory.
+/// A schedule with a state in place of its history: a `Stepper`, and the schedule that it steps.
 #[derive(Drop)]
 pub struct Compiled {
-    state: State,
-    last: u64,
-    broken: bool,
-    alloc: Global,
+    stepper: Stepper,
     checked: Checked,
-    ghost small: { weight (state_schedule state) ≤ 1000 },
 }
 
 impl Compiled {
     ghost use Rattle.std.specs.Prelude.{◌≡◌, ◌≤◌, [], IfOk, IsOk, true};
     ghost use Rattle.zs_term.specs.Schedule.{schedule_of};
     ghost use Rattle.zs_step.specs.Memory.{is_leaf};
-    ghost use Rattle.zs_step.specs.Compiled.{compiled_term, is_broken, last_seen, StandsFor, Steps};
+    ghost use Rattle.zs_step.specs.Compiled.{compiled_term, stepper_of, stepper_schedule, is_broken, last_seen, StandsFor, Steps};
 
     /// Compiles a schedule, before its first step. Fails only with `Memory`, and then drops the
     /// schedule.
     pub fn new(alloc: Global, checked: Checked) -> Result<Compiled, StepFault>
         ensures term { IfOk result (λ c. compiled_term c ≡ checked) }
+        ensures schedule { IfOk result (λ c.
+            stepper_schedule (stepper_of c) ≡ schedule_of checked) }
         // It represents the empty history.
-        ensures stands { IfOk result (λ c. StandsFor c []) }
+        ensures stands { IfOk result (λ c. StandsFor (stepper_of c) []) }
         ensures succeeds { is_leaf (schedule_of checked) ≡ true → IsOk result }
     {
-        let state = state_of(alloc, checked.term())?;
-        Ok(Compiled {
-            checked,
-            state,
-            last: 0,
-            broken: false,
-            alloc,
-        })
+        let stepper = Stepper::new(alloc, &checked)?;
+        Ok(Compiled { stepper, checked })
     }
 
     /// Returns the schedule that was compiled.
@@ -57,24 +40,19 @@ impl Compiled {
         &self.checked
     }
 
-    /// Reads the memory that the next step reads first, so that it is in the cache by then. The
-    /// number has no meaning.
-    pub fn touch(&self) -> u64 {
-        touch_parts(&self.state) ^ u64::from(self.broken)
-    }
-
     /// Whether a step ran out of memory. The schedule then stays broken.
     pub fn broken(&self) -> bool
-        ensures value { result ≡ is_broken self.now }
+        ensures value { result ≡ is_broken (stepper_of self.now) }
     {
-        self.broken
+        self.stepper.broken()
     }
 
     /// Steps the schedule with a moment in milliseconds and an input. If the step runs out of
     /// memory, the schedule is broken: each later step fails with `Memory` and changes nothing.
     pub fn step(&mut self, now: u64, input: u64) -> Result<Stepped, StepFault>
-        requires order { last_seen self.old ≤ now }
-        ensures steps { Steps self.old self.new now input result }
+        requires order { last_seen (stepper_of self.old) ≤ now }
+        ensures term { compiled_term self.new ≡ compiled_term self.old }
+        ensures steps { Steps (stepper_of self.old) (stepper_of self.new) now input result }
     {
         self.step_over(now, input, Out::Num(0))
     }
@@ -82,26 +60,10 @@ impl Compiled {
     /// Like `step`, and reuses the memory of a spare output if it fits: the boxes of a pair become
     /// those of the new pair.
     pub fn step_over(&mut self, now: u64, input: u64, spare: Out) -> Result<Stepped, StepFault>
-        requires order { last_seen self.old ≤ now }
-        ensures steps { Steps self.old self.new now input result }
+        requires order { last_seen (stepper_of self.old) ≤ now }
+        ensures term { compiled_term self.new ≡ compiled_term self.old }
+        ensures steps { Steps (stepper_of self.old) (stepper_of self.new) now input result }
     {
-        if self.broken {
-            return Err(StepFault::Memory);
-        }
-        let step = Step {
-            alloc: self.alloc,
-            moment: now,
-            input,
-        };
-        match step_node(&mut self.state, &step, spare) {
-            Ok(stepped) => {
-                self.last = now;
-                Ok(stepped)
-            }
-            Err(_) => {
-                self.broken = true;
-                Err(StepFault::Memory)
-            }
-        }
+        self.stepper.step_over(now, input, spare)
     }
 }

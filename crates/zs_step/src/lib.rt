@@ -1,7 +1,8 @@
 //! When a job runs again: ZIO schedules, from a whole history and one step at a time.
 //!
-//! `plain` evaluates a whole history, and is the reference. `Compiled` has a state in place of the
-//! history. Both return `answer_of` (`specs/Answer.antt`), so a caller may use either.
+//! `plain` evaluates a whole history, and is the reference. A `Stepper` has a state in place of the
+//! history, and `Compiled` has its schedule too. All return `answer_of` (`specs/Answer.antt`), so a
+//! caller may use any.
 //!
 //! ```rust
 //! let schedule = zs_term::read(alloc, "(exponential(10) && recurs(3))")?;
@@ -22,6 +23,7 @@ mod leaf_state;
 mod leaves;
 mod state;
 mod stepped;
+mod stepper;
 mod stepping;
 mod turn;
 mod words;
@@ -39,4 +41,5 @@ pub use laws::{
     second_part_begins_where_the_first_is_done, visits_are_at_most_the_weight,
 };
 pub use stepped::Stepped;
+pub use stepper::Stepper;
 pub use words::{keeps_no_list, new_words, step_words};

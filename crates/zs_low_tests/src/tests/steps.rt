@@ -1,7 +1,7 @@
 //! Worked examples, by `plain` on each prefix and by `follow`. The values are worked out by hand
 //! from docs/SEMANTICS.md.
 ghost use Rattle.std.specs.Prelude.{◌<◌, ◌≤◌, length, IfOk};
-ghost use Rattle.zs_step.specs.Compiled.{last_seen};
+ghost use Rattle.zs_step.specs.Compiled.{last_seen, stepper_of};
 ghost use Rattle.zs_step.specs.History.{history_of, IsInOrder};
 
 use super::support::expect_text;
@@ -401,8 +401,8 @@ static STEPS: [ByHand<'static>; 2] = [
 
 // Steps a state, and appends whether it is broken before, and the result.
 fn push_hand(text: &mut String, compiled: &mut Compiled, now: u64) -> Result<(), Fail>
-    requires order { last_seen compiled.old ≤ now }
-    ensures seen { last_seen compiled.new ≤ now }
+    requires order { last_seen (stepper_of compiled.old) ≤ now }
+    ensures seen { last_seen (stepper_of compiled.new) ≤ now }
 {
     write!(text, "{} ", compiled.broken())?;
     let step = compiled.step(now, 0)?;
@@ -416,7 +416,7 @@ fn push_both_steps(
     first: u64,
     second: u64,
 ) -> Result<(), Fail>
-    requires begun { last_seen compiled.old ≤ first }
+    requires begun { last_seen (stepper_of compiled.old) ≤ first }
     requires order { first ≤ second }
 {
     push_hand(text, compiled, first)?;

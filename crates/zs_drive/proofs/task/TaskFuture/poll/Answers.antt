@@ -3,7 +3,7 @@ use Rattle.std.specs.Prelude.{OnErr}
 use Rattle.futures.specs.Poll.{IfReady}
 use Rattle.zs_effect.specs.declared.script.Beat.{Beat}
 use Rattle.zs_effect.specs.Scripts.{IsScript}
-use Rattle.zs_drive.specs.Values.{JobValue}
+use Rattle.zs_drive.specs.Values.{JobRecord}
 use Rattle.zs_drive.specs.Turns.{TakesMemory}
 use Rattle.futures.specs.declared.task.Poll.TheVariants.{Ready}
 use Rattle.zs_drive.specs.Tasks.{EndsByOutcome}
@@ -21,7 +21,7 @@ invariant_of-self-in-Ok c =
     record {
       progress = whole.0;
       state = λ _. whole.1;
-      script = subst (λ (beats : List Beat). IsScript beats) (sym (ap (λ (job : JobValue). job.script) whole.2)) c.self.invariant.script;
+      script = subst (λ (beats : List Beat). IsScript beats) (sym (ap (λ (job : JobRecord). job.script) whole.2)) c.self.invariant.script;
       unended = λ broken. let unbroken : c.self.inside.broken ≡ false = cc in let clash : false ≡ true = sym unbroken ∙ broken in cc;
     }
 
