@@ -55,7 +55,7 @@ pairing_back and_then = refl
 abbrev pairing_code : Coded Pairing
 pairing_code = code_by (Bool × Bool) (coded× coded_bool coded_bool) pairing_parts pairing_of_parts pairing_back
 
--- a modifier as what it reads; a truth value tells two apart that read the same
+-- a modifier as what it reads; a truth value for two that read the same
 abbrev ModifierParts : Type 0
 ModifierParts = Test ⊎ ((Bool × (Pick × Test)) ⊎ (Func ⊎ Bool))
 
