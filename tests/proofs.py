@@ -77,18 +77,20 @@ def prove(name):
 
 def prove_first():
     """Proves the crates that several others wait for, two at a time, and first those that most wait for. So `rt ci` proves
-    each on two processors; among others it gives each one. While only one of them can be proved, another crate is."""
+    each on two processors; among others it gives each one. While only one of them can be proved, another crate is: the whole
+    run waits for that one alone."""
     crates = crates_of(TOP)
     above = collections.Counter(below.name for it in crates.values() for below in it.below)
     left, running, ended = sorted(crates, key=lambda name: -above[name]), {}, set()
-    with concurrent.futures.ThreadPoolExecutor(LANES) as lanes:
-        while any(above[name] > 1 for name in [*left, *running.values()]):
-            ready = [name for name in left if all(below.name in ended for below in crates[name].below)]
-            for name in ready[:LANES - len(running)]:
-                left.remove(name)
-                running[lanes.submit(prove, name)] = name
-            done, _ = concurrent.futures.wait(running, return_when=concurrent.futures.FIRST_COMPLETED)
-            ended |= {running.pop(it) for it in done}
+    lanes = concurrent.futures.ThreadPoolExecutor(LANES)
+    while any(above[name] > 1 for name in [*left, *running.values()]):
+        ready = [name for name in left if all(below.name in ended for below in crates[name].below)]
+        for name in ready[:LANES - len(running)]:
+            left.remove(name)
+            running[lanes.submit(prove, name)] = name
+        done, _ = concurrent.futures.wait(running, return_when=concurrent.futures.FIRST_COMPLETED)
+        ended |= {running.pop(it) for it in done}
+    lanes.shutdown(wait=False)
 
 
 def main():
