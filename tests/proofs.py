@@ -22,8 +22,6 @@ from support import TOP, parser_of
 
 LAST = re.compile(r"(\d+) passed, (\d+) failed")
 TICK = os.sysconf("SC_CLK_TCK")
-# How often the processes are sampled.
-SECONDS = 1
 # How many crates are proved at a time while many wait for them.
 LANES = 2
 
@@ -37,8 +35,8 @@ class Usage(threading.Thread):
         self.used, self.first, self.last = {}, {}, collections.defaultdict(float)
 
     def run(self):
-        """Samples the processes until the end."""
-        while not self.is_done.wait(SECONDS):
+        """Samples the processes each second, until the end."""
+        while not self.is_done.wait(1):
             for process in pathlib.Path("/proc").glob("[0-9]*"):
                 try:
                     self.look(process)
@@ -70,26 +68,23 @@ class Usage(threading.Thread):
 
 
 def prove(name):
-    """Proves a crate. What passes is stored, and what fails is told by the whole run, which alone is the gate."""
+    """Proves a crate. What passes is stored. The whole run alone is the gate, and reports what fails."""
     subprocess.run(["rt", "ci", name], cwd=TOP, capture_output=True, check=False,
                    env={key: value for key, value in os.environ.items() if key != "CI"})
 
 
 def prove_first():
-    """Proves the crates that several others wait for, two at a time, and first those that most wait for. So `rt ci` proves
-    each on two processors; among others it gives each one. While only one of them can be proved, another crate is: the whole
-    run waits for that one alone."""
+    """Proves the crates that several others wait for, and first those that most wait for; while only one of them can be
+    proved, another crate too. So `rt ci` proves each on two processors; among others it gives each one."""
     crates = crates_of(TOP)
     above = collections.Counter(below.name for it in crates.values() for below in it.below)
     left, running, ended = sorted(crates, key=lambda name: -above[name]), {}, set()
     lanes = concurrent.futures.ThreadPoolExecutor(LANES)
     while any(above[name] > 1 for name in [*left, *running.values()]):
-        ready = [name for name in left if all(below.name in ended for below in crates[name].below)]
-        for name in ready[:LANES - len(running)]:
+        for name in [it for it in left if all(below.name in ended for below in crates[it].below)][:LANES - len(running)]:
             left.remove(name)
             running[lanes.submit(prove, name)] = name
-        done, _ = concurrent.futures.wait(running, return_when=concurrent.futures.FIRST_COMPLETED)
-        ended |= {running.pop(it) for it in done}
+        ended |= {running.pop(it) for it in concurrent.futures.wait(running, return_when=concurrent.futures.FIRST_COMPLETED).done}
     lanes.shutdown(wait=False)
 
 
@@ -98,19 +93,16 @@ def main():
     words = parser_of(__doc__)
     words.add_argument("--anew", action="store_true", help="prove all")
     is_anew = words.parse_args().anew
-    # A toolchain that knows no --anew stores no proofs, and always proves all.
-    said = subprocess.run(["rt", "help"], capture_output=True, text=True, check=False)
-    knows_anew = "--anew" in said.stdout + said.stderr
     before = left_libraries.sources_sum()
     usage = Usage(os.getsid(0))
     usage.start()
     processors = len(os.sched_getaffinity(0))
-    if knows_anew and not is_anew and processors >= 4:
+    if not is_anew and processors >= 4:
         prove_first()
     # It delays proofs until more memory is free than they take. So it gets the number that may run at once.
     memory = os.sysconf("SC_PAGE_SIZE") * os.sysconf("SC_PHYS_PAGES")
     jobs = {"RT_JOBS": str(processors)} if memory >= 4_000_000_000 * processors else {}
-    running = subprocess.Popen(["rt", "ci", *["--anew"] * (is_anew and knows_anew)], cwd=TOP, env={**jobs, **os.environ},
+    running = subprocess.Popen(["rt", "ci", *["--anew"] * is_anew], cwd=TOP, env={**jobs, **os.environ},
                                text=True, errors="replace", stdout=subprocess.PIPE, stderr=subprocess.STDOUT)
     passed, failed = 0, 1
     try:

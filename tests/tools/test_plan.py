@@ -93,8 +93,7 @@ class Parts(WithPlans):
         self.assertEqual(sorted(path.name for path in (self.folder / "p").iterdir()), ["manifest", "part-000001.json"])
 
     def test_a_large_plan_takes_little_memory(self):
-        path = self.plan('{"horizon":1000}\n' + "".join(
-            f"{support.job(f'job-{number:07}')}\n" for number in range(60_000)))
+        path = self.plan('{"horizon":1000}\n' + "".join(f"{support.job(f'job-{number:07}')}\n" for number in range(60_000)))
         status, kilobytes, _ = measured(TOOL, "split", 10_000, "--lines", path, "-o", self.folder / "p", out=os.devnull)
         self.assertEqual((status, len(list((self.folder / "p").iterdir()))), (0, 7))
         self.assertLess(kilobytes, 40_000)
@@ -181,8 +180,7 @@ NO_PLANS = [
     ('{"jobs":[],\n"\\u006aobs":[]}', "line 2: the key 'jobs' is repeated"),
     ('{"jobs":[],\n7:1}', "line 2: a key of the document isn't a text"),
     ('{"horizon":[1,\n2 3],"jobs":[]}', "line 2: not JSON: Expecting ',' delimiter"),
-    ('{"jobs":[\n{"name":"a"},\n{"name":"b"},\n{"name":"\\u0061"}]}',
-     "line 4: the job on line 2 has the name a too"),
+    ('{"jobs":[\n{"name":"a"},\n{"name":"b"},\n{"name":"\\u0061"}]}', "line 4: the job on line 2 has the name a too"),
     ('{"jobs":[\n' + "[" * 100_000, "line 2: a value is nested too deeply"),
     (b'{"jobs":[\n{"name":"a"},\n{"name":"\xff"}]}', "line 3: the text is not UTF-8"),
 ]

@@ -263,8 +263,7 @@ class Faults(Imported):
         self.hold("p.yaml", YAML, FAULTS_OF_YAML)
 
     def test_the_help_is_that_of_what_was_written(self):
-        for number, help in [('1.5', "write 1500 if these are seconds"),
-                             ('"1 fortnight"', "write a whole number")]:
+        for number, help in [('1.5', "write 1500 if these are seconds"), ('"1 fortnight"', "write a whole number")]:
             _, _, errors = self.made("p.toml", TOML.replace('"1h"', number))
             self.assertIn(help, errors)
 
@@ -318,8 +317,7 @@ class Faults(Imported):
     def test_without_pyyaml(self):
         self.file("yaml.py", "raise ImportError\n")
         self.file("p.yaml", YAML)
-        self.assertEqual(self.told("p.yaml", PYTHONPATH=str(self.folder)),
-                         (3, "", f"zsched-plan: {policy_file.NO_YAML}\n"))
+        self.assertEqual(self.told("p.yaml", PYTHONPATH=str(self.folder)), (3, "", f"zsched-plan: {policy_file.NO_YAML}\n"))
 
     def test_the_command_as_a_process(self):
         (self.folder / "p.toml").write_text(TOML)

@@ -191,8 +191,7 @@ class Requests(Served):
         """Requests: what they show, method, path, body, headers and the status of the response."""
         own, page, report = f"127.0.0.1:{self.port}", ("GET", "/"), ("POST", "/report")
         yield "localhost is its name too", *page, None, {"Host": f"localhost:{self.port}"}, 200
-        for host in ["zsched.example", f"zsched.example:{self.port}", "127.0.0.1", "127.0.0.1:1", f"{own}.example", "",
-                     None]:
+        for host in ["zsched.example", f"zsched.example:{self.port}", "127.0.0.1", "127.0.0.1:1", f"{own}.example", "", None]:
             yield from (("another host", *words, ONE_JOB, {"Host": host}, 421) for words in [page, report])
         for origin in ["http://zsched.example", "null", f"https://{own}"]:
             yield "another origin", *report, ONE_JOB, {"Origin": origin}, 403

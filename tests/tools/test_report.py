@@ -662,8 +662,7 @@ class Pictures(unittest.TestCase):
         self.assertNotIn(" begun, ", out)
         self.assertEqual(jobs_in(ElementTree.fromstring(out)), {"service-007", "service-200"})
         self.assertEqual(jobs_in(picture_of(many, ["service-200", "service-007"])), {"service-007", "service-200"})
-        self.assertEqual(tool("html", "--job", "x", text=many),
-                         (2, "", "zsched-report: standard input: has no job x\n"))
+        self.assertEqual(tool("html", "--job", "x", text=many), (2, "", "zsched-report: standard input: has no job x\n"))
 
     def test_the_rows_of_a_picture_can_be_ordered(self):
         text = "".join(f"job {name} retry\n{body}" for name, body in [
@@ -804,8 +803,7 @@ class Join(InFolder):
 
     def test_repeated_parts_are_refused_by_name(self):
         first, second = self.file("first", RETRIED), self.file("second", WAITING)
-        self.assertEqual(self.refused(first, second, first),
-                         "first: is the same file as first, which is a part already")
+        self.assertEqual(self.refused(first, second, first), "first: is the same file as first, which is a part already")
         link = self.folder / "first-link"
         os.link(first, link)
         self.assertEqual(self.refused(first, link), "first-link: is the same file as first, which is a part already")
