@@ -5,6 +5,7 @@ output come the seconds and the processor seconds of each crate's proofs, sample
 were built, for tools/make-library and `rt check`. The last line is 'N passed, M failed'."""
 import collections
 import concurrent.futures
+import contextlib
 import os
 import pathlib
 import re
@@ -38,11 +39,8 @@ class Usage(threading.Thread):
         """Samples the processes each second, until the end."""
         while not self.is_done.wait(1):
             for process in pathlib.Path("/proc").glob("[0-9]*"):
-                try:
+                with contextlib.suppress(OSError, ValueError, IndexError):  # it may have ended
                     self.look(process)
-                except (OSError, ValueError, IndexError):
-                    # it has ended
-                    continue
 
     def look(self, process):
         """Notes the time of one process, if it checks or builds a crate for this run."""
@@ -52,8 +50,7 @@ class Usage(threading.Thread):
         fields = (process / "stat").read_text(errors="replace").rpartition(")")[2].split()
         if int(fields[3]) != self.group:
             return
-        crate = words[words.index("--crate-name") + 1]
-        now = time.monotonic()
+        crate, now = words[words.index("--crate-name") + 1], time.monotonic()
         self.used[crate, process.name, fields[19]] = (int(fields[11]) + int(fields[12])) / TICK
         self.first.setdefault(crate, now)
         self.last[crate] = now
@@ -68,14 +65,15 @@ class Usage(threading.Thread):
 
 
 def prove(name):
-    """Proves a crate. What passes is stored. The whole run alone is the gate, and reports what fails."""
-    subprocess.run(["rt", "ci", name], cwd=TOP, capture_output=True, check=False,
-                   env={key: value for key, value in os.environ.items() if key != "CI"})
+    """Proves a crate, and returns whether it was stored too. The whole run alone is the gate, and reports what fails."""
+    ran = subprocess.run(["rt", "ci", name], cwd=TOP, capture_output=True, text=True, errors="replace", check=False)
+    return ran.returncode == 0 and not re.search("(not|nothing is) kept", ran.stdout + ran.stderr)
 
 
 def prove_first():
     """Proves the crates that several others wait for, and first those that most wait for; while only one of them can be
-    proved, another crate too. So `rt ci` proves each on two processors; among others it gives each one."""
+    proved, another crate too. So `rt ci` proves each on two processors; among others it gives each one. If a crate is not
+    stored, it ends, since each crate above would prove that one again: `rt ci` refuses names under CI=true, say."""
     crates = crates_of(TOP)
     above = collections.Counter(below.name for it in crates.values() for below in it.below)
     left, running, ended = sorted(crates, key=lambda name: -above[name]), {}, set()
@@ -84,7 +82,9 @@ def prove_first():
         for name in [it for it in left if all(below.name in ended for below in crates[it].below)][:LANES - len(running)]:
             left.remove(name)
             running[lanes.submit(prove, name)] = name
-        ended |= {running.pop(it) for it in concurrent.futures.wait(running, return_when=concurrent.futures.FIRST_COMPLETED).done}
+        for it in concurrent.futures.wait(running, return_when=concurrent.futures.FIRST_COMPLETED).done:
+            ended.add(running.pop(it))
+            left = left if it.result() else []
     lanes.shutdown(wait=False)
 
 
