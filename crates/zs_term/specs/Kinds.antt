@@ -4,8 +4,7 @@ use Rattle.zs_term.specs.declared.term.Pick.{Pick}
 use Rattle.zs_term.specs.declared.term.Pick.TheVariants.{Whole, First as PickFirst, Second as PickSecond, Size as PickSize}
 use Rattle.zs_term.specs.declared.term.Func.{Func}
 use Rattle.zs_term.specs.declared.term.Func.TheVariants.{First, Second, Size, Merge, Const, Add, Mul}
-use Rattle.zs_term.specs.declared.kind.Kind.{Kind}
-use Rattle.zs_term.specs.OutputKind.{OutputKind, output_kind_of, num, pair_of, sum_of, list_of, is_same_kind}
+use Rattle.zs_term.specs.OutputKind.{OutputKind, num, pair_of, sum_of, list_of, is_same_kind}
 use Rattle.zs_term.specs.Schedule.{Schedule, leaf, two, over, Pairing, both, either, and_then, Modifier, while_input, while_output, collect_all, mapped, reset_when, is_within_limits, has_factors, has_windows}
 
 -- whether a kind is number
@@ -122,8 +121,3 @@ pub record IsSchedule (t : Schedule) : Type 0 where
   pub factors : has_factors t ≡ true
   pub kinded : IsSome (kind_of t)
   pub windows : has_windows t ≡ true
-
--- the kind that the code found, if any, as plain data: for private contracts
-abbrev pub found_kind_of : Option Kind → Option OutputKind
-found_kind_of None = None
-found_kind_of (Some k) = Some (output_kind_of k)

@@ -9,7 +9,7 @@ ghost use Rattle.zs_term.specs.Verdict.{checked_as};
 ghost use Rattle.zs_term.specs.Shape.{steps_to_give_up};
 
 use crate::fault::TermFault;
-use crate::inference::kind_of;
+use crate::inference::{has_kind, make_kind};
 use crate::kind::Kind;
 use crate::limits::{has_factors_and_windows, is_within_limits, weight_within};
 use crate::term::Term;
@@ -131,17 +131,13 @@ fn kind_in(alloc: Global, term: &Term) -> Result<Kind, TermFault>
     if !factors {
         return Err(TermFault::BadFactor);
     }
-    match kind_of(alloc, term) {
-        Err(_) => Err(TermFault::Memory),
-        Ok(None) => Err(TermFault::NoKind),
-        Ok(Some(kind)) => {
-            if windows {
-                Ok(kind)
-            } else {
-                Err(TermFault::BadWindow)
-            }
-        }
+    if !has_kind(term) {
+        return Err(TermFault::NoKind);
     }
+    if !windows {
+        return Err(TermFault::BadWindow);
+    }
+    make_kind(alloc, term).map_err(|_| TermFault::Memory)
 }
 
 // Frees a term node by node. To drop it would take stack in proportion to its depth.

@@ -122,7 +122,8 @@ pub enum Shape<'t> {
 }
 
 impl Term {
-    /// Returns what the term consists of.
+    /// Returns what the term consists of. Each walk over a term calls it once a node.
+    #[inline(always)]
     pub(crate) fn shape(&self) -> Shape<'_>
         ensures value { shape_schedule result ≡ schedule_of self.now }
     {

@@ -1,206 +1,131 @@
-//! The kind of a term's outputs.
+//! The kind of a term's outputs. The parts of a kind are the kinds of smaller terms, parts of this
+//! one. So its outermost form over such terms represents it without memory.
 
-ghost use Rattle.std.specs.Prelude.{◌≡◌, Some, None, true, IfOk, IfErr, if◌then◌else◌};
-ghost use Rattle.zs_term.specs.Schedule.{schedule_of};
-ghost use Rattle.zs_term.specs.OutputKind.{output_kind_of, is_same_kind, num};
-ghost use Rattle.zs_term.specs.Kinds.{kind_of, takes_memory, answers, fits, is_num, found_kind_of, joined, pairing_kind, where_fits, list_kind, mapped_kind};
-ghost use Rattle.zs_term.specs.Machine.{infix_pairing};
+ghost use Rattle.std.specs.Prelude.{◌≡◌, ◌≢◌, ◌≤◌, Some, None, true, IfOk, IfErr, if◌then◌else◌};
+ghost use Rattle.zs_term.specs.Schedule.{schedule_of, depth};
+ghost use Rattle.zs_term.specs.OutputKind.{output_kind_of, is_same_kind};
+ghost use Rattle.zs_term.specs.Kinds.{kind_of, takes_memory, answers, fits, is_num};
+ghost use Rattle.zs_term.specs.Head.{unchecked_result, unchecked_kind, head_kind, head_depth};
 
 use crate::forms::{Infix, Shape, Subject};
 use crate::kind::Kind;
 use crate::term::{Func, Pick, Term};
 use std::alloc::{AllocError, Global};
 
-// Returns the kind of a term, if it has one.
-pub(crate) fn kind_of(alloc: Global, term: &Term) -> Result<Option<Kind>, AllocError>
-    ensures value { IfOk result (λ k. found_kind_of k ≡ kind_of (schedule_of term.now)) }
-    ensures memory { IfErr result (λ _. takes_memory (schedule_of term.now) ≡ true) }
+/// The outermost form of a kind, with the terms that have its parts as kinds.
+#[derive(Drop)]
+pub enum Head<'t> {
+    /// A number.
+    Num,
+    /// A pair of an output of each term.
+    Pair(&'t Term, &'t Term),
+    /// An output of the first term on the left, or of the second on the right.
+    Sum(&'t Term, &'t Term),
+    /// A list of outputs of one term.
+    Items(&'t Term),
+}
+
+// Whether a term has a kind. Each test and function visits nodes of its part once more.
+pub(crate) fn has_kind(term: &Term) -> bool
+    ensures value { kind_of (schedule_of term.now)
+        ≡ (if result then Some (unchecked_kind (schedule_of term.now)) else None) }
 {
     match term.shape() {
-        Shape::Plain(_) | Shape::Counted(_, _) | Shape::Exponential(_, _) => Ok(Some(Kind::Num)),
-        Shape::Joined(form, a, b) => join_kinds(
-            alloc,
-            form,
-            kind_of(alloc, a)?,
-            kind_of(alloc, b)?,
-        ),
-        Shape::Tested(s, Subject::Input, _) => kind_of(alloc, s),
-        Shape::Tested(s, Subject::Picked(_, pick), _) => Ok(where_fits(pick, kind_of(alloc, s)?)),
-        Shape::Collected(s) => list_kind(alloc, kind_of(alloc, s)?),
-        Shape::Mapped(s, func) => Ok(mapped_kind(func, kind_of(alloc, s)?)),
+        Shape::Plain(_) | Shape::Counted(_, _) | Shape::Exponential(_, _) => true,
+        Shape::Joined(_, a, b) => has_kind(a) && has_kind(b),
+        Shape::Tested(s, Subject::Picked(_, pick), _) => has_kind(s) && fits(pick, s),
+        Shape::Tested(s, Subject::Input, _) | Shape::Collected(s) => has_kind(s),
+        Shape::Mapped(s, func) => has_kind(s) && applies(func, s),
     }
 }
 
-// Returns the kind of the outputs of two joined schedules, if both have one.
-fn join_kinds(
-    alloc: Global,
-    form: Infix,
-    first: Option<Kind>,
-    second: Option<Kind>,
-) -> Result<Option<Kind>, AllocError>
-    ensures value { IfOk result (λ k.
-        found_kind_of k
-        ≡ joined (pairing_kind (infix_pairing form)) (found_kind_of first) (found_kind_of second)) }
+// Makes the kind of a term that has one.
+pub(crate) fn make_kind(alloc: Global, term: &Term) -> Result<Kind, AllocError>
+    ensures value { IfOk result (λ k. output_kind_of k ≡ unchecked_kind (schedule_of term.now)) }
+    ensures memory { IfErr result (λ _. takes_memory (schedule_of term.now) ≡ true) }
 {
-    match (first, second) {
-        (Some(x), Some(y)) => {
-            let x = box_kind(alloc, x)?;
-            let y = box_kind(alloc, y)?;
-            Ok(Some(match form {
-                Infix::Both | Infix::Either => Kind::Pair(x, y),
-                Infix::AndThen => Kind::Sum(x, y),
-            }))
+    Ok(match head_of(term) {
+        Head::Num => Kind::Num,
+        Head::Pair(a, b) => {
+            let a = Box::new(alloc, make_kind(alloc, a)?)?;
+            Kind::Pair(a, Box::new(alloc, make_kind(alloc, b)?)?)
         }
-        _ => Ok(None),
-    }
-}
-
-// Returns the kind of lists of a part's outputs, if the part has one.
-fn list_kind(alloc: Global, part: Option<Kind>) -> Result<Option<Kind>, AllocError>
-    ensures value { IfOk result (λ k. found_kind_of k ≡ list_kind (found_kind_of part)) }
-{
-    match part {
-        Some(x) => Ok(Some(Kind::Items(box_kind(alloc, x)?))),
-        None => Ok(None),
-    }
-}
-
-// Returns the kind of a part, if the pick fits it.
-fn where_fits(pick: Pick, part: Option<Kind>) -> Option<Kind>
-    ensures value { found_kind_of result ≡ where_fits pick (found_kind_of part) }
-{
-    let x = part?;
-    if fits(pick, &x) { Some(x) } else { None }
-}
-
-// Returns the kind of a function's results over a part, if the part has one.
-fn mapped_kind(func: Func, part: Option<Kind>) -> Option<Kind>
-    ensures value { found_kind_of result ≡ mapped_kind func (found_kind_of part) }
-{
-    kind_after(func, part?)
-}
-
-// Moves a kind to the heap.
-fn box_kind(alloc: Global, kind: Kind) -> Result<Box<Kind>, AllocError>
-    ensures value { IfOk result (λ b. b.value ≡ kind) }
-{
-    Ok(Box::new(alloc, kind)?)
-}
-
-// Whether a kind is number.
-fn is_num(kind: &Kind) -> bool
-    ensures value { result ≡ is_num (output_kind_of kind.now) }
-{
-    match kind {
-        Kind::Num => true,
-        Kind::Pair(_, _) | Kind::Sum(_, _) | Kind::Items(_) => false,
-    }
-}
-
-// Whether a pick fits a kind.
-fn fits(pick: Pick, kind: &Kind) -> bool
-    ensures value { result ≡ fits pick (output_kind_of kind.now) }
-{
-    match pick {
-        Pick::Whole => is_num(kind),
-        Pick::First => match kind {
-            Kind::Pair(a, _b) => is_num(a),
-            Kind::Num | Kind::Sum(_, _) | Kind::Items(_) => false,
-        },
-        Pick::Second => match kind {
-            Kind::Pair(_a, b) => is_num(b),
-            Kind::Num | Kind::Sum(_, _) | Kind::Items(_) => false,
-        },
-        Pick::Size => match kind {
-            Kind::Items(_a) => true,
-            Kind::Num | Kind::Pair(_, _) | Kind::Sum(_, _) => false,
-        },
-    }
-}
-
-// Whether two kinds are equal.
-fn same_kind(a: &Kind, b: &Kind) -> bool
-    ensures value { result ≡ is_same_kind (output_kind_of a.now) (output_kind_of b.now) }
-{
-    match a {
-        Kind::Num => is_num(b),
-        Kind::Pair(x, y) => match b {
-            Kind::Pair(z, w) => same_kind(x, z) && same_kind(y, w),
-            Kind::Num | Kind::Sum(_, _) | Kind::Items(_) => false,
-        },
-        Kind::Sum(x, y) => match b {
-            Kind::Sum(z, w) => same_kind(x, z) && same_kind(y, w),
-            Kind::Num | Kind::Pair(_, _) | Kind::Items(_) => false,
-        },
-        Kind::Items(x) => match b {
-            Kind::Items(z) => same_kind(x, z),
-            Kind::Num | Kind::Pair(_, _) | Kind::Sum(_, _) => false,
-        },
-    }
-}
-
-// Returns the kind of a function's results, if the function fits the kind.
-fn kind_after(func: Func, kind: Kind) -> Option<Kind>
-    ensures value { found_kind_of result ≡ answers func (output_kind_of kind) }
-{
-    match func {
-        Func::First => first_of(kind),
-        Func::Second => second_of(kind),
-        Func::Size => num_if(is_list(&kind)),
-        Func::Merge => merge_kind(kind),
-        Func::Const(_n) => Some(Kind::Num),
-        Func::Add(_n) => num_if(is_num(&kind)),
-        Func::Mul(_n) => num_if(is_num(&kind)),
-    }
-}
-
-// Returns the kind number if a function fits, else no kind.
-fn num_if(fits: bool) -> Option<Kind>
-    ensures value { found_kind_of result ≡ (if fits then Some num else None) }
-{
-    if fits { Some(Kind::Num) } else { None }
-}
-
-// Whether a kind is a list.
-fn is_list(kind: &Kind) -> bool
-    ensures value { result ≡ fits Pick.Size (output_kind_of kind.now) }
-{
-    match kind {
-        Kind::Items(_a) => true,
-        Kind::Num | Kind::Pair(_, _) | Kind::Sum(_, _) => false,
-    }
-}
-
-// Returns the kind of the first part of a pair.
-fn first_of(kind: Kind) -> Option<Kind>
-    ensures value { found_kind_of result ≡ answers Func.First (output_kind_of kind) }
-{
-    match kind {
-        Kind::Pair(a, _b) => Some(Box::into_inner(a)),
-        Kind::Num | Kind::Sum(_, _) | Kind::Items(_) => None,
-    }
-}
-
-// Returns the kind of the second part of a pair.
-fn second_of(kind: Kind) -> Option<Kind>
-    ensures value { found_kind_of result ≡ answers Func.Second (output_kind_of kind) }
-{
-    match kind {
-        Kind::Pair(_a, b) => Some(Box::into_inner(b)),
-        Kind::Num | Kind::Sum(_, _) | Kind::Items(_) => None,
-    }
-}
-
-// Returns the kind of both sides of a choice, if it is the same.
-fn merge_kind(kind: Kind) -> Option<Kind>
-    ensures value { found_kind_of result ≡ answers Func.Merge (output_kind_of kind) }
-{
-    match kind {
-        Kind::Sum(a, b) => {
-            let a = Box::into_inner(a);
-            let b = Box::into_inner(b);
-            if same_kind(&a, &b) { Some(a) } else { None }
+        Head::Sum(a, b) => {
+            let a = Box::new(alloc, make_kind(alloc, a)?)?;
+            Kind::Sum(a, Box::new(alloc, make_kind(alloc, b)?)?)
         }
-        Kind::Num | Kind::Pair(_, _) | Kind::Items(_) => None,
+        Head::Items(a) => Kind::Items(Box::new(alloc, make_kind(alloc, a)?)?),
+    })
+}
+
+// Returns the outermost form of the kind of a term that has one. Visits no node twice.
+fn head_of(term: &Term) -> Head<'_>
+    ensures value { head_kind result ≡ unchecked_kind (schedule_of term.now) }
+    ensures below { head_depth result ≤ depth (schedule_of term.now) }
+    ensures memory { result ≢ Head.Num → takes_memory (schedule_of term.now) ≡ true }
+{
+    match term.shape() {
+        Shape::Plain(_) | Shape::Counted(_, _) | Shape::Exponential(_, _) => Head::Num,
+        Shape::Joined(Infix::Both | Infix::Either, a, b) => Head::Pair(a, b),
+        Shape::Joined(Infix::AndThen, a, b) => Head::Sum(a, b),
+        Shape::Tested(s, _, _) => head_of(s),
+        Shape::Collected(s) => Head::Items(s),
+        Shape::Mapped(s, func) => match (func, head_of(s)) {
+            (Func::First, Head::Pair(a, _)) | (Func::Merge, Head::Sum(a, _)) => head_of(a),
+            (Func::Second, Head::Pair(_, b)) => head_of(b),
+            (Func::First | Func::Second | Func::Size | Func::Merge, _)
+            | (Func::Const(_) | Func::Add(_) | Func::Mul(_), _) => Head::Num,
+        },
+    }
+}
+
+// Whether the kind of a term is number.
+fn is_num(term: &Term) -> bool
+    ensures value { result ≡ is_num (unchecked_kind (schedule_of term.now)) }
+{
+    match head_of(term) {
+        Head::Num => true,
+        Head::Pair(_, _) | Head::Sum(_, _) | Head::Items(_) => false,
+    }
+}
+
+// Whether a pick fits the kind of a term.
+fn fits(pick: Pick, term: &Term) -> bool
+    ensures value { result ≡ fits pick (unchecked_kind (schedule_of term.now)) }
+{
+    match (pick, head_of(term)) {
+        (Pick::Whole, Head::Num) | (Pick::Size, Head::Items(_)) => true,
+        (Pick::First, Head::Pair(a, _)) => is_num(a),
+        (Pick::Second, Head::Pair(_, b)) => is_num(b),
+        (Pick::Whole | Pick::First | Pick::Second | Pick::Size, _) => false,
+    }
+}
+
+// Whether a function applies to outputs of the kind of a term.
+fn applies(func: Func, term: &Term) -> bool
+    ensures value { answers func (unchecked_kind (schedule_of term.now)) ≡ (if result
+        then Some (unchecked_result func (unchecked_kind (schedule_of term.now))) else None) }
+{
+    match (func, head_of(term)) {
+        (Func::First | Func::Second, Head::Pair(_, _)) | (Func::Size, Head::Items(_)) => true,
+        (Func::Merge, Head::Sum(a, b)) => has_same_kind(a, b),
+        (Func::Add(_) | Func::Mul(_), Head::Num) | (Func::Const(_), _) => true,
+        (Func::First | Func::Second | Func::Size | Func::Merge, _)
+        | (Func::Add(_) | Func::Mul(_), _) => false,
+    }
+}
+
+// Whether the kinds of two terms are equal.
+fn has_same_kind(a: &Term, b: &Term) -> bool
+    ensures value { result
+        ≡ is_same_kind (unchecked_kind (schedule_of a.now)) (unchecked_kind (schedule_of b.now)) }
+{
+    match (head_of(a), head_of(b)) {
+        (Head::Num, Head::Num) => true,
+        (Head::Pair(x, y), Head::Pair(z, w)) | (Head::Sum(x, y), Head::Sum(z, w)) => {
+            has_same_kind(x, z) && has_same_kind(y, w)
+        }
+        (Head::Items(x), Head::Items(z)) => has_same_kind(x, z),
+        (Head::Num | Head::Pair(_, _) | Head::Sum(_, _) | Head::Items(_), _) => false,
     }
 }

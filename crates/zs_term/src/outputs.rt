@@ -330,6 +330,7 @@ impl Func {
     }
 
     /// Like `apply`, in place of the output.
+    #[inline(always)]
     pub fn apply_in(self, out: &mut Out)
         ensures value { output_of out.new ≡ applied self (output_of out.old) }
     {
