@@ -21,6 +21,7 @@ mod interval;
 mod laws;
 mod leaf_state;
 mod leaves;
+mod modifier;
 mod state;
 mod stepped;
 mod stepper;

@@ -1,13 +1,15 @@
 //! The state of a schedule: what its next step needs to know in place of the history.
 
-ghost use Rattle.std.specs.Prelude.{◌≡◌, [], true, IfOk, IsOk};
-ghost use Rattle.zs_term.specs.Schedule.{schedule_of};
+ghost use Rattle.std.specs.Prelude.{◌≡◌, [], true, IfOk, OnOk, IsOk};
+ghost use Rattle.zs_term.specs.Schedule.{schedule_of, over};
 ghost use Rattle.zs_step.specs.Memory.{is_leaf};
-ghost use Rattle.zs_step.specs.State.{state_schedule, Represents};
+ghost use Rattle.zs_step.specs.State.{state_schedule, modifier_of, Represents};
 
 use crate::collected::Collected;
 use crate::leaf_state::{FixedState, LeafState, Past};
+use crate::modifier::Modifier;
 use std::alloc::{AllocError, Global};
+use std::mem::replace;
 use zs_term::{Func, Pick, Term, Test};
 
 // A node with the states of its parts.
@@ -16,36 +18,34 @@ pub(crate) enum State {
     Leaf(LeafState),
     Fixed(FixedState),
     Both {
-        first: Box<State>,
-        second: Box<State>,
+        parts: Box<(State, State)>,
     },
     Either {
-        first: Box<State>,
-        second: Box<State>,
+        parts: Box<(State, State)>,
     },
     // `done` is whether the first part is done.
     AndThen {
         done: bool,
-        first: Box<State>,
-        second: Box<State>,
+        parts: Box<(State, State)>,
     },
-    WhileInput {
-        part: Box<State>,
-        test: Test,
+    // A part under a modifier, and under those outside of it, the innermost first.
+    Over {
+        inner: Box<(Modifier, State)>,
+        outer: Vec<Modifier>,
     },
-    WhileOutput {
+    // A part of whose output the first part is returned.
+    First {
         part: Box<State>,
-        pick: Pick,
-        test: Test,
+    },
+    // A part whose output isn't read, under a constant.
+    Const {
+        part: Box<State>,
+        value: u64,
     },
     // `kept` has the outputs of the part at the steps at which it continued.
     CollectAll {
         part: Box<State>,
         kept: Box<Collected>,
-    },
-    Map {
-        part: Box<State>,
-        func: Func,
     },
     // `part` counts from its last reset.
     ResetWhen {
@@ -96,53 +96,79 @@ fn leaf_of(term: &Term) -> State
 }
 
 // Returns the state of a term before its first step.
-#[cycle(making)]
 pub(crate) fn state_of(alloc: Global, term: &Term) -> Result<State, AllocError>
     ensures made_of { IfOk result (λ s. state_schedule s ≡ schedule_of term.now) }
     ensures represents { IfOk result (λ s. Represents s []) }
     ensures succeeds { is_leaf (schedule_of term.now) ≡ true → IsOk result }
 {
+    let mut state = State::Leaf(LeafState::Identity);
+    make(alloc, term, &mut state)?;
+    Ok(state)
+}
+
+// Makes the state of a term before its first step, in its place in memory.
+#[cycle(making)]
+fn make(alloc: Global, term: &Term, place: &mut State) -> Result<(), AllocError>
+    ensures made_of { OnOk result (state_schedule place.new ≡ schedule_of term.now) }
+    ensures represents { OnOk result (Represents place.new []) }
+    ensures succeeds { is_leaf (schedule_of term.now) ≡ true → IsOk result }
+{
     match term {
         Term::Both(a, b) => {
-            let (first, second) = (part(alloc, a)?, part(alloc, b)?);
-            Ok(State::Both { first, second })
+            *place = State::Both {
+                parts: parts(alloc, a, b)?,
+            };
         }
         Term::Either(a, b) => {
-            let (first, second) = (part(alloc, a)?, part(alloc, b)?);
-            Ok(State::Either { first, second })
+            *place = State::Either {
+                parts: parts(alloc, a, b)?,
+            };
         }
         Term::AndThen(a, b) => {
-            let (first, second) = (part(alloc, a)?, part(alloc, b)?);
-            Ok(State::AndThen {
+            *place = State::AndThen {
                 done: false,
-                first,
-                second,
-            })
+                parts: parts(alloc, a, b)?,
+            };
         }
-        Term::WhileInput(s, test) => Ok(State::WhileInput {
-            part: part(alloc, s)?,
-            test: *test,
-        }),
-        Term::WhileOutput(s, pick, test) => Ok(State::WhileOutput {
-            part: part(alloc, s)?,
-            pick: *pick,
-            test: *test,
-        }),
-        Term::CollectAll(s) => Ok(State::CollectAll {
-            part: part(alloc, s)?,
-            kept: Box::new(alloc, Collected::nothing(alloc))?,
-        }),
-        Term::Map(s, func) => Ok(State::Map {
-            part: part(alloc, s)?,
-            func: *func,
-        }),
-        Term::ResetWhen(s, pick, test) => Ok(State::ResetWhen {
-            part: part(alloc, s)?,
-            pick: *pick,
-            test: *test,
-        }),
-        _ => Ok(leaf_of(term)),
+        Term::WhileInput(s, test) => {
+            make(alloc, s, place)?;
+            put_over(alloc, place, Modifier::WhileInput(*test))?;
+        }
+        Term::WhileOutput(s, pick, test) => {
+            make(alloc, s, place)?;
+            put_over(alloc, place, Modifier::WhileOutput(*pick, *test))?;
+        }
+        Term::CollectAll(s) => {
+            *place = State::CollectAll {
+                part: part(alloc, s)?,
+                kept: Box::new(alloc, Collected::nothing(alloc))?,
+            };
+        }
+        Term::Map(s, Func::First) => {
+            *place = State::First {
+                part: part(alloc, s)?,
+            };
+        }
+        Term::Map(s, Func::Const(n)) => {
+            *place = State::Const {
+                part: part(alloc, s)?,
+                value: *n,
+            };
+        }
+        Term::Map(s, func) => {
+            make(alloc, s, place)?;
+            put_over(alloc, place, Modifier::Map(*func))?;
+        }
+        Term::ResetWhen(s, pick, test) => {
+            *place = State::ResetWhen {
+                part: part(alloc, s)?,
+                pick: *pick,
+                test: *test,
+            };
+        }
+        _ => *place = leaf_of(term),
     }
+    Ok(())
 }
 
 // Returns the state of a part before its first step, in a box.
@@ -151,7 +177,46 @@ fn part(alloc: Global, term: &Term) -> Result<Box<State>, AllocError>
     ensures made_of { IfOk result (λ s. state_schedule s.value ≡ schedule_of term.now) }
     ensures represents { IfOk result (λ s. Represents s.value []) }
 {
-    Ok(Box::new(alloc, state_of(alloc, term)?)?)
+    let mut part = Box::new(alloc, State::Leaf(LeafState::Identity))?;
+    make(alloc, term, &mut part)?;
+    Ok(part)
+}
+
+// Returns the states of two parts before their first step, in one box.
+#[cycle(making)]
+fn parts(alloc: Global, first: &Term, second: &Term) -> Result<Box<(State, State)>, AllocError>
+    ensures made_of { IfOk result (λ s.
+        (state_schedule s.value.0 ≡ schedule_of first.now)
+        × (state_schedule s.value.1 ≡ schedule_of second.now)) }
+    ensures represents { IfOk result (λ s. Represents s.value.0 [] × Represents s.value.1 []) }
+{
+    let none = (
+        State::Leaf(LeafState::Identity),
+        State::Leaf(LeafState::Identity),
+    );
+    let mut parts = Box::new(alloc, none)?;
+    make(alloc, first, &mut parts.0)?;
+    make(alloc, second, &mut parts.1)?;
+    Ok(parts)
+}
+
+// Puts a modifier over a state. A state that is under modifiers gets one more.
+#[tactic(auto, using(crate::proofs::Modifiers::over_push))]
+fn put_over(alloc: Global, state: &mut State, modifier: Modifier) -> Result<(), AllocError>
+    ensures made_of { OnOk result
+        (state_schedule state.new ≡ over (state_schedule state.old) (modifier_of modifier)) }
+    ensures represents { OnOk result (Represents state.old [] → Represents state.new []) }
+{
+    if let State::Over { outer, .. } = state {
+        outer.push(modifier)?;
+        return Ok(());
+    }
+    let part = replace(state, State::Leaf(LeafState::Identity));
+    *state = State::Over {
+        inner: Box::new(alloc, (modifier, part))?,
+        outer: Vec::new(alloc),
+    };
+    Ok(())
 }
 
 // Resets a state, so that it represents the empty history.
@@ -162,30 +227,29 @@ pub(crate) fn clear(state: &mut State, alloc: Global)
     match state {
         State::Leaf(leaf) => leaf.clear(),
         State::Fixed(fixed) => fixed.clear(),
-        State::Both { first, second } => {
+        State::Both { parts } => {
+            let (first, second) = &mut **parts;
             clear(first, alloc);
             clear(second, alloc);
         }
-        State::Either { first, second } => {
+        State::Either { parts } => {
+            let (first, second) = &mut **parts;
             clear(first, alloc);
             clear(second, alloc);
         }
-        State::AndThen {
-            done,
-            first,
-            second,
-        } => {
+        State::AndThen { done, parts } => {
+            let (first, second) = &mut **parts;
             *done = false;
             clear(first, alloc);
             clear(second, alloc);
         }
-        State::WhileInput { part, .. } => clear(part, alloc),
-        State::WhileOutput { part, .. } => clear(part, alloc),
         State::CollectAll { part, kept } => {
             clear(part, alloc);
             **kept = Collected::nothing(alloc);
         }
-        State::Map { part, .. } => clear(part, alloc),
+        State::Over { inner, .. } => clear(&mut inner.1, alloc),
+        State::First { part } => clear(part, alloc),
+        State::Const { part, .. } => clear(part, alloc),
         State::ResetWhen { part, .. } => clear(part, alloc),
     }
 }
@@ -197,10 +261,10 @@ fn form(state: &State) -> u64 {
         State::Both { .. } => 1,
         State::Either { .. } => 2,
         State::AndThen { .. } => 3,
-        State::WhileInput { .. } => 4,
-        State::WhileOutput { .. } => 5,
-        State::CollectAll { .. } => 6,
-        State::Map { .. } => 7,
+        State::Over { .. } => 4,
+        State::First { .. } => 5,
+        State::Const { .. } => 6,
+        State::CollectAll { .. } => 7,
         State::ResetWhen { .. } => 8,
         State::Fixed(_) => 9,
     }
@@ -211,13 +275,15 @@ fn form(state: &State) -> u64 {
 pub(crate) fn touch_parts(state: &State) -> u64 {
     match state {
         State::Leaf(_) | State::Fixed(_) => 0,
-        State::Both { first, second }
-        | State::Either { first, second }
-        | State::AndThen { first, second, .. } => form(first) ^ form(second),
-        State::WhileInput { part, .. }
-        | State::WhileOutput { part, .. }
+        State::Both { parts } | State::Either { parts } | State::AndThen { parts, .. } => {
+            form(&parts.0) ^ form(&parts.1)
+        }
+        State::Over { inner, outer } => {
+            form(&inner.1) ^ outer.first().map_or(0, |modifier| modifier.form())
+        }
+        State::First { part }
+        | State::Const { part, .. }
         | State::CollectAll { part, .. }
-        | State::Map { part, .. }
         | State::ResetWhen { part, .. } => form(part),
     }
 }

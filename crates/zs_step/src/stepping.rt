@@ -3,7 +3,7 @@
 //! A node writes its output to its caller's place, and returns its decision in registers. If it
 //! returned a value in memory, compiled code would clear that memory first, at each node.
 
-ghost use Rattle.std.specs.Prelude.{◌≡◌, ◌<◌, ◌+◌, ◌*◌, ◌^◌, true, IfOk, IsOk, IfSome, IsSome};
+ghost use Rattle.std.specs.Prelude.{◌≡◌, ◌<◌, ◌+◌, ◌*◌, ◌^◌, length, true, IfOk, IsOk, IfSome, IsSome};
 ghost use Rattle.zs_term.specs.Schedule.{weight};
 ghost use Rattle.zs_term.specs.Output.{output_of};
 ghost use Rattle.zs_step.specs.Answer.{answer};
@@ -11,10 +11,11 @@ ghost use Rattle.zs_step.specs.LeafState.{state_leaf};
 ghost use Rattle.zs_step.specs.Memory.{is_bare};
 ghost use Rattle.zs_step.specs.State.{state_schedule, StepsTo};
 ghost use Rattle.zs_step.specs.Turn.{decided, Answers, Decides, CountsOn};
-ghost use Rattle.zs_step.specs.declared.state.State.TheVariants.{Leaf, Fixed, Both', Either', AndThen', WhileInput', WhileOutput', CollectAll', Map', ResetWhen'};
+ghost use Rattle.zs_step.specs.declared.state.State.TheVariants.{Leaf, Fixed, Both', Either', AndThen', Over', First', Const', CollectAll', ResetWhen'};
 
 use crate::collected::Collected;
 use crate::leaf_state::{FixedState, LeafState};
+use crate::modifier::{Modifier, over_part};
 use crate::state::{State, clear};
 use crate::stepped::Stepped;
 use crate::turn::Turn;
@@ -53,6 +54,7 @@ pub(crate) fn step_node(state: &mut State, step: &Step, spare: Out) -> Result<St
 
 // Steps and counts a node, and writes its output to the caller's place.
 #[cycle(stepping)]
+#[tactic(auto, using(crate::proofs::Modifiers::weight_over, crate::proofs::Modifiers::bare_over))]
 fn step_into(state: &mut State, step: &Step, visits: &mut u64, out: &mut Out) -> Turn
     // The contract of each node: its result, its visits and new state, its unchanged schedule.
     requires within { visits.old + weight (state_schedule state.old) < 2 ^ 64 }
@@ -63,23 +65,28 @@ fn step_into(state: &mut State, step: &Step, visits: &mut u64, out: &mut Out) ->
     ensures same { state_schedule state.new ≡ state_schedule state.old }
     ensures succeeds { is_bare (state_schedule state.old) ≡ true → IsSome (decided result) }
 {
-    *visits += 1;
     match state {
-        State::Leaf(leaf) => step_leaf(leaf, step, out),
-        State::Fixed(fixed) => step_fixed(fixed, step, out),
-        State::Both { first, second } => step_both(first, second, step, visits, out),
-        State::Either { first, second } => step_either(first, second, step, visits, out),
-        State::AndThen {
-            done,
-            first,
-            second,
-        } => step_and_then(done, first, second, step, visits, out),
-        State::WhileInput { part, test } => step_while_input(part, *test, step, visits, out),
-        State::WhileOutput { part, pick, test } => {
-            step_while_output(part, *pick, *test, step, visits, out)
+        State::Leaf(leaf) => step_leaf(leaf, step, visits, out),
+        State::Fixed(fixed) => step_fixed(fixed, step, visits, out),
+        State::Both { parts } => {
+            let (first, second) = &mut **parts;
+            step_both(first, second, step, visits, out)
         }
+        State::Either { parts } => {
+            let (first, second) = &mut **parts;
+            step_either(first, second, step, visits, out)
+        }
+        State::AndThen { done, parts } => {
+            let (first, second) = &mut **parts;
+            step_and_then(done, first, second, step, visits, out)
+        }
+        State::Over { inner, outer } => {
+            let (modifier, part) = &mut **inner;
+            step_over(part, modifier, outer, step, visits, out)
+        }
+        State::First { part } => step_first(part, step, visits, out),
+        State::Const { part, value } => step_const(part, *value, step, visits, out),
         State::CollectAll { part, kept } => step_collect_all(part, kept, step, visits, out),
-        State::Map { part, func } => step_map(part, *func, step, visits, out),
         State::ResetWhen { part, pick, test } => {
             step_reset_when(part, *pick, *test, step, visits, out)
         }
@@ -116,30 +123,34 @@ fn side_box(alloc: Global, out: &mut Out) -> Option<Box<Out>> {
 }
 
 // Steps a schedule without parts.
-fn step_leaf(leaf: &mut LeafState, step: &Step, out: &mut Out) -> Turn
+fn step_leaf(leaf: &mut LeafState, step: &Step, visits: &mut u64, out: &mut Out) -> Turn
+    requires within { visits.old + 1 < 2 ^ 64 }
     ensures answers { IfSome (decided result) (λ d.
         Answers (Leaf leaf.old) step.now.moment step.now.input (answer (output_of out.new) d)) }
-    ensures counts { (n : _)
-        → IfSome (decided result) (λ d.
-        CountsOn (Leaf leaf.old) (Leaf leaf.new) step.now.moment step.now.input n n) }
+    ensures counts { IfSome (decided result) (λ d.
+        CountsOn (Leaf leaf.old) (Leaf leaf.new) step.now.moment step.now.input
+        (visits.old + 1) visits.new) }
     ensures same { state_leaf leaf.new ≡ state_leaf leaf.old }
     ensures succeeds { IsSome (decided result) }
 {
+    *visits += 1;
     let (n, decision) = leaf.step(step.moment, step.input);
     out.put_number(n);
     Turn::of(decision)
 }
 
 // Steps `fixed`.
-fn step_fixed(fixed: &mut FixedState, step: &Step, out: &mut Out) -> Turn
+fn step_fixed(fixed: &mut FixedState, step: &Step, visits: &mut u64, out: &mut Out) -> Turn
+    requires within { visits.old + 1 < 2 ^ 64 }
     ensures answers { IfSome (decided result) (λ d.
         Answers (Fixed fixed.old) step.now.moment step.now.input (answer (output_of out.new) d)) }
-    ensures counts { (n : _)
-        → IfSome (decided result) (λ d.
-        CountsOn (Fixed fixed.old) (Fixed fixed.new) step.now.moment step.now.input n n) }
+    ensures counts { IfSome (decided result) (λ d.
+        CountsOn (Fixed fixed.old) (Fixed fixed.new) step.now.moment step.now.input
+        (visits.old + 1) visits.new) }
     ensures same { fixed.new.period ≡ fixed.old.period }
     ensures succeeds { IsSome (decided result) }
 {
+    *visits += 1;
     let (n, decision) = fixed.step(step.moment);
     out.put_number(n);
     Turn::of(decision)
@@ -155,20 +166,21 @@ fn step_both(
     visits: &mut u64,
     out: &mut Out,
 ) -> Turn
-    requires within { visits.old + weight (state_schedule first.old)
+    requires within { visits.old + 1 + weight (state_schedule first.old)
         + weight (state_schedule second.old)
         < 2 ^ 64 }
-    ensures answers { (p q : _)
+    ensures answers { (p : _)
         → IfSome (decided result) (λ d.
-        Answers (Both' p first.old q second.old) step.now.moment step.now.input
+        Answers (Both' p first.old second.old) step.now.moment step.now.input
         (answer (output_of out.new) d)) }
-    ensures counts { (p q : _)
+    ensures counts { (p : _)
         → IfSome (decided result) (λ d.
-        CountsOn (Both' p first.old q second.old) (Both' p first.new q second.new)
-        step.now.moment step.now.input visits.old visits.new) }
+        CountsOn (Both' p first.old second.old) (Both' p first.new second.new)
+        step.now.moment step.now.input (visits.old + 1) visits.new) }
     ensures same { (state_schedule first.new ≡ state_schedule first.old)
         × (state_schedule second.new ≡ state_schedule second.old) }
 {
+    *visits += 1;
     let Some((mut a, mut b)) = pair_boxes(step.alloc, out) else {
         return Turn::Refused;
     };
@@ -192,20 +204,21 @@ fn step_either(
     visits: &mut u64,
     out: &mut Out,
 ) -> Turn
-    requires within { visits.old + weight (state_schedule first.old)
+    requires within { visits.old + 1 + weight (state_schedule first.old)
         + weight (state_schedule second.old)
         < 2 ^ 64 }
-    ensures answers { (p q : _)
+    ensures answers { (p : _)
         → IfSome (decided result) (λ d.
-        Answers (Either' p first.old q second.old) step.now.moment step.now.input
+        Answers (Either' p first.old second.old) step.now.moment step.now.input
         (answer (output_of out.new) d)) }
-    ensures counts { (p q : _)
+    ensures counts { (p : _)
         → IfSome (decided result) (λ d.
-        CountsOn (Either' p first.old q second.old) (Either' p first.new q second.new)
-        step.now.moment step.now.input visits.old visits.new) }
+        CountsOn (Either' p first.old second.old) (Either' p first.new second.new)
+        step.now.moment step.now.input (visits.old + 1) visits.new) }
     ensures same { (state_schedule first.new ≡ state_schedule first.old)
         × (state_schedule second.new ≡ state_schedule second.old) }
 {
+    *visits += 1;
     let Some((mut a, mut b)) = pair_boxes(step.alloc, out) else {
         return Turn::Refused;
     };
@@ -230,21 +243,22 @@ fn step_and_then(
     visits: &mut u64,
     out: &mut Out,
 ) -> Turn
-    requires within { visits.old + weight (state_schedule first.old)
+    requires within { visits.old + 1 + weight (state_schedule first.old)
         + weight (state_schedule second.old)
         < 2 ^ 64 }
-    ensures answers { (p q : _)
+    ensures answers { (p : _)
         → IfSome (decided result) (λ d.
-        Answers (AndThen' done.old p first.old q second.old) step.now.moment step.now.input
+        Answers (AndThen' done.old p first.old second.old) step.now.moment step.now.input
         (answer (output_of out.new) d)) }
-    ensures counts { (p q : _)
+    ensures counts { (p : _)
         → IfSome (decided result) (λ d.
-        CountsOn (AndThen' done.old p first.old q second.old)
-        (AndThen' done.new p first.new q second.new) step.now.moment step.now.input
-        visits.old visits.new) }
+        CountsOn (AndThen' done.old p first.old second.old)
+        (AndThen' done.new p first.new second.new) step.now.moment step.now.input
+        (visits.old + 1) visits.new) }
     ensures same { (state_schedule first.new ≡ state_schedule first.old)
         × (state_schedule second.new ≡ state_schedule second.old) }
 {
+    *visits += 1;
     let Some(mut part) = side_box(step.alloc, out) else {
         return Turn::Refused;
     };
@@ -263,59 +277,36 @@ fn step_and_then(
     turn
 }
 
-// Steps a part that continues while the input passes.
+// Steps a part under a modifier, and under those outside of it.
 #[cycle(stepping)]
-fn step_while_input(
+#[tactic(auto, using(crate::proofs::Modifiers::weight_over, crate::proofs::Modifiers::visits_over, crate::proofs::Modifiers::bare_over))]
+fn step_over(
     part: &mut State,
-    test: Test,
+    inner: &Modifier,
+    outer: &Vec<Modifier>,
     step: &Step,
     visits: &mut u64,
     out: &mut Out,
 ) -> Turn
-    requires within { visits.old + weight (state_schedule part.old) < 2 ^ 64 }
+    requires within { visits.old + 1 + length outer.now.items + weight (state_schedule part.old)
+        < 2 ^ 64 }
     ensures answers { (p : _)
         → IfSome (decided result) (λ d.
-        Answers (WhileInput' p part.old test) step.now.moment step.now.input
+        Answers (Over' p inner.now part.old outer.now) step.now.moment step.now.input
         (answer (output_of out.new) d)) }
     ensures counts { (p : _)
         → IfSome (decided result) (λ d.
-        CountsOn (WhileInput' p part.old test) (WhileInput' p part.new test) step.now.moment
-        step.now.input visits.old visits.new) }
+        CountsOn (Over' p inner.now part.old outer.now) (Over' p inner.now part.new outer.now)
+        step.now.moment step.now.input (visits.old + 1) visits.new) }
     ensures same { state_schedule part.new ≡ state_schedule part.old }
     ensures succeeds { is_bare (state_schedule part.old) ≡ true → IsSome (decided result) }
 {
+    *visits += 1 + outer.len() as u64;
     let Some(x) = step_into(part, step, visits, out).decision() else {
         return Turn::Refused;
     };
-    Turn::of(x.only_if(test.passes(step.input)))
-}
-
-// Steps a part that continues while its output passes.
-#[cycle(stepping)]
-fn step_while_output(
-    part: &mut State,
-    pick: Pick,
-    test: Test,
-    step: &Step,
-    visits: &mut u64,
-    out: &mut Out,
-) -> Turn
-    requires within { visits.old + weight (state_schedule part.old) < 2 ^ 64 }
-    ensures answers { (p : _)
-        → IfSome (decided result) (λ d.
-        Answers (WhileOutput' p part.old pick test) step.now.moment step.now.input
-        (answer (output_of out.new) d)) }
-    ensures counts { (p : _)
-        → IfSome (decided result) (λ d.
-        CountsOn (WhileOutput' p part.old pick test) (WhileOutput' p part.new pick test)
-        step.now.moment step.now.input visits.old visits.new) }
-    ensures same { state_schedule part.new ≡ state_schedule part.old }
-    ensures succeeds { is_bare (state_schedule part.old) ≡ true → IsSome (decided result) }
-{
-    let Some(x) = step_into(part, step, visits, out).decision() else {
-        return Turn::Refused;
-    };
-    Turn::of(x.only_if(test.passes(pick.read(out))))
+    let x = inner.over_part(step.input, x, out);
+    Turn::of(over_part(outer, step.input, x, out))
 }
 
 // Steps a part whose outputs are collected, and returns the list of the earlier steps.
@@ -328,7 +319,7 @@ fn step_collect_all(
     visits: &mut u64,
     out: &mut Out,
 ) -> Turn
-    requires within { visits.old + weight (state_schedule part.old) < 2 ^ 64 }
+    requires within { visits.old + 1 + weight (state_schedule part.old) < 2 ^ 64 }
     ensures answers { (p : _)
         → IfSome (decided result) (λ d.
         Answers (CollectAll' p part.old kept.old) step.now.moment step.now.input
@@ -336,9 +327,10 @@ fn step_collect_all(
     ensures counts { (p : _)
         → IfSome (decided result) (λ d.
         CountsOn (CollectAll' p part.old kept.old) (CollectAll' p part.new kept.new)
-        step.now.moment step.now.input visits.old visits.new) }
+        step.now.moment step.now.input (visits.old + 1) visits.new) }
     ensures same { state_schedule part.new ≡ state_schedule part.old }
 {
+    *visits += 1;
     let mut last = Out::Num(0);
     let Some(x) = step_into(part, step, visits, &mut last).decision() else {
         return Turn::Refused;
@@ -352,59 +344,56 @@ fn step_collect_all(
     Turn::of(x)
 }
 
-// Steps a part, and applies a function to its output.
+// Steps a part whose output isn't read, and returns a constant.
 #[cycle(stepping)]
-fn step_map(part: &mut State, func: Func, step: &Step, visits: &mut u64, out: &mut Out) -> Turn
-    requires within { visits.old + weight (state_schedule part.old) < 2 ^ 64 }
+fn step_const(part: &mut State, value: u64, step: &Step, visits: &mut u64, out: &mut Out) -> Turn
+    requires within { visits.old + 1 + weight (state_schedule part.old) < 2 ^ 64 }
     ensures answers { (p : _)
         → IfSome (decided result) (λ d.
-        Answers (Map' p part.old func) step.now.moment step.now.input
+        Answers (Const' p part.old value) step.now.moment step.now.input
         (answer (output_of out.new) d)) }
     ensures counts { (p : _)
         → IfSome (decided result) (λ d.
-        CountsOn (Map' p part.old func) (Map' p part.new func) step.now.moment step.now.input
-        visits.old visits.new) }
+        CountsOn (Const' p part.old value) (Const' p part.new value) step.now.moment
+        step.now.input (visits.old + 1) visits.new) }
     ensures same { state_schedule part.new ≡ state_schedule part.old }
     ensures succeeds { is_bare (state_schedule part.old) ≡ true → IsSome (decided result) }
 {
-    if let Func::Const(n) = func {
-        let turn = step_unread(part, step, visits);
-        out.put_number(n);
-        return turn;
-    }
-    if let Func::First = func {
-        return step_first(part, step, visits, out);
-    }
-    let turn = step_into(part, step, visits, out);
-    func.apply_in(out);
+    *visits += 1;
+    let turn = step_unread(part, step, visits);
+    out.put_number(value);
     turn
 }
 
 // Steps a part, and returns the first part of its output. For `&&` no pair is made.
 #[cycle(stepping)]
 fn step_first(part: &mut State, step: &Step, visits: &mut u64, out: &mut Out) -> Turn
-    requires within { visits.old + weight (state_schedule part.old) < 2 ^ 64 }
+    requires within { visits.old + 1 + weight (state_schedule part.old) < 2 ^ 64 }
     ensures answers { (p : _)
         → IfSome (decided result) (λ d.
-        Answers (Map' p part.old Func.First) step.now.moment step.now.input
+        Answers (First' p part.old) step.now.moment step.now.input
         (answer (output_of out.new) d)) }
     ensures counts { (p : _)
         → IfSome (decided result) (λ d.
-        CountsOn (Map' p part.old Func.First) (Map' p part.new Func.First) step.now.moment
-        step.now.input visits.old visits.new) }
+        CountsOn (First' p part.old) (First' p part.new) step.now.moment step.now.input
+        (visits.old + 1) visits.new) }
     ensures same { state_schedule part.new ≡ state_schedule part.old }
     ensures succeeds { is_bare (state_schedule part.old) ≡ true → IsSome (decided result) }
 {
+    *visits += 1;
     match part {
-        State::Both { first, second } => first_of_both(first, second, step, visits, out),
+        State::Both { parts } => {
+            let (first, second) = &mut **parts;
+            first_of_both(first, second, step, visits, out)
+        }
         State::Leaf(_)
         | State::Fixed(_)
         | State::Either { .. }
         | State::AndThen { .. }
-        | State::WhileInput { .. }
-        | State::WhileOutput { .. }
+        | State::Over { .. }
+        | State::First { .. }
+        | State::Const { .. }
         | State::CollectAll { .. }
-        | State::Map { .. }
         | State::ResetWhen { .. } => {
             let turn = step_into(part, step, visits, out);
             Func::First.apply_in(out);
@@ -426,14 +415,14 @@ fn first_of_both(
     requires within { visits.old + 1 + weight (state_schedule first.old)
         + weight (state_schedule second.old)
         < 2 ^ 64 }
-    ensures answers { (p q r : _)
+    ensures answers { (p r : _)
         → IfSome (decided result) (λ d.
-        Answers (Map' r (Both' p first.old q second.old) Func.First) step.now.moment
+        Answers (First' r (Both' p first.old second.old)) step.now.moment
         step.now.input (answer (output_of out.new) d)) }
-    ensures counts { (p q r : _)
+    ensures counts { (p r : _)
         → IfSome (decided result) (λ d.
-        CountsOn (Map' r (Both' p first.old q second.old) Func.First)
-        (Map' r (Both' p first.new q second.new) Func.First) step.now.moment
+        CountsOn (First' r (Both' p first.old second.old))
+        (First' r (Both' p first.new second.new)) step.now.moment
         step.now.input visits.old visits.new) }
     ensures same { (state_schedule first.new ≡ state_schedule first.old)
         × (state_schedule second.new ≡ state_schedule second.old) }
@@ -459,7 +448,7 @@ fn step_reset_when(
     visits: &mut u64,
     out: &mut Out,
 ) -> Turn
-    requires within { visits.old + 2 * weight (state_schedule part.old) < 2 ^ 64 }
+    requires within { visits.old + 1 + 2 * weight (state_schedule part.old) < 2 ^ 64 }
     ensures answers { (p : _)
         → IfSome (decided result) (λ d.
         Answers (ResetWhen' p part.old pick test) step.now.moment step.now.input
@@ -467,10 +456,11 @@ fn step_reset_when(
     ensures counts { (p : _)
         → IfSome (decided result) (λ d.
         CountsOn (ResetWhen' p part.old pick test) (ResetWhen' p part.new pick test)
-        step.now.moment step.now.input visits.old visits.new) }
+        step.now.moment step.now.input (visits.old + 1) visits.new) }
     ensures same { state_schedule part.new ≡ state_schedule part.old }
     ensures succeeds { is_bare (state_schedule part.old) ≡ true → IsSome (decided result) }
 {
+    *visits += 1;
     let turn = step_into(part, step, visits, out);
     if let Turn::Refused = turn {
         return turn;
@@ -494,14 +484,26 @@ fn step_unread(state: &mut State, step: &Step, visits: &mut u64) -> Turn
     ensures succeeds { is_bare (state_schedule state.old) ≡ true → IsSome (decided result) }
 {
     match state {
-        State::Both { first, second } => unread_both(first, second, step, visits),
-        State::Either { first, second } => unread_either(first, second, step, visits),
-        State::WhileInput { part, test } => unread_while_input(part, *test, step, visits),
-        State::Map { part, func } => unread_map(part, *func, step, visits),
+        State::Both { parts } => {
+            let (first, second) = &mut **parts;
+            unread_both(first, second, step, visits)
+        }
+        State::Either { parts } => {
+            let (first, second) = &mut **parts;
+            unread_either(first, second, step, visits)
+        }
+        State::First { part } => {
+            *visits += 1;
+            step_unread(part, step, visits)
+        }
+        State::Const { part, .. } => {
+            *visits += 1;
+            step_unread(part, step, visits)
+        }
         State::Leaf(_)
         | State::Fixed(_)
         | State::AndThen { .. }
-        | State::WhileOutput { .. }
+        | State::Over { .. }
         | State::CollectAll { .. }
         | State::ResetWhen { .. } => step_and_drop(state, step, visits),
     }
@@ -529,12 +531,12 @@ fn unread_both(first: &mut State, second: &mut State, step: &Step, visits: &mut 
     requires within { visits.old + 1 + weight (state_schedule first.old)
         + weight (state_schedule second.old)
         < 2 ^ 64 }
-    ensures decides { (p q : _)
+    ensures decides { (p : _)
         → IfSome (decided result) (λ d.
-        Decides (Both' p first.old q second.old) step.now.moment step.now.input d) }
-    ensures counts { (p q : _)
+        Decides (Both' p first.old second.old) step.now.moment step.now.input d) }
+    ensures counts { (p : _)
         → IfSome (decided result) (λ d.
-        CountsOn (Both' p first.old q second.old) (Both' p first.new q second.new)
+        CountsOn (Both' p first.old second.old) (Both' p first.new second.new)
         step.now.moment step.now.input (visits.old + 1) visits.new) }
     ensures same { (state_schedule first.new ≡ state_schedule first.old)
         × (state_schedule second.new ≡ state_schedule second.old) }
@@ -556,12 +558,12 @@ fn unread_either(first: &mut State, second: &mut State, step: &Step, visits: &mu
     requires within { visits.old + 1 + weight (state_schedule first.old)
         + weight (state_schedule second.old)
         < 2 ^ 64 }
-    ensures decides { (p q : _)
+    ensures decides { (p : _)
         → IfSome (decided result) (λ d.
-        Decides (Either' p first.old q second.old) step.now.moment step.now.input d) }
-    ensures counts { (p q : _)
+        Decides (Either' p first.old second.old) step.now.moment step.now.input d) }
+    ensures counts { (p : _)
         → IfSome (decided result) (λ d.
-        CountsOn (Either' p first.old q second.old) (Either' p first.new q second.new)
+        CountsOn (Either' p first.old second.old) (Either' p first.new second.new)
         step.now.moment step.now.input (visits.old + 1) visits.new) }
     ensures same { (state_schedule first.new ≡ state_schedule first.old)
         × (state_schedule second.new ≡ state_schedule second.old) }
@@ -575,44 +577,4 @@ fn unread_either(first: &mut State, second: &mut State, step: &Step, visits: &mu
     };
     let decision = x.earlier(y);
     Turn::of(decision)
-}
-
-// Returns the decision of a part that continues while the input passes.
-#[cycle(stepping)]
-fn unread_while_input(part: &mut State, test: Test, step: &Step, visits: &mut u64) -> Turn
-    requires within { visits.old + 1 + weight (state_schedule part.old) < 2 ^ 64 }
-    ensures decides { (p : _)
-        → IfSome (decided result) (λ d.
-        Decides (WhileInput' p part.old test) step.now.moment step.now.input d) }
-    ensures counts { (p : _)
-        → IfSome (decided result) (λ d.
-        CountsOn (WhileInput' p part.old test) (WhileInput' p part.new test) step.now.moment
-        step.now.input (visits.old + 1) visits.new) }
-    ensures same { state_schedule part.new ≡ state_schedule part.old }
-    ensures succeeds { is_bare (state_schedule part.old) ≡ true → IsSome (decided result) }
-{
-    *visits += 1;
-    let Some(x) = step_unread(part, step, visits).decision() else {
-        return Turn::Refused;
-    };
-    let passed = test.passes(step.input);
-    Turn::of(x.only_if(passed))
-}
-
-// Returns the decision of a part under a function.
-#[cycle(stepping)]
-fn unread_map(part: &mut State, _func: Func, step: &Step, visits: &mut u64) -> Turn
-    requires within { visits.old + 1 + weight (state_schedule part.old) < 2 ^ 64 }
-    ensures decides { (p : _)
-        → IfSome (decided result) (λ d.
-        Decides (Map' p part.old _func) step.now.moment step.now.input d) }
-    ensures counts { (p : _)
-        → IfSome (decided result) (λ d.
-        CountsOn (Map' p part.old _func) (Map' p part.new _func) step.now.moment
-        step.now.input (visits.old + 1) visits.new) }
-    ensures same { state_schedule part.new ≡ state_schedule part.old }
-    ensures succeeds { is_bare (state_schedule part.old) ≡ true → IsSome (decided result) }
-{
-    *visits += 1;
-    step_unread(part, step, visits)
 }

@@ -103,6 +103,7 @@ fn load_state(alloc: Global, checked: &Checked, words: &[u64]) -> Result<State, 
 }
 
 // Reads a state from words, and returns the words after it.
+#[tactic(auto, using(crate::proofs::Modifiers::words_over, crate::proofs::Modifiers::listless_over))]
 fn load<'a>(state: &mut State, words: &'a [u64]) -> &'a [u64]
     ensures same { state_schedule state.new ≡ state_schedule state.old }
     ensures stands { (h : History) (rest : List ℕ) → KeepsNoList (state_schedule state.old)
@@ -112,29 +113,28 @@ fn load<'a>(state: &mut State, words: &'a [u64]) -> &'a [u64]
     match state {
         State::Leaf(leaf) => load_leaf(leaf, words),
         State::Fixed(fixed) => fixed.load(words),
-        State::Both { first, second } => {
+        State::Both { parts } => {
+            let (first, second) = &mut **parts;
             let rest = load(first, words);
             load(second, rest)
         }
-        State::Either { first, second } => {
+        State::Either { parts } => {
+            let (first, second) = &mut **parts;
             let rest = load(first, words);
             load(second, rest)
         }
-        State::AndThen {
-            done,
-            first,
-            second,
-        } => {
+        State::AndThen { done, parts } => {
+            let (first, second) = &mut **parts;
             let mut flag = 0;
             let rest = take(&mut flag, words);
             *done = flag != 0;
             let rest = load(first, rest);
             load(second, rest)
         }
-        State::WhileInput { part, .. } => load(part, words),
-        State::WhileOutput { part, .. } => load(part, words),
+        State::Over { inner, .. } => load(&mut inner.1, words),
+        State::First { part } => load(part, words),
+        State::Const { part, .. } => load(part, words),
         State::CollectAll { part, .. } => load(part, words),
-        State::Map { part, .. } => load(part, words),
         State::ResetWhen { part, .. } => load(part, words),
     }
 }
@@ -154,6 +154,7 @@ fn save_state(alloc: Global, last: u64, state: &mut State) -> Result<Vec<u64>, A
 }
 
 // Appends the words of a state. A first part that is done is reset.
+#[tactic(auto, using(crate::proofs::Modifiers::weight_over, crate::proofs::Modifiers::words_over, crate::proofs::Modifiers::listless_over))]
 fn save(alloc: Global, state: &mut State, words: &mut Vec<u64>) -> Result<(), AllocError>
     ensures ok { OnOk result
         ((h : History) → KeepsNoList (state_schedule state.old) → Represents state.old h
@@ -165,19 +166,18 @@ fn save(alloc: Global, state: &mut State, words: &mut Vec<u64>) -> Result<(), Al
     match state {
         State::Leaf(leaf) => save_leaf(leaf, words),
         State::Fixed(fixed) => fixed.save(words),
-        State::Both { first, second } => {
+        State::Both { parts } => {
+            let (first, second) = &mut **parts;
             save(alloc, first, words)?;
             save(alloc, second, words)
         }
-        State::Either { first, second } => {
+        State::Either { parts } => {
+            let (first, second) = &mut **parts;
             save(alloc, first, words)?;
             save(alloc, second, words)
         }
-        State::AndThen {
-            done,
-            first,
-            second,
-        } => {
+        State::AndThen { done, parts } => {
+            let (first, second) = &mut **parts;
             words.push(u64::from(*done))?;
             if *done {
                 clear(first, alloc);
@@ -185,10 +185,10 @@ fn save(alloc: Global, state: &mut State, words: &mut Vec<u64>) -> Result<(), Al
             save(alloc, first, words)?;
             save(alloc, second, words)
         }
-        State::WhileInput { part, .. } => save(alloc, part, words),
-        State::WhileOutput { part, .. } => save(alloc, part, words),
+        State::Over { inner, .. } => save(alloc, &mut inner.1, words),
+        State::First { part } => save(alloc, part, words),
+        State::Const { part, .. } => save(alloc, part, words),
         State::CollectAll { part, .. } => save(alloc, part, words),
-        State::Map { part, .. } => save(alloc, part, words),
         State::ResetWhen { part, .. } => save(alloc, part, words),
     }
 }

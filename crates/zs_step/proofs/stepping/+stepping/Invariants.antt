@@ -22,17 +22,8 @@ decreases-step_either l = 4 * (weight (state_schedule l.first.now) + weight (sta
 abbrev pub decreases-step_and_then : goal.decreases-step_and_then
 decreases-step_and_then l = 4 * (weight (state_schedule l.first.now) + weight (state_schedule l.second.now)) + 3
 
-abbrev pub decreases-step_while_input : goal.decreases-step_while_input
-decreases-step_while_input l = 4 * weight (state_schedule l.part.now) + 3
-
-abbrev pub decreases-step_while_output : goal.decreases-step_while_output
-decreases-step_while_output l = 4 * weight (state_schedule l.part.now) + 3
-
 abbrev pub decreases-step_collect_all : goal.decreases-step_collect_all
 decreases-step_collect_all l = 4 * weight (state_schedule l.part.now) + 3
-
-abbrev pub decreases-step_map : goal.decreases-step_map
-decreases-step_map l = 4 * weight (state_schedule l.part.now) + 3
 
 abbrev pub decreases-step_reset_when : goal.decreases-step_reset_when
 decreases-step_reset_when l = 4 * weight (state_schedule l.part.now) + 3
@@ -43,14 +34,14 @@ decreases-unread_both l = 4 * (weight (state_schedule l.first.now) + weight (sta
 abbrev pub decreases-unread_either : goal.decreases-unread_either
 decreases-unread_either l = 4 * (weight (state_schedule l.first.now) + weight (state_schedule l.second.now)) + 3
 
-abbrev pub decreases-unread_while_input : goal.decreases-unread_while_input
-decreases-unread_while_input l = 4 * weight (state_schedule l.part.now) + 3
-
-abbrev pub decreases-unread_map : goal.decreases-unread_map
-decreases-unread_map l = 4 * weight (state_schedule l.part.now) + 3
-
 abbrev pub decreases-step_first : goal.decreases-step_first
-decreases-step_first l = 4 * weight (state_schedule l.part.now) + 2
+decreases-step_first l = 4 * weight (state_schedule l.part.now) + 3
 
 abbrev pub decreases-first_of_both : goal.decreases-first_of_both
 decreases-first_of_both l = 4 * (weight (state_schedule l.first.now) + weight (state_schedule l.second.now)) + 3
+
+abbrev pub decreases-step_over : goal.decreases-step_over
+decreases-step_over l = 4 * weight (state_schedule l.part.now) + 3
+
+abbrev pub decreases-step_const : goal.decreases-step_const
+decreases-step_const l = 4 * weight (state_schedule l.part.now) + 3
