@@ -30,6 +30,7 @@ CRATE = RUNNER.with_name("two_numbers")
 SOURCE = (CRATE / "lib.rt.txt").read_text()
 CYCLES = "".join(f"#[cycle({name})]\nfn {function}() {{}}\n" for name, function in [
     ("both", "one"), ("both", "two"), ("place", "far"), ("place", "near")])
+SAID = Said((CRATE / "said.txt").read_text(), "a", {"src/m.rt": CYCLES})
 
 # How each edit of the crate is reported. Those that pass are rejected.
 EDITS = {
@@ -185,20 +186,32 @@ def test_places(count):
 
 def test_said(count):
     """Which goals belong to a function itself, and which only wait."""
-    said = Said((CRATE / "said.txt").read_text(), "a", {"src/m.rt": CYCLES})
-    goals = lambda name: list(dict.fromkeys(it.goal for it in said.own_goals(name)))
+    goals = lambda name: list(dict.fromkeys(it.goal for it in SAID.own_goals(name)))
     count.test("goals of f", goals("f"), ["returns-in-Ok", "returns"])
     count.test("goals of a function that waits", goals("g") + goals("h"), [])
-    count.test("what h waits for", said.waits_for("h"), {"f", "g"})
+    count.test("what h waits for", SAID.waits_for("h"), {"f", "g"})
     count.test("goals of a closure's function", goals("k"), ["returns"])
     count.test("goals of a function of a cycle", goals("m::one"), ["one-returns"])
     count.test("goals of the other function of the cycle", goals("m::two"), [])
     count.test("goals of a method of a cycle", goals("m::Thing::far"), ["Thing::far-returns"])
     count.test("goals of a function beside it", goals("m::near"), [])
     count.test("goals of a function that calls itself", goals("m::again"), ["returns-in-Two"])
-    count.test("what the second waits for", said.waits_for("m::two"), {"f", "m::one"})
+    count.test("what the second waits for", SAID.waits_for("m::two"), {"f", "m::one"})
     found = ["f", "fn::k::any", "m::one", "m::Thing::far", "m::again"]
-    count.test("what is open of its own", said.open_of_their_own(), found)
+    count.test("what is open of its own", SAID.open_of_their_own(), found)
+
+
+def test_apart(count):
+    """An edit that isn't judged beside another of its function is tried without such edits, and then alone."""
+    edits = [Edit(f"{name}.edit") for name in ["one", "of_its_function", "of_another"]]
+    for edit, function, goal in zip(edits, "ffk", ["requires", "returns", "returns"]):
+        edit.function, edit.goal = function, goal
+    trial = Trial(Crate(pathlib.Path(), "a", []), edits, None)
+    for name, some, wanted in [("that was not tried", [], [True, True]), ("not judged beside its function's", edits, [False, True]),
+                               ("not judged beside others", edits[::2], [False, False])]:
+        if some:
+            trial.judge(edits[0], SAID, [], some)
+        count.test(f"what fits an edit {name}", [edits[0].fits(it) for it in edits[1:]], wanted)
 
 
 def working_in(folder):
@@ -237,5 +250,5 @@ def waited_for(holds):
 
 def test_all(count):
     """All tests."""
-    for test in [test_places, test_said, test_turns, test_code, test_kept, test_followed, test_end, test_runner]:
+    for test in [test_places, test_said, test_apart, test_turns, test_code, test_kept, test_followed, test_end, test_runner]:
         test(count)

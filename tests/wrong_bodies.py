@@ -5,8 +5,8 @@ Many edits are tried in one check of a copy of their crate: at most one to a fun
 goal of its own. A check is one of the functions that the edits name and of those that they call. An edit passes if
 its function is left open by a goal of that function's own, and nothing is open beside the functions that the round's
 edits name and those that call them. A function that only waits for another's proof says nothing: its edit is tried
-again in a later round. An edit that doesn't pass is tried alone before it is reported. A crate's edits must fit into
-three rounds, so edits of one function name their goals; edits that wait for each other take more.
+again in a later round. An edit that doesn't pass is tried without other edits of its function, and then alone, before
+it is reported. An edit that needs a round after the third fails, so edits of one function name their goals.
 
 The crate is proved as it is first, by 'rt check', or with --follow by whoever names it. Work that earlier checks kept
 is used: it can spare a proof, and can leave nothing open. Two kinds of edits aren't tried again: those that passed on
@@ -94,10 +94,9 @@ class Trial:
 
     def __init__(self, crate, edits, passed):
         self.crate, self.edits, self.passed = crate, edits, passed
-        self.jobs = None
-        self.found = {}
-        self.clashes = set()
-        self.rounds = 0
+        self.jobs, self.found, self.rounds = None, {}, 0
+        # Pairs of functions of which one was seen to wait for the other.
+        self.clashes = []
         # The edits that are tried though tests/rejected.txt is of the crate as it is.
         self.in_turn = set(edits)
 
@@ -139,27 +138,14 @@ class Trial:
 
     def try_all(self, room, edits):
         """Tries edits, in as many rounds as they need."""
-        begun = time.monotonic()
-        # those that name a goal can share a round
-        left = self.within_budget(sorted(edits, key=lambda it: not it.goal))
+        begun, left = time.monotonic(), edits
         while left:
-            some = self.pick(left)
-            self.round(room, some)
+            self.rounds += 1
+            self.round(room, self.pick(left))
             left = [edit for edit in left if edit not in self.found]
         passed = sum(self.found.values())
         say(f"{self.crate.name}: {passed} of {len(self.found)} wrong bodies rejected, {self.rounds} rounds, "
             f"{room.seconds:.0f} processor seconds in {time.monotonic() - begun:.0f} s")
-
-    def within_budget(self, edits):
-        """The edits that fit into the rounds that a crate may have. The others have failed."""
-        left = edits
-        for _ in range(MOST_ROUNDS):
-            some = self.pick(left)
-            left = [edit for edit in left if edit not in some]
-        for edit in left:
-            self.fail(edit, f"not tried: it needs a round after the {MOST_ROUNDS} that a crate may have: name a 'goal:' that the "
-                      f"other edits of {edit.function} leave proved")
-        return [edit for edit in edits if edit not in left]
 
     def is_good(self, edit, texts):
         """Whether an edit can be tried, as each must. If not, it has failed."""
@@ -172,20 +158,15 @@ class Trial:
         return True
 
     def pick(self, left):
-        """The edits of a round, of those that are left."""
+        """The edits of a round, of those that are left. First come those that can share it."""
         some = []
-        for edit in left:
-            if all(edit.fits(other) and not self.do_clash(edit, other) for other in some):
+        for edit in sorted(left, key=lambda it: (it.is_alone, it.is_apart, not it.goal)):
+            if all(edit.fits(other) and {edit.function, other.function} not in self.clashes for other in some):
                 some.append(edit)
         return some
 
-    def do_clash(self, one, two):
-        """Whether one edit's function was seen to wait for the other's."""
-        return bool({(one.function, two.function), (two.function, one.function)} & self.clashes)
-
     def round(self, room, some):
         """Tries some edits in one check, and judges those that can be judged by it."""
-        self.rounds += 1
         changed, lines = edited(room.texts, some)
         functions = dict.fromkeys(edit.function for edit in some)
         said = room.check(changed, functions, self.jobs())
@@ -227,13 +208,18 @@ class Trial:
         strong = [it for it in goals if not it.is_weak()]
         waits = said.waits_for(edit.function)
         others = {it.function for it in some if it is not edit}
-        if strong and not strays:
+        if strong and not strays and self.rounds > MOST_ROUNDS:
+            self.fail(edit, f"it needs a round after the {MOST_ROUNDS} that a crate may have: name a 'goal:' that the other "
+                      f"edits of {edit.function} leave proved")
+        elif strong and not strays:
             self.found[edit] = True
-            names = dict.fromkeys(it.goal or it.line[:160] for it in strong)
-            say(f"{self.crate.name}/{edit.name}: rejected by {edit.function}: {', '.join(names)}")
+            say(f"{self.crate.name}/{edit.name}: rejected by {edit.function}: "
+                f"{', '.join(dict.fromkeys(it.goal or it.line[:160] for it in strong))}")
         elif waits & others:
-            self.clashes |= {(edit.function, other) for other in waits & others}
-        elif len(some) > 1:
+            self.clashes += [{edit.function, other} for other in waits & others]
+        elif edit.function in others:
+            edit.is_apart = True
+        elif others:
             edit.is_alone = True
         else:
             self.fail(edit, why_not(edit, said, strays, goals))

@@ -44,7 +44,8 @@ class Edit:
         self.pairs = []
         self.changes = {}
         self.touched = set()
-        self.is_alone = False
+        # Alone: it shares no round. Apart: it shares none with edits of its function.
+        self.is_alone = self.is_apart = False
 
     def read(self):
         """Reads the file's lines."""
@@ -111,7 +112,7 @@ class Edit:
             return False
         if self.function != other.function:
             return not self.touched & other.touched
-        if not self.goal or not other.goal:
+        if self.is_apart or other.is_apart or not self.goal or not other.goal:
             return False
         return not self.is_goal(other.goal.removesuffix("..")) and not other.is_goal(self.goal.removesuffix(".."))
 
