@@ -10,7 +10,7 @@ use denote.Builtin.{One as OneType}
 use denote.Hole.{as_row}
 use denote.Ref.{NamedLft}
 use denote.Struct.Field.{row_field, shr_ref_field}
-use denote.Struct.Tuple.{TupleAt, type_at, parts}
+use denote.Struct.Tuple.{Tuple, tuple_type, TupleAt, type_at, parts}
 use denote.Param.SendFields.{FieldsHave, declared_send, declared_sync, variants_send, as_row_send}
 use Rattle.std.proofs.Crossing.{Box-send, Vec-send, crosses, send as heap_send, sync as heap_sync, frees}
 use Rattle.std.specs.contracts.impls.GlobalAllocator.TheImpl as heap
@@ -24,6 +24,7 @@ use Rattle.zs_pool.specs.contracts as pool
 use Rattle.zs_term.proofs.outputs.Out.TheLaws.TheKnot as out_knot
 use Rattle.zs_step.proofs.leaf_state.LeafState.TheSendSync as leaf_state
 use Rattle.zs_step.proofs.leaf_state.FixedState.TheSendSync as fixed_state
+use Rattle.zs_step.proofs.modifier.Modifier.TheSendSync as modifier
 use Rattle.zs_step.proofs.state.State.TheLaws.TheKnot as state_knot
 use Rattle.zs_term.specs.contracts as terms
 use Rattle.zs_step.specs.contracts as steps
@@ -43,8 +44,15 @@ outs_send = as_row_send terms.outputs.Outs.the_field (search (crosses, out_knot.
 collected_send : IsSend steps.collected.Collected.the_row
 collected_send = declared_send steps.collected.Collected.the_type (outs_send, (option.the_send terms.outputs.Out.the_row out_send, tt))
 
+parts_send : (Ts : List RattleType) → AllSend Ts → FieldsHave IsSend (parts Ts)
+parts_send [] s = tt
+parts_send (T ∷ Ts) s = (as_row_send (row_field T) s.0, parts_send Ts s.1)
+
+tuple_send : (Ts : List RattleType) → AllSend Ts → IsSend (Tuple Ts)
+tuple_send Ts s = declared_send (tuple_type Ts) (parts_send Ts s)
+
 state_send : IsSend steps.state.State.the_row
-state_send = as_row_send steps.state.State.the_field (state_knot.send-State leaf_state.the_field_send fixed_state.the_field_send Box-send (search (rules, sendable)) (search (rules, sendable)) (search (rules, sendable)) (Box-send steps.collected.Collected.the_row collected_send) (search (rules, sendable)))
+state_send = as_row_send steps.state.State.the_field (state_knot.send-State leaf_state.the_field_send fixed_state.the_field_send (λ h s. Box-send (Tuple (h ∷ h ∷ [])) (tuple_send (h ∷ h ∷ []) (s, (s, tt)))) (search (rules, sendable)) (λ h s. Box-send (Tuple (steps.modifier.Modifier.the_row ∷ h ∷ [])) (tuple_send (steps.modifier.Modifier.the_row ∷ h ∷ []) (modifier.the_send, (s, tt)))) (Vec-send steps.modifier.Modifier.the_row modifier.the_send) Box-send (search (rules, sendable)) (Box-send steps.collected.Collected.the_row collected_send) (search (rules, sendable)) (search (rules, sendable)))
 
 stepper_send : IsSend steps.stepper.Stepper.the_row
 stepper_send = declared_send steps.stepper.Stepper.the_type (state_send, (search sendable, (search sendable, (heap_send, tt))))
@@ -97,10 +105,6 @@ shelf_sync = view_sync pool.shelf.Shelf.TheInside.the_row _ _ _ _ (declared_sync
 -- a reference that is captured
 pub reference_send : (l : NamedLft) (R : RattleType) (one : OneType R.mir) → IsSync R → IsSend (as_row (shr_ref_field l R one))
 reference_send l R one s = as_row_send (shr_ref_field l R one) (shr_send l.mir l.lft R s)
-
-parts_send : (Ts : List RattleType) → AllSend Ts → FieldsHave IsSend (parts Ts)
-parts_send [] s = tt
-parts_send (T ∷ Ts) s = (as_row_send (row_field T) s.0, parts_send Ts s.1)
 
 -- what a closure captures
 pub captured_send : (ν : Sym) (Ts : List RattleType) → AllSend Ts → IsSend (TupleAt ν Ts)
