@@ -1,5 +1,5 @@
 //! Blocks of jobs: read, run and written.
-ghost use Rattle.std.specs.Prelude.{◌≡◌, ◌≤◌, ◌<◌, ◌+◌, ◌^◌, ◌∷◌, ◌++◌, ◌↔◌, [], ℕ, List, map, length, take, Ok, Err, true, false, is_err, IfOk, IfErr, OnOk, IsErrOf, IsTrue, string_bytes};
+ghost use Rattle.std.specs.Prelude.{◌≡◌, ◌≤◌, ◌<◌, ◌+◌, ◌^◌, ◌∷◌, ◌↔◌, [], ℕ, List, length, take, Ok, Err, true, false, is_err, IfOk, IfErr, OnOk, IsErrOf, IsTrue, string_bytes};
 ghost use Rattle.std.specs.Io.KnownBytes.{Appends, IsAtEnd, prepend_known};
 ghost use Rattle.zs_drive.specs.Values.{job_record};
 ghost use Rattle.zs_run.specs.Head.{head_of};
@@ -20,11 +20,12 @@ use zs_drive::Job;
 use zs_engine::EngineFault;
 use zs_pool::{Gate, MAX_TASKS};
 use zs_run::{
-    Drain, Head, JobLines, PlanFault, Source, add_job, read_head, read_job, run_to_text, write_all,
+    Drain, Head, JobLines, PlanFault, ReadyPlan, Source, add_job, read_head, read_job, run_to_text,
+    write_all,
 };
 
 /// The most jobs of a block: the most that a round may poll.
-pub(crate) const BLOCK: usize = MAX_TASKS as usize;
+pub(crate) const BLOCK: u64 = MAX_TASKS;
 
 // The most jobs of a population.
 const MAX_POPULATION: u64 = 1_000_000_000_000_000;
@@ -100,59 +101,66 @@ fn add_line(
     alloc: Global,
     number: u64,
     names: &mut BTreeSet<String>,
-    jobs: &mut Vec<Job>,
+    plan: ReadyPlan,
     line: &[u8],
-) -> Result<(), PlanFault>
-    ensures few { OnOk result (number < max_population) }
-    ensures count { OnOk result (length jobs.new.items ≡ length jobs.old.items + 1) }
-    ensures job { OnOk result (AddsJob number names.old names.new line.now
-        (map job_record jobs.old.items) (map job_record jobs.new.items)) }
+) -> Result<ReadyPlan, PlanFault>
+    requires block { length plan.run.jobs < block_jobs }
+    ensures few { IfOk result (λ after. number < max_population) }
+    ensures count { IfOk result (λ after. length after.run.jobs ≡ length plan.run.jobs + 1) }
+    ensures clock { IfOk result (λ after. after.run.clock ≡ plan.run.clock) }
+    ensures job { IfOk result (λ after.
+        AddsJob number names.old names.new line.now plan.run.jobs after.run.jobs) }
     ensures fault { IfErr result (IsNoJob number names.old line.now) }
 {
     let job = job_at(alloc, number, names, line)?;
-    add_job(alloc, names, jobs, job)?;
-    Ok(())
+    Ok(add_job(alloc, names, plan, job)?)
 }
 
-/// Reads the jobs of the next block: fewer than `BLOCK` if no line remains.
+/// Adds the jobs of the next block to a plan of none: fewer than `BLOCK` if no line remains.
 pub(crate) fn read_block<R: Source>(
     alloc: Global,
     reader: &mut R,
     buffer: &mut Buffer,
     names: &mut BTreeSet<String>,
     first: u64,
-) -> Result<Vec<Job>, PopulationFault>
+    plan: ReadyPlan,
+) -> Result<ReadyPlan, PopulationFault>
     requires clear { R.mark reader.old ≡ false }
     requires few { first ≤ max_population }
-    ensures block { IfOk result (λ jobs. length jobs.items ≤ block_jobs) }
-    ensures few { IfOk result (λ jobs. first + length jobs.items ≤ max_population) }
-    ensures jobs { IfOk result (λ jobs. BlockReads first
+    requires none { plan.run.jobs ≡ [] }
+    ensures block { IfOk result (λ block. length block.run.jobs ≤ block_jobs) }
+    ensures few { IfOk result (λ block. first + length block.run.jobs ≤ max_population) }
+    ensures clock { IfOk result (λ block. block.run.clock ≡ plan.run.clock) }
+    ensures jobs { IfOk result (λ block. BlockReads first
         (prepend_known buffer.old (R.remaining reader.old))
         (prepend_known buffer.new (R.remaining reader.new))
-        names.old names.new (map job_record jobs.items)) }
-    ensures last { IfOk result (λ jobs. length jobs.items < block_jobs
+        names.old names.new block.run.jobs) }
+    ensures last { IfOk result (λ block. length block.run.jobs < block_jobs
         → IsAtEnd (prepend_known buffer.new (R.remaining reader.new))) }
     ensures fault { IfErr result (BlockFault first
         (prepend_known buffer.old (R.remaining reader.old)) names.old) }
     ensures marks { IsTrue (R.mark reader.new) ↔ IsErrOf result PopulationFault.Read }
 {
-    let mut jobs = Vec::new(alloc);
+    let mut plan = plan;
     let mut line = Vec::new(alloc);
-    while jobs.len() < BLOCK {
-        let number = first + jobs.len() as u64;
+    while plan.run.count() < BLOCK {
+        let number = first + plan.run.count();
         match buffer.next_line(reader, &mut line) {
             Ok(true) => {}
-            Ok(false) => return Ok(jobs),
+            Ok(false) => return Ok(plan),
             Err(fault) => return Err(line_fault(number + 2, fault)),
         }
-        if let Err(fault) = add_line(alloc, number, names, &mut jobs, line.as_slice()) {
-            return Err(PopulationFault::Line {
-                line: number + 2,
-                fault,
-            });
-        }
+        plan = match add_line(alloc, number, names, plan, line.as_slice()) {
+            Ok(plan) => plan,
+            Err(fault) => {
+                return Err(PopulationFault::Line {
+                    line: number + 2,
+                    fault,
+                });
+            }
+        };
     }
-    Ok(jobs)
+    Ok(plan)
 }
 
 // Adds the last line of the report.
@@ -168,23 +176,19 @@ pub(crate) fn run_block<T: Threads + Wait + Sync, G: Gate>(
     rt: &T,
     alloc: Global,
     gate: &G,
-    head: &Head,
-    jobs: Vec<Job>,
+    plan: ReadyPlan,
     polls: &mut u128,
 ) -> Result<String, EngineFault>
-    requires few { length jobs.items ≤ block_jobs }
     requires room { polls.old + 2 ^ 64 ≤ 2 ^ 128 }
     ensures room { OnOk result (polls.new < polls.old + 2 ^ 64) }
     ensures polls { OnOk result (polls.new
-        ≡ polls.old + polls_of (head_record head.now).clock (map job_record jobs.items)) }
-    ensures lines { IfOk result (λ text. length jobs.items ≡ block_jobs
-        → string_bytes text ≡ jobs_text (head_record head.now).clock (map job_record jobs.items)) }
-    ensures last { IfOk result (λ text. length jobs.items < block_jobs
-        → string_bytes text ≡ with_total
-        (jobs_text (head_record head.now).clock (map job_record jobs.items)) polls.new) }
+        ≡ polls.old + polls_of plan.run.clock plan.run.jobs) }
+    ensures lines { IfOk result (λ text. length plan.run.jobs ≡ block_jobs
+        → string_bytes text ≡ jobs_text plan.run.clock plan.run.jobs) }
+    ensures last { IfOk result (λ text. length plan.run.jobs < block_jobs
+        → string_bytes text ≡ with_total (jobs_text plan.run.clock plan.run.jobs) polls.new) }
 {
-    let is_last = jobs.len() < BLOCK;
-    let plan = head.plan(alloc, jobs)?;
+    let is_last = plan.run.count() < BLOCK;
     let JobLines {
         mut text,
         polls: more,

@@ -19,5 +19,6 @@ pub mod Headline
 -- Invariants of bodies: only private contracts name these.
 pub mod TreeView
 pub mod ShapeViews
+pub mod WithJobs
 pub mod Streams
 pub mod PlanReads

@@ -1,5 +1,5 @@
 //! The parts of a population's input: a document without jobs, and the bytes of one job.
-ghost use Rattle.std.specs.Prelude.{◌≡◌, ◌++◌, ◌∷◌, [], ℕ, List, map, IfOk, None, Ok};
+ghost use Rattle.std.specs.Prelude.{◌≡◌, [], ℕ, List, IfOk, None, Ok};
 ghost use Rattle.zs_run.specs.TreeView.{view};
 ghost use Rattle.zs_drive.specs.Values.{job_record};
 ghost use Rattle.zs_run.specs.declared.plan_fault.PlanFault.TheVariants as faults;
@@ -9,7 +9,7 @@ ghost use Rattle.zs_run.specs.HeadView.{head_record};
 ghost use Rattle.zs_run.specs.Names.{KnowsNames};
 
 use crate::job_reading::job_of;
-use crate::plan::Plan;
+use crate::plan::{Planned, ReadyPlan};
 use crate::plan_fault::PlanFault;
 use crate::reading::{MAX_BYTES, read_tree};
 use crate::shapes::AskedTicks;
@@ -28,21 +28,20 @@ pub struct Head {
 }
 
 impl Head {
-    ghost use Rattle.zs_run.specs.PlanView.{plan_record};
+    ghost use Rattle.zs_run.specs.PlanView.{ready_record};
 
-    /// The plan of some jobs that run in this way.
-    pub fn plan(&self, alloc: Global, jobs: Vec<Job>) -> Result<Plan, AllocError>
-        ensures plan { IfOk result (λ plan. plan_record plan ≡ record {
+    /// The plan of no jobs yet, which will run in this way.
+    pub fn plan(&self, alloc: Global) -> Result<ReadyPlan, AllocError>
+        ensures plan { IfOk result (λ plan. ready_record plan ≡ record {
           clock = (head_record self.now).clock;
           workers = (head_record self.now).workers;
           grain = (head_record self.now).grain;
-          jobs = map job_record jobs.items;
+          jobs = [];
         }) }
     {
         // They are valid: they made a clock when the head was read.
         let clock = self.ticks.copy(alloc)?.into_clock().ok_or(AllocError)?;
-        let cut = self.cut;
-        Ok(Plan { clock, cut, jobs })
+        ReadyPlan::without_jobs(alloc, clock, self.cut)
     }
 }
 

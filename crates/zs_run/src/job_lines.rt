@@ -1,18 +1,17 @@
 //! The lines of all jobs of a plan, without the last line of their report.
-ghost use Rattle.std.specs.Prelude.{◌≡◌, ◌≤◌, length, map, IfOk, string_bytes};
+ghost use Rattle.std.specs.Prelude.{◌≡◌, map, IfOk, string_bytes};
 ghost use Rattle.std.specs.List.{flat_map};
-ghost use Rattle.zs_run.specs.Plan.{max_jobs};
 ghost use Rattle.zs_run.specs.PlanReport.{jobs_text, polls_of};
-ghost use Rattle.zs_run.specs.PlanView.{plan_record};
+ghost use Rattle.zs_run.specs.PlanView.{ready_record};
 ghost use Rattle.zs_run.specs.Report.{job_lines};
 ghost use Rattle.zs_run.specs.ReportView.{task_report};
 
-use crate::plan::Plan;
+use crate::plan::ReadyPlan;
 use crate::reporting::{into_job, push_job};
 use std::alloc::{AllocError, Global};
 use std::sync::Wait;
 use std::thread::Threads;
-use zs_engine::{Answer, EngineFault, run_to_lines};
+use zs_engine::{Answer, EngineFault};
 use zs_pool::Gate;
 
 /// What jobs did, as text.
@@ -53,15 +52,14 @@ pub fn run_to_text<T: Threads + Wait + Sync, G: Gate>(
     rt: &T,
     alloc: Global,
     gate: &G,
-    plan: Plan,
+    plan: ReadyPlan,
 ) -> Result<JobLines, EngineFault>
-    requires few { length plan.jobs.items ≤ max_jobs }
     ensures text { IfOk result (λ lines. string_bytes lines.text
-        ≡ jobs_text (plan_record plan).clock (plan_record plan).jobs) }
+        ≡ jobs_text (ready_record plan).clock (ready_record plan).jobs) }
     ensures polls { IfOk result (λ lines. lines.polls
-        ≡ polls_of (plan_record plan).clock (plan_record plan).jobs) }
+        ≡ polls_of (ready_record plan).clock (ready_record plan).jobs) }
 {
-    let Plan { clock, cut, jobs } = plan;
-    let answer = run_to_lines(rt, alloc, cut, gate, clock, jobs)?;
+    let ReadyPlan { cut, run } = plan;
+    let answer = run.finish(rt, cut, gate)?;
     Ok(into_lines(alloc, answer)?)
 }

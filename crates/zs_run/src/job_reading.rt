@@ -1,5 +1,5 @@
 //! The jobs of a plan.
-ghost use Rattle.std.specs.Prelude.{◌≡◌, ◌<◌, ◌^◌, ◌++◌, ◌∷◌, ◌&&◌, [], ℕ, List, map, length, IfOk, IfErr, OnOk, Some};
+ghost use Rattle.std.specs.Prelude.{◌≡◌, ◌≤◌, ◌<◌, ◌++◌, ◌∷◌, ◌&&◌, [], ℕ, List, map, length, IfOk, OnOk, Some};
 ghost use Rattle.std.specs.List.{list_all};
 ghost use Rattle.zs_run.specs.TreeView.{view};
 ghost use Rattle.zs_term.specs.Schedule.{schedule_of};
@@ -10,15 +10,18 @@ ghost use Rattle.zs_run.specs.Refusals.{Gives, passed_on};
 ghost use Rattle.zs_run.specs.Tree.{has_only_keys};
 ghost use Rattle.zs_run.specs.Shapes.{entry_keys, job_keys};
 ghost use Rattle.zs_run.specs.Names.{KnowsNames};
+ghost use Rattle.zs_run.specs.Plan.{max_jobs};
+ghost use Rattle.zs_run.specs.WithJobs.{with_jobs};
 ghost use Rattle.zs_run.specs.Jobs.{job_of, jobs_of, mode_of, script_of};
 
 use crate::entry::{beats_of, have_known_keys};
 use crate::names::{add_name, is_name, is_used};
+use crate::plan::Planned;
 use crate::plan_fault::PlanFault;
 use crate::shapes::JobParts;
 use crate::tree::has_only_keys;
 use json::Value;
-use std::alloc::Global;
+use std::alloc::{AllocError, Global};
 use std::collections::BTreeSet;
 use zs_drive::{Job, Mode};
 use zs_effect::{Beat, Script};
@@ -120,39 +123,46 @@ fn take_job(
     job_of(alloc, number, names, &value)
 }
 
-/// Adds a job and its name to those before it. Its one fault is `Memory`.
-pub fn add_job(
+/// Adds a job to a plan, and its name to those before it. If memory runs out, the plan is dropped.
+pub fn add_job<P: Planned>(
     alloc: Global,
     names: &mut BTreeSet<String>,
-    jobs: &mut Vec<Job>,
+    plan: P,
     job: Job,
-) -> Result<(), PlanFault>
+) -> Result<P, AllocError>
+    requires few { length (P.planned plan).jobs < max_jobs }
     ensures names { OnOk result
         ((earlier : List (List ℕ)) → KnowsNames names.old earlier
         → KnowsNames names.new (earlier ++ (job_record job).name ∷ [])) }
-    ensures jobs { OnOk result (jobs.new.items ≡ jobs.old.items ++ job ∷ []) }
-    ensures err { IfErr result (λ fault. fault ≡ PlanFault.Memory) }
+    ensures plan { IfOk result (λ after. P.planned after
+        ≡ record (P.planned plan) { jobs = (P.planned plan).jobs ++ job_record job ∷ [] }) }
 {
     add_name(alloc, names, job.name.as_str())?;
-    jobs.push(job)?;
-    Ok(())
+    plan.with_job(job)
 }
 
-/// The jobs of a list, or the first fault. Each value is dropped as soon as it is read, while it is
-/// in the cache. The names so far are in a set, so that each is looked up in short time.
-pub(crate) fn jobs_of(alloc: Global, values: Vec<Value<'_>>) -> Result<Vec<Job>, PlanFault>
-    requires room { length values.items < 2 ^ 64 }
-    ensures jobs { Gives (λ jobs. map job_record jobs.items) result
-        (jobs_of 0 [] (map view values.entry.items)) }
-    ensures count { IfOk result (λ jobs. length jobs.items ≡ length values.entry.items) }
+/// Adds the jobs of a list to a plan that has none, or returns the first fault. Each value is
+/// dropped as soon as it is read, while it is in the cache. The names so far are in a set, so that
+/// each is looked up in short time.
+pub(crate) fn add_jobs<P: Planned>(
+    alloc: Global,
+    plan: P,
+    values: Vec<Value<'_>>,
+) -> Result<P, PlanFault>
+    requires none { (P.planned plan).jobs ≡ [] }
+    requires few { length values.items ≤ max_jobs }
+    ensures plan { Gives P.planned result
+        (with_jobs (P.planned plan) (jobs_of 0 [] (map view values.entry.items))) }
+    ensures count { IfOk result (λ after.
+        length (P.planned after).jobs ≡ length values.entry.items) }
 {
-    let mut jobs = Vec::new(alloc);
+    let mut plan = plan;
     let mut names = BTreeSet::new(alloc);
     let mut number = 0;
     for value in values {
         let job = take_job(alloc, number, &names, value)?;
-        add_job(alloc, &mut names, &mut jobs, job)?;
+        plan = add_job(alloc, &mut names, plan, job)?;
         number += 1;
     }
-    Ok(jobs)
+    Ok(plan)
 }

@@ -39,7 +39,7 @@ pub use laws::{
     scripts_are_tested, the_cut_changes_nothing,
 };
 pub use marked::Marked;
-pub use plan::Plan;
+pub use plan::{Plan, Planned, ReadyPlan};
 pub use plan_fault::PlanFault;
 pub use reading::read_plan;
 pub use reporting::report;

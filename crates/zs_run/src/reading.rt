@@ -1,5 +1,5 @@
 //! Plans from bytes.
-ghost use Rattle.std.specs.Prelude.{◌≡◌, ◌≤◌, length, IfOk};
+ghost use Rattle.std.specs.Prelude.{◌≤◌, length, IfOk};
 ghost use Rattle.serde_json.specs.Read.{read};
 ghost use Rattle.zs_run.specs.TreeView.{view};
 ghost use Rattle.zs_run.specs.declared.plan_fault.PlanFault.TheVariants as faults;
@@ -8,8 +8,8 @@ ghost use Rattle.zs_run.specs.Tree.{tree_of};
 ghost use Rattle.zs_run.specs.Plan.{max_jobs, plan_of, plan_of_tree};
 ghost use Rattle.zs_run.specs.PlanView.{plan_record};
 
-use crate::job_reading::jobs_of;
-use crate::plan::Plan;
+use crate::job_reading::add_jobs;
+use crate::plan::{Plan, Planned};
 use crate::plan_fault::PlanFault;
 use crate::shapes::{AskedTicks, DocumentParts};
 use crate::tree::{get, has_only_keys, is_in_range};
@@ -63,9 +63,9 @@ pub(crate) fn read_tree<'a>(
 
 // The plan of a document.
 #[tactic(auto, unfolding(crate::specs::Plan::plan_of_tree, crate::specs::Plan::is_cut))]
-fn plan_in(alloc: Global, document: Value<'_>) -> Result<Plan, PlanFault>
-    ensures plan { Gives plan_record result (plan_of_tree (view document.entry)) }
-    ensures few { IfOk result (λ plan. length plan.jobs.items ≤ max_jobs) }
+fn plan_in<P: Planned>(alloc: Global, document: Value<'_>) -> Result<P, PlanFault>
+    ensures plan { Gives P.planned result (plan_of_tree (view document.entry)) }
+    ensures few { IfOk result (λ plan. length (P.planned plan).jobs ≤ max_jobs) }
 {
     let asked = AskedTicks::of(alloc, get(&document, "horizon"), get(&document, "ticks"))?;
     let is_known = has_only_keys(&document, &["horizon", "ticks", "workers", "grain", "jobs"]);
@@ -78,16 +78,15 @@ fn plan_in(alloc: Global, document: Value<'_>) -> Result<Plan, PlanFault>
     if parts.jobs.len() > MAX_JOBS {
         return Err(PlanFault::Range { job: None });
     }
-    let jobs = jobs_of(alloc, parts.jobs)?;
-    Ok(Plan { clock, cut, jobs })
+    let plan = P::without_jobs(alloc, clock, cut)?;
+    add_jobs(alloc, plan, parts.jobs)
 }
 
-/// The plan of the bytes, or its first fault: those of the document in the order of `PlanFault`,
-/// then job by job those of a job in this order. The reading can run out of memory at any point.
+/// The plan of the bytes, as a list of jobs or as tasks, or its first fault.
 #[tactic(auto, unfolding(crate::specs::Plan::plan_of))]
-pub fn read_plan(alloc: Global, bytes: &[u8]) -> Result<Plan, PlanFault>
-    ensures plan { Gives plan_record result (plan_of bytes.now) }
-    ensures few { IfOk result (λ plan. length plan.jobs.items ≤ max_jobs) }
+pub(crate) fn read_planned<P: Planned>(alloc: Global, bytes: &[u8]) -> Result<P, PlanFault>
+    ensures plan { Gives P.planned result (plan_of bytes.now) }
+    ensures few { IfOk result (λ plan. length (P.planned plan).jobs ≤ max_jobs) }
 {
     if bytes.len() > MAX_BYTES {
         return Err(PlanFault::TooLong);
@@ -95,4 +94,13 @@ pub fn read_plan(alloc: Global, bytes: &[u8]) -> Result<Plan, PlanFault>
     let mut scratch = Scratch::new(alloc);
     let document = read_tree(alloc, bytes, &mut scratch)?;
     plan_in(alloc, document)
+}
+
+/// The plan of the bytes, or its first fault: those of the document in the order of `PlanFault`,
+/// then job by job those of a job in this order. The reading can run out of memory at any point.
+pub fn read_plan(alloc: Global, bytes: &[u8]) -> Result<Plan, PlanFault>
+    ensures plan { Gives plan_record result (plan_of bytes.now) }
+    ensures few { IfOk result (λ plan. length plan.jobs.items ≤ max_jobs) }
+{
+    read_planned(alloc, bytes)
 }

@@ -1,15 +1,14 @@
 //! A run, from the bytes of a plan to the bytes of its report.
-ghost use Rattle.std.specs.Prelude.{◌≡◌, ◌≤◌, ◌+◌, length, false, IfOk, string_bytes};
-ghost use Rattle.zs_run.specs.Plan.{max_jobs};
-ghost use Rattle.zs_run.specs.PlanView.{plan_record};
+ghost use Rattle.std.specs.Prelude.{◌≡◌, ◌≤◌, ◌+◌, false, IfOk, string_bytes};
+ghost use Rattle.zs_run.specs.PlanView.{ready_record};
 ghost use Rattle.zs_run.specs.PlanReport.{report_of};
 ghost use Rattle.zs_run.specs.Headline.{Ends, max_read};
 ghost use Rattle.zs_run.specs.PlanReads.{Reads};
 
 use crate::job_lines::{JobLines, run_to_text};
-use crate::plan::Plan;
+use crate::plan::ReadyPlan;
 use crate::plan_fault::PlanFault;
-use crate::reading::read_plan;
+use crate::reading::read_planned;
 use crate::reporting::push_total;
 use crate::run_fault::RunFault;
 use crate::streams::{Drain, Source};
@@ -24,7 +23,7 @@ use zs_pool::Gate;
 const MAX_READ: usize = 16_777_217;
 
 // The plan that the reader gives.
-fn read_source<R: Source>(alloc: Global, reader: &mut R) -> Result<Plan, RunFault>
+fn read_source<R: Source>(alloc: Global, reader: &mut R) -> Result<ReadyPlan, RunFault>
     requires clear { R.mark reader.old ≡ false }
     ensures reads { Reads result
         (record {
@@ -32,7 +31,6 @@ fn read_source<R: Source>(alloc: Global, reader: &mut R) -> Result<Plan, RunFaul
           left = R.remaining reader.new;
           failed = R.mark reader.new;
         }) }
-    ensures few { IfOk result (λ plan. length plan.jobs.items ≤ max_jobs) }
     ensures pulls { R.pulls reader.new ≤ R.pulls reader.old + max_read }
 {
     let mut bytes = Vec::new(alloc);
@@ -41,7 +39,7 @@ fn read_source<R: Source>(alloc: Global, reader: &mut R) -> Result<Plan, RunFaul
         Err(InputFault::Read) => return Err(RunFault::Read),
         Err(InputFault::Memory) => return Err(RunFault::Plan(PlanFault::Memory)),
     }
-    match read_plan(alloc, bytes.as_slice()) {
+    match read_planned(alloc, bytes.as_slice()) {
         Ok(plan) => Ok(plan),
         Err(fault) => Err(RunFault::Plan(fault)),
     }
@@ -52,10 +50,9 @@ fn report_plan<T: Threads + Wait + Sync, G: Gate>(
     rt: &T,
     alloc: Global,
     gate: &G,
-    plan: Plan,
+    plan: ReadyPlan,
 ) -> Result<String, EngineFault>
-    requires few { length plan.jobs.items ≤ max_jobs }
-    ensures text { IfOk result (λ text. string_bytes text ≡ report_of (plan_record plan)) }
+    ensures text { IfOk result (λ text. string_bytes text ≡ report_of (ready_record plan)) }
 {
     let JobLines { mut text, polls } = run_to_text(rt, alloc, gate, plan)?;
     push_total(&mut text, polls)?;
