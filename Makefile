@@ -2,7 +2,7 @@
 PREFIX = /usr/local
 LIBDIR = lib
 # The folder of the built library.
-LIBRARY = crates/zs_c/out
+LIBRARY = crates/zsched_c/out
 
 .PHONY: library install
 

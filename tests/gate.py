@@ -232,16 +232,16 @@ class Gate:
                 run.kill()
 
 
-def table(ended, yard, seconds, processor):
-    """The table of times, with the yardstick if it was measured."""
+def table(ended, yards, seconds, processor):
+    """The table of times, with the yardstick if it was measured: a machine's speed changes, so before and after."""
     lines = [f"{'part':<14}{'crate':<18}{'seconds':>9}{'processor s':>13}{'passed':>8}{'failed':>8}"]
     for it, wall, used in ended:
         lines.append(f"{it.name:<14}{'':<18}{wall:>9.0f}{used:>13.0f}{it.passed:>8}{it.failed:>8}")
         lines += [f"{'':<14}{crate:<18}{wall:>9.0f}{used:>13.0f}" for crate, wall, used in it.rows]
     lines.append(f"{'all':<32}{seconds:>9.0f}{processor:>13.0f}")
-    if yard:
-        lines.append(f"yardstick: {yardstick.NAME} of the toolchain's examples is proved in {yard:.1f} processor seconds; the gate "
-                     f"took {processor / yard:.0f} times that")
+    if yards:
+        lines.append(f"yardstick: {yardstick.NAME} of the toolchain's examples is proved in {yards[0]:.1f} processor seconds before "
+                     f"and {yards[1]:.1f} after; the gate took {2 * processor / sum(yards):.0f} times their mean")
     return "\n".join(lines)
 
 
@@ -283,10 +283,12 @@ def run(gate, names):
     return True
 
 
-def end(gate, whole, before, yard, begun):
+def end(gate, whole, before, yards, begun):
     """Prints the table and the sum, and notes a program that passed the whole gate; returns the exit status."""
     passed, failed = (sum(getattr(it, which) for it, _, _ in gate.ended) for which in ["passed", "failed"])
-    print(table(gate.ended, yard, time.monotonic() - begun, sum(used for _, _, used in gate.ended)))
+    seconds = time.monotonic() - begun
+    yards += [yardstick.measure()] if whole else []
+    print(table(gate.ended, yards, seconds, sum(used for _, _, used in gate.ended)))
     if whole and not failed:
         if before == sources_sum():
             STAMP.write_text(f"{before}\n")
@@ -312,14 +314,14 @@ def main(words):
     with tempfile.TemporaryDirectory(prefix="zsched-check-") as folder:
         gate = Gate(folder, options.anew)
         whole, before = not options.names, sources_sum()
-        yard, begun = yardstick.measure() if whole else None, time.monotonic()
+        yards, begun = [yardstick.measure()] if whole else [], time.monotonic()
         try:
             if not run(gate, options.names):
                 print("0 passed, 1 failed")
                 return 1
         finally:
             gate.stop()
-        return end(gate, whole, before, yard, begun)
+        return end(gate, whole, before, yards, begun)
 
 
 if __name__ == "__main__":

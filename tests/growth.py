@@ -305,7 +305,7 @@ def judge(count, meter, row, is_shown):
 def build_library(folder):
     """Builds the program that calls the library: its path, or None without the library."""
     named = os.environ.get("ZSCHED_LIBRARY_DIR")
-    made = pathlib.Path(named) if named else TOP / "crates" / "zs_c" / "out"
+    made = pathlib.Path(named) if named else TOP / "crates" / "zsched_c" / "out"
     if not named:
         make = [TOP / "tools" / "make-library"]
         if not shutil.which("rt") or subprocess.run(make, stdout=subprocess.DEVNULL).returncode:

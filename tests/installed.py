@@ -24,7 +24,7 @@ sys.dont_write_bytecode = True
 from answers import BINDINGS, JNA, Flaky, Missing, need
 from support import TOP, Count, parser_of
 
-LIBRARY = pathlib.Path(os.environ.get("ZSCHED_LIBRARY_DIR", TOP / "crates" / "zs_c" / "out"))
+LIBRARY = pathlib.Path(os.environ.get("ZSCHED_LIBRARY_DIR", TOP / "crates" / "zsched_c" / "out"))
 CLIENTS = TOP / "tests" / "clients"
 PYTHON = "/usr/bin/python3"
 # Where Debian's packages put Maven's plugins (libmaven-compiler-plugin-java and so on), and those that a jar needs.

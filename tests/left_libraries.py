@@ -1,4 +1,4 @@
-"""The libraries that `rt ci` proved and left in the checkout: tools/make-library reads those below zs_c and never writes them,
+"""The libraries that `rt ci` proved and left in the checkout: tools/make-library reads those below zsched_c and never writes them,
 and other commands of the toolchain take them as up to date."""
 import hashlib
 import os
@@ -10,7 +10,7 @@ import support
 from prover import crates_of
 from support import TOP
 
-CRATE = "zs_c"
+CRATE = "zsched_c"
 NOTED = TOP / "crates" / CRATE / "out" / "libraries"
 
 

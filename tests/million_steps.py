@@ -21,7 +21,7 @@ sys.dont_write_bytecode = True
 import answers
 from support import TOP, Count, parser_of
 
-LIBRARY = pathlib.Path(os.environ.get("ZSCHED_LIBRARY_DIR", TOP / "crates" / "zs_c" / "out"))
+LIBRARY = pathlib.Path(os.environ.get("ZSCHED_LIBRARY_DIR", TOP / "crates" / "zsched_c" / "out"))
 # That of docs/LIBRARY.md, but for the number of retries.
 POLICY = "((exponential(100) || spaced(5000)) && recurs({steps})).whileInput(>= 500)"
 TIMES, BYTES, RUNS = 1.5, 4, 3

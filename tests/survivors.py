@@ -216,7 +216,7 @@ def caught_by_library(survivor, folder):
     if made.returncode:
         raise Misfit(f"make-library built no library: {made.stderr[-500:]}")
     ended = subprocess.run([sys.executable, "-m", "unittest", f"test_library.FromC.{name}"], cwd=LIBRARY_TESTS.parent,
-                           env={**os.environ, "ZSCHED_LIBRARY_DIR": str(copy / "crates" / "zs_c" / "out"),
+                           env={**os.environ, "ZSCHED_LIBRARY_DIR": str(copy / "crates" / "zsched_c" / "out"),
                                 "PYTHONPATH": f"{TOP}/tests:{TOP}/tools"}, capture_output=True, text=True, check=False)
     if not re.search(r"^Ran 1 test in ", ended.stderr, re.MULTILINE):
         raise Misfit(f"{name} of the library didn't run: {ended.stderr[-500:]}")

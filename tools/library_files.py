@@ -6,7 +6,7 @@ import subprocess
 from zsched_tools.command import Refused
 
 TOP = pathlib.Path(__file__).resolve().parent.parent
-MADE = TOP / "crates" / "zs_c" / "out"
+MADE = TOP / "crates" / "zsched_c" / "out"
 ABI = (TOP / "include" / "zsched.abi").read_text(encoding="utf-8")
 SONAME = re.search(r"^soname (\S+)$", ABI, re.M)[1]
 PC = """\

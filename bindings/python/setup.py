@@ -11,7 +11,7 @@ from setuptools.dist import Distribution
 from wheel.bdist_wheel import bdist_wheel
 
 HERE = pathlib.Path(__file__).resolve().parent
-MADE = HERE.parents[1] / "crates" / "zs_c" / "out"
+MADE = HERE.parents[1] / "crates" / "zsched_c" / "out"
 
 
 class WithLibrary(build_py):

@@ -4,7 +4,7 @@ use std::path::PathBuf;
 
 fn main() {
     println!("cargo:rerun-if-env-changed=ZSCHED_LIBRARY_DIR");
-    let made = PathBuf::from(env!("CARGO_MANIFEST_DIR")).join("../../crates/zs_c/out");
+    let made = PathBuf::from(env!("CARGO_MANIFEST_DIR")).join("../../crates/zsched_c/out");
     let folder = std::env::var_os("ZSCHED_LIBRARY_DIR").map_or(made, PathBuf::from);
     let library = folder.join("libzsched.a");
     println!("cargo:rerun-if-changed={}", library.display());

@@ -3,6 +3,6 @@
 echo "$(basename "$0") $1 $PWD $*" >> "$RAN"
 case "$1" in
   version) echo kit ;;
-  lib) mkdir -p out && cp "$ARCHIVE" out/libzs_c.a ;;
+  lib) mkdir -p out && cp "$ARCHIVE" out/libzsched_c.a ;;
   build) until [ "$1" = -o ]; do shift; done; cp "$ARCHIVE" "$2" ;;
 esac

@@ -23,6 +23,7 @@ ABI = (TOP / "include" / "zsched.abi").read_text()
 DEBIAN = [tool for tool in ["dpkg", "dpkg-deb", "objdump", "strip"] if shutil.which(tool) is None]
 MISSING = [tool for tool in ["cargo", "git"] if shutil.which(tool) is None]
 PYTHON = "/usr/bin/python3"
+BELOW = ["zs_c", "zs_bounds", "zs_step", "zs_term"]
 # The folder of a service in C.
 SERVICE = TOP / "tests" / "tools" / "service"
 CLIENT = """
@@ -103,20 +104,20 @@ class Made(unittest.TestCase):
         if not shutil.which("rt"):
             self.skipTest("the Rattle toolchain (the command 'rt') isn't on this machine")
         tree = path("tree")
-        for name in ["zs_c", "zs_bounds", "zs_step", "zs_term"]:
+        for name in ["zsched_c", *BELOW]:
             shutil.copytree(TOP / "crates" / name, tree / "crates" / name, ignore=shutil.ignore_patterns("out"))
         (tree / "tools").mkdir()
         for name in ["crates.txt", "HANDLES", "tools/crates", "tools/sources-sum"]:
             shutil.copy(TOP / name, tree / name)
-        before = output([tree / "tools/sources-sum", "zs_c"])
-        self.assertEqual(before, output([TOP / "tools/sources-sum", "zs_c"]))
+        before = output([tree / "tools/sources-sum", "zsched_c"])
+        self.assertEqual(before, output([TOP / "tools/sources-sum", "zsched_c"]))
         for file in [tree / "crates/zs_c/src/lib.rt", tree / "crates/zs_term/specs/Kinds.antt"]:
             text = file.read_text()
             file.write_text(text + "rubbish\n")
             os.utime(file, (1, 1))
-            self.assertNotEqual(output([tree / "tools/sources-sum", "zs_c"]), before, file)
+            self.assertNotEqual(output([tree / "tools/sources-sum", "zsched_c"]), before, file)
             file.write_text(text)
-        self.assertEqual(output([tree / "tools/sources-sum", "zs_c"]), before)
+        self.assertEqual(output([tree / "tools/sources-sum", "zsched_c"]), before)
 
     def toolchain(self, place):
         """The environment of a toolchain that proves nothing."""
@@ -133,14 +134,14 @@ class Made(unittest.TestCase):
                 "ARCHIVE": str(place / "archive.a"), "RAN": str(place / "ran")}
 
     def checkout(self):
-        """A checkout with the libraries below zs_c, and the files that represent them."""
+        """A checkout with the libraries below zsched_c, and the files that represent them."""
         tree, formats = path("checkout"), []
         tree.mkdir()
         for name in ["crates.txt", "HANDLES", "VERSION", "include", "tools", "tests"]:
             (shutil.copytree if (TOP / name).is_dir() else shutil.copy)(TOP / name, tree / name)
-        for name in ["zs_c", "zs_bounds", "zs_step", "zs_term"]:
+        for name in ["zsched_c", *BELOW]:
             shutil.copytree(TOP / "crates" / name, tree / "crates" / name, ignore=shutil.ignore_patterns("out"))
-        for name in ["zs_bounds", "zs_step", "zs_term"]:
+        for name in BELOW:
             formats.append(tree / f"crates/{name}/out/rlib/{name}.rlib/format")
             formats[-1].parent.mkdir(parents=True)
             formats[-1].write_text(name)
@@ -168,20 +169,20 @@ class Made(unittest.TestCase):
 
         calls = made()
         self.assertEqual([f"{tool} {folder.rpartition('/')[2]}" for tool, folder, _ in calls],
-                         ["rt zs_term", "rt zs_step", "rt zs_bounds", "rt zs_c"])
+                         ["rt zs_term", "rt zs_step", "rt zs_bounds", "rt zs_c", "rt zsched_c"])
         self.assertFalse([folder for _, folder, _ in calls if folder.startswith(str(tree))])
         self.assertEqual(made(), [])
         self.assertEqual(made("--out", path("elsewhere")), [])
-        noted(tree / "crates/zs_c/out/proved")
+        noted(tree / "crates/zsched_c/out/proved")
         (tool, folder, words), = made()
-        self.assertEqual((tool, folder), ("rattle", str(tree / "crates/zs_c")))
-        self.assertIn(f"--extern zs_bounds={formats[0].parent} ", words)
+        self.assertEqual((tool, folder), ("rattle", str(tree / "crates/zsched_c")))
+        self.assertIn(f"--extern zs_c={formats[0].parent} ", words)
         (tree / "crates/zs_c/src/lib.rt").write_text("// changed")
-        self.assertEqual(len(made()), 4)
-        noted(tree / "crates/zs_c/out/proved")
+        self.assertEqual(len(made()), 5)
+        noted(tree / "crates/zsched_c/out/proved")
         # Another command than `rt ci` built this one.
         formats[0].write_text("built again")
-        self.assertEqual(len(made()), 4)
+        self.assertEqual(len(made()), 5)
 
     def test_a_binding_without_its_library_names_the_command_that_makes_it(self):
         words = [sys.executable, "-B", "-c", "import zsched; zsched.check('forever')"]

@@ -22,8 +22,7 @@ use std::alloc::Global;
 
 /// Checks whether a text spells a schedule. Returns 0 if it does, else the number of the reason.
 /// Sets `at` to the byte at which a fault shows, or to 0.
-#[unsafe(no_mangle)]
-pub extern "C" fn zs_check(alloc: Global, text: &[u8], at: &mut u64) -> u32
+pub fn zs_check(alloc: Global, text: &[u8], at: &mut u64) -> u32
     ensures spelled { result ≡ 0 → SpellsSome text.now }
     ensures nowhere { result ≡ 0 → at.new ≡ 0 }
     ensures refused { 0 < result → IsTextRefused text.now result at.new }
@@ -43,8 +42,7 @@ pub extern "C" fn zs_check(alloc: Global, text: &[u8], at: &mut u64) -> u32
 /// Steps the schedule that a text spells through the pairs `seen`, oldest first. Returns 0 if the
 /// schedule continues after the last pair, 1 if it is done, else the number of an error. Writes the
 /// text of the last output to `out`, as far as it fits. After an error `out` is unchanged.
-#[unsafe(no_mangle)]
-pub extern "C" fn zs_answer(
+pub fn zs_answer(
     alloc: Global,
     text: &[u8],
     seen: &[Seen],
@@ -70,8 +68,7 @@ pub extern "C" fn zs_answer(
 /// Returns in `bounds` what the schedule of a text does for every input and every duration of
 /// attempts. At most `steps` steps are examined. Returns 0, or the number of an error, and sets
 /// `at` to the byte at which a fault shows, or to 0. After an error all fields of `bounds` are 0.
-#[unsafe(no_mangle)]
-pub extern "C" fn zs_bounds(
+pub fn zs_bounds(
     alloc: Global,
     text: &[u8],
     steps: u64,
@@ -99,8 +96,7 @@ pub extern "C" fn zs_bounds(
 
 /// Sets `size` to the number of words of the state of a text's schedule. Returns 0, or the number
 /// of an error, and then `size` is 0. Sets `at` to the byte at which a fault shows, or to 0.
-#[unsafe(no_mangle)]
-pub extern "C" fn zs_state_size(alloc: Global, text: &[u8], size: &mut u64, at: &mut u64) -> u32
+pub fn zs_state_size(alloc: Global, text: &[u8], size: &mut u64, at: &mut u64) -> u32
     ensures sized { result ≡ 0 → IsSized text.now size.new }
     ensures nowhere { result ≡ 0 → at.new ≡ 0 }
     ensures refused { 0 < result → IsRefusedFor (IsSizeRefusal text.now) result at.new }
@@ -123,8 +119,7 @@ pub extern "C" fn zs_state_size(alloc: Global, text: &[u8], size: &mut u64, at: 
 /// Writes the state of a text's schedule before any step to the first words of `state`. Returns 0,
 /// or the number of an error, and sets `at` to the byte at which a fault shows, or to 0. After an
 /// error `state` is unchanged.
-#[unsafe(no_mangle)]
-pub extern "C" fn zs_begin(alloc: Global, text: &[u8], state: &mut [u64], at: &mut u64) -> u32
+pub fn zs_begin(alloc: Global, text: &[u8], state: &mut [u64], at: &mut u64) -> u32
     ensures begun { result ≡ 0 → IsBegun text.now state.old state.new }
     ensures nowhere { result ≡ 0 → at.new ≡ 0 }
     ensures refused { 0 < result
@@ -147,8 +142,7 @@ pub extern "C" fn zs_begin(alloc: Global, text: &[u8], state: &mut [u64], at: &m
 /// Steps a text's schedule once, from the state that `state` represents. Returns 0 if the schedule
 /// continues, 1 if it is done, else the number of an error. The words then represent the state
 /// after that step. After an error `state` and `out` are unchanged.
-#[unsafe(no_mangle)]
-pub extern "C" fn zs_step(
+pub fn zs_step(
     alloc: Global,
     text: &[u8],
     state: &mut [u64],
@@ -179,8 +173,7 @@ pub extern "C" fn zs_step(
 
 /// Writes the text of a number, and of the place that goes with it, to the front of `out`, as far
 /// as it fits. Returns the length of the text in bytes: 0 if the number is no fault.
-#[unsafe(no_mangle)]
-pub extern "C" fn zs_fault_text(number: u32, at: u64, out: &mut [u8]) -> u64
+pub fn zs_fault_text(number: u32, at: u64, out: &mut [u8]) -> u64
     ensures size { result ≡ length (fault_text number at) }
     ensures text { out.new ≡ written (fault_text number at) out.old }
 {
@@ -199,8 +192,7 @@ pub extern "C" fn zs_fault_text(number: u32, at: u64, out: &mut [u8]) -> u64
 
 /// The version of the library: a million times the first of its numbers, plus a thousand times the
 /// second, plus the third.
-#[unsafe(no_mangle)]
-pub extern "C" fn zs_version() -> u32
+pub fn zs_version() -> u32
     ensures value { result ≡ version_number }
 {
     2_000

@@ -1,4 +1,4 @@
-//! Schedules as a library for C, and for every language that calls C.
+//! The calls of the library for C, and for every language that calls C. `zsched_c` exports them.
 //!
 //! No call stores anything. The state of a schedule is the list of the moments and inputs that it
 //! has seen, and the caller stores that list. `zs_check` returns whether a text is a schedule.

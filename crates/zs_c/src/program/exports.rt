@@ -16,8 +16,7 @@ use std::alloc::Global;
 /// Sets `size` and `state_size` to the number of words of the program of a text's schedule, and of
 /// its state. Returns 0, or the number of an error, and sets `at` to the byte at which a fault
 /// shows, or to 0. After an error both sizes are 0.
-#[unsafe(no_mangle)]
-pub extern "C" fn zs_program_size(
+pub fn zs_program_size(
     alloc: Global,
     text: &[u8],
     size: &mut u64,
@@ -42,8 +41,7 @@ pub extern "C" fn zs_program_size(
 /// Writes the program of a text's schedule to the first words of `program`. Returns 0, or the
 /// number of an error, and sets `at` to the byte at which a fault shows, or to 0. After an error
 /// `program` is unchanged.
-#[unsafe(no_mangle)]
-pub extern "C" fn zs_compile(alloc: Global, text: &[u8], program: &mut [u64], at: &mut u64) -> u32
+pub fn zs_compile(alloc: Global, text: &[u8], program: &mut [u64], at: &mut u64) -> u32
     ensures compiled { result ≡ 0 → IsCompiled text.now program.old program.new }
     ensures nowhere { result ≡ 0 → at.new ≡ 0 }
     ensures refused { 0 < result
@@ -65,8 +63,7 @@ pub extern "C" fn zs_compile(alloc: Global, text: &[u8], program: &mut [u64], at
 
 /// Writes the state of a program before any step to the first words of `state`. Returns 0, or the
 /// number of an error. After an error `state` is unchanged. The call allocates no memory.
-#[unsafe(no_mangle)]
-pub extern "C" fn zs_program_begin(program: &[u64], state: &mut [u64]) -> u32
+pub fn zs_program_begin(program: &[u64], state: &mut [u64]) -> u32
     ensures begun { result ≡ 0 → (t : Schedule) → IsProgram program.now t
         → IsProgramBegun t state.old state.new }
     ensures refused { 0 < result → IsDeniedFor (IsUnfit program.now state.old) result }
@@ -84,8 +81,7 @@ pub extern "C" fn zs_program_begin(program: &[u64], state: &mut [u64]) -> u32
 /// Steps a program once, from the state that `state` represents. Returns 0 if the schedule
 /// continues, 1 if it is done, else the number of an error. The words then represent the state
 /// after that step. After an error `state` and `out` are unchanged. The call allocates no memory.
-#[unsafe(no_mangle)]
-pub extern "C" fn zs_program_step(
+pub fn zs_program_step(
     program: &[u64],
     state: &mut [u64],
     moment: u64,

@@ -1,0 +1,13 @@
+//! The calls of `zs_c` as functions of a static library, which C and every language that calls C
+//! can call. `include/zsched.h` says how.
+//!
+//! It is a separate crate, since a static library is proved again when its archive is built.
+#![tactic(auto)]
+
+mod policies;
+mod programs;
+
+pub use policies::{
+    zs_answer, zs_begin, zs_bounds, zs_check, zs_fault_text, zs_state_size, zs_step, zs_version,
+};
+pub use programs::{zs_compile, zs_program_begin, zs_program_size, zs_program_step};

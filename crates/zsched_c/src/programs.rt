@@ -1,0 +1,77 @@
+//! The calls over programs.
+
+ghost use Rattle.std.specs.Prelude.{◌≡◌, ◌<◌, ◌≤◌, length};
+ghost use Rattle.zs_term.specs.Schedule.{Schedule};
+ghost use Rattle.zs_c.specs.Program.{IsProgram};
+ghost use Rattle.zs_c.specs.Programs.{IsProgramSized, IsCompiled, IsCompileRefusal, IsUnfit, IsDenied, IsDeniedFor, IsProgramBegun, IsProgramStepped};
+ghost use Rattle.zs_c.specs.States.{IsSizeRefusal, IsRefusedFor};
+
+use std::alloc::Global;
+use zs_c::Reply;
+
+/// Sets `size` and `state_size` to the number of words of the program of a text's schedule, and of
+/// its state. Returns 0, or the number of an error, and sets `at` to the byte at which a fault
+/// shows, or to 0. After an error both sizes are 0.
+#[unsafe(no_mangle)]
+pub extern "C" fn zs_program_size(
+    alloc: Global,
+    text: &[u8],
+    size: &mut u64,
+    state_size: &mut u64,
+    at: &mut u64,
+) -> u32
+    ensures sized { result ≡ 0 → IsProgramSized text.now size.new state_size.new }
+    ensures nowhere { result ≡ 0 → at.new ≡ 0 }
+    ensures refused { 0 < result → IsRefusedFor (IsSizeRefusal text.now) result at.new }
+    ensures nothing { 0 < result → (size.new ≡ 0) × (state_size.new ≡ 0) }
+{
+    zs_c::zs_program_size(alloc, text, size, state_size, at)
+}
+
+/// Writes the program of a text's schedule to the first words of `program`. Returns 0, or the
+/// number of an error, and sets `at` to the byte at which a fault shows, or to 0. After an error
+/// `program` is unchanged.
+#[unsafe(no_mangle)]
+pub extern "C" fn zs_compile(alloc: Global, text: &[u8], program: &mut [u64], at: &mut u64) -> u32
+    ensures compiled { result ≡ 0 → IsCompiled text.now program.old program.new }
+    ensures nowhere { result ≡ 0 → at.new ≡ 0 }
+    ensures refused { 0 < result
+        → IsRefusedFor (IsCompileRefusal text.now (length program.old)) result at.new }
+    ensures kept { 0 < result → program.new ≡ program.old }
+{
+    zs_c::zs_compile(alloc, text, program, at)
+}
+
+/// Writes the state of a program before any step to the first words of `state`. Returns 0, or the
+/// number of an error. After an error `state` is unchanged. The call allocates no memory.
+#[unsafe(no_mangle)]
+pub extern "C" fn zs_program_begin(program: &[u64], state: &mut [u64]) -> u32
+    ensures begun { result ≡ 0 → (t : Schedule) → IsProgram program.now t
+        → IsProgramBegun t state.old state.new }
+    ensures refused { 0 < result → IsDeniedFor (IsUnfit program.now state.old) result }
+    ensures kept { 0 < result → state.new ≡ state.old }
+{
+    zs_c::zs_program_begin(program, state)
+}
+
+/// Steps a program once, from the state that `state` represents. Returns 0 if the schedule
+/// continues, 1 if it is done, else the number of an error. The words then represent the state
+/// after that step. After an error `state` and `out` are unchanged. The call allocates no memory.
+#[unsafe(no_mangle)]
+pub extern "C" fn zs_program_step(
+    program: &[u64],
+    state: &mut [u64],
+    moment: u64,
+    input: u64,
+    reply: &mut Reply,
+    out: &mut [u8],
+) -> u32
+    ensures stepped { result ≤ 1 → (t : Schedule) → IsProgram program.now t
+        → IsProgramStepped t state.old state.new moment input result reply.new out.old out.new }
+    ensures refused { 1 < result → IsDeniedFor (IsDenied program.now state.old moment) result }
+    ensures nothing { 1 < result → reply.new ≡ record { next = 0; size = 0; visits = 0; at = 0 } }
+    ensures stays { 1 < result → state.new ≡ state.old }
+    ensures kept { 1 < result → out.new ≡ out.old }
+{
+    zs_c::zs_program_step(program, state, moment, input, reply, out)
+}
