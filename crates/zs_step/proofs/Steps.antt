@@ -1,17 +1,13 @@
 -- The steps of leaves, counted nodes, and lists as outputs.
-use Rattle.std.proofs.Common.{◌≡◌, ℕ, ◌<◌, ◌+◌, ◌-◌, ◌*◌, ◌^◌, ◌∷◌, length, min, ap, subst, arith, Fits, w64}
+use Rattle.std.proofs.Common.{◌≡◌, ℕ, ◌-◌, ◌*◌, ◌^◌, ◌∷◌, length, min, ap, subst}
 use Rattle.zs_term.specs.declared.outputs.Out.{Items}
 use Rattle.zs_term.specs.declared.outputs.Outs.{Outs}
 use Rattle.zs_term.specs.Output.{output_of, outputs_of, outs_list, listed}
-use Rattle.zs_term.specs.Schedule.{weight}
-use Rattle.zs_term.proofs.Sizes.{weight-positive}
 use Rattle.zs_term.proofs.Values.{stored_outputs_are}
 use Rattle.zs_step.specs.declared.leaf_state.LeafState.{LeafState}
 use Rattle.zs_step.specs.declared.leaf_state.LeafState.TheVariants.{Exponential}
-use Rattle.zs_step.specs.declared.state.State.{State}
 use Rattle.zs_step.specs.History.{History}
 use Rattle.zs_step.specs.LeafState.{LeafRepresents}
-use Rattle.zs_step.specs.State.{state_schedule}
 use Rattle.zs_step.proofs.Sats.{power-turn}
 
 -- a step of `exponential`
@@ -22,7 +18,3 @@ exponential-stands s b f x y now input s_is y_is h stood = power-turn b f (lengt
 -- the value of a list
 pub output_of_items : (o : Outs) → output_of (Items o) ≡ listed (outputs_of (outs_list o))
 output_of_items o = ap listed (stored_outputs_are o.storage)
-
--- a node counts at least one visit
-pub node-fits : (s : State) (v : ℕ) → v + weight (state_schedule s) < 2 ^ 64 → Fits w64 (v + 1)
-node-fits s v within = let some = weight-positive (state_schedule s) in omega arith

@@ -1,6 +1,6 @@
 //! Modifiers that need no state: the decision and output of a part go through them.
 
-ghost use Rattle.std.specs.Prelude.{◌≡◌, ℕ, ◌∷◌, true};
+ghost use Rattle.std.specs.Prelude.{◌≡◌, ℕ, ◌∷◌};
 ghost use Rattle.zs_term.specs.Schedule.{Schedule, over};
 ghost use Rattle.zs_term.specs.Output.{output_of};
 ghost use Rattle.zs_step.specs.History.{History};
