@@ -42,6 +42,7 @@ class Part:
     words: list
     minutes: int
     beside: bool = False
+    follows: bool = False
 
 
 def python(name, *words):
@@ -49,10 +50,11 @@ def python(name, *words):
     return [sys.executable, str(TOP / "tests" / name), *words]
 
 
-# In the order in which they are run. Parts with `beside` run in the background.
+# In the order in which they are run. Parts with `beside` run in the background. Those that follow begin with the proofs:
+# what needs a proof or the program waits for a line, or for the end of standard input.
 PARTS = {
     "proofs": Part(python("proofs.py"), 150),
-    "wrong-bodies": Part(python("wrong_bodies.py"), 160, beside=True),
+    "wrong-bodies": Part(python("wrong_bodies.py"), 160, beside=True, follows=True),
     "tools": Part(python("tools.py"), 90, beside=True),
     "examples": Part(python("examples.py"), 15),
     "reference": Part(python("compare.py", "--seeds", "0..2000"), 20),
@@ -61,8 +63,8 @@ PARTS = {
     "threads": Part(python("threads.py"), 20),
     "growth": Part(python("growth.py"), 40),
     "hostile": Part(python("hostile.py"), 60),
-    "survivors": Part(python("survivors.py", "--some", "5"), 90, beside=True),
-    "gate": Part(python("test_gate.py"), 60),
+    "survivors": Part(python("survivors.py", "--some", "5"), 160, beside=True, follows=True),
+    "gate": Part(python("test_gate.py"), 160, beside=True, follows=True),
 }
 
 
@@ -203,13 +205,21 @@ class Gate:
             print(f"check: {run.name} has failed: {why}", flush=True)
 
     def whole(self):
-        """Runs all parts: the wrong bodies of a crate in parallel to the proofs of the crates above it."""
+        """Runs all parts, and those that follow in parallel to the proofs."""
         for old in [ZSCHED, STAMP]:
             old.unlink(missing_ok=True)
-        bodies = self.beside("wrong-bodies", "--follow")
-        self.front("proofs", lambda line: bodies.feed(f"{found[1]}\n") if (found := PROVED.fullmatch(line)) else None)
-        bodies.end_of_input()
-        self.rest([name for name in PARTS if name not in ["proofs", "wrong-bodies"]])
+        following = [self.beside(name, "--follow") for name, part in PARTS.items() if part.follows]
+
+        def tell(line):
+            """Tells them which crate is proved."""
+            if found := PROVED.fullmatch(line):
+                for run in following:
+                    run.feed(f"{found[1]}\n")
+
+        self.front("proofs", tell)
+        for run in following:
+            run.end_of_input()
+        self.rest([name for name, part in PARTS.items() if name != "proofs" and not part.follows])
 
     def rest(self, names):
         """Runs parts that need the built program."""
@@ -233,15 +243,17 @@ class Gate:
 
 
 def table(ended, yards, seconds, processor):
-    """The table of times, with the yardstick if it was measured: a machine's speed changes, so before and after."""
+    """The table of times, with the yardsticks if they were measured."""
     lines = [f"{'part':<14}{'crate':<18}{'seconds':>9}{'processor s':>13}{'passed':>8}{'failed':>8}"]
     for it, wall, used in ended:
         lines.append(f"{it.name:<14}{'':<18}{wall:>9.0f}{used:>13.0f}{it.passed:>8}{it.failed:>8}")
         lines += [f"{'':<14}{crate:<18}{wall:>9.0f}{used:>13.0f}" for crate, wall, used in it.rows]
     lines.append(f"{'all':<32}{seconds:>9.0f}{processor:>13.0f}")
     if yards:
-        lines.append(f"yardstick: {yardstick.NAME} of the toolchain's examples is proved in {yards[0]:.1f} processor seconds before "
-                     f"and {yards[1]:.1f} after; the gate took {2 * processor / sum(yards):.0f} times their mean")
+        mean = sum(yards) / len(yards)
+        lines.append(f"yardstick: {yardstick.NAME} of the toolchain's examples was proved {len(yards)} times, from start to end, "
+                     f"in {min(yards):.1f} to {max(yards):.1f} processor seconds; the gate took {processor / mean:.0f} times the "
+                     f"mean, {mean:.1f}")
     return "\n".join(lines)
 
 
@@ -283,11 +295,9 @@ def run(gate, names):
     return True
 
 
-def end(gate, whole, before, yards, begun):
+def end(gate, whole, before, yards, seconds):
     """Prints the table and the sum, and notes a program that passed the whole gate; returns the exit status."""
     passed, failed = (sum(getattr(it, which) for it, _, _ in gate.ended) for which in ["passed", "failed"])
-    seconds = time.monotonic() - begun
-    yards += [yardstick.measure()] if whole else []
     print(table(gate.ended, yards, seconds, sum(used for _, _, used in gate.ended)))
     if whole and not failed:
         if before == sources_sum():
@@ -314,14 +324,15 @@ def main(words):
     with tempfile.TemporaryDirectory(prefix="zsched-check-") as folder:
         gate = Gate(folder, options.anew)
         whole, before = not options.names, sources_sum()
-        yards, begun = [yardstick.measure()] if whole else [], time.monotonic()
+        series, begun = yardstick.Series() if whole else None, time.monotonic()
         try:
             if not run(gate, options.names):
                 print("0 passed, 1 failed")
                 return 1
         finally:
             gate.stop()
-        return end(gate, whole, before, yards, begun)
+        seconds = time.monotonic() - begun
+        return end(gate, whole, before, series.end() if whole else [], seconds)
 
 
 if __name__ == "__main__":

@@ -1,9 +1,5 @@
 #!/usr/bin/env python3
-"""Plants the wrong bodies that every contract accepts, and reports which tests catch each.
-
-    python3 tests/survivors.py                    all of them, in half an hour
-    python3 tests/survivors.py --some 5           five of them, others on another day: the date chooses
-    python3 tests/survivors.py --check            only whether each still applies, and what it names is there
+"""Plants the wrong bodies that every contract accepts, and reports which tests catch each. All take half an hour.
 
 A survivor is a file crates/NAME/survivors/BELIEF.edit with the lines of a wrong body (tests/wrong_edits.py), and a line
 `caught-by:` in place of the function: CRATE::TEST for a test of a crate, hostile::FUNCTION for a function of
@@ -79,6 +75,10 @@ class Survivor(Edit):
     def where(self):
         """The crate whose test catches it, or the part of the gate, and the name in that if there is one."""
         return tuple(self.caught_by.partition("::")[::2])
+
+    def is_proved(self):
+        """Whether its copy is proved."""
+        return self.where()[0] == "library"
 
     def place_in(self, folder):
         """Finds its places in the crates of a folder: the texts of its crate."""
@@ -206,12 +206,11 @@ def failed(planted, place, name):
 def caught_by_library(survivor, folder):
     """The test that fails over the library of a copy with the survivor, which is proved and built."""
     copy, name = folder / survivor.name, survivor.where()[1]
-    shutil.copytree(TOP / "crates", copy / "crates")
-    survivor.apply(copy)
-    for part in ["tools", "tests", "include"]:
+    for part in ["crates", "tools", "tests", "include"]:
         shutil.copytree(TOP / part, copy / part)
     for file in ["HANDLES", "VERSION", "crates.txt"]:
         shutil.copy(TOP / file, copy)
+    survivor.apply(copy)
     made = subprocess.run([copy / "tools" / "make-library"], capture_output=True, text=True, check=False)
     if made.returncode:
         raise Misfit(f"make-library built no library: {made.stderr[-500:]}")
@@ -240,8 +239,7 @@ class Judge:
 
     def __init__(self, folder, survivors):
         self.folder = pathlib.Path(folder)
-        here = [it for it in survivors if it.where()[0] != "library"]
-        self.common = [it for it in here if is_only_bodies(it)]
+        self.common = [it for it in survivors if not it.is_proved() and is_only_bodies(it)]
         self.planted = Planted(self.folder / "common", self.common)
         self.passed = set()
 
@@ -257,7 +255,7 @@ class Judge:
     def caught(self, survivor):
         """What catches a survivor."""
         place, name = survivor.where()
-        if place == "library":
+        if survivor.is_proved():
             return caught_by_library(survivor, self.folder)
         self.pass_unplanted(place, name)
         is_common = survivor in self.common
@@ -269,17 +267,29 @@ class Judge:
         return found
 
 
-def judge(survivors):
-    """Plants each in turn, prints what caught it, and returns how many nothing caught."""
+def judge(survivors, follows):
+    """Plants each in turn, prints what caught it, and returns how many nothing caught. Those for library come last, and wait
+    for the end of standard input if they follow."""
     missed = 0
     with tempfile.TemporaryDirectory(prefix="zsched-survivors-") as folder:
         judging = Judge(folder, survivors)
-        for survivor in survivors:
+        for survivor in sorted(survivors, key=Survivor.is_proved):
+            if follows and survivor.is_proved():
+                sys.stdin.read()
             found = judging.caught(survivor)
             missed += not found
             told = ", ".join(found[:4]) + (f" and {len(found) - 4} more" if len(found) > 4 else "")
             print(f"{survivor.crate}/{survivor.name}: {f'caught by {told}' if found else 'NOT CAUGHT'}", flush=True)
     return missed
+
+
+def spread(survivors):
+    """Those whose copy is proved, which takes minutes, spread evenly among the others, which keep their order."""
+    proved, spread_out = ([it for it in survivors if it.is_proved() == kind] for kind in [True, False])
+    step = len(spread_out) // (len(proved) + 1) + 1
+    for number, survivor in enumerate(proved, 1):
+        spread_out.insert(number * step - 1, survivor)
+    return spread_out
 
 
 def main():
@@ -290,6 +300,7 @@ def main():
     arguments.add_argument("--some", type=int, metavar="N", help="this number of them, in turn by the day of the year")
     arguments.add_argument("--wrong-bodies", action="store_true", help="the wrong bodies that a plan or a test shows")
     arguments.add_argument("--check", action="store_true", help="build nothing: check whether each applies")
+    arguments.add_argument("--follow", action="store_true", help="those for library wait for the end of standard input")
     given = arguments.parse_args()
     try:
         survivors, bodies = (list(map(Survivor, sorted(TOP.glob(f"crates/*/{folder}/*.edit"))))
@@ -307,10 +318,10 @@ def main():
             # In turn by the day: each is among them again after all others were.
             number = min(given.some, len(survivors))
             begin = datetime.date.today().toordinal() * number % len(survivors)
-            survivors = (survivors + survivors)[begin:begin + number]
+            survivors = (2 * spread(survivors))[begin:begin + number]
         if not given.check and shutil.which("rt") is None:
             raise Misfit("the command 'rt' isn't on this machine")
-        missed = 0 if given.check else judge(survivors)
+        missed = 0 if given.check else judge(survivors, given.follow)
     except Misfit as cause:
         print(f"survivors.py: {cause}", file=sys.stderr)
         return 2

@@ -1,7 +1,7 @@
 #!/usr/bin/env python3
 """Shows that the gate can fail: sabotages of a copy of the repository that must each be found, and the runner of wrong
-bodies over a crate whose edits have to be reported by name. It needs the toolchain and the program that was built last.
-The last line is 'N passed, M failed'."""
+bodies over a crate whose edits have to be reported by name. It needs the toolchain and the program that was built last;
+with --follow it waits for the end of standard input before it uses that program. The last line is 'N passed, M failed'."""
 import contextlib
 import io
 import os
@@ -10,13 +10,15 @@ import shutil
 import subprocess
 import sys
 import tempfile
+import types
 
 sys.dont_write_bytecode = True
 
 import gate
 import quick
+import survivors
 import test_wrong_bodies
-from support import TOP, Count
+from support import TOP, Count, parser_of
 
 # Two versions of a source, and whether the change may affect the crates above.
 CHANGES = [
@@ -148,6 +150,14 @@ def test_floors(count):
     count.test("floors", sorted(gate.floors()), sorted(gate.PARTS))
 
 
+def test_turns(count):
+    """Each survivor has its turn, and of those of one gate at most one is proved, if one in fifteen is."""
+    edits = [types.SimpleNamespace(number=number, is_proved=lambda number=number: number < 5) for number in range(75)]
+    found = survivors.spread(edits)
+    count.test("each survivor has its turn", sorted(it.number for it in found), list(range(75)))
+    count.test("one survivor of a gate is proved", max(sum(it.is_proved() for it in found[begin:begin + 5]) for begin in range(70)), 1)
+
+
 def test_heads(count):
     """What counts for the quick gate as a change that affects the crates above."""
     for name, text, old, new, is_head in CHANGES:
@@ -178,10 +188,14 @@ def test_words(count):
 
 def main():
     """All tests."""
-    count = Count()
-    for test in [test_floors, test_judged, test_limit, test_heads, test_plans_of_quick, test_words, test_sabotages,
-                 test_wrong_bodies.test_all]:
+    words = parser_of(__doc__)
+    words.add_argument("--follow", action="store_true", help="wait for the end of standard input before the program is used")
+    follows, count = words.parse_args().follow, Count()
+    for test in [test_floors, test_judged, test_limit, test_turns, test_heads, test_plans_of_quick, test_words, test_wrong_bodies.test_all]:
         test(count)
+    if follows:
+        sys.stdin.read()
+    test_sabotages(count)
     return count.close()
 
 

@@ -134,17 +134,17 @@ def test_followed(count):
 
 
 def test_turns(count):
-    """Of a crate over whose files all edits were rejected before, each has its turn once in 25 days; of others each day."""
+    """Of a crate over whose files all edits were rejected before, each has its turn once in 24 days; of others each day."""
     edits, turns = [f"edit {number}" for number in range(7)], collections.Counter()
     # The checksum of a crate as it is is its name.
     passed = types.SimpleNamespace(listed=lambda: {"a": "a", "b": "b", "c": "older"}, sum_of_all=lambda crate, _: crate.name)
-    for day in range(25):
+    for day in range(24):
         trials = [Trial(Crate(pathlib.Path(), name, []), edits, None) for name in ["a", "b", "c", "d"]]
         give_turns(trials, passed, datetime.date(2026, 1, 1) + datetime.timedelta(day))
         turns.update((it.crate.name, edit) for it in trials for edit in it.in_turn)
-    for name, wanted in [("a", 1), ("b", 1), ("c", 25), ("d", 25)]:
+    for name, wanted in [("a", 1), ("b", 1), ("c", 24), ("d", 24)]:
         for edit in edits:
-            count.test(f"turns of {edit} of {name} in 25 days", turns[name, edit], wanted)
+            count.test(f"turns of {edit} of {name} in 24 days", turns[name, edit], wanted)
 
 
 def made_by(folder, text, edits):

@@ -11,7 +11,7 @@ it is reported. An edit that needs a round after the third fails, so edits of on
 The crate is proved as it is first, by 'rt check', or with --follow by whoever names it. Work that earlier checks kept
 is used: it can spare a proof, and can leave nothing open. Two kinds of edits aren't tried again: those that passed on
 this machine over the same toolchain, files and libraries, and those of a crate that tests/rejected.txt names with the
-checksum of all that, unless it is the edit's turn: on a day a fifth of the edits of a fifth of the crates have theirs.
+checksum of all that, unless it is the edit's turn: on a day half of the edits of one crate have theirs.
 --anew tries all.
 
 The last line is 'N passed, M failed', one for each edit."""
@@ -38,8 +38,10 @@ EPILOG = """exit status: 0 if each edit passed; 1 if one failed, also since its 
 2 if nothing could be tried (no toolchain, a library that can't be built, words that name no crate or edit)."""
 # The memory that a check of a crate takes, but for rare ones.
 BYTES_OF_A_CHECK = 2_200_000_000
-# An unchanged crate has its turn once in so many days, and each of its edits once in so many turns of the crate.
-TURNS = 5
+# An unchanged crate has its turn once in so many days, which is how many crates have edits, and each of its edits once in so
+# many turns of the crate.
+DAYS = 12
+TURNS = 2
 # The rounds that a crate may need. More cost the gate minutes: name goals, or drop an edit that another covers.
 MOST_ROUNDS = 3
 
@@ -283,7 +285,7 @@ def give_turns(trials, passed, day):
     listed = passed.listed()
     for number, trial in enumerate(trials):
         if listed.get(trial.crate.name) == passed.sum_of_all(trial.crate, trial.edits):
-            turn, rest = divmod(number + day.toordinal(), TURNS)
+            turn, rest = divmod(number + day.toordinal(), DAYS)
             trial.in_turn = {edit for place, edit in enumerate(trial.edits) if rest == 0 and (place + turn) % TURNS == 0}
 
 

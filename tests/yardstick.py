@@ -2,10 +2,13 @@
 import pathlib
 import shutil
 import tempfile
+import threading
 
 from prover import Crate, Toolchain, Unusable
 
 NAME = "ordmap"
+# The seconds from one proof to the next in a series.
+PAUSE = 300
 
 
 def measure():
@@ -23,3 +26,24 @@ def measure():
             return seconds
     finally:
         toolchain.stop()
+
+
+class Series:
+    """Proofs of it beside something that takes long, one every few minutes: the speed of a machine changes."""
+
+    def __init__(self):
+        self.seconds = [measure()]
+        self.is_done = threading.Event()
+        self.beside = threading.Thread(target=self.repeat, daemon=True)
+        self.beside.start()
+
+    def repeat(self):
+        """Measures until the end."""
+        while not self.is_done.wait(PAUSE):
+            self.seconds.append(measure())
+
+    def end(self):
+        """The processor seconds of each proof, with a last one."""
+        self.is_done.set()
+        self.beside.join()
+        return [*self.seconds, measure()]
