@@ -23,7 +23,7 @@ from support import TOP, parser_of
 
 LAST = re.compile(r"(\d+) passed, (\d+) failed")
 TICK = os.sysconf("SC_CLK_TCK")
-# How many crates are proved at a time while many wait for them.
+# How many crates are proved at a time.
 LANES = 2
 
 
@@ -71,21 +71,20 @@ def prove(name):
 
 
 def prove_first():
-    """Proves the crates that several others wait for, and first those that most wait for; while only one of them can be
-    proved, another crate too. So `rt ci` proves each on two processors; among others it gives each one. If a crate is not
-    stored, it ends, since each crate above would prove that one again: `rt ci` refuses names under CI=true, say."""
+    """Proves the crates two at a time, first those that most wait for, and of those the largest. So `rt ci` proves each on two
+    processors; among others it gives each one. If a crate is not stored, it ends, since each crate above would prove that
+    one again: `rt ci` refuses names under CI=true, say."""
     crates = crates_of(TOP)
     above = collections.Counter(below.name for it in crates.values() for below in it.below)
-    left, running, ended = sorted(crates, key=lambda name: -above[name]), {}, set()
-    lanes = concurrent.futures.ThreadPoolExecutor(LANES)
-    while any(above[name] > 1 for name in [*left, *running.values()]):
-        for name in [it for it in left if all(below.name in ended for below in crates[it].below)][:LANES - len(running)]:
-            left.remove(name)
-            running[lanes.submit(prove, name)] = name
-        for it in concurrent.futures.wait(running, return_when=concurrent.futures.FIRST_COMPLETED).done:
-            ended.add(running.pop(it))
-            left = left if it.result() else []
-    lanes.shutdown(wait=False)
+    left, running, ended = sorted(crates, key=lambda name: (-above[name], -crates[name].size())), {}, set()
+    with concurrent.futures.ThreadPoolExecutor(LANES) as lanes:
+        while left or running:
+            for name in [it for it in left if all(below.name in ended for below in crates[it].below)][:LANES - len(running)]:
+                left.remove(name)
+                running[lanes.submit(prove, name)] = name
+            for it in concurrent.futures.wait(running, return_when=concurrent.futures.FIRST_COMPLETED).done:
+                ended.add(running.pop(it))
+                left = left if it.result() else []
 
 
 def main():
