@@ -10,7 +10,7 @@ from wrong_edits import texts_of
 
 HERE = pathlib.Path(__file__).resolve().parent
 # The texts of the trial itself.
-RUNNER = ["passed_edits.py", "prover.py", "wrong_bodies.py", "wrong_edits.py"]
+RUNNER = ["alone.py", "passed_edits.py", "prover.py", "wrong_bodies.py", "wrong_edits.py"]
 # The crates whose edits were all rejected over the files as they are: each line a crate and the checksum of all that.
 LISTED = HERE / "rejected.txt"
 # How many states of crates are kept; the oldest go first.

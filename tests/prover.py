@@ -9,14 +9,15 @@ import signal
 import subprocess
 import time
 
+import alone
 from wrong_edits import PARTS, cycles_of
 
-VERDICT = re.compile(r"(fn|struct|enum|union|trait|type|impl) (\S+): (.*)")
+VERDICT = re.compile(r"(?:fn|struct|enum|union|trait|type|impl) (\S+): (.*)")
 GOAL_NOTE = re.compile(r"note: (?:\./)?src/\S+:\d+:\d+: .*\(`([^`]*)`\)")
 REFUSED_PROOF = re.compile(r"(?:\./)?proofs/(\S+)/\w+\.antt:\d+:\d+: error: (?:`([^`]*)`: )?(.*)")
 REFUSED_TEXT = re.compile(r"(?:\./)?((?:src|specs)/[^\s:]+):(\d+):\d+: (?:error|.*: error)\b.*")
 UNPROVED_GOALS = re.compile(r"`search` did not prove ((?:`[^`]*`(?:, | and )?)+)")
-PROVED = re.compile(r"logic=proved\b|only=(\d+) proved=\1$")
+ENDED = re.compile(r"logic=(?:not-)?proved\b|only=\d+ (?:proved|holes)=\d+$")
 QUOTED = re.compile(r"`([^`]*)`")
 # A proof file's error that says only that it names what the edit took away.
 WEAK = re.compile(r"has no field|is not in scope|has no `|was not admitted")
@@ -45,13 +46,8 @@ class Crate:
         self.is_static = is_static
         self.folder = top / "crates" / name
         self.rlib = self.folder / "out" / "rlib" / f"{name}.rlib"
-        self.kept = self.folder / "out" / "incremental"
         self.libraries = libraries
         self.below = []
-
-    def sources(self):
-        """The files that a check of the crate reads."""
-        return [path for part in PARTS for path in (self.folder / part).rglob("*") if path.is_file()]
 
     def copy_library(self, folder):
         """Copies the crate as a library into a folder, and has it named there."""
@@ -59,8 +55,8 @@ class Crate:
             self.rlib = shutil.copytree(self.rlib, folder / self.rlib.name)
 
     def size(self):
-        """The bytes of those files, by which the crates are ordered."""
-        return sum(path.stat().st_size for path in self.sources())
+        """The bytes of the files that a check of it reads, by which the crates are ordered."""
+        return sum(path.stat().st_size for part in PARTS for path in (self.folder / part).rglob("*") if path.is_file())
 
 
 def crates_of(top):
@@ -95,7 +91,7 @@ class Toolchain:
         os.close(ends)
         self.is_stopped = False
 
-    def stop(self):
+    def close(self):
         """Ends all that was started."""
         self.is_stopped = True
         try:
@@ -123,13 +119,15 @@ class Toolchain:
         return status == 0, seconds
 
     def check_words(self, crate, functions, jobs):
-        """The words of a check of these functions in a copy of the crate, over the kept work beside it."""
+        """The words of a check of these functions in a copy of the crate, which may have holes."""
         only = [word for name in functions for word in ["--only", name]]
-        return [self.kit / "bin" / "rattle", "check", *self.crate_words(crate), *only, "--incremental", "kept", "--jobs", jobs]
+        words = [*self.crate_words(crate), *only, "--allow-holes", "--short-goals", "--jobs", jobs]
+        return [self.kit / "bin" / "rattle", "check", *words]
 
     def crate_words(self, crate):
         """The words that name a crate in its folder, and the libraries below it as they are built."""
-        words = ["--crate-name", crate.name, "src/lib.rt", *["--crate-type", "staticlib"] * crate.is_static]
+        root = "src/main.rt" if (crate.folder / "src" / "main.rt").exists() else "src/lib.rt"
+        words = ["--crate-name", crate.name, root, *["--crate-type", "staticlib"] * crate.is_static]
         named = {it.name: it.rlib for it in crate.below}
         for name in ["std", *crate.libraries]:
             words += ["--extern", f"{name}={named.get(name, self.kit / 'rlibs' / f'{name}.rlib')}"]
@@ -140,42 +138,41 @@ class Toolchain:
 
 
 class Room:
-    """A copy of a crate's texts and of its kept work, in which functions are checked with wrong bodies."""
+    """A folder in which functions of a crate are checked, in copies of its texts."""
 
     def __init__(self, toolchain, crate, folder, texts):
         self.toolchain, self.crate, self.folder, self.texts = toolchain, crate, folder, texts
         self.checks, self.seconds, self.cost = 0, 0.0, ""
-        for path, text in texts.items():
-            (folder / path).parent.mkdir(parents=True, exist_ok=True)
-            (folder / path).write_text(text, encoding="utf-8")
-        if crate.kept.is_dir():
-            shutil.copytree(crate.kept, folder / "kept")
 
     def check(self, changed, functions, jobs):
-        """Checks functions of the copy with these texts in place of its own, and puts the own ones back."""
-        begun = time.monotonic()
-        log = self.folder / f"check_{self.checks}.log"
-        for path, text in changed.items():
-            (self.folder / path).write_text(text, encoding="utf-8")
-        status, seconds = self.toolchain.run(self.toolchain.check_words(self.crate, functions, jobs), self.folder, log)
+        """Checks functions with these texts in place of the crate's own. If these differ in bodies and proofs of functions only, it
+        checks those and the functions alone; otherwise also all that the functions call."""
+        begun, texts, holes = time.monotonic(), self.texts | changed, set()
+        differing = alone.changed(self.texts, texts)
+        if differing is not None:
+            texts, functions, holes = alone.reduced(self.crate.name, texts, [*functions, *differing])
+        copy, log = self.folder / "copy", self.folder / f"check_{self.checks}.log"
+        for path, text in texts.items():
+            (copy / path).parent.mkdir(parents=True, exist_ok=True)
+            (copy / path).write_text(text, encoding="utf-8")
+        status, seconds = self.toolchain.run(self.toolchain.check_words(self.crate, functions, jobs), copy, log)
         if status == -signal.SIGKILL:
             # most likely for memory
-            status, seconds = self.toolchain.run(self.toolchain.check_words(self.crate, functions, 1), self.folder, log)
-        for path in changed:
-            (self.folder / path).write_text(self.texts[path], encoding="utf-8")
+            status, seconds = self.toolchain.run(self.toolchain.check_words(self.crate, functions, 1), copy, log)
+        shutil.rmtree(copy)
         self.checks += 1
         self.seconds += seconds
         self.cost = f"{seconds:.0f} processor seconds in {time.monotonic() - begun:.0f} s"
-        return Said(log.read_text(encoding="utf-8", errors="replace"), self.crate.name, self.texts)
+        return Said(log.read_text(encoding="utf-8", errors="replace"), self.crate.name, self.texts, functions, holes)
 
 
 class Said:
     """What a check said: of each function whether it is proved, and if not, which goals of its own are open."""
 
-    def __init__(self, text, crate, texts):
+    def __init__(self, text, crate, texts, functions, holes):
         self.lines = text.rstrip("\n").split("\n")
-        self.crate = crate
-        self.verdicts, self.reasons, self.kinds = {}, {}, {}
+        self.crate, self.functions, self.holes = crate, functions, holes
+        self.verdicts, self.reasons = {}, {}
         self.refused_texts = []
         self.cycles = cycles_of(texts)
         notes, proofs = [], []
@@ -183,9 +180,8 @@ class Said:
             verdict, note = VERDICT.match(line), GOAL_NOTE.match(line)
             proof, refused = REFUSED_PROOF.match(line), REFUSED_TEXT.match(line)
             if verdict:
-                kind, name, said = verdict.groups()
-                name = name.removeprefix(f"{crate}::")
-                self.verdicts[name], self.kinds[name] = said, kind
+                name, said = verdict[1].removeprefix(f"{crate}::"), verdict[2]
+                self.verdicts[name] = said
                 self.reasons[name] = notes + [Reason(goal, line) for goal in goals_in(said)]
                 notes = []
             elif note:
@@ -203,13 +199,18 @@ class Said:
         """Whether the check came to the proofs."""
         return bool(self.verdicts) and not self.refused_texts
 
-    def is_proved(self):
-        """Whether all that was asked for is proved: the whole crate, or the functions named."""
-        return bool(PROVED.match(self.lines[-1]))
+    def left(self):
+        """All that is left open, or None if the check didn't come to its end or tells nothing of one of its functions."""
+        is_told = ENDED.match(self.lines[-1]) and {*self.functions} <= self.verdicts.keys()
+        return [name for name in self.verdicts if self.is_open(name)] if is_told else None
 
     def is_open(self, name):
-        """Whether a function has no proof."""
-        return not self.verdicts[name].startswith(("proved", "assumed"))
+        """Whether a function has no proof, but for the holes of others. A verdict can name a function that needs the same holes."""
+        verdict = self.verdicts[name]
+        if not verdict.startswith("depends on a hole in "):
+            return not verdict.startswith(("proved", "assumed", "no holes"))
+        needed = {it.removeprefix(f"{self.crate}::") for it in QUOTED.findall(verdict)}
+        return not needed <= self.holes and not any(it in self.verdicts and it != name and not self.is_open(it) for it in needed)
 
     def proved_in(self, folder):
         """The functions whose proof lies in a folder of proofs/: one, or those of a cycle of calls."""

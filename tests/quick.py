@@ -1,27 +1,33 @@
 #!/usr/bin/env python3
 """The quick gate: proves what changed over stored proofs, and runs plans on the unproved program.
 
-A crate whose files changed since it was last seen proved here is checked again. If more than bodies of functions
-changed (a definition, a contract, a type), so are the crates above it. Meanwhile the program is built without proofs,
-with checks, and runs the plans of examples/ and tests/plans/ and the hostile plans. If it was built from the same
-sources before, that one runs. ./check tests what this doesn't: proofs from nothing, wrong bodies and tests of the
-crates. The last line is 'N passed, M failed'.
+A crate whose files changed since it was last seen proved here is checked again: if no more than bodies and proofs of
+functions changed, these functions alone, by the contracts of those that they call. If more changed (a definition, a
+contract, a type), the crates above it are checked too. Meanwhile the program is built without proofs, with checks, and
+runs the plans of examples/ and tests/plans/ and the hostile plans. If it was built from the same sources before, that
+one runs. ./check tests what this doesn't: proofs from nothing, wrong bodies and tests of the crates. The last line is
+'N passed, M failed'.
 
     python3 tests/quick.py             what ./check quick runs
     python3 tests/quick.py --proved    counts the crates of the program as proved, unchecked, for ./run --proved"""
 import concurrent.futures
-import hashlib
+import contextlib
+import json
 import os
-import re
+import pathlib
 import subprocess
 import sys
+import tempfile
 
 sys.dont_write_bytecode = True
 
+import alone
 import hostile_plans
 import unproved
-from prover import crates_of
+from passed_edits import code_of
+from prover import Room, Toolchain, crates_of
 from support import TOP, ZSCHED, Count, is_built, plans_with_reports, report_beside, run, sources_sum
+from wrong_edits import texts_of
 
 CRATES = TOP / "crates"
 BUILT = CRATES / "zsched" / "out"
@@ -31,86 +37,82 @@ OF_TESTS = ["zs_low_tests", "zs_gates", "zs_engine_tests", "zs_tests", "zs_refus
 LARGE = 10000
 # The seconds after which a run of the unproved program fails.
 PATIENCE = 60
-# The first line of what callers may use: an import, an item's head, a clause or an attribute.
-HEAD = re.compile(r"^\s*(pub\b|fn\b|requires\b|ensures\b|struct\b|enum\b|impl\b|trait\b|ghost\b|type\b|use\b|mod\b|const\b|#)")
-# The head of a function with no clauses: its body begins on the same line.
-BODY = re.compile(r"^[^=]*\bfn\b.*\{$")
 
 
 def crates():
-    """The crates of programs and libraries, lowest first, each with those that it names."""
-    listed = crates_of(TOP)
-    return {name: [it for it in crate.libraries if it in listed]
-            for name, crate in listed.items() if name not in OF_TESTS}
+    """The crates of programs and libraries, lowest first."""
+    return {name: crate for name, crate in crates_of(TOP).items() if name not in OF_TESTS}
 
 
-def heads_of(text):
-    """The lines of a source that callers may use: each head up to the body, a clause with all its lines, an enum with its
-    variants, a struct with its fields."""
-    found, is_within = [], False
-    for line in text.splitlines():
-        if HEAD.match(line):
-            is_within = True
-        elif re.match(r"^\s*[{}]", line):
-            is_within = False
-        found += [line] * is_within
-        is_within = is_within and not BODY.match(line)
-    return found
+def state(crate):
+    """What a check of a crate reads: its texts without comments, and the checksums of the libraries below it."""
+    formats = {it.name: it.rlib / "format" for it in crate.below}
+    return {"texts": {path: code_of(path, text) for path, text in texts_of(crate.folder).items()},
+            "libraries": {name: file.read_text() if file.exists() else None for name, file in formats.items()}}
 
 
-def sums(name):
-    """A checksum of all files of a crate, and one of what the crates above it may use."""
-    whole, heads = hashlib.sha256(), hashlib.sha256()
-    for part in ["src", "specs", "proofs"]:
-        for file in sorted((CRATES / name / part).rglob("*")):
-            if not file.is_file():
-                continue
-            text = file.read_text(encoding="utf-8")
-            whole.update(f"{file.relative_to(TOP)}\n{text}".encode())
-            heads.update({"specs": text, "src": "\n".join(heads_of(text))}.get(part, "").encode())
-    return [whole.hexdigest(), heads.hexdigest()]
+def heads_of(texts):
+    """What the crates above may use of these texts: all but proofs and the bodies of functions."""
+    return {file: lines for file, lines in alone.parted(texts)[1].items() if not file.startswith("proofs/")}
 
 
-def kept(name):
-    """The sums of a crate at its last check here that passed, if there was one."""
-    file = CRATES / name / "out" / "quick"
-    return file.read_text().split() if file.exists() else ["", ""]
+def before(crate):
+    """The state of a crate at its last check here that passed, or one without files."""
+    note = crate.folder / "out" / "quick.json"
+    return json.loads(note.read_text()) if note.exists() else {"texts": {}, "libraries": {}}
 
 
 def changed(listed):
-    """The crates that have to be checked, lowest first."""
-    found, moved = [], set()
-    for name, below in listed.items():
-        now, before = sums(name), kept(name)
-        if now[1] != before[1]:
+    """The crates that have to be checked, lowest first, each with the functions that alone changed in it, or None."""
+    found, moved = {}, set()
+    for name, crate in listed.items():
+        now, old = state(crate), before(crate)
+        if heads_of(now["texts"]) != heads_of(old["texts"]):
             moved.add(name)
-        if now != before or moved & set(below):
-            found.append(name)
+        if moved & {name, *(it.name for it in crate.below)}:
+            found[name] = None
+        elif now["texts"] != old["texts"]:
+            is_over_same = None not in now["libraries"].values() and now["libraries"] == old["libraries"]
+            found[name] = alone.changed(old["texts"], now["texts"]) if is_over_same else None
     return found
 
 
-def keep(name, now):
-    """Notes a crate with these sums as proved."""
-    (CRATES / name / "out").mkdir(exist_ok=True)
-    (CRATES / name / "out" / "quick").write_text(" ".join(now))
+def keep(crate, texts=None):
+    """Notes a crate as proved, with these texts or as it is, over the libraries below it as they are."""
+    now = state(crate)
+    (crate.folder / "out").mkdir(exist_ok=True)
+    (crate.folder / "out" / "quick.json").write_text(json.dumps({**now, "texts": texts or now["texts"]}))
 
 
 def prove(count, listed):
-    """Checks the crates that changed, over the proofs that earlier checks stored."""
-    for name in changed(listed):
-        now = sums(name)
-        ended = subprocess.run(["rt", "check"], cwd=CRATES / name, capture_output=True, text=True, errors="replace")
-        count.test(f"rt check in crates/{name}", ended.returncode, 0)
-        if ended.returncode:
-            print("\n".join(ended.stdout.splitlines()[-30:]))
+    """Checks the crates that changed, over the libraries that earlier checks stored, until one fails."""
+    for name, functions in changed(listed).items():
+        crate, texts = listed[name], state(listed[name])["texts"]
+        if not (functions and prove_alone(count, crate, functions)):
+            ended = subprocess.run(["rt", "check"], cwd=crate.folder, capture_output=True, text=True, errors="replace")
+            count.test(f"rt check in crates/{name}", ended.returncode, 0)
+            if ended.returncode:
+                print("\n".join(ended.stdout.splitlines()[-30:]))
+        if count.failed:
             return
-        keep(name, now)
+        keep(crate, texts)
 
 
-def take_as_proved(names):
-    """Notes these crates as proved, without a check."""
-    for name in names:
-        keep(name, sums(name))
+def prove_alone(count, crate, functions):
+    """Checks functions of a crate alone, and beside that what a check of the crate says before any proof, of a new cycle of calls,
+    say. Returns whether that tells if they are proved: if not, a check of the crate does."""
+    with (contextlib.closing(Toolchain()) as toolchain, tempfile.TemporaryDirectory(prefix="zsched-quick-") as folder,
+          concurrent.futures.ThreadPoolExecutor(1) as beside):
+        whole = beside.submit(toolchain.run, toolchain.check_words(crate, [""], 1), crate.folder, pathlib.Path(folder, "whole"))
+        room = Room(toolchain, crate, pathlib.Path(folder), texts_of(crate.folder))
+        said = room.check({}, functions, len(os.sched_getaffinity(0)))
+        left = None if whole.result()[0] else said.left()
+    if left is None or not {*map(said.owner, left)} <= {*said.functions}:
+        return False
+    count.test(f"{', '.join(functions)} in crates/{crate.name}", [f"{name}: {said.verdicts[name]}" for name in left], [])
+    if left:
+        print("\n".join(dict.fromkeys(it for it in said.lines if ": error: " in it or it.startswith("note: src/"))))
+    return True
 
 
 def built_program():
@@ -156,7 +158,8 @@ def run_plans(count):
 def main(words):
     """Both halves in parallel."""
     if words == ["--proved"]:
-        take_as_proved([*crates()["zsched"], "zsched"])
+        for crate in [*crates()["zsched"].below, crates()["zsched"]]:
+            keep(crate)
         return 0
     if words:
         print("quick: the only word is --proved", file=sys.stderr)

@@ -17,7 +17,9 @@ sys.dont_write_bytecode = True
 import gate
 import quick
 import survivors
+import test_alone
 import test_wrong_bodies
+from prover import Crate
 from support import TOP, Count, parser_of
 
 # Two versions of a source, and whether the change may affect the crates above.
@@ -161,7 +163,56 @@ def test_turns(count):
 def test_heads(count):
     """What counts for the quick gate as a change that affects the crates above."""
     for name, text, old, new, is_head in CHANGES:
-        count.test(f"{name} is changed", quick.heads_of(text) != quick.heads_of(text.replace(old, new)), is_head)
+        before, after = (quick.heads_of({"src/lib.rt": it}) for it in [text, text.replace(old, new)])
+        count.test(f"{name} is changed", before != after, is_head)
+    count.test("a definition is changed", quick.heads_of({"specs/A.antt": "a"}) != quick.heads_of({"specs/A.antt": "b"}), True)
+    count.test("a proof is changed", quick.heads_of({"proofs/A.antt": "a"}) != quick.heads_of({"proofs/A.antt": "b"}), False)
+
+
+def test_changed(count):
+    """What the quick gate checks after a change, of a crate and of one above it."""
+    with tempfile.TemporaryDirectory() as folder:
+        low, high = Crate(pathlib.Path(folder), "low", []), Crate(pathlib.Path(folder), "high", ["low"])
+        high.below = [low]
+        for crate in [low, high]:
+            (crate.folder / "src").mkdir(parents=True)
+            (crate.folder / "src" / "lib.rt").write_text("/// A.\npub fn f() -> u64 {\n    1\n}\n")
+        low.rlib.mkdir(parents=True)
+        (low.rlib / "format").write_text("a")
+        for crate in [low, high]:
+            quick.keep(crate)
+        for name, changes, wanted in [
+            ("nothing", {}, {}), ("a comment", {low.folder / "src/lib.rt": ("A", "B")}, {}),
+            ("a body", {low.folder / "src/lib.rt": ("1", "2")}, {"low": ["f"]}),
+            ("a body above", {high.folder / "src/lib.rt": ("1", "2")}, {"high": ["f"]}),
+            ("a head", {low.folder / "src/lib.rt": ("u64", "u32")}, {"low": None, "high": None}),
+            ("a head above", {high.folder / "src/lib.rt": ("u64", "u32")}, {"high": None}),
+            ("a body over another library", {high.folder / "src/lib.rt": ("1", "2"), low.rlib / "format": ("a", "b")}, {"high": None}),
+        ]:
+            for file, (old, new) in changes.items():
+                write(file, old, new)
+            count.test(f"to check after a change of {name}", quick.changed({"low": low, "high": high}), wanted)
+            for file, (old, new) in changes.items():
+                write(file, new, old)
+
+
+def test_proofs_of_quick(count):
+    """Bodies in a crate that was proved before: a right one, a wrong one, and one that makes a cycle of calls, which only a check of
+    the whole crate rejects."""
+    with tempfile.TemporaryDirectory() as folder:
+        test_wrong_bodies.make_crate(pathlib.Path(folder))
+        crate = Crate(pathlib.Path(folder), "two_numbers", [])
+        quick.keep(crate)
+        for old, new, wanted, text in [("if a < b { b }", "if b > a { b }", (1, 0), ""),
+                                       ("if a < b { b }", "if b < a { b }", (0, 1), "greater in crates/two_numbers: wanted []"),
+                                       ("else { 10 }", "else { greater_up_to_ten(a, a) }", (0, 1), "error[unnamed-cycle]")]:
+            write(crate.folder / "src" / "lib.rt", old, new)
+            found, said = Count(), io.StringIO()
+            with contextlib.redirect_stdout(said):
+                quick.prove(found, {"two_numbers": crate})
+            count.test(f"proofs of quick with {new}", (found.passed, found.failed), wanted)
+            count.test(f"what is said with {new}", text in said.getvalue() or said.getvalue(), True)
+            write(crate.folder / "src" / "lib.rt", new, old)
 
 
 def test_plans_of_quick(count):
@@ -191,7 +242,8 @@ def main():
     words = parser_of(__doc__)
     words.add_argument("--follow", action="store_true", help="wait for the end of standard input before the program is used")
     follows, count = words.parse_args().follow, Count()
-    for test in [test_floors, test_judged, test_limit, test_turns, test_heads, test_plans_of_quick, test_words, test_wrong_bodies.test_all]:
+    for test in [test_floors, test_judged, test_limit, test_turns, test_alone.test_all, test_heads, test_changed, test_proofs_of_quick,
+                 test_plans_of_quick, test_words, test_wrong_bodies.test_all]:
         test(count)
     if follows:
         sys.stdin.read()

@@ -30,7 +30,7 @@ CRATE = RUNNER.with_name("two_numbers")
 SOURCE = (CRATE / "lib.rt.txt").read_text()
 CYCLES = "".join(f"#[cycle({name})]\nfn {function}() {{}}\n" for name, function in [
     ("both", "one"), ("both", "two"), ("place", "far"), ("place", "near")])
-SAID = Said((CRATE / "said.txt").read_text(), "a", {"src/m.rt": CYCLES})
+SAID = Said((CRATE / "said.txt").read_text(), "a", {"src/m.rt": CYCLES}, [], set())
 
 # How each edit of the crate is reported. Those that pass are rejected.
 EDITS = {
@@ -43,7 +43,7 @@ EDITS = {
     "does_not_compile": "can't be tried: src/lib.rt:",
     "of_another_type": "can't be tried: src/lib.rt:",
     "one_round_more": "it needs a round after the 3",
-    "elsewhere": "NOT REJECTED: zero is still proved",
+    "elsewhere": "rejected elsewhere: greater is left open",
     "elsewhere_too": "rejected elsewhere: up_to_ten is left open",
     "another_goal": "the goal requires is not open",
     "no_such_function": "has no function `three`",

@@ -2,16 +2,16 @@
 """Tries the wrong bodies in crates/NAME/wrong-bodies/: the prover must reject each, in the function that it names.
 
 Many edits are tried in one check of a copy of their crate: at most one to a function, or several if each names a
-goal of its own. A check is one of the functions that the edits name and of those that they call. An edit passes if
-its function is left open by a goal of that function's own, and nothing is open beside the functions that the round's
-edits name and those that call them. A function that only waits for another's proof says nothing: its edit is tried
+goal of its own. The check judges the functions that the edits change or name, by the contracts of those that they
+call. An edit passes if its function is left open by a goal of that function's own, and nothing is open beside the
+functions that the round's edits name. A function that only waits for another's proof says nothing: its edit is tried
 again in a later round. An edit that doesn't pass is tried without other edits of its function, and then alone, before
 it is reported. An edit that needs a round after the third fails, so edits of one function name their goals.
 
-The crate is proved as it is first, by 'rt check', or with --follow by whoever names it. Work that earlier checks kept
-is used: it can spare a proof, and can leave nothing open. Two kinds of edits aren't tried again: those that passed on
-this machine over the same toolchain, files and libraries, and those of a crate that tests/rejected.txt names with the
-checksum of all that, unless it is the edit's turn: on a day half of the edits of one crate have theirs.
+The crate is proved as it is first, by 'rt check', or with --follow by whoever names it. Two kinds of edits aren't
+tried again: those that passed on this machine over the same toolchain, files and libraries, and those of a crate that
+tests/rejected.txt names with the checksum of all that, unless it is the edit's turn: on a day half of the edits of
+one crate have theirs.
 --anew tries all.
 
 The last line is 'N passed, M failed', one for each edit."""
@@ -29,6 +29,7 @@ import time
 
 sys.dont_write_bytecode = True
 
+import alone
 from passed_edits import PassedEdits
 from prover import Room, Toolchain, Unusable, crates_of, last_line, lock
 from wrong_edits import BadEdit, Edit, edited, texts_of
@@ -154,6 +155,7 @@ class Trial:
         try:
             edit.read()
             edit.place(texts)
+            edit.is_alone = edit.is_alone or alone.changed(texts, texts | edited(texts, [edit])[0]) is None
         except BadEdit as fault:
             self.fail(edit, f"can't be tried: {fault}")
             return False
@@ -229,7 +231,7 @@ class Trial:
 
 def why_not(edit, said, strays, goals):
     """Why an edit that was tried alone failed."""
-    if said.is_proved():
+    if said.left() == []:
         return f"NOT REJECTED: {edit.function} is still proved with it"
     if said.unsure(edit.function):
         return f"not judged: the prover could not tell of {edit.function}"
@@ -335,9 +337,8 @@ def prove(trial, toolchain, jobs, log):
 
 
 def followed(trials, crates, toolchain, folder, number):
-    """Tries the edits of each crate once a line on standard input names it as proved, from nothing: the 'rt ci' that proves
-    it has what the crate kept. Until the input ends, that takes half of the processors. The libraries are copied, since
-    others build in the crates' folders meanwhile."""
+    """Tries the edits of each crate once a line on standard input names it as proved. Until the input ends, that takes half of
+    the processors. The libraries are copied, since others build in the crates' folders meanwhile."""
     waiting = {it.crate.name: it for it in trials}
     lanes, going = Lanes(max(1, number // 2)), []
     with pool_of(toolchain, number) as pool:
@@ -347,7 +348,6 @@ def followed(trials, crates, toolchain, folder, number):
                 crates[name].copy_library(folder / "libraries")
             trial = waiting.pop(name, None)
             if trial:
-                trial.crate.kept = folder / "none"
                 lanes.add(not trial.is_known())
                 going.append(pool.submit(trial.run, toolchain, folder / trial.crate.name, lanes))
         lanes.widen(number)
@@ -365,7 +365,7 @@ def pool_of(toolchain, number):
         try:
             yield pool
         except BaseException:
-            toolchain.stop()
+            toolchain.close()
             pool.shutdown(cancel_futures=True)
             raise
 
@@ -407,12 +407,8 @@ def main(words):
     for number in [signal.SIGINT, signal.SIGTERM, signal.SIGHUP]:
         signal.signal(number, stop_at)
     try:
-        toolchain = Toolchain()
-        try:
-            with tempfile.TemporaryDirectory(prefix="wrong-bodies-") as folder:
-                passed, failed = run(options, toolchain, pathlib.Path(folder))
-        finally:
-            toolchain.stop()
+        with contextlib.closing(Toolchain()) as toolchain, tempfile.TemporaryDirectory(prefix="wrong-bodies-") as folder:
+            passed, failed = run(options, toolchain, pathlib.Path(folder))
     except (Unusable, OSError) as fault:
         print(f"wrong_bodies: {fault}", file=sys.stderr)
         print("0 passed, 1 failed")

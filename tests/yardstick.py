@@ -25,7 +25,7 @@ def measure():
                 raise Unusable(f"the toolchain's example {NAME} is not proved: {log.read_text(errors='replace')[-300:]}")
             return seconds
     finally:
-        toolchain.stop()
+        toolchain.close()
 
 
 class Series:
