@@ -46,7 +46,8 @@ def module_of(file):
 
 
 def bodies(file, text):
-    """The functions of a source that have a body, in the layout of `rt fmt`. A `const fn` isn't among them: a type may name it."""
+    """The functions of a source that have a body, in the layout of `rt fmt`: each line of it is indented more than the braces. A
+    `const fn` isn't among them, since a type may name it."""
     around, head, cycle, found = [], None, ("", -1), []
     for number, line in enumerate(text.split("\n")):
         indent = len(line) - len(line.lstrip())
@@ -54,8 +55,9 @@ def bodies(file, text):
             if line == " " * head.indent + "}":
                 head.last = number
                 found.append(head)
-                head = None
-            continue
+            elif not line.strip() or indent > head.indent:
+                continue
+            head = None
         if line.strip() == "}":
             around = [it for it in around if it[0] < indent]
         if it := CYCLE.match(line):
@@ -69,11 +71,11 @@ def bodies(file, text):
             around.append((indent, it[1]))
         elif TYPE.match(line):
             cycle = ("", -1)
-        if head and indent == head.indent:
-            if line.endswith("{"):
-                head.first = number + 1
-            elif line.endswith((";", "}")):
+        if head and line.strip() and indent <= head.indent:
+            if not FUNCTION.match(line) and not line.lstrip().startswith((")", "where", "{")) or line.endswith((";", "}")):
                 head = None
+            elif line.endswith("{"):
+                head.first = number + 1
     return found
 
 

@@ -120,6 +120,14 @@ def test_functions(count):
         changed = TEXTS[file].replace(old, new)
         count.test(f"{name}: it is another text", changed != TEXTS[file], True)
         count.test(f"{name} is changed", alone.changed(TEXTS, TEXTS | {file: changed}), wanted)
+    for name, old, new, wanted in [
+        ("a body whose end isn't seen", "odd(n - 1)\n}", "odd(n - 1)\n} // even", [name for name in FUNCTIONS if name != "inner::even"]),
+        ("a function without a body", "#[cycle(parity)]\nfn even", "fn none() {} // none\n#[cycle(parity)]\nfn even", FUNCTIONS),
+        ("one before a constant", "#[cycle(parity)]\nfn even", "fn none() {} // none\nconst PAIR: Pair = Pair {\n    first: 1,\n};\n"
+         "#[cycle(parity)]\nfn even", FUNCTIONS),
+    ]:
+        texts = TEXTS | {"src/inner.rt": INNER.replace(old, new)}
+        count.test(f"functions with {name}", [it.name for it in alone.functions_of(texts)], wanted)
     twice = ROOT.replace("u64> for", "Tree> for")
     count.test("functions of one name are no functions to check alone", [it.name for it in alone.functions_of(TEXTS | {"src/lib.rt": twice})],
                [name for name in FUNCTIONS if "From" not in name])
