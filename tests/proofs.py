@@ -23,6 +23,8 @@ from support import TOP, parser_of
 
 LAST = re.compile(r"(\d+) passed, (\d+) failed")
 TICK = os.sysconf("SC_CLK_TCK")
+# How many crates are proved at a time.
+LANES = 2
 
 
 class Usage(threading.Thread):
@@ -64,23 +66,22 @@ class Usage(threading.Thread):
 
 def prove(name):
     """Proves a crate, and returns whether it was stored too. The whole run alone is the gate, and reports what fails."""
-    ran = subprocess.run(["rt", "ci", name], cwd=TOP, env={**os.environ, "RT_JOBS": "1"}, capture_output=True, text=True,
-                         errors="replace", check=False)
+    ran = subprocess.run(["rt", "ci", name], cwd=TOP, capture_output=True, text=True, errors="replace", check=False)
     return ran.returncode == 0 and not re.search("(not|nothing is) kept", ran.stdout + ran.stderr)
 
 
-def prove_first(lanes):
-    """Proves the crates, each on one processor, first those that most wait for, and of those the largest. `rt ci` alone shares a
-    crate's proof among processors, which takes more of their time. If a crate is not stored, it ends, since each crate above
-    would prove that one again: `rt ci` refuses names under CI=true, say."""
+def prove_first():
+    """Proves the crates two at a time, first those that most wait for, and of those the largest. So `rt ci` proves each on two
+    processors; among others it gives each one. If a crate is not stored, it ends, since each crate above would prove that
+    one again: `rt ci` refuses names under CI=true, say."""
     crates = crates_of(TOP)
     above = collections.Counter(below.name for it in crates.values() for below in it.below)
     left, running, ended = sorted(crates, key=lambda name: (-above[name], -crates[name].size())), {}, set()
-    with concurrent.futures.ThreadPoolExecutor(lanes) as pool:
+    with concurrent.futures.ThreadPoolExecutor(LANES) as lanes:
         while left or running:
-            for name in [it for it in left if all(below.name in ended for below in crates[it].below)][:lanes - len(running)]:
+            for name in [it for it in left if all(below.name in ended for below in crates[it].below)][:LANES - len(running)]:
                 left.remove(name)
-                running[pool.submit(prove, name)] = name
+                running[lanes.submit(prove, name)] = name
             for it in concurrent.futures.wait(running, return_when=concurrent.futures.FIRST_COMPLETED).done:
                 ended.add(running.pop(it))
                 left = left if it.result() else []
@@ -96,7 +97,7 @@ def main():
     usage.start()
     processors = len(os.sched_getaffinity(0))
     if not is_anew and processors >= 4:
-        prove_first(processors)
+        prove_first()
     # It delays proofs until more memory is free than they take. So it gets the number that may run at once.
     memory = os.sysconf("SC_PAGE_SIZE") * os.sysconf("SC_PHYS_PAGES")
     jobs = {"RT_JOBS": str(processors)} if memory >= 4_000_000_000 * processors else {}
