@@ -303,7 +303,7 @@ def end(gate, whole, before, yards, seconds):
         if before == sources_sum():
             STAMP.write_text(f"{before}\n")
             for crate in quick.crates().values():
-                quick.keep(crate)
+                quick.keep(crate, quick.state(crate))
         else:
             failed += 1
             print("check: the sources were changed while the gate ran")

@@ -12,6 +12,7 @@ one runs. ./check tests what this doesn't: proofs from nothing, wrong bodies and
     python3 tests/quick.py --proved    counts the crates of the program as proved, unchecked, for ./run --proved"""
 import concurrent.futures
 import contextlib
+import hashlib
 import json
 import os
 import pathlib
@@ -44,11 +45,9 @@ def crates():
     return {name: crate for name, crate in crates_of(TOP).items() if name not in OF_TESTS}
 
 
-def state(crate):
-    """What a check of a crate reads: its texts without comments, and the checksums of the libraries below it."""
-    formats = {it.name: it.rlib / "format" for it in crate.below}
-    return {"texts": {path: code_of(path, text) for path, text in texts_of(crate.folder).items()},
-            "libraries": {name: file.read_text() if file.exists() else None for name, file in formats.items()}}
+def code(crate):
+    """The texts of a crate without comments."""
+    return {path: code_of(path, text) for path, text in texts_of(crate.folder).items()}
 
 
 def heads_of(texts):
@@ -56,46 +55,47 @@ def heads_of(texts):
     return {file: lines for file, lines in alone.parted(texts)[1].items() if not file.startswith("proofs/")}
 
 
+def state(crate):
+    """What a check of a crate reads: its texts, and checksums of the heads and of the libraries of the crates below it."""
+    formats = {it.name: it.rlib / "format" for it in crate.below}
+    return {"texts": code(crate),
+            "heads": {it.name: hashlib.sha256(json.dumps(heads_of(code(it))).encode()).hexdigest() for it in crate.below},
+            "libraries": {name: file.read_text() if file.exists() else None for name, file in formats.items()}}
+
+
 def before(crate):
     """The state of a crate at its last check here that passed, or one without files."""
     note = crate.folder / "out" / "quick.json"
-    return json.loads(note.read_text()) if note.exists() else {"texts": {}, "libraries": {}}
+    return json.loads(note.read_text()) if note.exists() else {"texts": {}, "heads": {}, "libraries": {}}
 
 
 def changed(listed):
-    """The crates that have to be checked, lowest first, each with the functions that alone changed in it, or None."""
-    found, moved = {}, set()
-    for name, crate in listed.items():
+    """The crates that have to be checked, lowest first, each with its state, and the functions if no more than these changed. Each is
+    read after the check of the one before, during which files may change."""
+    for crate in listed:
         now, old = state(crate), before(crate)
-        if heads_of(now["texts"]) != heads_of(old["texts"]):
-            moved.add(name)
-        if moved & {name, *(it.name for it in crate.below)}:
-            found[name] = None
-        elif now["texts"] != old["texts"]:
-            is_over_same = None not in now["libraries"].values() and now["libraries"] == old["libraries"]
-            found[name] = alone.changed(old["texts"], now["texts"]) if is_over_same else None
-    return found
+        if now["texts"] != old["texts"] or now["heads"] != old["heads"]:
+            is_over_same = now | {"texts": {}} == old | {"texts": {}} and None not in now["libraries"].values()
+            yield crate, now, alone.changed(old["texts"], now["texts"]) if is_over_same else None
 
 
-def keep(crate, texts=None):
-    """Notes a crate as proved, with these texts or as it is, over the libraries below it as they are."""
-    now = state(crate)
+def keep(crate, now):
+    """Notes a crate in this state as proved, over the libraries that its check may have built."""
     (crate.folder / "out").mkdir(exist_ok=True)
-    (crate.folder / "out" / "quick.json").write_text(json.dumps({**now, "texts": texts or now["texts"]}))
+    (crate.folder / "out" / "quick.json").write_text(json.dumps(now | {"libraries": state(crate)["libraries"]}))
 
 
 def prove(count, listed):
     """Checks the crates that changed, over the libraries that earlier checks stored, until one fails."""
-    for name, functions in changed(listed).items():
-        crate, texts = listed[name], state(listed[name])["texts"]
+    for crate, now, functions in changed(listed):
         if not (functions and prove_alone(count, crate, functions)):
             ended = subprocess.run(["rt", "check"], cwd=crate.folder, capture_output=True, text=True, errors="replace")
-            count.test(f"rt check in crates/{name}", ended.returncode, 0)
+            count.test(f"rt check in crates/{crate.name}", ended.returncode, 0)
             if ended.returncode:
                 print("\n".join(ended.stdout.splitlines()[-30:]))
         if count.failed:
             return
-        keep(crate, texts)
+        keep(crate, now)
 
 
 def prove_alone(count, crate, functions):
@@ -159,14 +159,14 @@ def main(words):
     """Both halves in parallel."""
     if words == ["--proved"]:
         for crate in [*crates()["zsched"].below, crates()["zsched"]]:
-            keep(crate)
+            keep(crate, state(crate))
         return 0
     if words:
         print("quick: the only word is --proved", file=sys.stderr)
         return 2
     proofs, count = Count(), Count()
     with concurrent.futures.ThreadPoolExecutor(1) as beside:
-        proving = beside.submit(prove, proofs, crates())
+        proving = beside.submit(prove, proofs, crates().values())
         run_plans(count)
         proving.result()
     count.passed, count.failed = count.passed + proofs.passed, count.failed + proofs.failed

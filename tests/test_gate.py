@@ -180,7 +180,7 @@ def test_changed(count):
         low.rlib.mkdir(parents=True)
         (low.rlib / "format").write_text("a")
         for crate in [low, high]:
-            quick.keep(crate)
+            quick.keep(crate, quick.state(crate))
         for name, changes, wanted in [
             ("nothing", {}, {}), ("a comment", {low.folder / "src/lib.rt": ("A", "B")}, {}),
             ("a body", {low.folder / "src/lib.rt": ("1", "2")}, {"low": ["f"]}),
@@ -191,9 +191,22 @@ def test_changed(count):
         ]:
             for file, (old, new) in changes.items():
                 write(file, old, new)
-            count.test(f"to check after a change of {name}", quick.changed({"low": low, "high": high}), wanted)
+            found = {crate.name: functions for crate, _, functions in quick.changed([low, high])}
+            count.test(f"to check after a change of {name}", found, wanted)
             for file, (old, new) in changes.items():
                 write(file, new, old)
+        found = []
+        write(low.folder / "src/lib.rt", "1", "2")
+        for crate, _, functions in quick.changed([low, high]):
+            found.append((crate.name, functions))
+            write(crate.folder / "src/lib.rt", "2", "1")
+            write(high.folder / "src/lib.rt", "1", "2")
+        write(high.folder / "src/lib.rt", "2", "1")
+        write(low.folder / "src/lib.rt", "u64", "u32")
+        quick.keep(low, quick.state(low))
+        above = [(crate.name, functions) for crate, _, functions in quick.changed([low, high])]
+        count.test("to check above a head that was changed and proved", above, [("high", None)])
+        count.test("to check after changes before and during the check below", found, [("low", ["f"]), ("high", ["f"])])
 
 
 def test_proofs_of_quick(count):
@@ -202,14 +215,14 @@ def test_proofs_of_quick(count):
     with tempfile.TemporaryDirectory() as folder:
         test_wrong_bodies.make_crate(pathlib.Path(folder))
         crate = Crate(pathlib.Path(folder), "two_numbers", [])
-        quick.keep(crate)
+        quick.keep(crate, quick.state(crate))
         for old, new, wanted, text in [("if a < b { b }", "if b > a { b }", (1, 0), ""),
                                        ("if a < b { b }", "if b < a { b }", (0, 1), "greater in crates/two_numbers: wanted []"),
                                        ("else { 10 }", "else { greater_up_to_ten(a, a) }", (0, 1), "error[unnamed-cycle]")]:
             write(crate.folder / "src" / "lib.rt", old, new)
             found, said = Count(), io.StringIO()
             with contextlib.redirect_stdout(said):
-                quick.prove(found, {"two_numbers": crate})
+                quick.prove(found, [crate])
             count.test(f"proofs of quick with {new}", (found.passed, found.failed), wanted)
             count.test(f"what is said with {new}", text in said.getvalue() or said.getvalue(), True)
             write(crate.folder / "src" / "lib.rt", new, old)
