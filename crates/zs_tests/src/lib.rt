@@ -1,5 +1,5 @@
-//! Tests that cross the crates: plans that are read or rejected, reports, and whole runs under
-//! gates that hold threads and over readers and writers that fail.
+//! Tests that cross the crates: rounds and runs of jobs under gates that hold threads, plans that
+//! are read or rejected, reports, and whole runs over readers and writers that fail.
 #![tactic(auto)]
 
 #[cfg(test)]

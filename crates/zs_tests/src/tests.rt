@@ -1,9 +1,12 @@
-//! Plans that are read or rejected, reports, whole runs, and the texts of faults.
+//! Rounds, runs of jobs, plans that are read or rejected, reports, and the texts of faults.
 
+mod engine;
 mod faults;
+mod gates;
 mod marks;
 mod names;
 mod plans;
+mod pool;
 mod refused;
 mod reports;
 mod runs;

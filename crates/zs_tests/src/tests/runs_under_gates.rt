@@ -1,6 +1,7 @@
 //! Runs on several workers, under gates that hold a thread until others have come. A run on fewer
 //! threads, or one that holds a lock over both the gate and the poll, stops waiting, and a flag
 //! shows it.
+use super::gates::{Apart, Crowd, Held, InTurn, Meeting, Record, Rounds, Slow};
 use super::support::expect_each;
 use super::support::plans::{PLAN, plan_of, report_of, written};
 use std::alloc::Global;
@@ -8,7 +9,6 @@ use std::process::Abort;
 use std::sync::Wait;
 use std::test::Fail;
 use std::thread::Threads;
-use zs_gates::{Apart, Crowd, Held, InTurn, Meeting, Record, Rounds, Slow};
 use zs_pool::Gate;
 
 // A run of jobs with these names, under the gate, writes their report, with three polls for each

@@ -1,9 +1,10 @@
-//! Helpers that the tests share: plans with their reports, and readers and writers that fail.
+//! Helpers that the tests share: jobs, plans with their reports, and readers and writers that fail.
 //!
 //! The proof of a test grows with what is alive while it asserts. So a test passes its cases to a
 //! helper, which asserts on text and has no task, plan or result alive while it does.
 use std::process::Abort;
 
+pub mod jobs;
 pub mod plans;
 pub mod streams;
 

@@ -1,5 +1,0 @@
-use Rattle.std.proofs.Common.{◌≡◌}
-use Rattle.zs_engine_tests.proofs.tests.pool.shelf.put_all.Given as goal
-
-abbrev pub invariant-loop-number : goal.invariant-loop-number
-invariant-loop-number g l = (l.pass.shelf ≡ l.fn.shelf) × (l.pass.share ≡ l.fn.pass.share)

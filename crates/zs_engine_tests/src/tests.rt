@@ -1,5 +1,0 @@
-//! Rounds, and runs of jobs.
-
-mod engine;
-mod pool;
-mod support;
