@@ -23,7 +23,6 @@ mod log;
 mod progress;
 mod record;
 mod task;
-mod touching;
 
 pub use fault::DriveFault;
 pub use job::{Job, Mode};

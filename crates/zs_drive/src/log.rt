@@ -9,7 +9,6 @@ ghost use Rattle.zs_drive.specs.Log.{BeginsNext, IsFull, IsLog, IsSameLog, keepi
 use crate::fault::DriveFault;
 use crate::lines::append_attempt;
 use crate::record::{Attempted, Ended, Keeping};
-use crate::touching::{touch_end, touch_last, touch_parts};
 use std::alloc::{AllocError, Global};
 use std::mem::{drop, swap};
 use zs_term::Out;
@@ -67,30 +66,6 @@ fn add<T: Drop>(list: &mut Vec<T>, item: T, least: usize) -> Result<(), AllocErr
     make_room(list, least)?;
     list.push(item)?;
     Ok(())
-}
-
-// When an attempt began, or 0.
-fn begin_of(attempt: Option<&Attempted>) -> u64 {
-    match attempt {
-        Some(attempt) => attempt.begun,
-        None => 0,
-    }
-}
-
-// Reads an attempt and the parts of its output.
-fn touch_record(attempt: Option<&Attempted>) -> u64 {
-    let Some(attempt) = attempt else { return 0 };
-    match &attempt.ended {
-        Some(
-            Ended {
-                at,
-                step: Some((out, _)),
-                ..
-            },
-        ) => *at ^ touch_parts(out),
-        Some(Ended { at, .. }) => *at,
-        None => attempt.begun,
-    }
 }
 
 // Takes an end away. The caller gets its output, if it has one, in place of another.
@@ -184,29 +159,6 @@ impl Log {
                 moments: Vec::new(alloc),
                 lines: String::new(alloc),
             }),
-        }
-    }
-
-    /// Reads some of the fields. The number has no meaning.
-    pub fn touch(&self) -> u64 {
-        match self {
-            Log::Recorded(records) => records.len() as u64,
-            Log::Written(told) => {
-                told.count ^ told.lines.len() as u64 ^ begin_of(told.last.as_ref())
-            }
-        }
-    }
-
-    /// Reads what the next attempt's beginning reads first of the memory that the fields point to.
-    /// The number has no meaning.
-    pub fn touch_parts(&self) -> u64 {
-        match self {
-            Log::Recorded(records) => touch_record(records.last()),
-            Log::Written(told) => {
-                touch_end(told.lines.as_str())
-                    ^ touch_last(told.moments.as_slice())
-                    ^ touch_record(told.last.as_ref())
-            }
         }
     }
 

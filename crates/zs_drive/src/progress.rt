@@ -19,7 +19,6 @@ use crate::fault::DriveFault;
 use crate::job::Mode;
 use crate::log::Log;
 use crate::record::{Ended, Ending};
-use crate::touching::{form, touch_parts};
 use futures::task::{Context, Poll};
 use futures::{Future, ready};
 use std::mem::replace;
@@ -119,21 +118,6 @@ fn end_by_schedule(mode: Mode, outcome: Outcome) -> Ending
 }
 
 impl Progress {
-    /// Reads some of the fields. The number has no meaning.
-    pub fn touch(&self) -> u64 {
-        self.polls ^ self.log.touch() ^ form(&self.spare) ^ u64::from(self.stepper.broken())
-    }
-
-    /// Reads what the next poll reads first of the memory that the fields point to. The number has
-    /// no meaning.
-    pub fn touch_parts(&self) -> u64 {
-        match &self.phase {
-            Phase::Waiting(_) => self.script.beat(1).ms ^ self.log.touch_parts(),
-            Phase::Running(_) => touch_parts(&self.spare) ^ self.stepper.touch(),
-            Phase::Over(_) => 0,
-        }
-    }
-
     // The entry of the script for the next attempt.
     #[tactic(auto, using(crate::proofs::Advancing::counts))]
     fn next_beat(&self) -> Beat

@@ -217,21 +217,6 @@ impl Task {
         self.progress.phase.due()
     }
 
-    /// Reads some of its fields, so that they are in the cache at its next poll. The number has no
-    /// meaning.
-    ///
-    /// If several tasks are touched before the first of them is polled, the processor waits for the
-    /// memory of all of them at once.
-    pub fn touch(&self) -> u64 {
-        self.progress.touch()
-    }
-
-    /// The same of the memory that its fields point to and that its next poll reads first. It waits
-    /// for the fields, so all tasks are touched before.
-    pub fn touch_parts(&self) -> u64 {
-        self.progress.touch_parts()
-    }
-
     /// Sets the moment of the next poll, in milliseconds: not before the last one seen, and at most
     /// 999,999,999,999,999.
     pub fn see(&mut self, now: u64)

@@ -18,9 +18,7 @@ use std::sync::Wait;
 use std::thread::Threads;
 use zs_agenda::{Agenda, Clock};
 use zs_drive::{Job, Keeping, Task};
-use zs_pool::{
-    Cut, Gate, Poller, Polling, TOUCHED_AT_ONCE, Tally, TallySeat, end_touches, poll_one, round,
-};
+use zs_pool::{Cut, Gate, Poller, Polling, Tally, TallySeat, poll_one, round};
 
 // A run of jobs: a slot with the task of each job, a timer for each task that waits for a tick, and
 // the tally of the polls.
@@ -112,25 +110,6 @@ impl Engine {
         Ok(())
     }
 
-    // Touches the first of these tasks, and then what their fields point to.
-    fn touch_some(&self, numbers: &[u64]) {
-        if numbers.len() < 2 {
-            return;
-        }
-        let mut touched = 0;
-        for number in numbers.iter().take(TOUCHED_AT_ONCE) {
-            if let Some(Some(task)) = self.slots.get(*number as usize) {
-                touched ^= task.touch();
-            }
-        }
-        for number in numbers.iter().take(TOUCHED_AT_ONCE) {
-            if let Some(Some(task)) = self.slots.get(*number as usize) {
-                touched ^= task.touch_parts();
-            }
-        }
-        end_touches(touched);
-    }
-
     // The due poll of the task in this slot. The task stays there, and its timer is set again.
     fn poll_slot<G: Gate>(
         &mut self,
@@ -165,9 +144,6 @@ impl Engine {
         ensures round { OnOk result (HasRunRound now self.old self.new) }
     {
         for place in 0..numbers.len() {
-            if place % TOUCHED_AT_ONCE == 0 {
-                self.touch_some(&numbers[place..]);
-            }
             self.poll_slot(polling, now, numbers[place])?;
         }
         Ok(())
@@ -264,9 +240,7 @@ impl Engine {
             Err(fault) => return Err(refused_round(fault)),
         };
         let mut polling = poller.begin(gate);
-        let done = self.run_all(rt, cut, gate, &mut polling);
-        polling.end();
-        done
+        self.run_all(rt, cut, gate, &mut polling)
     }
 
     // The tasks in job order, with the closed tally.

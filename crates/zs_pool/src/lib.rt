@@ -31,7 +31,7 @@ pub use board::{Board, BoardPass};
 pub use fault::PoolFault;
 pub use gate::{Gate, OpenGate};
 pub use polled::Polled;
-pub use poller::{Poller, Polling, TOUCHED_AT_ONCE, end_touches};
+pub use poller::{Poller, Polling};
 pub use polling::{poll_batch, poll_one};
 pub use rounds::cut::{Cut, MAX_TASKS, MAX_WORKERS};
 pub use rounds::round;

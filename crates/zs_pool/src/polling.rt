@@ -10,7 +10,7 @@ use crate::batch::Batch;
 use crate::fault::PoolFault;
 use crate::gate::Gate;
 use crate::polled::Polled;
-use crate::poller::{Poller, Polling, TOUCHED_AT_ONCE, touch_from};
+use crate::poller::{Poller, Polling};
 use crate::tally::{Tally, TallySeat};
 use crate::tasks::Tasks;
 use futures::Future;
@@ -63,11 +63,7 @@ fn poll_each<G: Gate>(
     ensures saw { AllSaw now tasks.new }
 {
     for place in 0..tasks.len() {
-        if place % TOUCHED_AT_ONCE == 0 {
-            touch_from(tasks, place);
-        }
-        let task = &mut tasks[place];
-        poll_one(polling, tally, seat, now, task);
+        poll_one(polling, tally, seat, now, &mut tasks[place]);
     }
 }
 
@@ -114,7 +110,5 @@ pub fn poll_batch<G: Gate, R>(
 {
     let poller = Poller::new(alloc)?;
     let mut polling = poller.begin(gate);
-    let polled = poll_in(&mut polling, tally, seat, now, batch);
-    polling.end();
-    Ok(polled)
+    Ok(poll_in(&mut polling, tally, seat, now, batch))
 }

@@ -19,15 +19,6 @@ pub(crate) enum Modifier {
 }
 
 impl Modifier {
-    // A number for each form. To know it, the modifier's memory has to be read.
-    pub(crate) fn form(&self) -> u64 {
-        match self {
-            Modifier::WhileInput(_) => 0,
-            Modifier::WhileOutput(_, _) => 1,
-            Modifier::Map(_) => 2,
-        }
-    }
-
     // Returns the decision of a part under the modifier, and changes the part's output into its.
     #[inline(always)]
     pub(crate) fn over_part(&self, input: u64, decision: Decision, out: &mut Out) -> Decision

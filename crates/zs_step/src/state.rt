@@ -253,37 +253,3 @@ pub(crate) fn clear(state: &mut State, alloc: Global)
         State::ResetWhen { part, .. } => clear(part, alloc),
     }
 }
-
-// A number for each form of a node. To know it, the node's memory has to be read.
-fn form(state: &State) -> u64 {
-    match state {
-        State::Leaf(_) => 0,
-        State::Both { .. } => 1,
-        State::Either { .. } => 2,
-        State::AndThen { .. } => 3,
-        State::Over { .. } => 4,
-        State::First { .. } => 5,
-        State::Const { .. } => 6,
-        State::CollectAll { .. } => 7,
-        State::ResetWhen { .. } => 8,
-        State::Fixed(_) => 9,
-    }
-}
-
-// Reads the parts of a node, so that their memory is in the cache at its next step. The number
-// has no meaning.
-pub(crate) fn touch_parts(state: &State) -> u64 {
-    match state {
-        State::Leaf(_) | State::Fixed(_) => 0,
-        State::Both { parts } | State::Either { parts } | State::AndThen { parts, .. } => {
-            form(&parts.0) ^ form(&parts.1)
-        }
-        State::Over { inner, outer } => {
-            form(&inner.1) ^ outer.first().map_or(0, |modifier| modifier.form())
-        }
-        State::First { part }
-        | State::Const { part, .. }
-        | State::CollectAll { part, .. }
-        | State::ResetWhen { part, .. } => form(part),
-    }
-}

@@ -5,7 +5,7 @@ ghost use Rattle.zs_term.specs.Schedule.{weight};
 ghost use Rattle.zs_step.specs.State.{state_schedule};
 
 use crate::fault::StepFault;
-use crate::state::{State, state_of, touch_parts};
+use crate::state::{State, state_of};
 use crate::stepped::Stepped;
 use crate::stepping::{Step, step_node};
 use std::alloc::Global;
@@ -45,12 +45,6 @@ impl Stepper {
             broken: false,
             alloc,
         })
-    }
-
-    /// Reads the memory that the next step reads first, so that it is in the cache by then. The
-    /// number has no meaning.
-    pub fn touch(&self) -> u64 {
-        touch_parts(&self.state) ^ u64::from(self.broken)
     }
 
     /// Whether a step ran out of memory. The schedule then stays broken.

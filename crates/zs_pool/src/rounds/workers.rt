@@ -104,7 +104,6 @@ impl<'s, G: Gate> Shared<'s, G> {
         };
         let mut polling = poller.begin(self.gate);
         let overflow = self.serve_in(rt, alloc, &mut rights, &mut polling);
-        polling.end();
         Served { rights, overflow }
     }
 
