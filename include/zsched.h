@@ -4,7 +4,7 @@
  * of pairs, oldest first: the moment at which an attempt ended, and its input (under retry the error's code, under repeat the
  * success value). zs_answer returns the moment at which the next attempt may begin, or that the schedule is done. No call
  * stores anything, so the list is the whole state: store it, and go on after a restart. If the list would grow too long, use
- * the state of fixed size of zs_begin and zs_step.
+ * zs_compile and zs_program_step: a program and its state have a fixed size.
  *
  * Link libzsched.a or libzsched.so, which tools/make-library builds; both need only the C library. docs/LIBRARY.md says what
  * is proved of these calls.
@@ -28,7 +28,7 @@
 
 /* The version of this header; zs_version returns that of the library. */
 #define ZS_VERSION_MAJOR 0
-#define ZS_VERSION_MINOR 2
+#define ZS_VERSION_MINOR 3
 #define ZS_VERSION_PATCH 0
 #define ZS_VERSION_NUMBER (1000000 * ZS_VERSION_MAJOR + 1000 * ZS_VERSION_MINOR + ZS_VERSION_PATCH)
 
@@ -41,13 +41,12 @@ enum zs_number {
     ZS_NEXT = 0,        /* calls with a zs_reply: the schedule continues at zs_reply.next. Other calls: success */
     ZS_DONE = 1,        /* calls with a zs_reply: the schedule is done */
     ZS_NO_PAIR = 2,     /* zs_answer: the list of pairs is empty, and the text is a schedule */
-    ZS_FALLS = 3,       /* zs_answer: the moment of the pair `at`, from 0, is below the one before it; other calls: the moment
-                         * is below that of the last step */
+    ZS_FALLS = 3,       /* zs_answer: the moment of the pair `at`, from 0, is below the one before it; zs_program_step: the
+                         * moment is below that of the last step */
     ZS_NOT_UTF8 = 4,    /* the text isn't UTF-8 from the byte `at` on */
     ZS_NO_MEMORY = 5,   /* an allocation failed; nothing is leaked, and the call may be repeated */
-    ZS_KEEPS_LIST = 6,  /* calls over a state: the schedule has collectAll, so its state would grow with the steps */
-    ZS_NO_ROOM = 7,     /* zs_begin, zs_step: state_len is below the size from zs_state_size; calls over a program: a length is
-                         * below the size from zs_program_size */
+    ZS_KEEPS_LIST = 6,  /* zs_program_size, zs_compile: the schedule has collectAll, so its state would grow with the steps */
+    ZS_NO_ROOM = 7,     /* calls over a program: a length is below the size from zs_program_size */
     ZS_NO_PROGRAM = 8,  /* zs_program_begin, zs_program_step: the words aren't a program of this version, or were changed */
     ZS_OTHER_STATE = 9, /* zs_program_step: the words are the state of another program, or of none */
     ZS_NO_TERM = 11,    /* the text spells no schedule, found at the byte `at` */
@@ -64,8 +63,7 @@ typedef struct zs_seen {
     uint64_t input;  /* any number */
 } zs_seen;
 
-/* What zs_answer, zs_step and zs_program_step return beside their number. Each call writes all four; a field without a meaning
- * is 0. */
+/* What zs_answer and zs_program_step return beside their number. Each call writes all four; a field without a meaning is 0. */
 typedef struct zs_reply {
     uint64_t next;   /* ZS_NEXT: the moment at which the next attempt may begin, not below that of the last pair */
     uint64_t size;   /* ZS_NEXT, ZS_DONE: the bytes of the text of the step's output, whether or not they fit */
@@ -107,40 +105,17 @@ uint32_t zs_answer(const uint8_t *text, size_t text_len, const zs_seen *seen, si
  * The time grows with the steps and with the schedule: 1000 steps of one with 400 leaves took 56 milliseconds. */
 uint32_t zs_bounds(const uint8_t *text, size_t text_len, uint64_t steps, struct zs_bounds *bounds, uint64_t *at);
 
-/* Steps over a state in the caller's memory, in place of the list of pairs.
+/* Steps over a program and its state, in the caller's memory, in place of the text and the list of pairs.
  *
- * A state is an array of words whose number depends only on the schedule: at most 3 for each of its nodes, and one more. A
- * step takes no longer after many steps than after one. The words may be copied, and stored as bytes for machines of the same
- * byte order. After a restart they still serve, if later moments aren't smaller. A schedule with collectAll has no such state,
- * since its list grows.
+ * A program is a schedule that is written into the caller's words once, so that no step reads its text again. A program and its
+ * state are arrays of words whose numbers depend only on the schedule: at most 4 for each of its nodes, and four more, for the
+ * program; at most 4 for each of its nodes, and two more, for the state. A step takes no longer after many steps than after
+ * one. A program has a version and a check word over itself, which each of its states has too. So older words, changed ones
+ * and another program's state are rejected. Both may be copied, and stored as bytes for machines of the same byte order. After
+ * a restart they still serve, if later moments aren't smaller. A schedule with collectAll has no program, since its list grows.
  *
- * The number of words of the state of a text's schedule, 1 or more: ZS_NEXT (0). Otherwise ZS_KEEPS_LIST, or what zs_check
- * returns for the text, with its place; *size is then 0. */
-uint32_t zs_state_size(const uint8_t *text, size_t text_len, uint64_t *size, uint64_t *at);
-
-/* Writes the state of a text's schedule before any step to the first of the words: ZS_NEXT (0). Otherwise ZS_NO_ROOM, or what
- * zs_state_size returns, with its place, and no word is written. state_len counts words; those after the state are
- * unchanged. */
-uint32_t zs_begin(const uint8_t *text, size_t text_len, uint64_t *state, size_t state_len, uint64_t *at);
-
-/* One more step, at a moment in milliseconds and with any input, of the schedule of a text, over a state that zs_begin wrote
- * and zs_step continued: ZS_NEXT or ZS_DONE, and everything that zs_answer returns at the last of these pairs; the words are
- * then the state after this step. Otherwise the first that applies: what zs_state_size returns, ZS_FALLS, ZS_NO_ROOM; words
- * and `out` are then unchanged.
- *
- * Words don't show from which steps they come. For words that were changed, or those of another text, the only promise is
- * that the call returns, and reads and writes nothing but what is passed to it; words after the state are unchanged. */
-uint32_t zs_step(const uint8_t *text, size_t text_len, uint64_t *state, size_t state_len, uint64_t moment,
-                 uint64_t input, zs_reply *reply, uint8_t *out, size_t out_len);
-
-/* Steps over a program: a schedule that is written into the caller's words once, so that no step reads its text again.
- *
- * A program is an array of words whose number depends only on the schedule: at most 4 for each of its nodes, and four more.
- * It has a version and a check word over itself, which each of its states has too. So older words, changed ones and another
- * program's state are rejected. Program and state may be copied, and stored as bytes for machines of the same byte order.
- *
- * The numbers of words of the program of a text's schedule, and of its state: ZS_NEXT (0). Otherwise what zs_state_size
- * returns, with its place; both are then 0. */
+ * The numbers of words of the program of a text's schedule, and of its state: ZS_NEXT (0). Otherwise ZS_KEEPS_LIST, or what
+ * zs_check returns for the text, with its place; both are then 0. */
 uint32_t zs_program_size(const uint8_t *text, size_t text_len, uint64_t *size, uint64_t *state_size, uint64_t *at);
 
 /* Writes the program of a text's schedule to the first of the words: ZS_NEXT (0). Otherwise ZS_NO_ROOM, or what
@@ -153,10 +128,13 @@ uint32_t zs_compile(const uint8_t *text, size_t text_len, uint64_t *program, siz
 uint32_t zs_program_begin(const uint64_t *program, size_t program_len, uint64_t *state, size_t state_len);
 
 /* One more step of a program, over a state that zs_program_begin wrote and zs_program_step continued: ZS_NEXT or ZS_DONE, and
- * everything that zs_step returns; the words are then the state after this step. Otherwise the first that applies of
- * ZS_NO_PROGRAM, ZS_NO_ROOM, ZS_OTHER_STATE and ZS_FALLS; words and `out` are then unchanged, and `at` is 0. A step of a
- * program that was changed on purpose, with a check word that fits, returns too, and reads and writes nothing but what is
- * passed to it. */
+ * everything that zs_answer returns at the last of these pairs; the words are then the state after this step. Otherwise the
+ * first that applies of ZS_NO_PROGRAM, ZS_NO_ROOM, ZS_OTHER_STATE and ZS_FALLS; words and `out` are then unchanged, and `at`
+ * is 0.
+ *
+ * The words after the first of a state don't show from which steps they come. For a state that was changed there, or a program
+ * that was changed on purpose, with a check word that fits, the only promise is that the call returns, and reads and writes
+ * nothing but what is passed to it. */
 uint32_t zs_program_step(const uint64_t *program, size_t program_len, uint64_t *state, size_t state_len, uint64_t moment,
                          uint64_t input, zs_reply *reply, uint8_t *out, size_t out_len);
 

@@ -1,6 +1,6 @@
 /* Steps schedules for tests/tools/test_library.py and tests/million_steps.py. It is C and C++.
  *
- * answers list|state|program    steps each request of standard input, by zs_answer, zs_step or
+ * answers list|program          steps each request of standard input, by zs_answer or
  *                               zs_program_step
  * answers million COUNT POLICY  steps a program COUNT times, each time at the moment that the step
  *                               before allows. It prints a line after each tenth: the nanoseconds
@@ -25,7 +25,7 @@
 
 typedef unsigned long long number64;
 
-/* A schedule: its text, and the words of its state, or of its program and the program's state. */
+/* A schedule: its text, and the words of its program and of the program's state. */
 typedef struct schedule {
     const uint8_t *text;
     size_t text_len;
@@ -33,7 +33,7 @@ typedef struct schedule {
     uint64_t program_len, state_len;
 } schedule;
 
-typedef enum way { LIST, STATE, PROGRAM } way;
+typedef enum way { LIST, PROGRAM } way;
 
 static uint8_t *out;
 static size_t room = 1 << 16;
@@ -46,19 +46,12 @@ static void *block(size_t size)
     return found;
 }
 
-/* Begins the state of a schedule, or its program and state. Returns the number of the last call. */
+/* Checks a schedule, or begins its program. Returns the number of the last call. */
 static uint32_t begin(schedule *it, way by, uint64_t *at)
 {
     uint32_t number;
     if (by == LIST)
         return zs_check(it->text, it->text_len, at);
-    if (by == STATE) {
-        number = zs_state_size(it->text, it->text_len, &it->state_len, at);
-        if (number)
-            return number;
-        it->state = (uint64_t *)block(it->state_len * sizeof *it->state);
-        return zs_begin(it->text, it->text_len, it->state, it->state_len, at);
-    }
     number = zs_program_size(it->text, it->text_len, &it->program_len, &it->state_len, at);
     if (number)
         return number;
@@ -72,8 +65,6 @@ static uint32_t begin(schedule *it, way by, uint64_t *at)
 static uint32_t step(schedule *it, way by, const zs_seen *seen, size_t seen_len, zs_reply *reply)
 {
     const zs_seen *last = &seen[seen_len - 1];
-    if (by == STATE)
-        return zs_step(it->text, it->text_len, it->state, it->state_len, last->moment, last->input, reply, out, room);
     if (by == PROGRAM)
         return zs_program_step(it->program, it->program_len, it->state, it->state_len, last->moment, last->input, reply, out,
                                room);
@@ -172,7 +163,7 @@ static int many(number64 count, const char *policy)
 
 int main(int count, char **words)
 {
-    static const char *const ways[] = {"list", "state", "program"};
+    static const char *const ways[] = {"list", "program"};
     char *line = NULL;
     size_t size = 0;
     int by = 0, status = 0;
@@ -180,9 +171,9 @@ int main(int count, char **words)
     if (count == 4 && strcmp(words[1], "million") == 0) {
         status = many(strtoull(words[2], NULL, 10), words[3]);
     } else {
-        while (by < 3 && (count != 2 || strcmp(words[1], ways[by])))
+        while (by < 2 && (count != 2 || strcmp(words[1], ways[by])))
             by++;
-        if (by == 3)
+        if (by == 2)
             return 2;
         while (getline(&line, &size, stdin) > 0)
             serve(line, (way)by);

@@ -3,36 +3,11 @@
 //
 // bindings/c/answers.c says what the arguments, the requests and the lines of output are.
 const { readFileSync } = require('node:fs');
-const calls = require(process.env.ZSCHED_NODE || './zsched.node');
 const { Fault, Schedule, Stepper } = require('./zsched.js');
 
 const CODE = 503n;
 
-/** A schedule that zs_step steps. */
-class Stated {
-  constructor(text) {
-    const [size, at] = [new BigUint64Array(1), new BigUint64Array(1)];
-    this.text = text;
-    this.check(calls.stateSize(text, size, at), at[0]);
-    this.words = new BigUint64Array(Number(size[0]));
-    this.check(calls.begin(text, this.words, at), at[0]);
-  }
-
-  check(number, at) {
-    if (number > 1) {
-      throw new Fault(number, at);
-    }
-  }
-
-  after(moment, input) {
-    const [reply, out] = [new BigUint64Array(4), Buffer.alloc(1 << 16)];
-    const number = calls.step(this.text, this.words, moment, input, reply, out);
-    this.check(number, reply[3]);
-    return { done: number === 1, next: reply[0], output: out.toString('ascii', 0, Number(reply[1])), visits: Number(reply[2]) };
-  }
-}
-
-const WAYS = { list: Schedule, state: Stated, program: Stepper };
+const WAYS = { list: Schedule, program: Stepper };
 
 function stepsOf(text, numbers, Begun) {
   const said = [];

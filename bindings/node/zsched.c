@@ -87,49 +87,6 @@ static napi_value answer(napi_env env, napi_callback_info info)
     return result(env, zs_answer(text.data, text.length, seen.data, seen.length / 2, reply.data, out.data, out.length));
 }
 
-/* stateSize(text, size, at) */
-static napi_value state_size(napi_env env, napi_callback_info info)
-{
-    napi_value given[MOST];
-    span text, size, at;
-    if (!arguments(env, info, 3, given) || !bytes(env, given[0], &text) || !words(env, given[1], 1, &size) ||
-        !words(env, given[2], 1, &at))
-        return NULL;
-    return result(env, zs_state_size(text.data, text.length, size.data, at.data));
-}
-
-/* A call that writes words for a text: (text, words, at) */
-static napi_value written(napi_env env, napi_callback_info info,
-                          uint32_t (*call)(const uint8_t *, size_t, uint64_t *, size_t, uint64_t *))
-{
-    napi_value given[MOST];
-    span text, made, at;
-    if (!arguments(env, info, 3, given) || !bytes(env, given[0], &text) || !words(env, given[1], 0, &made) ||
-        !words(env, given[2], 1, &at))
-        return NULL;
-    return result(env, call(text.data, text.length, made.data, made.length, at.data));
-}
-
-/* begin(text, state, at) */
-static napi_value begin(napi_env env, napi_callback_info info)
-{
-    return written(env, info, zs_begin);
-}
-
-/* step(text, state, moment, input, reply, out) */
-static napi_value step(napi_env env, napi_callback_info info)
-{
-    napi_value given[MOST];
-    span text, state, reply, out;
-    uint64_t moment, input;
-    if (!arguments(env, info, 6, given) || !bytes(env, given[0], &text) || !words(env, given[1], 0, &state) ||
-        !number(env, given[2], &moment) || !number(env, given[3], &input) || !words(env, given[4], 4, &reply) ||
-        !bytes(env, given[5], &out))
-        return NULL;
-    return result(env, zs_step(text.data, text.length, state.data, state.length, moment, input, reply.data, out.data,
-                               out.length));
-}
-
 /* programSize(text, size, stateSize, at) */
 static napi_value program_size(napi_env env, napi_callback_info info)
 {
@@ -144,7 +101,12 @@ static napi_value program_size(napi_env env, napi_callback_info info)
 /* compile(text, program, at) */
 static napi_value compile(napi_env env, napi_callback_info info)
 {
-    return written(env, info, zs_compile);
+    napi_value given[MOST];
+    span text, program, at;
+    if (!arguments(env, info, 3, given) || !bytes(env, given[0], &text) || !words(env, given[1], 0, &program) ||
+        !words(env, given[2], 1, &at))
+        return NULL;
+    return result(env, zs_compile(text.data, text.length, program.data, program.length, at.data));
 }
 
 /* programBegin(program, state) */
@@ -195,9 +157,6 @@ NAPI_MODULE_INIT()
     const napi_property_descriptor calls[] = {
         {"check", NULL, check, NULL, NULL, NULL, napi_default, NULL},
         {"answer", NULL, answer, NULL, NULL, NULL, napi_default, NULL},
-        {"stateSize", NULL, state_size, NULL, NULL, NULL, napi_default, NULL},
-        {"begin", NULL, begin, NULL, NULL, NULL, napi_default, NULL},
-        {"step", NULL, step, NULL, NULL, NULL, napi_default, NULL},
         {"programSize", NULL, program_size, NULL, NULL, NULL, napi_default, NULL},
         {"compile", NULL, compile, NULL, NULL, NULL, napi_default, NULL},
         {"programBegin", NULL, program_begin, NULL, NULL, NULL, napi_default, NULL},

@@ -2,36 +2,15 @@
 """Steps schedules for tests/tools/test_library.py and tests/million_steps.py.
 
 bindings/c/answers.c says what the arguments, the requests and the lines of output are."""
-import ctypes
 import sys
 import time
 
 import zsched
-from zsched.calls import Reply, library
-from zsched.schedules import _answer
 
 CODE = 503
 
 
-class Stated:
-    """A schedule that zs_step steps."""
-
-    def __init__(self, text):
-        self.data, size, at = text.encode(), ctypes.c_uint64(), ctypes.c_uint64()
-        zsched.faults.refuse(text, library().zs_state_size(self.data, len(self.data), size, at), at.value)
-        self.text, self.words, self.room = text, (ctypes.c_uint64 * size.value)(), ctypes.create_string_buffer(1 << 16)
-        zsched.faults.refuse(text, library().zs_begin(self.data, len(self.data), self.words, len(self.words), at), at.value)
-
-    def after(self, moment, value):
-        """Makes one more step, and returns its Answer."""
-        reply = Reply()
-        number = library().zs_step(self.data, len(self.data), self.words, len(self.words), moment, value, reply, self.room,
-                                   len(self.room))
-        zsched.faults.refuse(self.text, number, reply.at)
-        return _answer(number, reply, self.room)
-
-
-WAYS = {"list": zsched.Schedule, "state": Stated, "program": zsched.Stepper}
+WAYS = {"list": zsched.Schedule, "program": zsched.Stepper}
 
 
 def steps_of(text, numbers, begun):

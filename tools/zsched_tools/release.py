@@ -5,7 +5,7 @@ _HERE = pathlib.Path(__file__).resolve()
 
 
 def version():
-    """The version, as `0.2.0`."""
+    """The version, as `0.3.0`."""
     for folder in _HERE.parents[1:3]:
         file = folder / "VERSION"
         if file.is_file():

@@ -17,4 +17,4 @@ from .schedules import Answer, Bounds, Schedule, Stepper, bounds, check
 
 __all__ = ["Answer", "Attempt", "Bounds", "Fault", "Retrying", "Schedule", "ScheduleFault", "Stepper", "bounds", "check",
            "retrying"]
-__version__ = "0.2.0"
+__version__ = "0.3.0"

@@ -4,8 +4,8 @@ import functools
 import os
 import pathlib
 
-SONAME = "libzsched.so.0"
-MISSING = ("{fault}: the library is missing. Install libzsched0, or build it by tools/make-library in a tree of zsched, and "
+SONAME = "libzsched.so.1"
+MISSING = ("{fault}: the library is missing. Install libzsched1, or build it by tools/make-library in a tree of zsched, and "
            "name the built libzsched.so in ZSCHED_LIBRARY")
 
 
@@ -40,9 +40,6 @@ def library() -> ctypes.CDLL:
         "zs_check": [*text, place],
         "zs_answer": [*text, *words, reply, *text],
         "zs_bounds": [*text, number, ctypes.POINTER(Told), place],
-        "zs_state_size": [*text, place, place],
-        "zs_begin": [*text, *words, place],
-        "zs_step": [*text, *words, number, number, reply, *text],
         "zs_program_size": [*text, place, place, place],
         "zs_compile": [*text, *words, place],
         "zs_program_begin": [*words, *words],

@@ -5,28 +5,10 @@ use std::time::Instant;
 use zsched::{Answer, Fault, Schedule, Stepper};
 
 const CODE: u64 = 503;
-const ROOM: usize = 1 << 16;
-
-extern "C" {
-    fn zs_state_size(text: *const u8, text_len: usize, size: *mut u64, at: *mut u64) -> u32;
-    fn zs_begin(text: *const u8, text_len: usize, state: *mut u64, state_len: usize, at: *mut u64) -> u32;
-    fn zs_step(
-        text: *const u8,
-        text_len: usize,
-        state: *mut u64,
-        state_len: usize,
-        moment: u64,
-        input: u64,
-        reply: *mut [u64; 4],
-        out: *mut u8,
-        out_len: usize,
-    ) -> u32;
-}
 
 /// A schedule, by the call that steps it.
 enum Way {
     List(Schedule),
-    State(String, Vec<u64>),
     Program(Stepper),
 }
 
@@ -37,43 +19,10 @@ fn failure(fault: Fault) -> Failure {
     fault.number()
 }
 
-/// Returns the words of a text's state before any step.
-fn begun(text: &str) -> Result<Vec<u64>, Failure> {
-    let (mut size, mut at) = (0, 0);
-    // SAFETY: the pointer and the length are those of a text that is borrowed for the call, and the
-    // others are variables.
-    let number = unsafe { zs_state_size(text.as_ptr(), text.len(), &mut size, &mut at) };
-    if number != 0 {
-        return Err((number, at));
-    }
-    let mut words = vec![0; size as usize];
-    // SAFETY: as above, and the words are borrowed for the call.
-    let number = unsafe { zs_begin(text.as_ptr(), text.len(), words.as_mut_ptr(), words.len(), &mut at) };
-    if number == 0 { Ok(words) } else { Err((number, at)) }
-}
-
-/// Makes one step of a state.
-fn stepped(text: &str, words: &mut [u64], moment: u64, input: u64) -> Result<Answer, Failure> {
-    let (mut reply, mut out) = ([0; 4], vec![0; ROOM]);
-    let (state, len) = (words.as_mut_ptr(), words.len());
-    // SAFETY: the pointers and lengths are those of slices that are borrowed for the call, and
-    // overlap nothing.
-    let number = unsafe {
-        zs_step(text.as_ptr(), text.len(), state, len, moment, input, &mut reply, out.as_mut_ptr(), ROOM)
-    };
-    if number > 1 {
-        return Err((number, reply[3]));
-    }
-    out.truncate(reply[1] as usize);
-    let output = String::from_utf8(out).expect("an output's text is ASCII");
-    Ok(Answer { next: (number == 0).then_some(reply[0]), output, visits: reply[2] })
-}
-
 impl Way {
     fn new(way: &str, text: &str) -> Result<Way, Failure> {
         match way {
             "list" => Schedule::new(text).map(Way::List).map_err(failure),
-            "state" => begun(text).map(|words| Way::State(text.to_owned(), words)),
             _ => Stepper::new(text).map(Way::Program).map_err(failure),
         }
     }
@@ -81,7 +30,6 @@ impl Way {
     fn after(&mut self, moment: u64, input: u64) -> Result<Answer, Failure> {
         match self {
             Way::List(schedule) => schedule.after(moment, input).map_err(failure),
-            Way::State(text, words) => stepped(text, words, moment, input),
             Way::Program(stepper) => stepper.after(moment, input).map_err(failure),
         }
     }

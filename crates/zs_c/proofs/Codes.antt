@@ -6,7 +6,7 @@ use Rattle.zs_term.specs.Schedule.{Schedule, Pairing, Modifier, leaf, two, over,
 use Rattle.zs_term.specs.declared.forms.Plain.TheVariants.{Forever, Identity, Elapsed}
 use Rattle.zs_term.specs.declared.forms.Counted.TheVariants.{Recurs, Spaced, Fixed, Fibonacci, Linear, Windowed}
 use Rattle.zs_step.specs.History.{History}
-use Rattle.zs_step.specs.Words.{sequel_words}
+use Rattle.zs_c.specs.Words.{sequel_words}
 use Rattle.zs_step.specs.Answer.{answer_of, from_done, since_reset}
 use Rattle.zs_c.specs.Code.{code_of, modifier_code, held_of, IsCode}
 

@@ -7,7 +7,7 @@ use Rattle.zs_term.specs.declared.forms.Counted.TheVariants.{Recurs, Spaced, Fix
 use Rattle.zs_term.specs.declared.term.Func.{Func}
 use Rattle.zs_term.specs.declared.term.Func.TheVariants.{First, Second, Size, Merge, Const, Add, Mul}
 use Rattle.zs_step.specs.History.{History}
-use Rattle.zs_step.specs.Words.{KeepsNoList}
+use Rattle.zs_c.specs.Words.{KeepsNoList}
 use Rattle.zs_step.specs.Answer.{Answer, answer_of, from_done, sequel_of, since_reset}
 
 -- there is no list in an output

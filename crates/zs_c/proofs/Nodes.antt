@@ -10,7 +10,7 @@ use Rattle.zs_term.specs.declared.term.Pick.{Pick}
 use Rattle.zs_term.specs.declared.term.Pick.TheVariants.{Whole, First as PickFirst, Second as PickSecond, Size as PickSize}
 use Rattle.zs_term.specs.declared.term.Func.{Func}
 use Rattle.zs_term.specs.declared.term.Func.TheVariants.{First, Second, Size, Merge, Const, Add, Mul}
-use Rattle.zs_step.specs.Words.{KeepsNoList}
+use Rattle.zs_c.specs.Words.{KeepsNoList}
 use Rattle.zs_c.specs.declared.program.node.Node.{Node}
 use Rattle.zs_c.specs.Code.{cmp_word, pick_word, func_word, func_number, code_of}
 use Rattle.zs_c.specs.Node.{cmp_of, test_of, pick_of, func_of, rule_at, node_at, IsNode}

@@ -10,7 +10,7 @@ use Rattle.zs_step.specs.declared.decision.Decision.{Decision}
 use Rattle.zs_step.specs.History.{History}
 use Rattle.zs_step.specs.Answer.{answer_of, later_of, earlier_of, only_if, is_next, done_from, from_done, sequel_of, since_reset, reset_if}
 use Rattle.zs_step.specs.Visits.{visits, sequel_visits, reset_visits_if}
-use Rattle.zs_step.specs.Words.{sequel_words}
+use Rattle.zs_c.specs.Words.{sequel_words}
 use Rattle.zs_step.proofs.VisitBounds.{visits-le}
 use Rattle.zs_c.specs.Code.{held_of, held_size}
 use Rattle.zs_c.specs.Node.{word_at}

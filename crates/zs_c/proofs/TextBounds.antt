@@ -13,7 +13,7 @@ use Rattle.zs_term.specs.declared.term.Func.{Func}
 use Rattle.zs_term.specs.declared.term.Func.TheVariants.{First, Second, Size, Merge, Const, Add, Mul}
 use Rattle.zs_term.specs.Output.{applied, size_in, number_in}
 use Rattle.zs_step.specs.History.{History}
-use Rattle.zs_step.specs.Words.{KeepsNoList, sequel_words}
+use Rattle.zs_c.specs.Words.{KeepsNoList, sequel_words}
 use Rattle.zs_step.specs.Answer.{Answer, answer_of, leaf_answer, from_done, sequel_of, since_reset}
 use Rattle.zs_c.specs.Code.{code_of, func_number, held_of, leaf_held}
 use Rattle.zs_c.proofs.Listless.{Listless, answer-free, no-items}

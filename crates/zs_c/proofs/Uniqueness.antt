@@ -4,7 +4,7 @@ use Rattle.std.proofs.Math.Seq.{take-append_seam, drop-append_seam}
 use Rattle.zs_term.specs.Schedule.{Schedule, Pairing, Modifier, leaf, two, over, plain, counted, exponential, both, either, and_then, while_input, while_output, collect_all, mapped, reset_when}
 use Rattle.zs_term.specs.declared.forms.Plain.TheVariants.{Forever, Identity, Elapsed}
 use Rattle.zs_term.specs.declared.forms.Counted.TheVariants.{Recurs, Spaced, Fixed, Fibonacci, Linear, Windowed}
-use Rattle.zs_step.specs.Words.{KeepsNoList}
+use Rattle.zs_c.specs.Words.{KeepsNoList}
 use Rattle.zs_c.specs.Code.{code_of, modifier_code}
 use Rattle.zs_c.specs.Node.{rule_at, node_at, IsNode}
 use Rattle.zs_c.specs.Program.{program_of, IsProgram}

@@ -15,7 +15,7 @@ use Rattle.zs_term.specs.declared.term.Func.{Func}
 use Rattle.zs_term.specs.declared.term.Func.TheVariants.{First, Second, Size, Merge, Const, Add, Mul}
 use Rattle.zs_step.specs.History.{History}
 use Rattle.zs_step.specs.Answer.{answer_of, leaf_answer, from_done, since_reset}
-use Rattle.zs_step.specs.Words.{leaf_words, sequel_words, KeepsNoList}
+use Rattle.zs_c.specs.Words.{leaf_words, sequel_words, KeepsNoList}
 
 -- the words of a leaf's state: its last output, and what the next step needs to know
 abbrev pub leaf_held : Leaf → History → List ℕ

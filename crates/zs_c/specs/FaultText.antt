@@ -33,4 +33,4 @@ fault_text n at = if has_byte n then fault_words n ++ (codes " at byte " ++ deci
 -- the version: a million times the first of its numbers, plus a thousand times the second, plus the
 -- third
 abbrev pub version_number : ℕ
-version_number = 2000
+version_number = 3000

@@ -1,9 +1,9 @@
 -- Named by public clauses: a reader who relies on a clause has to believe what it names.
 pub mod Pairs
 pub mod Numbers
+pub mod Words
 pub mod Refusals
 pub mod Told
-pub mod States
 pub mod Bounded
 pub mod FaultText
 pub mod Code

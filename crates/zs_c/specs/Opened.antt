@@ -1,7 +1,7 @@
 -- The schedule of an opened program: for private contracts alone.
 use Rattle.std.specs.Prelude.{◌≡◌, true}
 use Rattle.zs_term.specs.Schedule.{Schedule, is_within_limits}
-use Rattle.zs_step.specs.Words.{KeepsNoList}
+use Rattle.zs_c.specs.Words.{KeepsNoList}
 use Rattle.zs_c.specs.declared.program.opening.Opened.{Opened}
 use Rattle.zs_c.specs.Code.{code_of, held_size}
 use Rattle.zs_c.specs.Program.{program_check}

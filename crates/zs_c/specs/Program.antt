@@ -3,7 +3,7 @@
 use Rattle.std.specs.Prelude.{◌≡◌, ℕ, ◌+◌, ◌*◌, ◌%◌, ◌^◌, true, List, ◌∷◌, ◌++◌, length, fold}
 use Rattle.zs_term.specs.Schedule.{Schedule, is_within_limits}
 use Rattle.zs_step.specs.History.{History, last_moment}
-use Rattle.zs_step.specs.Words.{KeepsNoList}
+use Rattle.zs_c.specs.Words.{KeepsNoList}
 use Rattle.zs_c.specs.declared.program.opening.TheConstants.{PROGRAM_VERSION, CHECK_FACTOR}
 use Rattle.zs_c.specs.Code.{code_of, held_of, held_size}
 

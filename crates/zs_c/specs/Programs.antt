@@ -10,7 +10,7 @@ use Rattle.zs_c.specs.declared.program.denial.Denial.TheVariants.{NoProgram, NoR
 use Rattle.zs_c.specs.Program.{program_of, program_check, program_state, IsProgram, KeepsProgramState}
 use Rattle.zs_c.specs.declared.refusal.Refusal.{Refusal}
 use Rattle.zs_c.specs.declared.refusal.Refusal.TheVariants.{NoPair, Falls as RefusalFalls, NotUtf8, Memory, KeepsList, NoRoom as RefusalNoRoom, Text}
-use Rattle.zs_c.specs.States.{SpellsFlat, IsSizeRefusal}
+use Rattle.zs_c.specs.Refusals.{SpellsFlat, IsSizeRefusal}
 use Rattle.zs_c.specs.Told.{TellsAnswer}
 
 -- the number of a denial

@@ -1,4 +1,5 @@
--- Why a text is rejected, and why its schedule has no result for a list of pairs.
+-- Why a text is rejected, why its schedule has no result for a list of pairs, and why it has no
+-- program.
 use Rattle.std.specs.Prelude.{◌≡◌, ℕ, List, [], Err}
 use Rattle.std.specs.Str.{IsUtf8}
 use Rattle.std.specs.Str.Lossy.{utf8_valid_len}
@@ -8,6 +9,7 @@ use Rattle.zs_term.specs.Verdict.{verdict_of}
 use Rattle.zs_c.specs.declared.refusal.Refusal.{Refusal}
 use Rattle.zs_c.specs.declared.refusal.Refusal.TheVariants.{NoPair, Falls, NotUtf8, Memory, KeepsList, NoRoom, Text}
 use Rattle.zs_c.specs.Pairs.{FallsFirstAt}
+use Rattle.zs_c.specs.Words.{KeepsNoList}
 
 -- the text spells a schedule
 abbrev pub SpellsSome : List ℕ → Type 0
@@ -34,3 +36,24 @@ IsRefusal text pairs (Text fault) = IsTextRefusal text (Text fault)
 IsRefusal text pairs Memory = IsTextRefusal text Memory
 IsRefusal text pairs KeepsList = ⊥
 IsRefusal text pairs NoRoom = ⊥
+
+-- the text spells a schedule that stores no list
+pub record SpellsFlat (text : List ℕ) (t : Schedule) : Type 0 where
+  pub spelled : SpellsSchedule text t
+  pub flat : KeepsNoList t
+
+-- the text spells a schedule that stores a list
+pub record SpellsListed (text : List ℕ) : Type 0 where
+  pub term : Schedule
+  pub spelled : SpellsSchedule text term
+  pub listed : KeepsNoList term → ⊥
+
+-- Why there is no program: the text is rejected; or it spells a schedule that stores a list.
+abbrev pub IsSizeRefusal : List ℕ → Refusal → Type 0
+IsSizeRefusal text KeepsList = SpellsListed text
+IsSizeRefusal text (NotUtf8 at) = IsTextRefusal text (NotUtf8 at)
+IsSizeRefusal text (Text fault) = IsTextRefusal text (Text fault)
+IsSizeRefusal text Memory = IsTextRefusal text Memory
+IsSizeRefusal text NoPair = ⊥
+IsSizeRefusal text (Falls at) = ⊥
+IsSizeRefusal text NoRoom = ⊥

@@ -50,6 +50,13 @@ pub record IsTextRefused (text : List ℕ) (n at : ℕ) : Type 0 where
   pub numbered : n ≡ refusal_number why
   pub place : at ≡ refusal_place why
 
+-- a number and a place are those of a reason that holds
+pub record IsRefusedFor (Holds : Refusal → Type 0) (n : ℕ) (place : ℕ) : Type 0 where
+  pub why : Refusal
+  pub is_so : Holds why
+  pub numbered : n ≡ refusal_number why
+  pub placed : place ≡ refusal_place why
+
 -- a step's result is that of the schedule of the text at the last of the pairs, which are in order
 pub record HasAnswer (text : List ℕ) (pairs : List (ℕ × ℕ)) (r : Stepped) : Type 0 where
   pub term : Schedule

@@ -7,15 +7,13 @@ ghost use Rattle.zs_c.specs.FaultText.{fault_text, version_number};
 ghost use Rattle.zs_c.specs.Numbers.{refusal_place};
 ghost use Rattle.zs_c.specs.Refusals.{SpellsSome};
 ghost use Rattle.zs_c.specs.Told.{IsAnswered, IsRefused, IsTextRefused, written};
-ghost use Rattle.zs_c.specs.States.{IsSizeRefusal, IsBeginRefusal, IsSized, IsBegun, IsStepped, IsRefusedFor, IsNotStepped};
 
 use crate::answering::{answered, schedule_in, told};
 use crate::bounding::{BoundsTold, bounds_in};
 use crate::refusal::Refusal;
 use crate::reply::Reply;
-use crate::room::{put, put_behind, put_words};
+use crate::room::{put, put_behind};
 use crate::seen::Seen;
-use crate::states::{fitting_words, new_words, stepped};
 use crate::texts::{fault_words, has_byte};
 use itoa::Buffer;
 use std::alloc::Global;
@@ -94,83 +92,6 @@ pub fn zs_bounds(
     }
 }
 
-/// Sets `size` to the number of words of the state of a text's schedule. Returns 0, or the number
-/// of an error, and then `size` is 0. Sets `at` to the byte at which a fault shows, or to 0.
-pub fn zs_state_size(alloc: Global, text: &[u8], size: &mut u64, at: &mut u64) -> u32
-    ensures sized { result ≡ 0 → IsSized text.now size.new }
-    ensures nowhere { result ≡ 0 → at.new ≡ 0 }
-    ensures refused { 0 < result → IsRefusedFor (IsSizeRefusal text.now) result at.new }
-    ensures nothing { 0 < result → size.new ≡ 0 }
-{
-    match new_words(alloc, text) {
-        Ok(words) => {
-            *size = words.len() as u64;
-            *at = 0;
-            0
-        }
-        Err(refusal) => {
-            *size = 0;
-            *at = refusal.place();
-            refusal.number()
-        }
-    }
-}
-
-/// Writes the state of a text's schedule before any step to the first words of `state`. Returns 0,
-/// or the number of an error, and sets `at` to the byte at which a fault shows, or to 0. After an
-/// error `state` is unchanged.
-pub fn zs_begin(alloc: Global, text: &[u8], state: &mut [u64], at: &mut u64) -> u32
-    ensures begun { result ≡ 0 → IsBegun text.now state.old state.new }
-    ensures nowhere { result ≡ 0 → at.new ≡ 0 }
-    ensures refused { 0 < result
-        → IsRefusedFor (IsBeginRefusal text.now (length state.old)) result at.new }
-    ensures kept { 0 < result → state.new ≡ state.old }
-{
-    match fitting_words(alloc, text, state) {
-        Ok(words) => {
-            put_words(state, &words);
-            *at = 0;
-            0
-        }
-        Err(refused) => {
-            *at = refused.place();
-            refused.number()
-        }
-    }
-}
-
-/// Steps a text's schedule once, from the state that `state` represents. Returns 0 if the schedule
-/// continues, 1 if it is done, else the number of an error. The words then represent the state
-/// after that step. After an error `state` and `out` are unchanged.
-pub fn zs_step(
-    alloc: Global,
-    text: &[u8],
-    state: &mut [u64],
-    moment: u64,
-    input: u64,
-    reply: &mut Reply,
-    out: &mut [u8],
-) -> u32
-    ensures stepped { result ≤ 1
-        → IsStepped text.now state.old state.new moment input result reply.new out.old out.new }
-    ensures refused { 1 < result → IsNotStepped text.now state.old moment result reply.new }
-    ensures stays { 1 < result → state.new ≡ state.old }
-    ensures kept { 1 < result → out.new ≡ out.old }
-{
-    let refusal = match stepped(alloc, text, state, moment, input) {
-        Ok((answer, after)) => match told(alloc, &answer, reply, out) {
-            Ok(number) => {
-                put_words(state, &after);
-                return number;
-            }
-            Err(refusal) => refusal,
-        },
-        Err(refusal) => refusal,
-    };
-    *reply = refused_at(refusal);
-    refusal.number()
-}
-
 /// Writes the text of a number, and of the place that goes with it, to the front of `out`, as far
 /// as it fits. Returns the length of the text in bytes: 0 if the number is no fault.
 pub fn zs_fault_text(number: u32, at: u64, out: &mut [u8]) -> u64
@@ -195,7 +116,7 @@ pub fn zs_fault_text(number: u32, at: u64, out: &mut [u8]) -> u64
 pub fn zs_version() -> u32
     ensures value { result ≡ version_number }
 {
-    2_000
+    3_000
 }
 
 // Returns the reply for an error: its place, and 0 in all other fields.

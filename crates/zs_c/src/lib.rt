@@ -2,9 +2,9 @@
 //!
 //! No call stores anything. The state of a schedule is the list of the moments and inputs that it
 //! has seen, and the caller stores that list. `zs_check` returns whether a text is a schedule.
-//! `zs_answer` returns the result of that schedule at the last step of a list. `zs_begin` and
-//! `zs_step` use a fixed number of words in place of the list. `zs_bounds` returns what the
-//! schedule does for every input.
+//! `zs_answer` returns the result of that schedule at the last step of a list. `zs_compile` writes
+//! the schedule as a program, and `zs_program_step` steps it from a fixed number of words in place
+//! of the list. `zs_bounds` returns what the schedule does for every input.
 //!
 //! `include/zsched.h` says how C calls them. Begin with `specs/Told.antt`.
 #![tactic(auto)]
@@ -12,19 +12,17 @@
 mod answering;
 mod bounding;
 mod exports;
+mod flat;
 mod following;
 mod program;
 mod refusal;
 mod reply;
 mod room;
 mod seen;
-mod states;
 mod texts;
 
 pub use bounding::BoundsTold;
-pub use exports::{
-    zs_answer, zs_begin, zs_bounds, zs_check, zs_fault_text, zs_state_size, zs_step, zs_version,
-};
+pub use exports::{zs_answer, zs_bounds, zs_check, zs_fault_text, zs_version};
 pub use program::exports::{zs_compile, zs_program_begin, zs_program_size, zs_program_step};
 pub use program::laws::one_schedule;
 pub use reply::Reply;

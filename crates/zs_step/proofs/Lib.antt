@@ -13,4 +13,3 @@ pub mod LastReset
 pub mod VisitBounds
 pub mod Moments
 pub mod Boundaries
-pub mod WordLengths

@@ -7,7 +7,6 @@ use Rattle.zs_step.specs.History.{History}
 use Rattle.zs_step.specs.Memory.{is_bare}
 use Rattle.zs_step.specs.State.{modifier_of, over_all}
 use Rattle.zs_step.specs.Visits.{visits}
-use Rattle.zs_step.specs.Words.{words_of, KeepsNoList}
 
 -- a modifier outside of all others
 pub over_push : (t : Schedule) (ms : List Modifier) (m : Modifier) → over_all t (ms ++ m ∷ []) ≡ over (over_all t ms) (modifier_of m)
@@ -43,23 +42,3 @@ bare-one t (Map f) = refl
 pub bare_over : (t : Schedule) (ms : List Modifier) → is_bare (over_all t ms) ≡ is_bare t
 bare_over t [] = refl
 bare_over t (m ∷ ms) = bare_over (over t (modifier_of m)) ms ∙ bare-one t m
-
--- none has words
-words-one : (t : Schedule) (m : Modifier) (h : History) → words_of (over t (modifier_of m)) h ≡ words_of t h
-words-one t (WhileInput x) h = refl
-words-one t (WhileOutput k x) h = refl
-words-one t (Map f) h = refl
-
-pub words_over : (t : Schedule) (ms : List Modifier) (h : History) → words_of (over_all t ms) h ≡ words_of t h
-words_over t [] h = refl
-words_over t (m ∷ ms) h = words_over (over t (modifier_of m)) ms h ∙ words-one t m h
-
--- none stores a list
-listless-one : (t : Schedule) (m : Modifier) → KeepsNoList (over t (modifier_of m)) → KeepsNoList t
-listless-one t (WhileInput x) k = k.1
-listless-one t (WhileOutput p x) k = k.1
-listless-one t (Map f) k = k.1
-
-pub listless_over : (t : Schedule) (ms : List Modifier) → KeepsNoList (over_all t ms) → KeepsNoList t
-listless_over t [] k = k
-listless_over t (m ∷ ms) k = listless-one t m (listless_over (over t (modifier_of m)) ms k)

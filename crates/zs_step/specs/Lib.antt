@@ -8,7 +8,6 @@ pub mod Collected
 pub mod State
 pub mod Compiled
 pub mod Memory
-pub mod Words
 pub mod Laws
 -- What the code stores. Only private contracts name these.
 pub mod Turn

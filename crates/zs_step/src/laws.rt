@@ -14,7 +14,6 @@ ghost use Rattle.zs_step.specs.declared.decision.Decision.TheVariants.{Next};
 ghost use Rattle.zs_step.specs.History.{History, first_moment, last_moment, IsInOrder};
 ghost use Rattle.zs_step.specs.Answer.{answer, answer_of, from_done, since_reset, next_run};
 ghost use Rattle.zs_step.specs.Visits.{visits};
-ghost use Rattle.zs_step.specs.Words.{state_words};
 ghost use Rattle.zs_step.specs.Laws.{GoesOnThroughout, IsFromFirstDone, IsNextBoundary, IsNotBefore, IsWithoutReset, resets_at};
 
 /// The second part of `andThenEither` begins at the least step at which the first is done, and
@@ -90,10 +89,4 @@ pub fn a_fixed_run_is_at_the_next_boundary()
         → (answer_of (leaf (fixed n)) (p ∷ (q ∷ h))).decision ≡ Next (saturated x) }
     ensures behind { (n : ℕ) (p q : ℕ × ℕ) (h : History) → next_run n (q ∷ h) + n < p.0
         → (answer_of (leaf (fixed n)) (p ∷ (q ∷ h))).decision ≡ Next p.0 }
-{}
-
-/// The number of words of a schedule's state is the same after any steps.
-pub fn a_state_has_as_many_words_at_any_step()
-    ensures value { (t : Schedule) (h g : History)
-        → length (state_words t h) ≡ length (state_words t g) }
 {}

@@ -7,11 +7,9 @@ ghost use Rattle.zs_term.specs.Schedule.{fixed};
 ghost use Rattle.zs_step.specs.History.{History};
 ghost use Rattle.zs_step.specs.Answer.{answer, leaf_answer};
 ghost use Rattle.zs_step.specs.LeafState.{state_leaf, StandsForSteps, LeafRepresents, FixedRepresents};
-ghost use Rattle.zs_step.specs.Words.{leaf_words};
 
 use crate::decision::Decision;
 use crate::leaves::{run_after, window_end};
-use std::alloc::AllocError;
 
 // The number of steps so far, and the moment of the first one, or 0.
 #[derive(Drop)]
@@ -139,77 +137,6 @@ fn count(steps: &mut u64) -> u64
     before
 }
 
-// Reads the first word, or 0 if there is none, and returns the words after it.
-pub(crate) fn take<'a>(number: &mut u64, words: &'a [u64]) -> &'a [u64]
-    ensures first { (w : ℕ) (rest : List ℕ) → words.now ≡ w ∷ rest
-        → (number.new ≡ w) × (result.now ≡ rest) }
-{
-    match words.split_first() {
-        Some((first, rest)) => {
-            *number = *first;
-            rest
-        }
-        None => {
-            *number = 0;
-            words
-        }
-    }
-}
-
-// Reads the number of steps and the moment of the first one, and returns the words after them.
-fn take_past<'a>(past: &mut Past, words: &'a [u64]) -> &'a [u64]
-    ensures both { (m n : ℕ) (rest : List ℕ) → words.now ≡ m ∷ (n ∷ rest)
-        → (past.new.steps ≡ m) × (past.new.first ≡ n) × (result.now ≡ rest) }
-{
-    let rest = take(&mut past.steps, words);
-    take(&mut past.first, rest)
-}
-
-// Reads a leaf's state from words, and returns the words after it.
-pub(crate) fn load_leaf<'a>(leaf: &mut LeafState, words: &'a [u64]) -> &'a [u64]
-    ensures same { state_leaf leaf.new ≡ state_leaf leaf.old }
-    ensures stands { (h : History) (rest : List ℕ)
-        → words.now ≡ leaf_words (state_leaf leaf.old) h ++ rest
-        → LeafRepresents leaf.new h × (result.now ≡ rest) }
-{
-    match leaf {
-        LeafState::Forever { steps } => take(steps, words),
-        LeafState::Recurs { steps, .. } => take(steps, words),
-        LeafState::Spaced { steps, .. } => take(steps, words),
-        LeafState::Exponential { wait, .. } => take(wait, words),
-        LeafState::Fibonacci { last, next, .. } => {
-            let rest = take(last, words);
-            take(next, rest)
-        }
-        LeafState::Identity => words,
-        LeafState::Elapsed { past } => take_past(past, words),
-        LeafState::Linear { last, .. } => take(last, words),
-        LeafState::Windowed { past, .. } => take_past(past, words),
-    }
-}
-
-// Appends the words of a leaf's state.
-pub(crate) fn save_leaf(leaf: &LeafState, words: &mut Vec<u64>) -> Result<(), AllocError>
-    ensures ok { OnOk result
-        ((h : History) → LeafRepresents leaf.now h
-        → words.new.items ≡ words.old.items ++ leaf_words (state_leaf leaf.now) h) }
-    ensures len { OnOk result
-        (length words.new.items
-        ≡ length words.old.items + length (leaf_words (state_leaf leaf.now) [])) }
-{
-    match leaf {
-        LeafState::Forever { steps } => Ok(words.push(*steps)?),
-        LeafState::Recurs { steps, .. } => Ok(words.push(*steps)?),
-        LeafState::Spaced { steps, .. } => Ok(words.push(*steps)?),
-        LeafState::Exponential { wait, .. } => Ok(words.push(*wait)?),
-        LeafState::Fibonacci { last, next, .. } => words.extend_from_slice(&[*last, *next]),
-        LeafState::Identity => Ok(()),
-        LeafState::Elapsed { past } => words.extend_from_slice(&[past.steps, past.first]),
-        LeafState::Linear { last, .. } => Ok(words.push(*last)?),
-        LeafState::Windowed { past, .. } => words.extend_from_slice(&[past.steps, past.first]),
-    }
-}
-
 // The period of `fixed`, its steps so far and its next run.
 #[derive(Drop)]
 pub(crate) struct FixedState {
@@ -256,28 +183,5 @@ impl FixedState {
     {
         self.past = Past::none();
         self.run = 0;
-    }
-
-    // Reads the state from words, and returns the words after it.
-    pub(crate) fn load<'a>(&mut self, words: &'a [u64]) -> &'a [u64]
-        ensures same { self.new.period ≡ self.old.period }
-        ensures stands { (h : History) (rest : List ℕ)
-            → words.now ≡ leaf_words (fixed self.old.period) h ++ rest
-            → FixedRepresents self.new h × (result.now ≡ rest) }
-    {
-        let rest = take_past(&mut self.past, words);
-        take(&mut self.run, rest)
-    }
-
-    // Appends the words of the state.
-    pub(crate) fn save(&self, words: &mut Vec<u64>) -> Result<(), AllocError>
-        ensures ok { OnOk result
-            ((h : History) → FixedRepresents self.now h
-            → words.new.items ≡ words.old.items ++ leaf_words (fixed self.now.period) h) }
-        ensures len { OnOk result
-            (length words.new.items
-            ≡ length words.old.items + length (leaf_words (fixed self.now.period) [])) }
-    {
-        words.extend_from_slice(&[self.past.steps, self.past.first, self.run])
     }
 }

@@ -27,7 +27,6 @@ mod stepped;
 mod stepper;
 mod stepping;
 mod turn;
-mod words;
 
 pub use compiled::Compiled;
 pub use decision::Decision;
@@ -37,10 +36,9 @@ pub use following::follow;
 pub use interval::Interval;
 pub use laws::{
     a_fixed_run_is_at_the_next_boundary, a_part_counts_from_its_last_reset,
-    a_state_has_as_many_words_at_any_step, a_window_ends_at_the_next_boundary,
-    decisions_are_not_in_the_past, outputs_have_kinds, recurs_is_forever_below_its_limit,
-    second_part_begins_where_the_first_is_done, visits_are_at_most_the_weight,
+    a_window_ends_at_the_next_boundary, decisions_are_not_in_the_past, outputs_have_kinds,
+    recurs_is_forever_below_its_limit, second_part_begins_where_the_first_is_done,
+    visits_are_at_most_the_weight,
 };
 pub use stepped::Stepped;
 pub use stepper::Stepper;
-pub use words::{keeps_no_list, new_words, step_words};

@@ -6,7 +6,6 @@ ghost use Rattle.zs_c.specs.Pairs.{pairs_of};
 ghost use Rattle.zs_c.specs.FaultText.{fault_text, version_number};
 ghost use Rattle.zs_c.specs.Refusals.{SpellsSome};
 ghost use Rattle.zs_c.specs.Told.{IsAnswered, IsRefused, IsTextRefused, written};
-ghost use Rattle.zs_c.specs.States.{IsSizeRefusal, IsBeginRefusal, IsSized, IsBegun, IsStepped, IsRefusedFor, IsNotStepped};
 
 use std::alloc::Global;
 use zs_c::{BoundsTold, Reply, Seen};
@@ -58,54 +57,6 @@ pub extern "C" fn zs_bounds(
     ensures nothing { 0 < result → bounds.new ≡ no_bounds_told }
 {
     zs_c::zs_bounds(alloc, text, steps, bounds, at)
-}
-
-/// Sets `size` to the number of words of the state of a text's schedule. Returns 0, or the number
-/// of an error, and then `size` is 0. Sets `at` to the byte at which a fault shows, or to 0.
-#[unsafe(no_mangle)]
-pub extern "C" fn zs_state_size(alloc: Global, text: &[u8], size: &mut u64, at: &mut u64) -> u32
-    ensures sized { result ≡ 0 → IsSized text.now size.new }
-    ensures nowhere { result ≡ 0 → at.new ≡ 0 }
-    ensures refused { 0 < result → IsRefusedFor (IsSizeRefusal text.now) result at.new }
-    ensures nothing { 0 < result → size.new ≡ 0 }
-{
-    zs_c::zs_state_size(alloc, text, size, at)
-}
-
-/// Writes the state of a text's schedule before any step to the first words of `state`. Returns 0,
-/// or the number of an error, and sets `at` to the byte at which a fault shows, or to 0. After an
-/// error `state` is unchanged.
-#[unsafe(no_mangle)]
-pub extern "C" fn zs_begin(alloc: Global, text: &[u8], state: &mut [u64], at: &mut u64) -> u32
-    ensures begun { result ≡ 0 → IsBegun text.now state.old state.new }
-    ensures nowhere { result ≡ 0 → at.new ≡ 0 }
-    ensures refused { 0 < result
-        → IsRefusedFor (IsBeginRefusal text.now (length state.old)) result at.new }
-    ensures kept { 0 < result → state.new ≡ state.old }
-{
-    zs_c::zs_begin(alloc, text, state, at)
-}
-
-/// Steps a text's schedule once, from the state that `state` represents. Returns 0 if the schedule
-/// continues, 1 if it is done, else the number of an error. The words then represent the state
-/// after that step. After an error `state` and `out` are unchanged.
-#[unsafe(no_mangle)]
-pub extern "C" fn zs_step(
-    alloc: Global,
-    text: &[u8],
-    state: &mut [u64],
-    moment: u64,
-    input: u64,
-    reply: &mut Reply,
-    out: &mut [u8],
-) -> u32
-    ensures stepped { result ≤ 1
-        → IsStepped text.now state.old state.new moment input result reply.new out.old out.new }
-    ensures refused { 1 < result → IsNotStepped text.now state.old moment result reply.new }
-    ensures stays { 1 < result → state.new ≡ state.old }
-    ensures kept { 1 < result → out.new ≡ out.old }
-{
-    zs_c::zs_step(alloc, text, state, moment, input, reply, out)
 }
 
 /// Writes the text of a number, and of the place that goes with it, to the front of `out`, as far

@@ -3,12 +3,6 @@
 // bindings/c/answers.c says what the arguments, the requests and the lines of output are.
 package main
 
-/*
-#cgo LDFLAGS: -lzsched
-#include <zsched.h>
-*/
-import "C"
-
 import (
 	"bufio"
 	"encoding/hex"
@@ -22,63 +16,15 @@ import (
 	"zsched"
 )
 
-const (
-	code = 503
-	room = 1 << 16
-)
+const code = 503
 
 type follower interface {
 	After(moment, input uint64) (zsched.Answer, error)
 }
 
-// stated is a schedule that zs_step steps.
-type stated struct {
-	text  []byte
-	words []uint64
-}
-
-// first returns the address of bytes, or nil if there are none.
-func first(data []byte) *C.uint8_t {
-	if len(data) == 0 {
-		return nil
-	}
-	return (*C.uint8_t)(&data[0])
-}
-
-func errorOf(number C.uint32_t, at C.uint64_t) error {
-	if number <= 1 {
-		return nil
-	}
-	return &zsched.Fault{Number: uint32(number), At: uint64(at)}
-}
-
-func newStated(text string) (*stated, error) {
-	data, size, at := []byte(text), C.uint64_t(0), C.uint64_t(0)
-	if err := errorOf(C.zs_state_size(first(data), C.size_t(len(data)), &size, &at), at); err != nil {
-		return nil, err
-	}
-	words := make([]uint64, size)
-	number := C.zs_begin(first(data), C.size_t(len(data)), (*C.uint64_t)(&words[0]), C.size_t(size), &at)
-	return &stated{data, words}, errorOf(number, at)
-}
-
-func (it *stated) After(moment, input uint64) (zsched.Answer, error) {
-	var reply C.zs_reply
-	out := make([]byte, room)
-	number := C.zs_step(first(it.text), C.size_t(len(it.text)), (*C.uint64_t)(&it.words[0]), C.size_t(len(it.words)),
-		C.uint64_t(moment), C.uint64_t(input), &reply, first(out), room)
-	if err := errorOf(number, reply.at); err != nil {
-		return zsched.Answer{}, err
-	}
-	return zsched.Answer{Done: number == 1, Next: uint64(reply.next), Output: string(out[:reply.size]), Visits: uint64(reply.visits)}, nil
-}
-
 // begun returns the schedule of a text, which is stepped in this way.
 func begun(way, text string) (follower, error) {
-	switch way {
-	case "state":
-		return newStated(text)
-	case "program":
+	if way == "program" {
 		return zsched.NewStepper(text)
 	}
 	return zsched.New(text)

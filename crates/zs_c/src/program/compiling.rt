@@ -1,12 +1,12 @@
 //! The program of a text's schedule.
 
 ghost use Rattle.std.specs.Prelude.{◌≡◌, ◌≤◌, length, IfOk, IfErr};
-ghost use Rattle.zs_c.specs.States.{IsSizeRefusal};
+ghost use Rattle.zs_c.specs.Refusals.{IsSizeRefusal};
 ghost use Rattle.zs_c.specs.Programs.{IsNewProgram, IsProgramSized, IsCompileRefusal};
 
+use crate::flat::flat_schedule_in;
 use crate::program::coding::{new_program, state_size};
 use crate::refusal::Refusal;
-use crate::states::flat_schedule_in;
 use std::alloc::Global;
 
 // Returns the number of words of the program of a text's schedule, and that of its state.

@@ -4,7 +4,8 @@ ghost use Rattle.std.specs.Prelude.{◌≡◌, ◌<◌, ◌≤◌, length};
 ghost use Rattle.zs_term.specs.Schedule.{Schedule};
 ghost use Rattle.zs_c.specs.Program.{IsProgram};
 ghost use Rattle.zs_c.specs.Programs.{IsProgramSized, IsCompiled, IsCompileRefusal, IsUnfit, IsDenied, IsDeniedFor, IsProgramBegun, IsProgramStepped};
-ghost use Rattle.zs_c.specs.States.{IsSizeRefusal, IsRefusedFor};
+ghost use Rattle.zs_c.specs.Refusals.{IsSizeRefusal};
+ghost use Rattle.zs_c.specs.Told.{IsRefusedFor};
 
 use crate::program::compiling::{fitting_program, sizes_in};
 use crate::program::leaf::Step;

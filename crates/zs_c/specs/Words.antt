@@ -1,12 +1,12 @@
--- The state between two steps as words, defined by the schedule and the history alone. The lists of
--- `collectAll` aren't among the words.
-use Rattle.std.specs.Prelude.{◌≡◌, ℕ, suc, ◌*◌, ◌^◌, Option, Some, None, List, [], ◌∷◌, ◌++◌, length}
+-- The words in which a program's state stores a leaf and an `andThenEither`, and the schedules that
+-- have a program: those that store no list.
+use Rattle.std.specs.Prelude.{ℕ, suc, ◌*◌, ◌^◌, Option, Some, None, List, [], ◌∷◌, ◌++◌, length}
 use Rattle.zs_term.specs.Saturating.{saturated}
-use Rattle.zs_term.specs.Schedule.{Schedule, leaf, two, over, Leaf, plain, counted, exponential, both, either, and_then, Modifier, while_input, while_output, collect_all, mapped, reset_when}
+use Rattle.zs_term.specs.Schedule.{Schedule, leaf, two, over, Leaf, plain, counted, exponential, Modifier, while_input, while_output, collect_all, mapped, reset_when}
 use Rattle.zs_term.specs.declared.forms.Plain.TheVariants.{Forever, Identity, Elapsed}
 use Rattle.zs_term.specs.declared.forms.Counted.TheVariants.{Recurs, Spaced, Fixed, Fibonacci, Linear, Windowed}
-use Rattle.zs_step.specs.History.{History, first_moment, last_moment}
-use Rattle.zs_step.specs.Answer.{answer_of, fibonacci_number, next_run, from_done, since_reset}
+use Rattle.zs_step.specs.History.{History, first_moment}
+use Rattle.zs_step.specs.Answer.{fibonacci_number, next_run}
 
 -- the words of a leaf
 abbrev pub leaf_words : Leaf → History → List ℕ
@@ -26,26 +26,6 @@ leaf_words (counted Windowed n) h = saturated (length h) ∷ (first_moment h ∷
 abbrev pub sequel_words : Option History → (History → List ℕ) → (History → List ℕ) → History → List ℕ
 sequel_words None a b h = 0 ∷ (a h ++ b [])
 sequel_words (Some g) a b h = 1 ∷ (a [] ++ b g)
-
--- the words of a schedule
-abbrev pub words_of : Schedule → History → List ℕ
-words_of (leaf l) h = leaf_words l h
-words_of (two both a b) h = words_of a h ++ words_of b h
-words_of (two either a b) h = words_of a h ++ words_of b h
-words_of (two and_then a b) h = sequel_words (from_done (answer_of a) h) (words_of a) (words_of b) h
-words_of (over s (while_input t)) h = words_of s h
-words_of (over s (while_output k t)) h = words_of s h
-words_of (over s collect_all) h = words_of s h
-words_of (over s (mapped f)) h = words_of s h
-words_of (over s (reset_when k t)) h = words_of s (since_reset (answer_of s) k t h)
-
--- the words of a stepped schedule: the last moment, and those of its state
-abbrev pub state_words : Schedule → History → List ℕ
-state_words t h = last_moment h ∷ words_of t h
-
--- some words begin with those of a schedule's state after a history
-abbrev pub KeepsState : Schedule → History → List ℕ → Type 0
-KeepsState t h words = (more : List ℕ) × (words ≡ state_words t h ++ more)
 
 -- a modifier that stores no list
 abbrev pub CollectsNothing : Modifier → Type 0
