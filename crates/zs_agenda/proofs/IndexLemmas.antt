@@ -1,10 +1,8 @@
--- Lemmas about how an agenda is stored: by moment and by job.
-use Rattle.std.proofs.Common.{◌≡◌, ◌≢◌, ◌<◌, ◌≤◌, ◌+◌, ◌-◌, ◌==◌, ◌↔◌, ◌||◌, ℕ, suc, Bool, true, false, cond, List, [], ◌∷◌, ◌++◌, length, Option, Some, None, IsNone, IfSome, Contains, refl, sym, ap, subst, ◌∙◌, arith, nat_eq, nat_lt, nat_le, nat_cmp, insert, get_or, take, length-take, unwrap_or}
+-- Lemmas about the two maps of an agenda.
+use Rattle.std.proofs.Common.{◌≡◌, ◌≢◌, ◌<◌, ◌≤◌, ◌+◌, ◌==◌, ◌↔◌, ◌||◌, ℕ, suc, Bool, true, false, cond, List, [], ◌∷◌, length, Option, Some, None, IsSome, Contains, refl, sym, ap, subst, ◌∙◌, arith, nat_lt, nat_cmp, insert, unwrap_or}
 use Rattle.std.proofs.lemmas.Bool.Decides.{nat_tests, Decides-eqb}
-use Rattle.std.proofs.lemmas.Grind.{get_or_head, get_or_tail}
-use Rattle.std.proofs.lemmas.List.{get_or-take, get_or_past}
 use Rattle.std.proofs.lemmas.List.Elements.{All-from_recursion, All-contains, Contains-append_right}
-use Rattle.std.proofs.lemmas.Map.Keys.{IsStrictlyIncreasing-from_sorted}
+use Rattle.std.proofs.lemmas.Map.Keys.{IsStrictlyIncreasing-from_sorted, le_from_not_gt}
 use Rattle.std.specs.List.{AllByRecursion, list_any, prefix_len}
 use Rattle.std.specs.List.Sorted.{IsStrictlySortedBy, IsStrictlyIncreasing}
 use Rattle.std.specs.Cmp.{nat_cmp_total, unsigned_tied}
@@ -12,11 +10,10 @@ use Rattle.std.specs.Ordering.{eq_by_cmp}
 use Rattle.std.specs.FinMap as map_of
 use Rattle.std.specs.BTreeMap as tree
 use Rattle.std.specs.Map.{lookup}
+use Rattle.std.specs.Global.{Vec}
 use Rattle.std.specs.declared.cmp.Ordering.TheVariants.{Less}
-use Rattle.zs_agenda.specs.declared.by_job.ByJob.{ByJob}
-use Rattle.zs_agenda.specs.declared.by_moment.ByMoment.{ByMoment}
 use Rattle.zs_agenda.specs.Timers.{Moments, IsAfter, IsLeastMoment, Takes}
-use Rattle.zs_agenda.specs.Indexes.{Loses, IsFirst, IsInOrder, Clears, Puts, Forgets, HasSameMoments, IsAgenda, jobs_at, moment_in, is_among, IsRising, placed, moments_of, table_size, with_places, Agrees}
+use Rattle.zs_agenda.specs.Indexes.{ByJob, ByMoment, Puts, Forgets, HasSameMoments, IsAgenda, items_of, jobs_at, is_among, IsRising, placed, moments_of, Agrees}
 
 -- ---- lists of jobs
 -- what is true of each element is true of each in a weaker form
@@ -46,31 +43,6 @@ insert-is-placed job (j ∷ js) =
       | true ↦ let one : 1 + n ≡ suc n = omega arith in rw one (ap (λ (r : List ℕ). j ∷ r) (insert-is-placed job js))
       | false ↦ refl
     ]
-
--- a job greater than the last of a rising list is greater than the first
-first-below : (job j : ℕ) (js : List ℕ) → IsRising (j ∷ js) → get_or (j ∷ js) (length js) 0 < job → j < job
-first-below job j [] h last = last
-first-below job j (k ∷ js) h last =
-    let below : k < job = first-below job k js h.1 last in
-    let rises : j < k = h.0.0 in
-    omega arith
-
--- such a job goes after all of them
-placed-behind : (job j : ℕ) (js : List ℕ) → IsRising (j ∷ js) → get_or (j ∷ js) (length js) 0 < job → placed job (j ∷ js) ≡ (j ∷ js) ++ job ∷ []
-placed-behind job j [] h last =
-    let is : nat_lt j job ≡ true = grind (arith, nat_tests) in
-    rw is refl
-placed-behind job j (k ∷ js) h last =
-    let below : j < job = first-below job j (k ∷ js) h last in
-    let is : nat_lt j job ≡ true = grind (arith, nat_tests) in
-    rw is (ap (λ (r : List ℕ). j ∷ r) (placed-behind job k js h.1 last))
-
--- a job goes last if the list is empty, or its last job is less
-pub placed-last : (job : ℕ) (js : List ℕ) → IsRising js → (0 < length js → get_or js (length js - 1) 0 < job) → placed job js ≡ js ++ job ∷ []
-placed-last job [] h last = refl
-placed-last job (j ∷ js) h last =
-    let few : length (j ∷ js) - 1 ≡ length js = omega arith in
-    placed-behind job j js h (subst (λ (n : ℕ). get_or (j ∷ js) n 0 < job) few (last (omega arith)))
 
 -- the jobs of a list after an insertion
 pub has-placed : (q job : ℕ) (js : List ℕ) → has q (placed job js) ≡ (job == q || has q js)
@@ -165,122 +137,28 @@ has-first [] h = absurd (h refl)
 has-first (j ∷ js) h = (j, ap (λ (b : Bool). b || has j js) ((Decides-eqb j j).1 refl))
 
 -- ---- look-ups
--- a key's place is the one with an equal key
-pub tied : (a b : ℕ) → tree.is_at (nat_cmp a) b ≡ (a == b)
-tied a b = unsigned_tied a b
-
 -- two ways to look up a job in the entries
-find-lookup : (q : ℕ) (es : List (ℕ × ℕ)) → map_of.find nat_cmp q es ≡ lookup (nat_eq q) es
+find-lookup : (q : ℕ) (es : List (ℕ × ℕ)) → map_of.find nat_cmp q es ≡ lookup (tree.is_at (nat_cmp q)) es
 find-lookup q [] = refl
-find-lookup q (e ∷ es) =
-    ap (λ (o : Option ℕ). cond (tree.is_at (nat_cmp q) e.0) (Some e.1) o) (find-lookup q es)
-    ∙ ap (λ (b : Bool). cond b (Some e.1) (lookup (nat_eq q) es)) (tied q e.0)
-
--- the first moment if there is one, else the second
-abbrev either : Option ℕ → Option ℕ → Option ℕ
-either None o = o
-either (Some moment) o = Some moment
-
--- a job at the first place of a table, or after it
-first_place : (o : Option ℕ) (places : List (Option ℕ)) (b q : ℕ) (x : Option ℕ)
-    → cond (q == b) (either o x) (cond (nat_lt q (b + 1)) x (either (get_or places (q - (b + 1)) None) x))
-    ≡ cond (nat_lt q b) x (either (get_or (o ∷ places) (q - b) None) x)
-first_place o places b q x =
-    elim (nat_lt q b) as (λ t. nat_lt q b ≡ t
-    → cond (q == b) (either o x) (cond (nat_lt q (b + 1)) x (either (get_or places (q - (b + 1)) None) x))
-    ≡ cond t x (either (get_or (o ∷ places) (q - b) None) x)) [
-      | true ↦ λ is.
-          let apart : (q == b) ≡ false = grind (arith, nat_tests) in
-          let below : nat_lt q (b + 1) ≡ true = grind (arith, nat_tests) in
-          rw (apart, below) refl
-      | false ↦ λ is.
-          elim (q == b) as (λ t. (q == b) ≡ t
-          → cond t (either o x) (cond (nat_lt q (b + 1)) x (either (get_or places (q - (b + 1)) None) x))
-          ≡ either (get_or (o ∷ places) (q - b) None) x) [
-            | true ↦ λ same.
-                let zero_behind : q - b ≡ 0 = grind (arith, nat_tests) in
-                ap (λ (p : Option ℕ). either p x) (sym (get_or_head o places (q - b) None zero_behind))
-            | false ↦ λ apart.
-                let behind : nat_lt q (b + 1) ≡ false = grind (arith, nat_tests) in
-                let some_behind : 0 < q - b = grind (arith, nat_tests) in
-                let one_less : q - b - 1 ≡ q - (b + 1) = omega arith in
-                let there : get_or (o ∷ places) (q - b) None ≡ get_or places (q - (b + 1)) None =
-                get_or_tail o places (q - b) None some_behind ∙ ap (λ (i : ℕ). get_or places i None) one_less in
-                rw behind (ap (λ (p : Option ℕ). either p x) (sym there))
-          ] refl
-    ] refl
-
--- one more place without a moment
-no_moment_there : (b q : ℕ) (x y : Option ℕ) → cond (nat_lt q (b + 1)) x y ≡ cond (q == b) x (cond (nat_lt q (b + 1)) x y)
-no_moment_there b q x y =
-    elim (q == b) as (λ t. (q == b) ≡ t → cond (nat_lt q (b + 1)) x y ≡ cond t x (cond (nat_lt q (b + 1)) x y)) [
-      | true ↦ λ same. let below : nat_lt q (b + 1) ≡ true = grind (arith, nat_tests) in rw below refl
-      | false ↦ λ _. refl
-    ] refl
-
-same_either_way : (t : Bool) (x : Option ℕ) → x ≡ cond t x x
-same_either_way true x = refl
-same_either_way false x = refl
-
--- a job's moment is the one at its place if there is one, else the other
-get-with_places : (b : ℕ) (places : List (Option ℕ)) (moments : Moments) (q : ℕ)
-    → map_of.get (with_places b places moments) q
-    ≡ cond (nat_lt q b) (map_of.get moments q) (either (get_or places (q - b) None) (map_of.get moments q))
-unfolding with_places
-get-with_places b [] moments q = same_either_way (nat_lt q b) (map_of.get moments q)
-get-with_places b (None ∷ places) moments q =
-    get-with_places (b + 1) places moments q ∙ no_moment_there b q _ _ ∙ first_place None places b q (map_of.get moments q)
-get-with_places b (Some moment ∷ places) moments q =
-    map_of.get-insert nat_cmp_total (with_places (b + 1) places moments) b moment q
-    ∙ ap (λ (t : Bool). cond t (Some moment) (map_of.get (with_places (b + 1) places moments) q)) (unsigned_tied q b)
-    ∙ ap (λ (o : Option ℕ). cond (q == b) (Some moment) o) (get-with_places (b + 1) places moments q)
-    ∙ first_place (Some moment) places b q (map_of.get moments q)
-
-either-none : (o : Option ℕ) → either o None ≡ o
-either-none None = refl
-either-none (Some moment) = refl
-
--- a table of n places, with the other moments beside it
-get-table : (n : ℕ) (places : List (Option ℕ)) (moments : Moments) (q : ℕ)
-    → map_of.get (with_places 0 (take n places) (map_of.retain_keys moments (λ job. nat_le n job))) q
-    ≡ cond (nat_lt q n) (get_or places q None) (map_of.get moments q)
-get-table n places moments q =
-    let others : Moments = map_of.retain_keys moments (λ job. nat_le n job) in
-    let get_others : map_of.get others q ≡ cond (nat_le n q) (map_of.get moments q) None =
-    map_of.get-retain_keys moments (λ job. nat_le n job) q (λ x e. ap (λ (job : ℕ). nat_le n job) (sym (map_of.nat_cmp-IsAntisymmetric q x e))) in
-    let at_zero : nat_lt q 0 ≡ false = grind (arith, nat_tests) in
-    let same_place : q - 0 ≡ q = omega arith in
-    get-with_places 0 (take n places) others q
-    ∙ ap (λ (t : Bool). cond t (map_of.get others q) (either (get_or (take n places) (q - 0) None) (map_of.get others q))) at_zero
-    ∙ ap (λ (i : ℕ). either (get_or (take n places) i None) (map_of.get others q)) same_place
-    ∙ ap (λ (o : Option ℕ). either (get_or (take n places) q None) o) get_others
-    ∙ elim (nat_lt q n) as (λ t. nat_lt q n ≡ t
-    → either (get_or (take n places) q None) (cond (nat_le n q) (map_of.get moments q) None) ≡ cond t (get_or places q None) (map_of.get moments q)) [
-      | true ↦ λ is.
-          let below : q < n = grind (arith, nat_tests) in
-          let not_beside : nat_le n q ≡ false = grind (arith, nat_tests) in
-          rw not_beside (either-none (get_or (take n places) q None) ∙ get_or-take n places q None below)
-      | false ↦ λ is.
-          let beside : nat_le n q ≡ true = grind (arith, nat_tests) in
-          let few : length (take n places) ≤ q = grind (arith, nat_tests, length-take) in
-          rw (beside, get_or_past (take n places) q None few) refl
-    ] refl
+find-lookup q (e ∷ es) = ap (λ (o : Option ℕ). cond (tree.is_at (nat_cmp q) e.0) (Some e.1) o) (find-lookup q es)
 
 -- callers see the moment that the job has
-pub get-moments_of : (m : ByJob) (q : ℕ) → map_of.get (moments_of m) q ≡ moment_in m q
-get-moments_of m q =
-    get-table table_size m.near.items (map_of.from_entries m.far.entries) q
-    ∙ ap (λ (o : Option ℕ). cond (nat_lt q table_size) (get_or m.near.items q None) o) (map_of.get-from_entries nat_cmp_total m.far.entries q ∙ find-lookup q m.far.entries)
+pub get-moments_of : (m : ByJob) (q : ℕ) → map_of.get (moments_of m) q ≡ tree.get nat_cmp m q
+get-moments_of m q = map_of.get-from_entries nat_cmp_total m.entries q ∙ find-lookup q m.entries
 
 -- maps with the same look-ups look the same to callers
-pub same_moments : (m n : ByJob) → ((q : ℕ) → moment_in n q ≡ moment_in m q) → moments_of n ≡ moments_of m
+pub same_moments : (m n : ByJob) → ((q : ℕ) → tree.get nat_cmp n q ≡ tree.get nat_cmp m q) → moments_of n ≡ moments_of m
 same_moments m n h =
     map_of.same_map nat_cmp_total map_of.nat_cmp-IsAntisymmetric _ _ (λ q. get-moments_of n q ∙ h q ∙ sym (get-moments_of m q))
 
 -- a map in which no job is found looks empty to callers
-pub no_moments : (m : ByJob) → ((q : ℕ) → moment_in m q ≡ None) → moments_of m ≡ map_of.empty
+pub no_moments : (m : ByJob) → ((q : ℕ) → tree.get nat_cmp m q ≡ None) → moments_of m ≡ map_of.empty
 no_moments m h =
     map_of.same_map nat_cmp_total map_of.nat_cmp-IsAntisymmetric _ _ (λ q. get-moments_of m q ∙ h q ∙ sym (map_of.get-empty nat_cmp q))
+
+-- a key's place is the one with an equal key
+pub tied : (a b : ℕ) → tree.is_at (nat_cmp a) b ≡ (a == b)
+tied a b = unsigned_tied a b
 
 -- ---- a job that is added
 module _ (jobs_of jobs_of' : ℕ → Option (List ℕ)) (moment_of moment_of' : ℕ → Option ℕ) (taken : Option ℕ) where
@@ -366,6 +244,11 @@ module _ (jobs_of jobs_of' : ℕ → Option (List ℕ)) (moment_of moment_of' : 
     }
 
 -- ---- the least moment
+-- what the jobs at a first moment say of the moments of all jobs
+pub record IsFirst (jobs_of : ℕ → Option (List ℕ)) (t : ℕ) (js : List ℕ) : Type 0 where
+  pub here : jobs_of t ≡ Some js
+  pub least : (s : ℕ) (ks : List ℕ) → jobs_of s ≡ Some ks → t ≤ s
+
 -- a job among some jobs has a list
 list_of : (q : ℕ) (o : Option (List ℕ)) → is_among q o ≡ true → (ks : List ℕ) × (o ≡ Some ks)
 list_of q None h = let no : false ≡ true = h in cc
@@ -450,50 +333,54 @@ cond-or false true o = refl
 cond-or false false o = refl
 
 -- one more job is removed
-pub forget_more : (x q : ℕ) (b : Bool) (new old first : Option ℕ) → new ≡ cond (x == q) None old → old ≡ cond b None first → new ≡ cond (b || (x == q)) None first
+pub forget_more : (x q : ℕ) (b : Bool) (new old first : Option ℕ) → new ≡ cond (tree.is_at (nat_cmp x) q) None old → old ≡ cond b None first → new ≡ cond (b || (x == q)) None first
 forget_more x q b new old first n o =
-    n ∙ ap (λ (p : Option ℕ). cond (x == q) None p) o ∙ cond-or b (x == q) first
+    n ∙ ap (λ (t : Bool). cond t None old) (tied x q) ∙ ap (λ (p : Option ℕ). cond (x == q) None p) o ∙ cond-or b (x == q) first
 
--- ---- the first moment, as callers see it
+-- ---- the first entry of the map by moment
+-- a list comes from a vector
+some_items : (o : Option (Vec ℕ)) (ks : List ℕ) → items_of o ≡ Some ks → IsSome o
+some_items None ks e = let no : None ≡ Some ks = e in cc
+some_items (Some v) ks e = refl
+
+-- the first entry of the map by moment
+pub first-of : (m : ByMoment) (t : ℕ) (v : Vec ℕ) → tree.get nat_cmp m t ≡ Some v → tree.IsLowerBound nat_cmp m t → IsFirst (jobs_at m) t v.items
+first-of m t v here least = record {
+  here = ap items_of here;
+  least = λ s ks e. le_from_not_gt t s (least s (some_items (tree.get nat_cmp m s) ks e));
+}
+
+-- nothing is found in an empty map
+no_entry : (es : List (ℕ × Vec ℕ)) → (0 < length es → ⊥) → (t : ℕ) → lookup (tree.is_at (nat_cmp t)) es ≡ None
+no_entry [] h t = refl
+no_entry (e ∷ es) h t = absurd (h (omega arith))
+
 module _ (m : ByMoment) (n : ByJob) (taken : Option ℕ) (h : IsAgenda m n taken) where
   -- the first moment is the least, as callers see it
   pub least-moment : (t : ℕ) (js : List ℕ) → IsFirst (jobs_at m) t js → IsLeastMoment (moments_of n) t
   least-moment t js i = record {
-    some_job = let set : (q : ℕ) × (moment_in n q ≡ Some t) = first-set _ _ taken t js h.agrees i in (set.0, get-moments_of n set.0 ∙ set.1);
-    least = λ q s e. first-least (jobs_at m) (moment_in n) taken t js h.agrees i q s (sym (get-moments_of n q) ∙ e);
+    some_job = let set : (q : ℕ) × (tree.get nat_cmp n q ≡ Some t) = first-set _ _ taken t js h i in (set.0, get-moments_of n set.0 ∙ set.1);
+    least = λ q s e. first-least (jobs_at m) (tree.get nat_cmp n) taken t js h i q s (sym (get-moments_of n q) ∙ e);
   }
 
   -- with a first list, callers see a queue that isn't empty
   pub some-moment : (t : ℕ) (js : List ℕ) → IsFirst (jobs_at m) t js → moments_of n ≡ map_of.empty → ⊥
   some-moment t js i e =
-      let set : (q : ℕ) × (moment_in n q ≡ Some t) = first-set _ _ taken t js h.agrees i in
+      let set : (q : ℕ) × (tree.get nat_cmp n q ≡ Some t) = first-set _ _ taken t js h i in
       let none : map_of.get (moments_of n) set.0 ≡ None = ap (λ (k : Moments). map_of.get k set.0) e ∙ map_of.get-empty nat_cmp set.0 in
       let some : None ≡ Some t = sym none ∙ get-moments_of n set.0 ∙ set.1 in
       cc
 
   -- without a list no job is set
-  no_job : ((t : ℕ) → jobs_at m t ≡ None) → (q : ℕ) (o : Option ℕ) → moment_in n q ≡ o → o ≡ None
+  no_job : ((t : ℕ) → jobs_at m t ≡ None) → (q : ℕ) (o : Option ℕ) → tree.get nat_cmp n q ≡ o → o ≡ None
   no_job none q None e = refl
   no_job none q (Some t) e =
-      let among : is_among q (jobs_at m t) ≡ true = (h.agrees.agree q t).0 e in
+      let among : is_among q (jobs_at m t) ≡ true = (h.agree q t).0 e in
       let clash : false ≡ true = sym (ap (is_among q) (none t)) ∙ among in cc
 
   -- without a list, callers see an empty queue
-  pub no-moment : ((t : ℕ) → jobs_at m t ≡ None) → moments_of n ≡ map_of.empty
-  no-moment none = no_moments n (λ q. no_job none q (moment_in n q) refl)
-
-  -- what `next` returns is true of the callers' view
-  pub next-none : (o : Option ℕ) → (IsNone o → (t : ℕ) → jobs_at m t ≡ None) → IfSome o (λ t. (js : List ℕ) × IsFirst (jobs_at m) t js) → IsNone o ↔ (moments_of n ≡ map_of.empty)
-  next-none None none first = ((λ _. no-moment (none refl)), (λ _. refl))
-  next-none (Some t) none first = ((λ no. let clash : true ≡ false = no in cc), (λ e. absurd (some-moment t first.0 first.1 e)))
-
-  pub next-least : (o : Option ℕ) → IfSome o (λ t. (js : List ℕ) × IsFirst (jobs_at m) t js) → IfSome o (IsLeastMoment (moments_of n))
-  next-least None first = tt
-  next-least (Some t) first = least-moment t first.0 first.1
-
-  pub next-later : (o : Option ℕ) → IfSome o (λ t. (js : List ℕ) × IsFirst (jobs_at m) t js) → IfSome o (IsAfter taken)
-  next-later None first = tt
-  next-later (Some t) first = first-after (jobs_at m) (moment_in n) taken t first.0 h.agrees first.1
+  pub no-moment : (0 < length m.entries → ⊥) → moments_of n ≡ map_of.empty
+  no-moment e = no_moments n (λ q. no_job (λ t. ap items_of (no_entry m.entries e t)) q (tree.get nat_cmp n q) refl)
 
 -- equality is symmetric
 eqb-swap : (a b : ℕ) → (a == b) ≡ (b == a)
@@ -505,43 +392,53 @@ pub moments_of-put : (m n : ByJob) (job moment : ℕ) → Puts m n job moment �
 moments_of-put m n job moment p =
     map_of.same_map nat_cmp_total map_of.nat_cmp-IsAntisymmetric _ _ (λ q.
     get-moments_of n q ∙ p q
-    ∙ ap (λ (b : Bool). cond b (Some moment) (moment_in m q)) (eqb-swap job q ∙ sym (unsigned_tied q job))
+    ∙ ap (λ (b : Bool). cond b (Some moment) (tree.get nat_cmp m q)) (eqb-swap job q ∙ sym (unsigned_tied q job))
     ∙ ap (λ (o : Option ℕ). cond (eq_by_cmp nat_cmp q job) (Some moment) o) (sym (get-moments_of m q))
     ∙ sym (map_of.get-insert nat_cmp_total (moments_of m) job moment q))
 
 -- a job that was added and removed again
-pub put_and_forgotten : (m n k : ByJob) (job moment : ℕ) → moment_in m job ≡ None → Puts m n job moment → Clears n k job → HasSameMoments m k
+pub put_and_forgotten : (m n k : ByJob) (job moment : ℕ) → tree.get nat_cmp m job ≡ None → Puts m n job moment → Forgets n k (job ∷ []) → HasSameMoments m k
 put_and_forgotten m n k job moment none p f q =
-    f q ∙ elim (job == q) as (λ b. (job == q) ≡ b → cond b None (moment_in n q) ≡ moment_in m q) [
-      | true ↦ λ is. let same : job ≡ q = (Decides-eqb job q).0 is in sym none ∙ ap (moment_in m) same
-      | false ↦ λ is. p q ∙ ap (λ (b : Bool). cond b (Some moment) (moment_in m q)) is
+    f q ∙ elim (job == q) as (λ b. (job == q) ≡ b → cond (b || false) None (tree.get nat_cmp n q) ≡ tree.get nat_cmp m q) [
+      | true ↦ λ is. let same : job ≡ q = (Decides-eqb job q).0 is in sym none ∙ ap (tree.get nat_cmp m) same
+      | false ↦ λ is. p q ∙ ap (λ (b : Bool). cond b (Some moment) (tree.get nat_cmp m q)) is
     ] refl
 
 -- ---- the queue after a take of the first moment
-module _ (m m' : ByMoment) (n n' : ByJob) (taken : Option ℕ) (t : ℕ) (v js : List ℕ) (h : IsAgenda m n taken) (first : IsFirst (jobs_at m) t v) (l : Loses m m' t) (same : js ≡ v) (f : Forgets n n' js) where
+-- the lists once the first entry is gone
+pub popped : (m n : ByMoment) (t : ℕ) → ((s : ℕ) → tree.get nat_cmp n s ≡ cond (tree.is_at (nat_cmp t) s) None (tree.get nat_cmp m s)) → (s : ℕ) → jobs_at n s ≡ cond (t == s) None (jobs_at m s)
+popped m n t u s =
+    ap items_of (u s) ∙ outer (tree.is_at (nat_cmp t) s) (tree.get nat_cmp m s) ∙ ap (λ (b : Bool). cond b None (jobs_at m s)) (tied t s)
+  where
+    outer : (b : Bool) (o : Option (Vec ℕ)) → items_of (cond b None o) ≡ cond b None (items_of o)
+    outer true o = refl
+    outer false o = refl
+
+module _ (m m' : ByMoment) (n n' : ByJob) (taken : Option ℕ) (t : ℕ) (v : Vec ℕ) (js : List ℕ) (h : IsAgenda m n taken) (here : tree.get nat_cmp m t ≡ Some v) (least : tree.IsLowerBound nat_cmp m t) (u : (s : ℕ) → tree.get nat_cmp m' s ≡ cond (tree.is_at (nat_cmp t) s) None (tree.get nat_cmp m s)) (same : js ≡ v.items) (f : Forgets n n' js) where
+  -- the first list
+  first : IsFirst (jobs_at m) t v.items
+  first = first-of m t v here least
+
   -- the moments once the taken jobs are removed
-  out : (q : ℕ) → moment_in n' q ≡ cond (has q v) None (moment_in n q)
-  out q = f q ∙ ap (λ (l : List ℕ). cond (has q l) None (moment_in n q)) same
+  out : (q : ℕ) → tree.get nat_cmp n' q ≡ cond (has q v.items) None (tree.get nat_cmp n q)
+  out q = f q ∙ ap (λ (l : List ℕ). cond (has q l) None (tree.get nat_cmp n q)) same
 
   -- the invariant is true after a take
-  pub take-IsAgenda : IsInOrder m' → IsAgenda m' n' (Some t)
-  take-IsAgenda order = record {
-    agrees = taken-Agrees (jobs_at m) (moment_in n) taken t v (jobs_at m') (moment_in n') l out h.agrees first;
-    in_order = order;
-  }
+  pub take-IsAgenda : IsAgenda m' n' (Some t)
+  take-IsAgenda = taken-Agrees (jobs_at m) (tree.get nat_cmp n) taken t v.items (jobs_at m') (tree.get nat_cmp n') (popped m m' t u) out h first
 
   -- a take, as callers see it
-  pub take-Takes : Takes (record { moments = moments_of n; last_taken = taken }) (record { moments = moments_of n'; last_taken = Some t }) t v
+  pub take-Takes : Takes (record { moments = moments_of n; last_taken = taken }) (record { moments = moments_of n'; last_taken = Some t }) t v.items
   take-Takes = record {
-    is_least = least-moment m n taken h t v first;
-    is_after = first-after (jobs_at m) (moment_in n) taken t v h.agrees first;
+    is_least = least-moment m n taken h t v.items first;
+    is_after = first-after (jobs_at m) (tree.get nat_cmp n) taken t v.items h first;
     all_jobs = λ q.
-        let one : (moment_in n q ≡ Some t) ↔ (has q v ≡ true) = first-jobs (jobs_at m) (moment_in n) taken t v h.agrees first q in
-        let two : Contains v q ↔ (has q v ≡ true) = Contains-has-iff q v in
+        let one : (tree.get nat_cmp n q ≡ Some t) ↔ (has q v.items ≡ true) = first-jobs (jobs_at m) (tree.get nat_cmp n) taken t v.items h first q in
+        let two : Contains v.items q ↔ (has q v.items ≡ true) = Contains-has-iff q v.items in
         ((λ e. get-moments_of n q ∙ one.1 (two.0 e)), (λ e. two.1 (one.0 (sym (get-moments_of n q) ∙ e))));
-    in_order = IsStrictlyIncreasing-rising v (h.agrees.rising t v first.here);
+    in_order = IsStrictlyIncreasing-rising v.items (h.rising t v.items first.here);
     others_stay = λ q s.
-        let one : (moment_in n' q ≡ Some s) ↔ ((moment_in n q ≡ Some s) × (s ≢ t)) = taken-others (jobs_at m) (moment_in n) taken t v (jobs_at m') (moment_in n') l out h.agrees first q s in
+        let one : (tree.get nat_cmp n' q ≡ Some s) ↔ ((tree.get nat_cmp n q ≡ Some s) × (s ≢ t)) = taken-others (jobs_at m) (tree.get nat_cmp n) taken t v.items (jobs_at m') (tree.get nat_cmp n') (popped m m' t u) out h first q s in
         rw (get-moments_of n' q, get-moments_of n q) one;
     is_last = refl;
   }

@@ -4,18 +4,20 @@ ghost use Rattle.std.specs.Prelude.{◌≡◌, ◌↔◌, None, IsOk, IsNone, If
 ghost use Rattle.std.specs.FinMap as map;
 ghost use Rattle.zs_agenda.specs.declared.fault.AgendaFault.TheVariants.{Memory};
 
-use crate::by_job::ByJob;
-use crate::by_moment::ByMoment;
 use crate::fault::AgendaFault;
+use crate::index::{add, forget, put, remove};
 use std::alloc::Global;
+use std::collections::BTreeMap;
 use std::marker::Model;
 
 /// A timer queue: one moment in milliseconds for each job that waits. A job is its number.
 #[derive(Drop)]
 pub struct Agenda {
     alloc: Global,
-    by_moment: ByMoment,
-    by_job: ByJob,
+    // From each moment to its jobs, in rising number.
+    by_moment: BTreeMap<u64, Vec<u64>>,
+    // From each job to its moment.
+    by_job: BTreeMap<u64, u64>,
     last_taken: Option<u64>,
 }
 
@@ -44,8 +46,8 @@ impl Agenda {
     {
         Ok(Agenda {
             alloc,
-            by_moment: ByMoment::new(alloc),
-            by_job: ByJob::new(alloc),
+            by_moment: BTreeMap::new(alloc),
+            by_job: BTreeMap::new(alloc),
             last_taken: None,
         })
     }
@@ -60,11 +62,11 @@ impl Agenda {
         ensures err { OnErr result (self.new ≡ self.old) }
         ensures memory { IfErr result (λ fault. fault ≡ Memory) }
     {
-        self.by_job.put(job, moment)?;
-        match self.by_moment.add(self.alloc, moment, job) {
+        put(&mut self.by_job, job, moment)?;
+        match add(self.alloc, &mut self.by_moment, moment, job) {
             Ok(()) => Ok(()),
             Err(_) => {
-                self.by_job.remove(job);
+                remove(&mut self.by_job, job);
                 Err(AgendaFault::Memory)
             }
         }
@@ -74,7 +76,7 @@ impl Agenda {
     pub fn is_set(&self, job: u64) -> bool
         ensures value { result ≡ map.contains_key self.now.moments job }
     {
-        self.by_job.has(job)
+        self.by_job.contains_key(&job)
     }
 
     /// Returns the last moment that was taken, in milliseconds, if there is one.
@@ -91,7 +93,10 @@ impl Agenda {
         ensures least { IfSome result (IsLeastMoment self.now.moments) }
         ensures later { IfSome result (IsAfter self.now.last_taken) }
     {
-        self.by_moment.first()
+        match self.by_moment.first_key_value() {
+            Some((moment, _)) => Some(*moment),
+            None => None,
+        }
     }
 
     /// Fires the timers of the least moment. Returns that moment, in milliseconds, with all its
@@ -107,18 +112,11 @@ impl Agenda {
         ensures err { OnErr result (self.new ≡ self.old) }
         ensures memory { IfErr result (λ fault. fault ≡ Memory) }
     {
-        let Some((moment, jobs)) = self.by_moment.take_first() else {
+        let Some((moment, jobs)) = self.by_moment.pop_first() else {
             return Ok(None);
         };
-        self.by_job.forget(&jobs);
+        forget(&mut self.by_job, &jobs);
         self.last_taken = Some(moment);
         Ok(Some((moment, jobs)))
-    }
-
-    /// Takes back a list that `take` returned. Its memory is reused for the jobs of another moment.
-    pub fn reuse(&mut self, jobs: Vec<u64>)
-        ensures same { self.new ≡ self.old }
-    {
-        self.by_moment.reuse(jobs);
     }
 }

@@ -13,10 +13,9 @@
 #![tactic(auto)]
 
 mod agenda;
-mod by_job;
-mod by_moment;
 mod clock;
 mod fault;
+mod index;
 mod laws;
 
 pub use agenda::Agenda;

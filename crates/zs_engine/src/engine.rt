@@ -218,7 +218,6 @@ impl Engine {
     {
         while let Some((now, numbers)) = self.agenda.take()? {
             self.run_round(rt, cut, gate, now, &numbers, polling)?;
-            self.agenda.reuse(numbers);
         }
         Ok(())
     }

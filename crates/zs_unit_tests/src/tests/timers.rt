@@ -29,16 +29,10 @@ fn state_of(alloc: Global, agenda: &Agenda) -> Result<String, AllocError> {
     format!(in alloc; "{third} {fourth}, {next:?}, {taken:?}")
 }
 
-// Takes the next moment with its jobs, and may give the list of jobs back.
-fn taken_of(alloc: Global, agenda: &mut Agenda, is_reused: bool) -> Result<String, AllocError> {
+// Takes the next moment with its jobs.
+fn taken_of(alloc: Global, agenda: &mut Agenda) -> Result<String, AllocError> {
     match agenda.take() {
-        Ok(Some((moment, jobs))) => {
-            let text = format!(in alloc; "{moment} {jobs:?}");
-            if is_reused {
-                agenda.reuse(jobs);
-            }
-            text
-        }
+        Ok(Some((moment, jobs))) => format!(in alloc; "{moment} {jobs:?}"),
         Ok(None) => String::from_str(alloc, "none"),
         Err(fault) => format!(in alloc; "{fault}"),
     }
@@ -52,8 +46,6 @@ enum Step<'a> {
     State(&'a str),
     // A take returns this.
     Take(&'a str),
-    // The same, and its list of jobs is given back.
-    Reuse(&'a str),
 }
 
 // Makes a step.
@@ -61,8 +53,7 @@ fn make<R: Abort + Alloc<A = Global>>(rt: &R, agenda: &mut Agenda, step: &Step<'
     let (found, wanted) = match step {
         Step::Set(timers) => return set_all(rt, agenda, timers),
         Step::State(wanted) => (state_of(rt.alloc(), agenda), *wanted),
-        Step::Take(wanted) => (taken_of(rt.alloc(), agenda, false), *wanted),
-        Step::Reuse(wanted) => (taken_of(rt.alloc(), agenda, true), *wanted),
+        Step::Take(wanted) => (taken_of(rt.alloc(), agenda), *wanted),
     };
     let found = found.expect(rt, "memory");
     expect_text(rt, &found, wanted, of);
@@ -81,10 +72,10 @@ static AGENDAS: [(&str, &[Step<'static>]); 4] = [
         ],
     ),
     (
-        "a_list_that_is_taken_back_serves_the_next_moment",
+        "a_fired_job_may_be_set_again",
         &[
             Step::Set(&[(3, 50), (1, 50), (2, 70)]),
-            Step::Reuse("50 [1, 3]"),
+            Step::Take("50 [1, 3]"),
             Step::State("false false, Some(70), Some(50)"),
             Step::Set(&[(4, 60), (3, 80)]),
             Step::Take("60 [4]"),

@@ -7,7 +7,7 @@ use Rattle.zs_agenda.proofs.agenda.Agenda.is_set.Goals as goal
 pub returns : goal.returns
 returns c = record {
   value =
-      c.has.ensures.value
+      c.contains_key.ensures
       ∙ sym (ap is_some (get-moments_of c.self.inside.by_job c.args.job))
       ∙ ap (λ (t : Timers). map.contains_key t.moments c.args.job) c.self.view_is;
 }

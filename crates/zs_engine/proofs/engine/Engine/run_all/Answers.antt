@@ -18,7 +18,7 @@ pub loop-now-preserved : goal.loop-now-preserved
 loop-now-preserved g c =
     let round = c.in_ok-run_round.ensures.round in
     record {
-      rests = rw c.reuse.ensures.same round.rests;
+      rests = round.rests;
       same = record { clock = round.same.clock ∙ c.loop-now.invariant.same.clock; jobs = round.same.jobs ∙ c.loop-now.invariant.same.jobs };
     }
 
@@ -28,7 +28,7 @@ loop-now-smaller g c =
     let rests = c.loop-now.invariant.rests in
     let before = rw c.loop-now.invariant.same.clock at (begins-before rests.rests takes (horizon c.loop-now.self.clock + 1) (ticks-rising c.loop-now.self.clock rests.runs.lawful).1) in
     let within : c.in-Some.now ≤ horizon c.args.self.now.clock = omega (arith, before) in
-    rw (ap (λ (t : Timers). t.last_taken) c.reuse.ensures.same ∙ c.in_ok-run_round.ensures.round.taken) (rounds_left-falls _ c.loop-now.self.agenda.last_taken c.in-Some.now takes.is_after within)
+    rw c.in_ok-run_round.ensures.round.taken (rounds_left-falls _ c.loop-now.self.agenda.last_taken c.in-Some.now takes.is_after within)
 
 -- what is said of no value
 none_of : {X : Type 0} (o : Option X) {P Q : Type 0} → ((x : X) → o ≡ Some x → ⊥) → IfNone o P → IsNone o ↔ Q → P × Q

@@ -3,7 +3,7 @@ use Rattle.std.proofs.lemmas.Fn.{always_returns_same}
 use Rattle.std.proofs.lemmas.List.Sums.{prefix_len_is}
 use Rattle.zs_agenda.proofs.IndexLemmas.{IsStrictlyIncreasing-rising}
 use Rattle.zs_agenda.proofs.TickLemmas.{parts}
-use Rattle.zs_agenda.proofs.by_moment.place_of.Goals as goal
+use Rattle.zs_agenda.proofs.index.place_of.Goals as goal
 
 pub returns : goal.returns
 returns c = record {
