@@ -75,14 +75,11 @@ progress_send = declared_send drive.progress.Progress.the_type (search (rules, s
 task_send : IsSend drive.task.Task.the_row
 task_send = view_send drive.task.Task.TheInside.the_row _ _ _ _ (declared_send drive.task.Task.TheInside.the_type (search sendable, (Box-send drive.progress.Progress.the_row progress_send, (search sendable, tt))))
 
-tasks_send : IsSend pool.tasks.Tasks.the_row
-tasks_send = variants_send pool.tasks.Tasks.enum ((task_send, tt), ((Vec-send drive.task.Task.the_row task_send, tt), tt))
-
 batch_send : IsSend pool.batch.Batch.the_row
-batch_send = view_send pool.batch.Batch.TheInside.the_row _ _ _ _ (declared_send pool.batch.Batch.TheInside.the_type (search sendable, (tasks_send, tt)))
+batch_send = view_send pool.batch.Batch.TheInside.the_row _ _ _ _ (declared_send pool.batch.Batch.TheInside.the_type (search sendable, (Vec-send drive.task.Task.the_row task_send, tt)))
 
 polled_send : IsSend pool.polled.Polled.the_row
-polled_send = view_send pool.polled.Polled.TheInside.the_row _ _ _ _ (declared_send pool.polled.Polled.TheInside.the_type (search sendable, (search sendable, (tasks_send, tt))))
+polled_send = view_send pool.polled.Polled.TheInside.the_row _ _ _ _ (declared_send pool.polled.Polled.TheInside.the_type (search sendable, (search sendable, (Vec-send drive.task.Task.the_row task_send, tt))))
 
 pub board_pass_send : IsSend pool.board.BoardPass.the_row
 board_pass_send = view_send pool.board.BoardPass.TheInside.the_row _ _ _ _ (declared_send pool.board.BoardPass.TheInside.the_type (seat.the_send (option_type.the_row pool.batch.Batch.the_row) _ (option.the_send pool.batch.Batch.the_row batch_send), (counter_seat.the_send, (search sendable, tt))))

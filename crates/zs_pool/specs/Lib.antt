@@ -2,7 +2,6 @@
 pub mod Limits
 pub mod Rounds
 pub mod Batches
-pub mod Listed
 pub mod Messages
 pub mod Runs
 pub mod Board

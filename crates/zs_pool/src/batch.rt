@@ -1,7 +1,7 @@
 //! Some due tasks, which one worker polls.
 
-use crate::tasks::Tasks;
 use std::marker::Model;
+use zs_drive::Task;
 
 /// Tasks that one worker polls, in order. A batch may be empty.
 #[derive(Drop)]
@@ -9,12 +9,11 @@ pub struct Batch {
     /// The place of the batch among those of its round, from 0.
     pub number: u64,
     /// The tasks, in the order of their polls.
-    pub tasks: Tasks,
+    pub tasks: Vec<Task>,
 }
 
 impl Model for Batch {
     ghost use Rattle.zs_pool.specs.Batches.{BatchValue};
-    ghost use Rattle.zs_pool.specs.Listed.{listed};
     ghost use Rattle.zs_drive.specs.ScheduleCode.{schedule_code};
     ghost use Rattle.std.specs.Coded.{codes};
 
@@ -22,5 +21,5 @@ impl Model for Batch {
 
     ghost coded = { Prim.hlevel (codes, schedule_code) };
 
-    ghost view = { λ b. record { number = b.number; tasks = listed b.tasks } };
+    ghost view = { λ b. record { number = b.number; tasks = b.tasks.items } };
 }

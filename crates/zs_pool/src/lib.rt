@@ -24,7 +24,6 @@ mod polling;
 mod rounds;
 mod shelf;
 mod tally;
-mod tasks;
 
 pub use batch::Batch;
 pub use board::{Board, BoardPass};
@@ -37,4 +36,3 @@ pub use rounds::cut::{Cut, MAX_TASKS, MAX_WORKERS};
 pub use rounds::round;
 pub use shelf::{Shelf, ShelfPass};
 pub use tally::{Tally, TallySeat};
-pub use tasks::Tasks;

@@ -4,13 +4,12 @@ ghost use Rattle.std.specs.Prelude.{◌≡◌, ◌↔◌, ℕ, List, true, IsTru
 ghost use Rattle.std.specs.List.{AllZip};
 ghost use Rattle.zs_drive.specs.Tasks.{TaskValue};
 ghost use Rattle.zs_pool.specs.Rounds.{IsPolled, polled_at};
-ghost use Rattle.zs_pool.specs.Listed.{listed};
 ghost use Rattle.zs_pool.specs.Messages.{AllSaw};
 ghost use Rattle.zs_pool.specs.declared.fault.PoolFault.TheVariants.{Memory};
 
 use crate::fault::PoolFault;
-use crate::tasks::Tasks;
 use std::marker::Model;
+use zs_drive::Task;
 
 /// A batch that was polled: each of its tasks has seen `now`, and was polled then or is broken.
 #[derive(Drop)]
@@ -20,12 +19,11 @@ pub struct Polled {
     /// The moment of the polls, in milliseconds.
     pub now: u64,
     /// The tasks, in the order of the batch.
-    pub tasks: Tasks,
+    pub tasks: Vec<Task>,
 }
 
 impl Model for Polled {
     ghost use Rattle.zs_pool.specs.Messages.{PolledValue, AllSaw};
-    ghost use Rattle.zs_pool.specs.Listed.{listed};
     ghost use Rattle.zs_drive.specs.ScheduleCode.{schedule_code};
     ghost use Rattle.std.specs.Coded.{codes};
 
@@ -33,9 +31,9 @@ impl Model for Polled {
 
     ghost coded = { Prim.hlevel (codes, schedule_code) };
 
-    ghost view = { λ p. record { number = p.number; now = p.now; tasks = listed p.tasks } };
+    ghost view = { λ p. record { number = p.number; now = p.now; tasks = p.tasks.items } };
 
-    ghost invariant = { λ p. AllSaw p.now (listed p.tasks) };
+    ghost invariant = { λ p. AllSaw p.now p.tasks.items };
 }
 
 impl Polled {
@@ -47,14 +45,14 @@ impl Polled {
         // Each task has seen the moment, and was polled then or is broken.
         ensures saw { AllSaw self.entry.now.now self.entry.now.tasks }
     {
-        self.tasks.as_slice().iter().any(|task| task.broken())
+        self.tasks.iter().any(|task| task.broken())
     }
 
     // Returns the tasks, or `Memory` if one is broken.
-    pub(crate) fn into_tasks(self) -> Result<Tasks, PoolFault>
+    pub(crate) fn into_tasks(self) -> Result<Vec<Task>, PoolFault>
         ensures tasks { IfOk result (λ v.
             (now : ℕ) (before : List TaskValue) → AllZip (IsPolled now) before self.tasks
-            → listed v ≡ map (polled_at now) before) }
+            → v.items ≡ map (polled_at now) before) }
         ensures memory { IfErr result (λ e. e ≡ Memory) }
     {
         if self.broken() {

@@ -12,7 +12,6 @@ use crate::gate::Gate;
 use crate::polled::Polled;
 use crate::poller::{Poller, Polling};
 use crate::tally::{Tally, TallySeat};
-use crate::tasks::Tasks;
 use futures::Future;
 use futures::task::Context;
 use std::alloc::Global;
@@ -82,10 +81,7 @@ pub fn poll_in<G: Gate>(
     ensures polled { IsPollOf now batch result }
 {
     let Batch { number, mut tasks } = batch;
-    match &mut tasks {
-        Tasks::One(task) => poll_one(polling, tally, seat, now, task),
-        Tasks::Many(tasks) => poll_each(polling, tally, seat, now, tasks.as_mut_slice()),
-    }
+    poll_each(polling, tally, seat, now, tasks.as_mut_slice());
     Polled { number, now, tasks }
 }
 

@@ -1,4 +1,4 @@
-//! One moment's due tasks, polled by one thread or by several.
+//! One moment's due tasks, shared among workers.
 ghost use Rattle.std.specs.Prelude.{◌≡◌, ◌≢◌, ◌+◌, ◌*◌, ◌≤◌, All, IfOk, IfErr, OnOk, map, length};
 ghost use Rattle.std.specs.List.Sorted.{IsStrictlyIncreasing};
 ghost use Rattle.zs_pool.specs.Limits.{max_tasks};
@@ -11,15 +11,12 @@ mod shared;
 mod sharing;
 mod workers;
 
-use crate::batch::Batch;
 use crate::fault::PoolFault;
 use crate::gate::Gate;
-use crate::polling::poll_batch;
 use crate::rounds::batches::{cut_into, in_order};
 use crate::rounds::cut::Cut;
 use crate::rounds::sharing::{Work, poll_shared};
 use crate::tally::{Tally, TallySeat};
-use crate::tasks::Tasks;
 use std::alloc::Global;
 use std::snapshot::Snapshot;
 use std::sync::Wait;
@@ -58,12 +55,6 @@ pub fn round<G: Gate, R: Threads + Wait + Sync>(
     let due = tasks.len() as u64;
     if due == 0 {
         return Ok(tasks);
-    }
-    if cut.workers() == 1 || due <= cut.grain() {
-        let tasks = Tasks::Many(tasks);
-        let alone = Batch { number: 0, tasks };
-        let polled = poll_batch(rt, alloc, gate, tally, seat, now, alone)?;
-        return Ok(polled.into_tasks()?.into_vec(alloc)?);
     }
     let batches = cut_into(alloc, cut.grain(), tasks)?;
     let size = batches.len();

@@ -5,7 +5,7 @@ ghost use Rattle.zs_pool.specs.Batches.{AreNumbered};
 use crate::ended::{Answer, Case, right_if};
 use std::alloc::{AllocError, Global};
 use std::sync::Wait;
-use zs_pool::{Batch, Board, BoardPass, Polled, Shelf, ShelfPass, Tasks};
+use zs_pool::{Batch, Board, BoardPass, Polled, Shelf, ShelfPass};
 
 // Three empty batches.
 fn three(alloc: Global) -> Result<Vec<Batch>, AllocError>
@@ -17,8 +17,10 @@ fn three(alloc: Global) -> Result<Vec<Batch>, AllocError>
 fn empty(alloc: Global, number: u64) -> Batch
     ensures number { result.number ≡ number }
 {
-    let tasks = Tasks::Many(Vec::new(alloc));
-    Batch { number, tasks }
+    Batch {
+        number,
+        tasks: Vec::new(alloc),
+    }
 }
 
 // Returns the number of the next batch.
@@ -59,9 +61,11 @@ fn put<R: Wait>(rt: &R, alloc: Global, shelf: &Shelf, pass: &mut ShelfPass, numb
     ensures shelf { pass.new.shelf ≡ shelf.now }
     ensures share { pass.new.share ≡ pass.old.share }
 {
-    let tasks = Tasks::Many(Vec::new(alloc));
-    let now = 0;
-    let message = Polled { number, now, tasks };
+    let message = Polled {
+        number,
+        now: 0,
+        tasks: Vec::new(alloc),
+    };
     shelf.put(rt, pass, message).is_ok()
 }
 

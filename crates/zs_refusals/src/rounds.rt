@@ -9,7 +9,7 @@ use std::alloc::Global;
 use std::sync::Wait;
 use std::thread::Threads;
 use zs_drive::Task;
-use zs_pool::{Batch, Cut, OpenGate, Tally, Tasks, poll_batch, round};
+use zs_pool::{Batch, Cut, OpenGate, Tally, poll_batch, round};
 
 const TASKS: u64 = 2;
 
@@ -42,14 +42,14 @@ pub fn poll_one_batch<R>(rt: &R, case: &mut Case<'_>) -> Answer {
     case.call = "Tally::new";
     let (tally, mut seat) = Tally::new(case.alloc)?;
     case.call = SET_UP;
-    let tasks = Tasks::Many(due_tasks(case.alloc, case.input)?);
+    let tasks = due_tasks(case.alloc, case.input)?;
     let batch = Batch { number: 3, tasks };
     case.call = "poll_batch";
     let polled = poll_batch(rt, case.alloc, &OpenGate, &tally, &mut seat, 0, batch)?;
     let is_counted = Tally::left(&seat) == u64::MAX - TASKS;
     let is_right = polled.number == 3 && polled.now == 0 && is_counted;
     right_if(is_right, "another message")?;
-    are_polled(polled.tasks.as_slice(), polled.broken())?;
+    are_polled(&polled.tasks, polled.broken())?;
     Ok(String::new(case.alloc))
 }
 

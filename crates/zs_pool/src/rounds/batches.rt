@@ -9,7 +9,6 @@ ghost use Rattle.zs_pool.specs.declared.fault.PoolFault.TheVariants.{Memory};
 use crate::batch::Batch;
 use crate::fault::PoolFault;
 use crate::polled::Polled;
-use crate::tasks::Tasks;
 use std::alloc::Global;
 use std::mem::drop;
 use std::snapshot::Snapshot;
@@ -26,7 +25,7 @@ pub fn cut_into(alloc: Global, grain: u64, mut tasks: Vec<Task>) -> Result<Vec<B
     let count = (tasks.len() as u64).div_ceil(grain);
     let mut batches = Vec::with_capacity(alloc, count as usize)?;
     for number in (0..count).rev() {
-        let own = Tasks::cut_off(&mut tasks, (number * grain) as usize)?;
+        let own = tasks.split_off((number * grain) as usize)?;
         batches.push(Batch { number, tasks: own })?;
     }
     batches.reverse();
@@ -72,10 +71,11 @@ pub fn in_order(
     ensures memory { IfErr result (λ e. e ≡ Memory) }
 {
     let slots = place_batches(alloc, now, batches, count, messages)?;
-    let mut all = Vec::with_capacity(alloc, count)?;
+    let mut all = Vec::new(alloc);
     for slot in slots {
         let Some(message) = slot else { unreachable!() };
-        message.into_tasks()?.add_to(&mut all)?;
+        let mut tasks = message.into_tasks()?;
+        all.append(&mut tasks)?;
     }
     Ok(all)
 }

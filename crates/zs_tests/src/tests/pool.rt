@@ -12,7 +12,7 @@ use zs_drive::Task;
 use zs_engine::EngineFault;
 use zs_pool::{
     Batch, Board, BoardPass, Cut, Gate, OpenGate, Polled, PoolFault, Shelf, ShelfPass, Tally,
-    TallySeat, Tasks, poll_batch, round,
+    TallySeat, poll_batch, round,
 };
 
 mod board;

@@ -16,10 +16,7 @@ fn batches_of(alloc: Global, count: u64, each: u64) -> Result<Vec<Batch>, Fail>
     let mut batches = Vec::new(alloc);
     for number in 0..count {
         let tasks = new_tasks(alloc, each, 0)?;
-        batches.push(Batch {
-            number,
-            tasks: Tasks::Many(tasks),
-        })?;
+        batches.push(Batch { number, tasks })?;
     }
     Ok(batches)
 }
@@ -134,9 +131,8 @@ fn expect_none_after_a_split<R: Wait + Abort>(
 // The batch has this number, and three tasks in order.
 fn expect_batch(rt: &impl Abort, batch: Option<Batch>, number: u64) {
     let batch = batch.expect(rt, "a batch");
-    let tasks = batch.tasks.as_slice();
-    assert!(rt; (batch.number, tasks.len()) == (number, 3));
-    for (place, task) in tasks.iter().enumerate() {
+    assert!(rt; (batch.number, batch.tasks.len()) == (number, 3));
+    for (place, task) in batch.tasks.iter().enumerate() {
         assert!(rt; task.number() == place as u64);
     }
 }

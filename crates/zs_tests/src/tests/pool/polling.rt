@@ -27,7 +27,7 @@ fn poll_new<G: Gate, R>(
     requires now { now ≤ max_tick }
     requires count { count ≤ 10000 }
 {
-    let tasks = Tasks::Many(new_tasks(alloc, count, now)?);
+    let tasks = new_tasks(alloc, count, now)?;
     let (tally, mut seat) = Tally::new(alloc)?;
     let batch = Batch { number, tasks };
     let message = poll_batch(rt, alloc, gate, &tally, &mut seat, now, batch)?;
@@ -43,11 +43,7 @@ fn poll_new<G: Gate, R>(
 // The message has this number, moment and number of tasks, and each of its polls was counted.
 fn expect_came(rt: &impl Abort, came: &Came, number: u64, now: u64, count: u64) {
     let message = &came.message;
-    let found = (
-        message.number,
-        message.now,
-        message.tasks.as_slice().len() as u64,
-    );
+    let found = (message.number, message.now, message.tasks.len() as u64);
     assert!(rt; found == (number, now, count));
     let left = u64::MAX.wrapping_sub(count);
     assert!(rt; (came.counted, came.left) == (count, left));
@@ -80,7 +76,7 @@ fn expect_each(rt: &impl Abort, tasks: &[Task]) -> bool {
 fn a_message_is_broken_where_one_of_its_tasks_is(rt: HostRuntime) -> Result<(), Fail> {
     let came = poll_new(&rt, rt.alloc(), &OpenGate, 0, 0, 2)?;
     expect_came(&rt, &came, 0, 0, 2);
-    assert!(rt; came.message.broken() == expect_each(&rt, came.message.tasks.as_slice()));
+    assert!(rt; came.message.broken() == expect_each(&rt, &came.message.tasks));
     Ok(())
 }
 

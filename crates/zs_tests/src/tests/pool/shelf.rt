@@ -23,7 +23,7 @@ fn put<R: Wait>(
     let message = Polled {
         number,
         now: 0,
-        tasks: Tasks::Many(Vec::new(alloc)),
+        tasks: Vec::new(alloc),
     };
     match shelf.put(rt, pass, message) {
         Ok(()) => Ok(()),
@@ -226,7 +226,7 @@ fn a_shelf_has_room_for_as_many_as_it_was_made_for(rt: HostRuntime) -> Result<()
 #[test]
 fn a_shelf_takes_a_batch_of_many_tasks(rt: HostRuntime) -> Result<(), Fail> {
     let alloc = rt.alloc();
-    let tasks = Tasks::Many(new_tasks(alloc, 1000, 0)?);
+    let tasks = new_tasks(alloc, 1000, 0)?;
     let (tally, mut seat) = Tally::new(alloc)?;
     let batch = Batch { number: 0, tasks };
     let polled = poll_batch(&rt, alloc, &OpenGate, &tally, &mut seat, 0, batch)?;
