@@ -13,7 +13,6 @@ mod schedule;
 mod state;
 mod task;
 mod tokens;
-mod tree;
 
 use std::io::{Read, Write};
 use std::process::ExitCode;

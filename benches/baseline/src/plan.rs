@@ -2,7 +2,7 @@
 
 use crate::reader;
 use crate::schedule::Schedule;
-use crate::tree::Tree;
+use serde_json::{Map, Value};
 use std::collections::HashSet;
 
 pub const LONGEST: usize = 16_777_216;
@@ -81,25 +81,36 @@ pub struct Plan {
     pub jobs: Vec<Job>,
 }
 
-fn text_at<'t>(object: &'t Tree, key: &str) -> Result<&'t str, &'static str> {
-    object.get(key).and_then(Tree::text).ok_or(SHAPE)
+type Object = Map<String, Value>;
+
+fn take_text(object: &mut Object, key: &str) -> Result<String, &'static str> {
+    match object.remove(key) {
+        Some(Value::String(text)) => Ok(text),
+        _ => Err(SHAPE),
+    }
 }
 
-fn take_list<'a>(object: &mut Tree<'a>, key: &str) -> Result<Vec<Tree<'a>>, &'static str> {
-    object.take(key).and_then(Tree::into_list).ok_or(SHAPE)
+fn take_list(object: &mut Object, key: &str) -> Result<Vec<Value>, &'static str> {
+    match object.remove(key) {
+        Some(Value::Array(list)) => Ok(list),
+        _ => Err(SHAPE),
+    }
 }
 
-fn number_at(object: &Tree, key: &str) -> Result<Option<u64>, &'static str> {
-    object.get(key).map(|value| value.whole().ok_or(SHAPE)).transpose()
+fn take_number(object: &mut Object, key: &str) -> Result<Option<u64>, &'static str> {
+    match object.remove(key) {
+        None => Ok(None),
+        Some(value) => value.as_u64().map(Some).ok_or(SHAPE),
+    }
 }
 
-fn take_clock(document: &mut Tree) -> Result<Clock, &'static str> {
-    let horizon = number_at(document, "horizon")?;
-    if document.get("ticks").is_none() {
+fn take_clock(document: &mut Object) -> Result<Clock, &'static str> {
+    let horizon = take_number(document, "horizon")?;
+    if !document.contains_key("ticks") {
         return horizon.map(Clock::EveryMs).ok_or(SHAPE);
     }
     let ticks = take_list(document, "ticks")?;
-    let ticks: Option<Vec<u64>> = ticks.iter().map(Tree::whole).collect();
+    let ticks: Option<Vec<u64>> = ticks.iter().map(Value::as_u64).collect();
     match (horizon, ticks) {
         (None, Some(ticks)) => Ok(Clock::Ticks(ticks)),
         _ => Err(SHAPE),
@@ -107,12 +118,13 @@ fn take_clock(document: &mut Tree) -> Result<Clock, &'static str> {
 }
 
 /// The document without its jobs, and the jobs.
-fn read_document(mut document: Tree) -> Result<(Plan, Vec<Tree>), &'static str> {
+fn read_document(tree: Value) -> Result<(Plan, Vec<Value>), &'static str> {
+    let Value::Object(mut document) = tree else { return Err(SHAPE) };
     let clock = take_clock(&mut document)?;
-    let workers = number_at(&document, "workers")?.unwrap_or(1);
-    let grain = number_at(&document, "grain")?.unwrap_or(1);
+    let workers = take_number(&mut document, "workers")?.unwrap_or(1);
+    let grain = take_number(&mut document, "grain")?.unwrap_or(1);
     let jobs = take_list(&mut document, "jobs")?;
-    if !document.has_only(&["horizon", "ticks", "workers", "grain", "jobs"]) {
+    if !document.is_empty() {
         return Err(UNKNOWN_KEY);
     }
     let cut_fits = (1..=64).contains(&workers) && (1..=10_000).contains(&grain);
@@ -124,14 +136,15 @@ fn read_document(mut document: Tree) -> Result<(Plan, Vec<Tree>), &'static str> 
 }
 
 /// An entry, and whether it has no other keys.
-fn read_entry(object: &Tree) -> Option<(Entry, bool)> {
-    let ms = object.get("ms")?.whole()?;
+fn read_entry(value: &Value) -> Option<(Entry, bool)> {
+    let object = value.as_object()?;
+    let ms = object.get("ms")?.as_u64()?;
     let outcome = match (object.get("ok"), object.get("err")) {
-        (Some(value), None) => Outcome::Ok(value.whole()?),
-        (None, Some(code)) => Outcome::Err(code.whole()?),
+        (Some(value), None) => Outcome::Ok(value.as_u64()?),
+        (None, Some(code)) => Outcome::Err(code.as_u64()?),
         _ => return None,
     };
-    Some((Entry { ms, outcome }, object.has_only(&["ms", "ok", "err"])))
+    Some((Entry { ms, outcome }, object.len() == 2))
 }
 
 fn check_name(name: &str) -> Result<(), &'static str> {
@@ -156,30 +169,31 @@ fn check_script(script: &[Entry]) -> Result<(), &'static str> {
     Ok(())
 }
 
-fn read_job(mut job: Tree, names: &mut HashSet<String>) -> Result<Job, String> {
-    let entries = take_list(&mut job, "script");
-    let (name, mode) = (text_at(&job, "name")?, text_at(&job, "mode")?);
-    let schedule = text_at(&job, "schedule")?;
-    let start = number_at(&job, "start")?.unwrap_or(0);
-    let entries: Option<Vec<(Entry, bool)>> = entries?.iter().map(read_entry).collect();
+fn read_job(value: Value, names: &mut HashSet<String>) -> Result<Job, String> {
+    let Value::Object(mut job) = value else { return Err(SHAPE.into()) };
+    let name = take_text(&mut job, "name")?;
+    let mode = take_text(&mut job, "mode")?;
+    let schedule = take_text(&mut job, "schedule")?;
+    let start = take_number(&mut job, "start")?.unwrap_or(0);
+    let entries = take_list(&mut job, "script")?;
+    let entries: Option<Vec<(Entry, bool)>> = entries.iter().map(read_entry).collect();
     let entries = entries.ok_or(SHAPE)?;
-    let is_known = job.has_only(&["name", "mode", "schedule", "start", "script"]);
-    if !is_known || !entries.iter().all(|(_, known)| *known) {
+    if !job.is_empty() || !entries.iter().all(|(_, known)| *known) {
         return Err(UNKNOWN_KEY.into());
     }
-    let mode = match mode {
+    let mode = match mode.as_str() {
         "retry" => Mode::Retry,
         "repeat" => Mode::Repeat,
         _ => return Err(RANGE.into()),
     };
-    check_name(name)?;
-    if !names.insert(name.into()) {
+    check_name(&name)?;
+    if !names.insert(name.clone()) {
         return Err("name used before".into());
     }
-    let schedule = reader::read(schedule).map_err(|fault| format!("schedule: {fault}"))?;
+    let schedule = reader::read(&schedule).map_err(|fault| format!("schedule: {fault}"))?;
     let script: Vec<Entry> = entries.into_iter().map(|(entry, _)| entry).collect();
     check_script(&script)?;
-    Ok(Job { name: name.into(), mode, schedule, start, script })
+    Ok(Job { name, mode, schedule, start, script })
 }
 
 /// The plan of these bytes, or the text of its fault.

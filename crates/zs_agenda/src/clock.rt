@@ -1,9 +1,10 @@
 //! A tick clock: the moments at which something can happen.
 
-ghost use Rattle.std.specs.Prelude.{◌≡◌, ◌≤◌, ◌<◌, ◌-◌, ◌↔◌, ℕ, IsSome, IsTrue, IfSome, MatchOption, length, slice_get, slice_index, find, nat_le};
+ghost use Rattle.std.specs.Prelude.{◌≡◌, ◌≤◌, ◌<◌, ◌-◌, ◌↔◌, ℕ, IsSome, IsTrue, IfOk, IfSome, MatchOption, length, slice_get, slice_index, find, nat_le};
 ghost use Rattle.std.specs.List.Sorted.{IsStrictlyIncreasing};
 ghost use Rattle.zs_agenda.specs.Ticks.{HasNoTickFrom, IsFirstTick, IsTick, IsTickList, every_ms, first_tick, horizon, listed, max_horizon};
 
+use std::alloc::{AllocError, Global};
 use std::marker::Model;
 
 // The latest last tick that a clock may have.
@@ -19,7 +20,8 @@ enum Source {
     Listed(Vec<u64>),
 }
 
-/// A tick clock: the moments, in milliseconds, at which something can happen. No call takes memory.
+/// A tick clock: the moments, in milliseconds, at which something can happen. Only `copy` takes
+/// memory.
 #[derive(Drop)]
 pub struct Clock {
     source: Source,
@@ -67,6 +69,17 @@ impl Clock {
         } else {
             None
         }
+    }
+
+    /// Copies the clock, with its list of ticks if it has one.
+    pub fn copy(&self, alloc: Global) -> Result<Clock, AllocError>
+        ensures same { IfOk result (λ copy. copy ≡ self.now) }
+    {
+        let source = match &self.source {
+            Source::EveryMs(last) => Source::EveryMs(*last),
+            Source::Listed(ticks) => Source::Listed(Vec::from_slice(alloc, ticks)?),
+        };
+        Ok(Clock { source })
     }
 
     /// Returns the last tick, in milliseconds: at most 999,999,999,999,999.

@@ -192,16 +192,6 @@ impl Log {
         }
     }
 
-    /// The lines, in the memory in which they are stored. The log is dropped.
-    pub fn into_lines(self) -> String
-        ensures value { string_bytes result ≡ lines_in self }
-    {
-        match self {
-            Log::Recorded(records) => String::new(*records.allocator()),
-            Log::Written(Told { lines, .. }) => lines,
-        }
-    }
-
     /// The number of attempts that are lines.
     pub fn told_count(&self) -> u64
         ensures value { result ≡ told_in self.now }

@@ -1,5 +1,5 @@
 //! A job as a future that its caller polls at moments that the caller chooses.
-ghost use Rattle.std.specs.Prelude.{◌≡◌, ◌+◌, ◌≤◌, ◌<◌, [], ◌∷◌, map, length, string_bytes, false, true, Ok, IfOk, IfErr, IfSome, IsSomeAnd, ◌⊎◌, ⊤};
+ghost use Rattle.std.specs.Prelude.{◌≡◌, ◌+◌, ◌≤◌, ◌<◌, [], ◌∷◌, map, length, false, true, Ok, IfOk, IfErr, IfSome, IsSomeAnd, ◌⊎◌, ⊤};
 ghost use Rattle.futures.specs.Poll.{OnPending};
 ghost use Rattle.futures.specs.Task.{IsArmed, Keeps};
 ghost use Rattle.zs_effect.specs.Scripts.{IsScript};
@@ -165,20 +165,6 @@ impl Task {
             ≡ attempts_lines 1 (told_of self.now.keeps (current_timeline self.now).attempts) }
     {
         self.progress.log.lines()
-    }
-
-    /// The same lines, in the memory in which they are stored. The task is dropped.
-    pub fn into_lines(self) -> String
-        ensures told { string_bytes result
-            ≡ attempts_lines 1 (told_of self.keeps (current_timeline self).attempts) }
-    {
-        let Task {
-            number: _,
-            progress,
-            broken: _,
-        } = self;
-        let Progress { log, .. } = Box::into_inner(progress);
-        log.into_lines()
     }
 
     /// The number of attempts that these lines show.

@@ -8,13 +8,13 @@ use Rattle.std.specs.List.{AllByRecursion}
 use Rattle.std.specs.FinMap as map_of
 use Rattle.zs_agenda.specs.Timers.{Timers, Moments}
 use Rattle.zs_agenda.specs.Ticks.{Ticks, horizon}
+use Rattle.zs_drive.specs.declared.job.Job.{Job}
 use Rattle.zs_drive.specs.declared.record.Keeping.{Keeping}
-use Rattle.zs_drive.specs.Values.{JobRecord}
 use Rattle.zs_drive.specs.Timeline.{Timeline, timeline_of, poll_moments}
 use Rattle.zs_drive.specs.Tasks.{TaskValue, current_timeline}
 use Rattle.zs_engine.specs.declared.answer.Answer.{Answer}
 use Rattle.zs_engine.specs.Times.{moments_from, ticks_of, next_of}
-use Rattle.zs_engine.specs.Rounds.{Waits, KeptJob, job_alone, kept_as, kept_of, jobs_in, next_in, polls_of, polls_in}
+use Rattle.zs_engine.specs.Rounds.{Waits, KeptJob, job_kept, job_alone, kept_of, jobs_in, next_in, polls_of, polls_in}
 use Rattle.zs_engine.specs.Answers.{IsAnswer, poll_moments_of, poll_count_of}
 use Rattle.zs_engine.proofs.KeepingUp.{keeps_up-to}
 use Rattle.zs_engine.proofs.SlotLemmas.{full, jobs_in-full}
@@ -68,10 +68,10 @@ answered clock answer a w empty last =
     })
 
 -- each task stores its attempts as it was made to
-pub all-keep : (keeps : Keeping) (ts : List TaskValue) (jobs : List JobRecord) → map kept_of ts ≡ map (kept_as keeps) jobs → AllByRecursion (λ (t : TaskValue). t.keeps ≡ keeps) ts
+pub all-keep : (keeps : Keeping) (ts : List TaskValue) (jobs : List Job) → map kept_of ts ≡ map (job_kept keeps) jobs → AllByRecursion (λ (t : TaskValue). t.keeps ≡ keeps) ts
 all-keep keeps [] jobs same = tt
 all-keep keeps (t ∷ ts) [] same = cc
 all-keep keeps (t ∷ ts) (job ∷ jobs) same =
-    let first : kept_of t ≡ kept_as keeps job = cc in
-    let rest : map kept_of ts ≡ map (kept_as keeps) jobs = cc in
+    let first : kept_of t ≡ job_kept keeps job = cc in
+    let rest : map kept_of ts ≡ map (job_kept keeps) jobs = cc in
     (ap (λ (k : KeptJob). k.1) first, all-keep keeps ts jobs rest)

@@ -8,8 +8,9 @@ use Rattle.zs_agenda.specs.Ticks.{Ticks}
 use Rattle.zs_agenda.specs.Timers.{Timers}
 use Rattle.zs_effect.specs.Scripts.{IsScript}
 use Rattle.zs_drive.specs.Clocks.{RisesFrom, AllBefore, max_tick}
+use Rattle.zs_drive.specs.declared.job.Job.{Job}
 use Rattle.zs_drive.specs.declared.record.Keeping.{Keeping}
-use Rattle.zs_drive.specs.Values.{JobRecord}
+use Rattle.zs_drive.specs.Values.{JobRecord, job_record}
 use Rattle.zs_drive.specs.Timeline.{timeline_of, poll_moments}
 use Rattle.zs_drive.specs.Tasks.{TaskValue, current_timeline}
 use Rattle.zs_engine.specs.Times.{ticks_of, next_of}
@@ -69,9 +70,9 @@ pub record Begins (ticks : List ℕ) (slots : Slots) (timers : Timers) (count no
 abbrev pub KeptJob : Type 0
 KeptJob = JobRecord × Keeping
 
--- a job whose task stores its attempts in this way
-abbrev pub kept_as : Keeping → JobRecord → KeptJob
-kept_as keeps job = (job, keeps)
+-- the value of a job whose task stores its attempts in this way
+abbrev pub job_kept : Keeping → Job → KeptJob
+job_kept keeps job = (job_record job, keeps)
 
 -- the job without how its attempts are stored
 abbrev pub job_alone : KeptJob → JobRecord

@@ -1,11 +1,10 @@
 //! A run of jobs: rounds of due polls, at rising moments, up to the horizon.
-ghost use Rattle.std.specs.Prelude.{◌≡◌, ℕ, ◌<◌, List, [], ◌∷◌, ◌++◌, length, map, Some, None, slice_set, OnOk, IfOk};
+ghost use Rattle.std.specs.Prelude.{◌≡◌, ℕ, ◌≤◌, ◌<◌, List, [], ◌∷◌, ◌++◌, length, map, Some, None, slice_set, OnOk, IfOk};
 ghost use Rattle.std.specs.FinMap.{empty, get};
 ghost use Rattle.zs_term.specs.Saturating.{max_moment};
-ghost use Rattle.zs_drive.specs.Values.{job_record};
 ghost use Rattle.zs_pool.specs.Limits.{max_tasks};
 ghost use Rattle.zs_engine.specs.Times.{IsLater};
-ghost use Rattle.zs_engine.specs.Rounds.{job_alone, jobs_in, kept_as, kept_of, next_tick_of, set_next};
+ghost use Rattle.zs_engine.specs.Rounds.{job_alone, job_kept, jobs_in, kept_of, next_tick_of, set_next};
 ghost use Rattle.zs_engine.specs.Answers.{IsAnswer};
 
 use crate::answer::Answer;
@@ -67,27 +66,19 @@ impl Engine {
     }
 
     // Adds a job, whose task stores its attempts in this way.
-    pub fn add(&mut self, job: Job, keeps: Keeping) -> Result<(), EngineFault>
+    fn add(&mut self, job: Job, keeps: Keeping) -> Result<(), EngineFault>
         requires few { length (jobs_in self.old.slots.items) < max_tasks }
         requires new { IsNew self.old }
         ensures new { OnOk result (IsNew self.new) }
         ensures clock { OnOk result (self.new.clock ≡ self.old.clock) }
         ensures jobs { OnOk result
             (jobs_in self.new.slots.items
-            ≡ jobs_in self.old.slots.items ++ kept_as keeps (job_record job) ∷ []) }
+            ≡ jobs_in self.old.slots.items ++ job_kept keeps job ∷ []) }
     {
         let task = Task::keeping(self.alloc, self.slots.len() as u64, job, keeps)?;
         set_timer(&self.clock, &mut self.agenda, &task)?;
         self.slots.push(Some(task))?;
         Ok(())
-    }
-
-    // Returns the number of jobs.
-    pub fn count(&self) -> u64
-        requires new { IsNew self.now }
-        ensures value { result ≡ length (jobs_in self.now.slots.items) }
-    {
-        self.slots.len() as u64
     }
 
     // Puts a polled task back into its slot, and sets its timer again.
@@ -196,7 +187,7 @@ impl Engine {
         requires due { IsDueAt now numbers.now self.old }
         ensures round { OnOk result (HasRunRound now self.old self.new) }
     {
-        if cut.workers() == 1 || numbers.len() as u64 <= cut.grain() {
+        if cut.is_for_one(numbers.len() as u64) {
             self.poll_round(polling, now, numbers)
         } else {
             self.share_round(rt, cut, gate, now, numbers)
@@ -222,18 +213,27 @@ impl Engine {
         Ok(())
     }
 
-    // Runs the jobs until no task waits for a tick.
+    // Adds the jobs, in order, and runs them until no task waits for a tick.
     pub fn run<G: Gate, R: Threads + Wait + Sync>(
         &mut self,
         rt: &R,
         cut: Cut,
         gate: &G,
+        jobs: Vec<Job>,
+        keeps: Keeping,
     ) -> Result<(), EngineFault>
+        requires few { length jobs.items ≤ max_tasks }
         requires new { IsNew self.old }
+        requires empty { self.old.slots.items ≡ [] }
         ensures rests { OnOk result (IsResting self.new) }
-        ensures same { OnOk result (IsSameRun self.old self.new) }
+        ensures clock { OnOk result (self.new.clock ≡ self.old.clock) }
+        ensures jobs { OnOk result
+            (jobs_in self.new.slots.items ≡ map (job_kept keeps) jobs.items) }
         ensures over { OnOk result (self.new.agenda.moments ≡ empty) }
     {
+        for job in jobs {
+            self.add(job, keeps)?;
+        }
         let poller = match Poller::new(self.alloc) {
             Ok(poller) => poller,
             Err(fault) => return Err(refused_round(fault)),

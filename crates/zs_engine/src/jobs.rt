@@ -6,14 +6,33 @@ ghost use Rattle.zs_pool.specs.Limits.{max_tasks};
 ghost use Rattle.zs_engine.specs.Answers.{AllKeep, IsAnswer};
 
 use crate::answer::Answer;
+use crate::engine::Engine;
 use crate::fault::EngineFault;
-use crate::run::Run;
 use std::alloc::Global;
 use std::sync::Wait;
 use std::thread::Threads;
 use zs_agenda::Clock;
 use zs_drive::{Job, Keeping};
 use zs_pool::{Cut, Gate};
+
+// Runs the jobs, whose tasks store their attempts as `keeps` says.
+fn run_keeping<G: Gate, R: Threads + Wait + Sync>(
+    rt: &R,
+    alloc: Global,
+    cut: Cut,
+    gate: &G,
+    clock: Clock,
+    jobs: Vec<Job>,
+    keeps: Keeping,
+) -> Result<Answer, EngineFault>
+    requires few { length jobs.items ≤ max_tasks }
+    ensures answer { IfOk result (IsAnswer clock (map job_record jobs.items)) }
+    ensures keeps { IfOk result (AllKeep keeps) }
+{
+    let mut engine = Engine::new(alloc, clock)?;
+    engine.run(rt, cut, gate, jobs, keeps)?;
+    engine.finish()
+}
 
 /// Runs the jobs up to the clock's horizon. A job's number is its place in the list, from 0. Each
 /// task stores a record of each attempt. If the run fails, it drops the jobs.
@@ -30,9 +49,23 @@ pub fn run_jobs<G: Gate, R: Threads + Wait + Sync>(
     ensures answer { IfOk result (IsAnswer clock (map job_record jobs.items)) }
     ensures keeps { IfOk result (AllKeep Keeping.Records) }
 {
-    let mut run = Run::new(alloc, clock, Keeping::Records)?;
-    for job in jobs {
-        run = run.add(job)?;
-    }
-    run.finish(rt, cut, gate)
+    run_keeping(rt, alloc, cut, gate, clock, jobs, Keeping::Records)
+}
+
+/// Like `run_jobs`, with tasks that store lines instead of all records but the last. This takes
+/// less memory.
+pub fn run_to_lines<G: Gate, R: Threads + Wait + Sync>(
+    rt: &R,
+    alloc: Global,
+    cut: Cut,
+    gate: &G,
+    clock: Clock,
+    jobs: Vec<Job>,
+) -> Result<Answer, EngineFault>
+    requires few { length jobs.items ≤ max_tasks }
+    // The clauses of `run_jobs`.
+    ensures answer { IfOk result (IsAnswer clock (map job_record jobs.items)) }
+    ensures keeps { IfOk result (AllKeep Keeping.Lines) }
+{
+    run_keeping(rt, alloc, cut, gate, clock, jobs, Keeping::Lines)
 }

@@ -17,12 +17,10 @@ mod engine;
 mod fault;
 mod jobs;
 mod laws;
-mod run;
 mod slots;
 mod timers;
 
 pub use answer::Answer;
 pub use fault::EngineFault;
-pub use jobs::run_jobs;
+pub use jobs::{run_jobs, run_to_lines};
 pub use laws::listed_ticks;
-pub use run::Run;

@@ -19,8 +19,7 @@ use Rattle.zs_run.specs.Shapes.{beat_of, entry_keys, job_keys, job_parts, docume
 use Rattle.zs_run.specs.Jobs.{mode_of, is_name, script_of, job_of, jobs_of}
 use Rattle.zs_run.specs.Plan.{PlanRecord, is_cut, max_bytes, max_jobs, plan_of_tree, plan_of}
 use Rattle.zs_job_bounds.specs.Histories.{HasInputs}
-use Rattle.zs_run.proofs.Trees.{There}
-use Rattle.zs_job_bounds.proofs.Numbers.{DataFits, BeatFits, EntriesFit, JobsFit, read-fits, beats-fit, parts-fit, document-fits}
+use Rattle.zs_job_bounds.proofs.Numbers.{There, DataFits, BeatFits, EntriesFit, JobsFit, read-fits, beats-fit, parts-fit, document-fits}
 
 -- ---- what was accepted
 

@@ -19,10 +19,23 @@ use Rattle.zs_effect.specs.declared.script.Beat.{Beat}
 use Rattle.zs_effect.specs.declared.script.Outcome.TheVariants.{Good, Bad}
 use Rattle.zs_drive.specs.Timeline as timeline
 use Rattle.zs_run.specs.Tree.{◌>>=◌, tree_of, all_of, list_of, as_list, as_whole, find_whole, find_text, find_list, whole_or}
-use Rattle.zs_run.proofs.Trees.{There, there-map, there-then}
 use Rattle.zs_run.specs.Shapes.{beat_of, outcome_of, job_parts, JobParts, document_parts, DocumentParts}
 
 -- ---- what may be missing
+
+-- what is there has property P
+abbrev pub There : {A : Type 0} → (A → Type 0) → Option A → Type 0
+There P None = ⊤
+There P (Some a) = P a
+
+there-map : {A B : Type 0} (P : A → Type 0) (Q : B → Type 0) (f : A → B) → ((a : A) → P a → Q (f a)) → (o : Option A) → There P o → There Q (option_map f o)
+there-map P Q f k None h = tt
+there-map P Q f k (Some a) h = k a h
+
+there-then : {A B : Type 0} (P : A → Type 0) (Q : B → Type 0) (f : A → Option B) → ((a : A) → P a → There Q (f a)) → (o : Option A) → There P o
+    → There Q (option_and_then f o)
+there-then P Q f k None h = tt
+there-then P Q f k (Some a) h = k a h
 
 -- the same of a look-up after another one
 there-next : {A B : Type 0} (P : A → Type 0) (Q : B → Type 0) (f : A → Option B) → ((a : A) → P a → There Q (f a)) → (o : Option A) → There P o

@@ -1,31 +1,33 @@
 //! Blocks of jobs: read, run and written.
-ghost use Rattle.std.specs.Prelude.{◌≡◌, ◌≤◌, ◌<◌, ◌+◌, ◌^◌, ◌∷◌, ◌↔◌, [], ℕ, List, length, take, Ok, Err, true, false, is_err, IfOk, IfErr, OnOk, IsErrOf, IsTrue, string_bytes};
+ghost use Rattle.std.specs.Prelude.{◌≡◌, ◌≤◌, ◌<◌, ◌+◌, ◌^◌, ◌∷◌, ◌++◌, ◌↔◌, [], ℕ, List, map, length, take, Ok, Err, true, false, is_err, IfOk, IfErr, OnOk, IsErrOf, IsTrue, string_bytes};
 ghost use Rattle.std.specs.Io.KnownBytes.{Appends, IsAtEnd, prepend_known};
 ghost use Rattle.zs_drive.specs.Values.{job_record};
 ghost use Rattle.zs_run.specs.Head.{head_of};
 ghost use Rattle.zs_run.specs.HeadView.{head_record};
 ghost use Rattle.zs_run.specs.Names.{KnowsNames};
+ghost use Rattle.zs_run.specs.Plan.{max_jobs};
 ghost use Rattle.zs_run.specs.PlanReport.{jobs_text, polls_of, with_total};
+ghost use Rattle.zs_run.specs.PlanView.{plan_record};
 ghost use Rattle.zs_population.specs.Buffers.{Took};
 ghost use Rattle.zs_population.specs.Population.{block_jobs, job_at, max_population};
 ghost use Rattle.zs_population.specs.Reads.{AddsJob, BlockFault, BlockReads, HeadFault, IsNoJob, line_fault_of};
 
 use crate::buffer::{Buffer, LineFault};
 use crate::fault::PopulationFault;
-use std::alloc::{AllocError, Global};
+use std::alloc::Global;
 use std::collections::BTreeSet;
 use std::sync::Wait;
 use std::thread::Threads;
 use zs_drive::Job;
-use zs_engine::EngineFault;
+use zs_engine::{EngineFault, run_to_lines};
 use zs_pool::{Gate, MAX_TASKS};
 use zs_run::{
-    Drain, Head, JobLines, PlanFault, ReadyPlan, Source, add_job, read_head, read_job, run_to_text,
+    Drain, Head, Plan, PlanFault, Source, add_job, append_jobs, append_total, read_head, read_job,
     write_all,
 };
 
 /// The most jobs of a block: the most that a round may poll.
-pub(crate) const BLOCK: u64 = MAX_TASKS;
+pub(crate) const BLOCK: usize = MAX_TASKS as usize;
 
 // The most jobs of a population.
 const MAX_POPULATION: u64 = 1_000_000_000_000_000;
@@ -101,73 +103,79 @@ fn add_line(
     alloc: Global,
     number: u64,
     names: &mut BTreeSet<String>,
-    plan: ReadyPlan,
+    jobs: &mut Vec<Job>,
     line: &[u8],
-) -> Result<ReadyPlan, PlanFault>
-    requires block { length plan.run.jobs < block_jobs }
-    ensures few { IfOk result (λ after. number < max_population) }
-    ensures count { IfOk result (λ after. length after.run.jobs ≡ length plan.run.jobs + 1) }
-    ensures clock { IfOk result (λ after. after.run.clock ≡ plan.run.clock) }
-    ensures job { IfOk result (λ after.
-        AddsJob number names.old names.new line.now plan.run.jobs after.run.jobs) }
+) -> Result<(), PlanFault>
+    ensures few { OnOk result (number < max_population) }
+    ensures count { OnOk result (length jobs.new.items ≡ length jobs.old.items + 1) }
+    ensures job { OnOk result (AddsJob number names.old names.new line.now
+        (map job_record jobs.old.items) (map job_record jobs.new.items)) }
     ensures fault { IfErr result (IsNoJob number names.old line.now) }
 {
     let job = job_at(alloc, number, names, line)?;
-    Ok(add_job(alloc, names, plan, job)?)
+    add_job(alloc, names, jobs, job)?;
+    Ok(())
 }
 
-/// Adds the jobs of the next block to a plan of none: fewer than `BLOCK` if no line remains.
+/// Reads the jobs of the next block: fewer than `BLOCK` if no line remains.
 pub(crate) fn read_block<R: Source>(
     alloc: Global,
     reader: &mut R,
     buffer: &mut Buffer,
     names: &mut BTreeSet<String>,
     first: u64,
-    plan: ReadyPlan,
-) -> Result<ReadyPlan, PopulationFault>
+) -> Result<Vec<Job>, PopulationFault>
     requires clear { R.mark reader.old ≡ false }
     requires few { first ≤ max_population }
-    requires none { plan.run.jobs ≡ [] }
-    ensures block { IfOk result (λ block. length block.run.jobs ≤ block_jobs) }
-    ensures few { IfOk result (λ block. first + length block.run.jobs ≤ max_population) }
-    ensures clock { IfOk result (λ block. block.run.clock ≡ plan.run.clock) }
-    ensures jobs { IfOk result (λ block. BlockReads first
+    ensures block { IfOk result (λ jobs. length jobs.items ≤ block_jobs) }
+    ensures few { IfOk result (λ jobs. first + length jobs.items ≤ max_population) }
+    ensures jobs { IfOk result (λ jobs. BlockReads first
         (prepend_known buffer.old (R.remaining reader.old))
         (prepend_known buffer.new (R.remaining reader.new))
-        names.old names.new block.run.jobs) }
-    ensures last { IfOk result (λ block. length block.run.jobs < block_jobs
+        names.old names.new (map job_record jobs.items)) }
+    ensures last { IfOk result (λ jobs. length jobs.items < block_jobs
         → IsAtEnd (prepend_known buffer.new (R.remaining reader.new))) }
     ensures fault { IfErr result (BlockFault first
         (prepend_known buffer.old (R.remaining reader.old)) names.old) }
     ensures marks { IsTrue (R.mark reader.new) ↔ IsErrOf result PopulationFault.Read }
 {
-    let mut plan = plan;
+    let mut jobs = Vec::new(alloc);
     let mut line = Vec::new(alloc);
-    while plan.run.count() < BLOCK {
-        let number = first + plan.run.count();
+    while jobs.len() < BLOCK {
+        let number = first + jobs.len() as u64;
         match buffer.next_line(reader, &mut line) {
             Ok(true) => {}
-            Ok(false) => return Ok(plan),
+            Ok(false) => return Ok(jobs),
             Err(fault) => return Err(line_fault(number + 2, fault)),
         }
-        plan = match add_line(alloc, number, names, plan, line.as_slice()) {
-            Ok(plan) => plan,
-            Err(fault) => {
-                return Err(PopulationFault::Line {
-                    line: number + 2,
-                    fault,
-                });
-            }
-        };
+        if let Err(fault) = add_line(alloc, number, names, &mut jobs, line.as_slice()) {
+            return Err(PopulationFault::Line {
+                line: number + 2,
+                fault,
+            });
+        }
     }
-    Ok(plan)
+    Ok(jobs)
 }
 
-// Adds the last line of the report.
-fn push_total(text: &mut String, polls: u128) -> Result<(), AllocError>
-    ensures text { OnOk result (string_bytes text.new ≡ with_total (string_bytes text.old) polls) }
+// Runs the jobs of a plan: the lines of their report up to the last one, and the number of polls.
+fn lines_of<T: Threads + Wait + Sync, G: Gate>(
+    rt: &T,
+    alloc: Global,
+    gate: &G,
+    plan: Plan,
+) -> Result<(String, u64), EngineFault>
+    requires few { length plan.jobs.items ≤ max_jobs }
+    ensures text { IfOk result (λ lines. string_bytes lines.0
+        ≡ jobs_text (plan_record plan).clock (plan_record plan).jobs) }
+    ensures polls { IfOk result (λ lines. lines.1
+        ≡ polls_of (plan_record plan).clock (plan_record plan).jobs) }
 {
-    writeln!(text, "polls {polls}")
+    let Plan { clock, cut, jobs } = plan;
+    let answer = run_to_lines(rt, alloc, cut, gate, clock, jobs)?;
+    let mut text = String::new(alloc);
+    append_jobs(&mut text, &answer)?;
+    Ok((text, answer.polls))
 }
 
 /// Runs a block, and adds its polls to those before. The text of the last block ends with the
@@ -176,26 +184,27 @@ pub(crate) fn run_block<T: Threads + Wait + Sync, G: Gate>(
     rt: &T,
     alloc: Global,
     gate: &G,
-    plan: ReadyPlan,
+    head: &Head,
+    jobs: Vec<Job>,
     polls: &mut u128,
 ) -> Result<String, EngineFault>
+    requires few { length jobs.items ≤ block_jobs }
     requires room { polls.old + 2 ^ 64 ≤ 2 ^ 128 }
     ensures room { OnOk result (polls.new < polls.old + 2 ^ 64) }
     ensures polls { OnOk result (polls.new
-        ≡ polls.old + polls_of plan.run.clock plan.run.jobs) }
-    ensures lines { IfOk result (λ text. length plan.run.jobs ≡ block_jobs
-        → string_bytes text ≡ jobs_text plan.run.clock plan.run.jobs) }
-    ensures last { IfOk result (λ text. length plan.run.jobs < block_jobs
-        → string_bytes text ≡ with_total (jobs_text plan.run.clock plan.run.jobs) polls.new) }
+        ≡ polls.old + polls_of (head_record head.now).clock (map job_record jobs.items)) }
+    ensures lines { IfOk result (λ text. length jobs.items ≡ block_jobs
+        → string_bytes text ≡ jobs_text (head_record head.now).clock (map job_record jobs.items)) }
+    ensures last { IfOk result (λ text. length jobs.items < block_jobs
+        → string_bytes text ≡ with_total
+        (jobs_text (head_record head.now).clock (map job_record jobs.items)) polls.new) }
 {
-    let is_last = plan.run.count() < BLOCK;
-    let JobLines {
-        mut text,
-        polls: more,
-    } = run_to_text(rt, alloc, gate, plan)?;
+    let is_last = jobs.len() < BLOCK;
+    let plan = head.plan(alloc, jobs)?;
+    let (mut text, more) = lines_of(rt, alloc, gate, plan)?;
     *polls += u128::from(more);
     if is_last {
-        push_total(&mut text, *polls)?;
+        append_total(&mut text, *polls)?;
     }
     Ok(text)
 }

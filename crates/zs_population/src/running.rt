@@ -14,7 +14,7 @@ use std::collections::BTreeSet;
 use std::sync::Wait;
 use std::thread::Threads;
 use zs_pool::Gate;
-use zs_run::{Drain, Head, PlanFault, Source};
+use zs_run::{Drain, Head, Source};
 
 // Runs the jobs after the head, block by block.
 fn run_blocks<T: Threads + Wait + Sync, G: Gate, R: Source, W: Drain>(
@@ -46,19 +46,9 @@ fn run_blocks<T: Threads + Wait + Sync, G: Gate, R: Source, W: Drain>(
     let mut sent = 0;
     let mut blocks = 0;
     loop {
-        let first = blocks * BLOCK;
-        let plan = match head.plan(alloc) {
-            Ok(plan) => plan,
-            Err(_refused) => {
-                return Err(PopulationFault::Line {
-                    line: first + 2,
-                    fault: PlanFault::Memory,
-                });
-            }
-        };
-        let block = read_block(alloc, reader, buffer, &mut names, first, plan)?;
-        let is_last = block.run.count() < BLOCK;
-        let text = match run_block(rt, alloc, gate, block, &mut polls) {
+        let jobs = read_block(alloc, reader, buffer, &mut names, blocks * BLOCK as u64)?;
+        let is_last = jobs.len() < BLOCK;
+        let text = match run_block(rt, alloc, gate, head, jobs, &mut polls) {
             Ok(text) => text,
             Err(fault) => return Err(PopulationFault::Engine(fault)),
         };

@@ -1,42 +1,46 @@
 -- A loop over the jobs of a plan.
-use Rattle.std.proofs.Common.{Global, ◌≡◌, ℕ, ◌+◌, List, [], ◌∷◌, ◌++◌, map, Result, Ok, Err, refl, sym, ap, append_assoc, append-nil}
-use Rattle.json.specs.declared.value.Value.{Value}
-use Rattle.zs_drive.specs.Values.{JobRecord}
+use Rattle.std.proofs.Common.{◌≡◌, ℕ, ◌+◌, List, [], ◌∷◌, ◌++◌, map, Result, Ok, Err, refl, sym, ap, append_assoc, append-nil}
+use Rattle.serde_json.specs.declared.value.Value.{Value}
+use Rattle.zs_drive.specs.Values.{JobRecord, job_record}
+use Rattle.zs_drive.specs.declared.job.Job.{Job}
 use Rattle.zs_run.specs.declared.plan_fault.PlanFault.{PlanFault}
 use Rattle.zs_run.specs.Refusals.{◌>>=◌}
 use Rattle.zs_run.specs.Jobs.{job_of, jobs_of}
-use Rattle.zs_run.specs.Plan.{PlanRecord}
-use Rattle.zs_run.specs.TreeView.{view}
-use Rattle.zs_run.specs.WithJobs.{with_jobs}
+use Rattle.serde_json.specs.View.{view}
 
 -- the names of jobs
-abbrev pub names_of : List JobRecord → List (List ℕ)
-names_of jobs = map (λ job. job.name) jobs
+abbrev pub names_of : List Job → List (List ℕ)
+names_of jobs = map (λ job. (job_record job).name) jobs
 
--- the plan with one more job
-abbrev pub push_job : PlanRecord → JobRecord → PlanRecord
-push_job plan job = record plan { jobs = plan.jobs ++ job ∷ [] }
+-- the jobs so far, and then those of the rest
+abbrev pub after : List JobRecord → Result (List JobRecord) PlanFault → Result (List JobRecord) PlanFault
+after front rest = rest >>= (λ jobs. Ok (front ++ jobs))
 
-with_pushed : (plan : PlanRecord) (job : JobRecord) (rest : Result (List JobRecord) PlanFault)
-    → with_jobs plan (rest >>= (λ jobs. Ok (job ∷ jobs))) ≡ with_jobs (push_job plan job) rest
-with_pushed plan job (Ok jobs) = ap (λ all. Ok (record plan { jobs = all })) (sym (append_assoc plan.jobs (job ∷ []) jobs))
-with_pushed plan job (Err e) = refl
+-- no job so far
+pub after_none : (rest : Result (List JobRecord) PlanFault) → after [] rest ≡ rest
+after_none (Ok jobs) = refl
+after_none (Err e) = refl
+
+after_push : (front : List JobRecord) (job : JobRecord) (rest : Result (List JobRecord) PlanFault)
+    → after front (rest >>= (λ jobs. Ok (job ∷ jobs))) ≡ after (front ++ job ∷ []) rest
+after_push front job (Ok jobs) = ap Ok (sym (append_assoc front (job ∷ []) jobs))
+after_push front job (Err e) = refl
 
 -- one more job
-pub with_step : (plan : PlanRecord) (number : ℕ) (names : List (List ℕ)) (value : Value Global) (rest : List (Value Global)) (job : JobRecord)
+pub after_step : (front : List JobRecord) (number : ℕ) (names : List (List ℕ)) (value : Value) (rest : List Value) (job : JobRecord)
     → job_of number names (view value) ≡ Ok job
-    → with_jobs plan (jobs_of number names (map view (value ∷ rest)))
-    ≡ with_jobs (push_job plan job) (jobs_of (number + 1) (names ++ job.name ∷ []) (map view rest))
+    → after front (jobs_of number names (map view (value ∷ rest)))
+    ≡ after (front ++ job ∷ []) (jobs_of (number + 1) (names ++ job.name ∷ []) (map view rest))
 unfolding jobs_of
-with_step plan number names value rest job given = rw given (with_pushed plan job _)
+after_step front number names value rest job given = rw given (after_push front job _)
 
 -- a fault of a job
-pub with_fault : (plan : PlanRecord) (number : ℕ) (names : List (List ℕ)) (value : Value Global) (rest : List (Value Global)) (fault : PlanFault)
-    → job_of number names (view value) ≡ Err fault → with_jobs plan (jobs_of number names (map view (value ∷ rest))) ≡ Err fault
+pub after_fault : (front : List JobRecord) (number : ℕ) (names : List (List ℕ)) (value : Value) (rest : List Value) (fault : PlanFault)
+    → job_of number names (view value) ≡ Err fault → after front (jobs_of number names (map view (value ∷ rest))) ≡ Err fault
 unfolding jobs_of
-with_fault plan number names value rest fault given = rw given refl
+after_fault front number names value rest fault given = rw given refl
 
 -- no more jobs
-pub with_none : (plan : PlanRecord) (number : ℕ) (names : List (List ℕ)) → with_jobs plan (jobs_of number names []) ≡ Ok plan
+pub after_all : (front : List JobRecord) (number : ℕ) (names : List (List ℕ)) → after front (jobs_of number names []) ≡ Ok front
 unfolding jobs_of
-with_none plan number names = ap (λ all. Ok (record plan { jobs = all })) (append-nil plan.jobs)
+after_all front number names = ap Ok (append-nil front)

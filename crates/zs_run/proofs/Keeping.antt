@@ -1,7 +1,6 @@
 -- The lines and the records that a task stores together represent all attempts.
 use Rattle.std.proofs.Common.{◌≡◌, ℕ, ◌+◌, ◌-◌, ◌<◌, List, [], ◌∷◌, ◌++◌, length, drop, map, slice_get, append_assoc, refl, sym, ◌∙◌, ap, arith}
 use Rattle.std.specs.Prelude.{Some, option_map, option_and_then, get_or}
-use Rattle.std.specs.List.{insert_slice}
 use Rattle.std.proofs.lemmas.List.{length-drop, length-map, get_or-drop}
 use Rattle.std.proofs.lemmas.Option.{slice_get-get_or, slice_get-map}
 use Rattle.zs_drive.specs.declared.record.Attempted.{Attempted}
@@ -47,15 +46,3 @@ pub last_ended-of : (records : List Attempted) (last : Attempted) → Some last 
 last_ended-of records last is =
     ap (λ (n : ℕ). option_and_then (λ (a : AttemptedValue). a.ended) (slice_get (map attempted_of records) (n - 1))) (length-map records attempted_of)
     ∙ ap (option_and_then (λ (a : AttemptedValue). a.ended)) (slice_get-map attempted_of records (length records - 1) ∙ ap (option_map attempted_of) (sym is))
-
--- the first line of a job, the stored lines, the lines of the records, and the last line, in this
--- order
-pub lines-enclosed : (keeps : Keeping) (attempts : List AttemptedValue) (head end lines rest : List ℕ) → lines ≡ attempts_lines 1 (told_of keeps attempts)
-    → rest ≡ attempts_lines (length (told_of keeps attempts) + 1) (recorded_of keeps attempts) ++ end
-    → insert_slice lines 0 head ++ rest ≡ head ++ attempts_lines 1 attempts ++ end
-lines-enclosed keeps attempts head end lines rest are left =
-    let told = attempts_lines 1 (told_of keeps attempts) in
-    let recorded = attempts_lines (length (told_of keeps attempts) + 1) (recorded_of keeps attempts) in
-    rw (are, left) (sym (append_assoc (head ++ told) recorded end)
-    ∙ ap (λ text. text ++ end) (append_assoc head told recorded)
-    ∙ ap (λ text. head ++ text ++ end) (told-lines keeps attempts))

@@ -17,8 +17,6 @@ pub mod Status
 pub mod Marked
 pub mod Headline
 -- Invariants of bodies: only private contracts name these.
-pub mod TreeView
 pub mod ShapeViews
-pub mod WithJobs
 pub mod Streams
 pub mod PlanReads

@@ -1,6 +1,6 @@
 -- What contracts know about the parts of a document and of a job.
 use Rattle.std.specs.Prelude.{map}
-use Rattle.zs_run.specs.TreeView.{view}
+use Rattle.serde_json.specs.View.{view}
 use Rattle.zs_agenda.specs.Ticks.{Ticks, every_ms, listed}
 use Rattle.zs_run.specs.declared.shapes.AskedTicks.{AskedTicks}
 use Rattle.zs_run.specs.declared.shapes.AskedTicks.TheVariants.{EveryMs, Listed}

@@ -1,38 +1,38 @@
 //! Reads the entries of a script in a plan.
 ghost use Rattle.std.specs.Prelude.{◌≡◌, map, option_map, Some};
 ghost use Rattle.std.specs.List.{list_all};
-ghost use Rattle.zs_run.specs.TreeView.{view};
+ghost use Rattle.serde_json.specs.View.{view};
 ghost use Rattle.zs_run.specs.declared.plan_fault.PlanFault.TheVariants as faults;
 ghost use Rattle.zs_run.specs.Refusals.{Gives, demand_some};
 ghost use Rattle.zs_run.specs.Tree.{all_of, has_only_keys};
 ghost use Rattle.zs_run.specs.Shapes.{beat_of, entry_keys, outcome_of};
 
 use crate::plan_fault::PlanFault;
-use crate::tree::{as_whole, get, has_only_keys, whole};
-use json::Value;
+use crate::tree::{has_only_keys, whole};
+use serde_json::Value;
 use std::alloc::Global;
 use zs_effect::{Beat, Outcome};
 
 // Returns the outcome of an attempt, by the values at `ok` and `err`: exactly one of them.
-fn outcome_of(ok: Option<&Value<'_>>, err: Option<&Value<'_>>) -> Option<Outcome>
+fn outcome_of(ok: Option<&Value>, err: Option<&Value>) -> Option<Outcome>
     ensures value { result
         ≡ outcome_of (option_map (λ v. view v.now) ok.entry)
         (option_map (λ v. view v.now) err.entry) }
 {
     match (ok, err) {
-        (Some(ok), None) => Some(Outcome::Good(as_whole(ok)?)),
-        (None, Some(err)) => Some(Outcome::Bad(as_whole(err)?)),
+        (Some(ok), None) => Some(Outcome::Good(ok.as_u64()?)),
+        (None, Some(err)) => Some(Outcome::Bad(err.as_u64()?)),
         _ => None,
     }
 }
 
 // Returns the duration of an attempt, and its outcome.
 #[tactic(auto, unfolding(crate::specs::Shapes::beat_of))]
-fn beat_of(entry: &Value<'_>) -> Option<Beat>
+fn beat_of(entry: &Value) -> Option<Beat>
     ensures value { result ≡ beat_of (view entry.now) }
 {
     let ms = whole(entry, "ms")?;
-    let outcome = outcome_of(get(entry, "ok"), get(entry, "err"))?;
+    let outcome = outcome_of(entry.get("ok"), entry.get("err"))?;
     Some(Beat { ms, outcome })
 }
 
@@ -40,7 +40,7 @@ fn beat_of(entry: &Value<'_>) -> Option<Beat>
 pub(crate) fn beats_of(
     alloc: Global,
     number: u64,
-    entries: &[Value<'_>],
+    entries: &[Value],
 ) -> Result<Vec<Beat>, PlanFault>
     ensures value { Gives (λ beats. beats.items) result
         (demand_some (all_of beat_of (map view entries.now)) (faults.Shape (Some number))) }
@@ -56,14 +56,14 @@ pub(crate) fn beats_of(
 }
 
 // Whether an entry has only known keys.
-fn has_known_keys(entry: &Value<'_>) -> bool
+fn has_known_keys(entry: &Value) -> bool
     ensures value { result ≡ has_only_keys entry_keys (view entry.now) }
 {
     has_only_keys(entry, &["ms", "ok", "err"])
 }
 
 /// Whether all entries have only known keys.
-pub(crate) fn have_known_keys(entries: &[Value<'_>]) -> bool
+pub(crate) fn have_known_keys(entries: &[Value]) -> bool
     ensures value { result ≡ list_all (λ v. has_only_keys entry_keys (view v)) entries.now }
 {
     entries.iter().all(|entry| has_known_keys(entry))

@@ -1,6 +1,6 @@
 //! The parts of a population's input: a document without jobs, and the bytes of one job.
-ghost use Rattle.std.specs.Prelude.{◌≡◌, [], ℕ, List, IfOk, None, Ok};
-ghost use Rattle.zs_run.specs.TreeView.{view};
+ghost use Rattle.std.specs.Prelude.{◌≡◌, ◌++◌, ◌∷◌, [], ℕ, List, map, IfOk, None, Ok};
+ghost use Rattle.serde_json.specs.View.{view};
 ghost use Rattle.zs_drive.specs.Values.{job_record};
 ghost use Rattle.zs_run.specs.declared.plan_fault.PlanFault.TheVariants as faults;
 ghost use Rattle.zs_run.specs.Refusals.{Gives};
@@ -9,58 +9,57 @@ ghost use Rattle.zs_run.specs.HeadView.{head_record};
 ghost use Rattle.zs_run.specs.Names.{KnowsNames};
 
 use crate::job_reading::job_of;
-use crate::plan::{Planned, ReadyPlan};
+use crate::plan::Plan;
 use crate::plan_fault::PlanFault;
 use crate::reading::{MAX_BYTES, read_tree};
 use crate::shapes::AskedTicks;
-use crate::tree::{get, has_only_keys, whole_or};
-use json::{Scratch, Value};
+use crate::tree::{has_only_keys, whole_or};
+use serde_json::Value;
 use std::alloc::{AllocError, Global};
 use std::collections::BTreeSet;
+use zs_agenda::Clock;
 use zs_drive::Job;
 use zs_pool::Cut;
 
 /// How the jobs of a population run: a plan without its jobs.
 #[derive(Drop)]
 pub struct Head {
-    ticks: AskedTicks,
+    clock: Clock,
     cut: Cut,
 }
 
 impl Head {
-    ghost use Rattle.zs_run.specs.PlanView.{ready_record};
+    ghost use Rattle.zs_run.specs.PlanView.{plan_record};
 
-    /// The plan of no jobs yet, which will run in this way.
-    pub fn plan(&self, alloc: Global) -> Result<ReadyPlan, AllocError>
-        ensures plan { IfOk result (λ plan. ready_record plan ≡ record {
+    /// The plan of some jobs that run in this way.
+    pub fn plan(&self, alloc: Global, jobs: Vec<Job>) -> Result<Plan, AllocError>
+        ensures plan { IfOk result (λ plan. plan_record plan ≡ record {
           clock = (head_record self.now).clock;
           workers = (head_record self.now).workers;
           grain = (head_record self.now).grain;
-          jobs = [];
+          jobs = map job_record jobs.items;
         }) }
     {
-        // They are valid: they made a clock when the head was read.
-        let clock = self.ticks.copy(alloc)?.into_clock().ok_or(AllocError)?;
-        ReadyPlan::without_jobs(alloc, clock, self.cut)
+        let clock = self.clock.copy(alloc)?;
+        let cut = self.cut;
+        Ok(Plan { clock, cut, jobs })
     }
 }
 
 // The head that a document is.
 #[tactic(auto, unfolding(crate::specs::Head::head_of_tree, crate::specs::Plan::is_cut))]
-fn head_in(alloc: Global, document: &Value<'_>) -> Result<Head, PlanFault>
+fn head_in(alloc: Global, document: &Value) -> Result<Head, PlanFault>
     ensures head { Gives head_record result (head_of_tree (view document.now)) }
 {
-    let ticks = AskedTicks::of(alloc, get(document, "horizon"), get(document, "ticks"))?;
+    let asked = AskedTicks::of(alloc, document.get("horizon"), document.get("ticks"))?;
     let workers = whole_or(document, "workers", 1).ok_or(PlanFault::Shape { job: None })?;
     let grain = whole_or(document, "grain", 1).ok_or(PlanFault::Shape { job: None })?;
     if !has_only_keys(document, &["horizon", "ticks", "workers", "grain"]) {
         return Err(PlanFault::UnknownKey { job: None });
     }
-    if ticks.copy(alloc)?.into_clock().is_none() {
-        return Err(PlanFault::Range { job: None });
-    }
+    let clock = asked.into_clock().ok_or(PlanFault::Range { job: None })?;
     let cut = Cut::new(workers, grain).ok_or(PlanFault::Range { job: None })?;
-    Ok(Head { ticks, cut })
+    Ok(Head { clock, cut })
 }
 
 /// Reads a head from bytes. The error is the first fault of a plan's document, in which the key
@@ -72,8 +71,7 @@ pub fn read_head(alloc: Global, bytes: &[u8]) -> Result<Head, PlanFault>
     if bytes.len() > MAX_BYTES {
         return Err(PlanFault::TooLong);
     }
-    let mut scratch = Scratch::new(alloc);
-    let document = read_tree(alloc, bytes, &mut scratch)?;
+    let document = read_tree(alloc, bytes)?;
     head_in(alloc, &document)
 }
 
@@ -92,7 +90,6 @@ pub fn read_job(
     if bytes.len() > MAX_BYTES {
         return Err(PlanFault::TooLong);
     }
-    let mut scratch = Scratch::new(alloc);
-    let value = read_tree(alloc, bytes, &mut scratch)?;
+    let value = read_tree(alloc, bytes)?;
     job_of(alloc, number, names, &value)
 }

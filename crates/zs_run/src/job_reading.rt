@@ -1,7 +1,7 @@
 //! The jobs of a plan.
-ghost use Rattle.std.specs.Prelude.{◌≡◌, ◌≤◌, ◌<◌, ◌++◌, ◌∷◌, ◌&&◌, [], ℕ, List, map, length, IfOk, OnOk, Some};
+ghost use Rattle.std.specs.Prelude.{◌≡◌, ◌<◌, ◌^◌, ◌++◌, ◌∷◌, ◌&&◌, [], ℕ, List, map, length, IfOk, IfErr, OnOk, Some};
 ghost use Rattle.std.specs.List.{list_all};
-ghost use Rattle.zs_run.specs.TreeView.{view};
+ghost use Rattle.serde_json.specs.View.{view};
 ghost use Rattle.zs_term.specs.Schedule.{schedule_of};
 ghost use Rattle.zs_term.specs.Verdict.{verdict_of};
 ghost use Rattle.zs_drive.specs.Values.{job_record};
@@ -10,18 +10,15 @@ ghost use Rattle.zs_run.specs.Refusals.{Gives, passed_on};
 ghost use Rattle.zs_run.specs.Tree.{has_only_keys};
 ghost use Rattle.zs_run.specs.Shapes.{entry_keys, job_keys};
 ghost use Rattle.zs_run.specs.Names.{KnowsNames};
-ghost use Rattle.zs_run.specs.Plan.{max_jobs};
-ghost use Rattle.zs_run.specs.WithJobs.{with_jobs};
 ghost use Rattle.zs_run.specs.Jobs.{job_of, jobs_of, mode_of, script_of};
 
 use crate::entry::{beats_of, have_known_keys};
 use crate::names::{add_name, is_name, is_used};
-use crate::plan::Planned;
 use crate::plan_fault::PlanFault;
 use crate::shapes::JobParts;
 use crate::tree::has_only_keys;
-use json::Value;
-use std::alloc::{AllocError, Global};
+use serde_json::Value;
+use std::alloc::Global;
 use std::collections::BTreeSet;
 use zs_drive::{Job, Mode};
 use zs_effect::{Beat, Script};
@@ -43,7 +40,7 @@ fn mode_of(text: &str) -> Option<Mode>
 
 // Whether a job and the entries of its script have no other key.
 #[tactic(auto, using(crate::proofs::Trees::list_all_map))]
-fn has_known_keys(job: &Value<'_>, entries: &[Value<'_>]) -> bool
+fn has_known_keys(job: &Value, entries: &[Value]) -> bool
     ensures value { result
         ≡ (has_only_keys job_keys (view job.now)
         && list_all (has_only_keys entry_keys) (map view entries.now)) }
@@ -81,7 +78,7 @@ pub(crate) fn job_of(
     alloc: Global,
     number: u64,
     names: &BTreeSet<String>,
-    value: &Value<'_>,
+    value: &Value,
 ) -> Result<Job, PlanFault>
     ensures value { (earlier : List (List ℕ)) → KnowsNames names.now earlier
         → Gives job_record result (job_of number earlier (view value.now)) }
@@ -115,54 +112,47 @@ fn take_job(
     alloc: Global,
     number: u64,
     names: &BTreeSet<String>,
-    value: Value<'_>,
+    value: Value,
 ) -> Result<Job, PlanFault>
     ensures value { (earlier : List (List ℕ)) → KnowsNames names.now earlier
-        → Gives job_record result (job_of number earlier (view value.entry)) }
+        → Gives job_record result (job_of number earlier (view value)) }
 {
     job_of(alloc, number, names, &value)
 }
 
-/// Adds a job to a plan, and its name to those before it. If memory runs out, the plan is dropped.
-pub fn add_job<P: Planned>(
+/// Adds a job and its name to those before it. Its one fault is `Memory`.
+pub fn add_job(
     alloc: Global,
     names: &mut BTreeSet<String>,
-    plan: P,
+    jobs: &mut Vec<Job>,
     job: Job,
-) -> Result<P, AllocError>
-    requires few { length (P.planned plan).jobs < max_jobs }
+) -> Result<(), PlanFault>
     ensures names { OnOk result
         ((earlier : List (List ℕ)) → KnowsNames names.old earlier
         → KnowsNames names.new (earlier ++ (job_record job).name ∷ [])) }
-    ensures plan { IfOk result (λ after. P.planned after
-        ≡ record (P.planned plan) { jobs = (P.planned plan).jobs ++ job_record job ∷ [] }) }
+    ensures jobs { OnOk result (jobs.new.items ≡ jobs.old.items ++ job ∷ []) }
+    ensures err { IfErr result (λ fault. fault ≡ PlanFault.Memory) }
 {
     add_name(alloc, names, job.name.as_str())?;
-    plan.with_job(job)
+    jobs.push(job)?;
+    Ok(())
 }
 
-/// Adds the jobs of a list to a plan that has none, or returns the first fault. Each value is
-/// dropped as soon as it is read, while it is in the cache. The names so far are in a set, so that
-/// each is looked up in short time.
-pub(crate) fn add_jobs<P: Planned>(
-    alloc: Global,
-    plan: P,
-    values: Vec<Value<'_>>,
-) -> Result<P, PlanFault>
-    requires none { (P.planned plan).jobs ≡ [] }
-    requires few { length values.items ≤ max_jobs }
-    ensures plan { Gives P.planned result
-        (with_jobs (P.planned plan) (jobs_of 0 [] (map view values.entry.items))) }
-    ensures count { IfOk result (λ after.
-        length (P.planned after).jobs ≡ length values.entry.items) }
+/// The jobs of a list, or the first fault. Each value is dropped as soon as it is read, while it is
+/// in the cache. The names so far are in a set, so that each is looked up in short time.
+pub(crate) fn jobs_of(alloc: Global, values: Vec<Value>) -> Result<Vec<Job>, PlanFault>
+    requires room { length values.items < 2 ^ 64 }
+    ensures jobs { Gives (λ jobs. map job_record jobs.items) result
+        (jobs_of 0 [] (map view values.items)) }
+    ensures count { IfOk result (λ jobs. length jobs.items ≡ length values.items) }
 {
-    let mut plan = plan;
+    let mut jobs = Vec::new(alloc);
     let mut names = BTreeSet::new(alloc);
     let mut number = 0;
     for value in values {
         let job = take_job(alloc, number, &names, value)?;
-        plan = add_job(alloc, &mut names, plan, job)?;
+        add_job(alloc, &mut names, &mut jobs, job)?;
         number += 1;
     }
-    Ok(plan)
+    Ok(jobs)
 }

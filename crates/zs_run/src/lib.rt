@@ -14,12 +14,10 @@
 
 mod entry;
 mod head;
-mod job_lines;
 mod job_reading;
 mod laws;
 mod marked;
 mod names;
-mod numbers;
 mod plan;
 mod plan_fault;
 mod reading;
@@ -32,17 +30,16 @@ mod transfer;
 mod tree;
 
 pub use head::{Head, read_head, read_job};
-pub use job_lines::{JobLines, run_to_text};
 pub use job_reading::add_job;
 pub use laws::{
     accepted_plans_are_lawful, no_default_is_told, reports_join, reports_tell_apart,
     scripts_are_tested, the_cut_changes_nothing,
 };
 pub use marked::Marked;
-pub use plan::{Plan, Planned, ReadyPlan};
+pub use plan::Plan;
 pub use plan_fault::PlanFault;
 pub use reading::read_plan;
-pub use reporting::report;
+pub use reporting::{append_jobs, append_total, report};
 pub use run_fault::{RunFault, exit_code, status};
 pub use running::run;
 pub use streams::{Drain, Failed, Source};

@@ -149,8 +149,8 @@ fn push_head(text: &mut String, task: &Task) -> Result<(), AllocError>
     writeln!(text, "job {name} {mode}")
 }
 
-/// Adds the lines of a job.
-pub(crate) fn push_job(text: &mut String, horizon: u64, task: &Task) -> Result<(), AllocError>
+// Adds the lines of a job.
+fn push_job(text: &mut String, horizon: u64, task: &Task) -> Result<(), AllocError>
     ensures text { OnOk result
         (string_bytes text.new
         ≡ string_bytes text.old ++ job_lines horizon (task_report task.now)) }
@@ -158,21 +158,6 @@ pub(crate) fn push_job(text: &mut String, horizon: u64, task: &Task) -> Result<(
     push_head(text, task)?;
     push_task(text, task)?;
     push_end(text, horizon, task)
-}
-
-/// The lines of a job, in the memory of its task's lines.
-pub(crate) fn into_job(alloc: Global, horizon: u64, task: Task) -> Result<String, AllocError>
-    ensures text { IfOk result (λ text. string_bytes text ≡ job_lines horizon (task_report task)) }
-{
-    let mut head = String::new(alloc);
-    push_head(&mut head, &task)?;
-    let mut rest = String::new(alloc);
-    push_attempts(&mut rest, task.told_count() + 1, task.records())?;
-    push_end(&mut rest, horizon, &task)?;
-    let mut text = task.into_lines();
-    text.insert_str(0, &head)?;
-    text.push_str(&rest)?;
-    Ok(text)
 }
 
 // Adds the lines of jobs.
@@ -187,8 +172,18 @@ fn push_jobs(text: &mut String, horizon: u64, tasks: &[Task]) -> Result<(), Allo
     Ok(())
 }
 
-/// Adds the last line of a report.
-pub(crate) fn push_total(text: &mut String, polls: u64) -> Result<(), AllocError>
+/// Appends the lines of all jobs of an `Answer`, in order: their report without its last line.
+pub fn append_jobs(text: &mut String, answer: &Answer) -> Result<(), AllocError>
+    ensures text { OnOk result
+        (string_bytes text.new
+        ≡ string_bytes text.old
+        ++ flat_map (job_lines answer.now.horizon) (map task_report answer.now.tasks.items)) }
+{
+    push_jobs(text, answer.horizon, answer.tasks.as_slice())
+}
+
+/// Appends the last line of a report, the number of all due polls.
+pub fn append_total(text: &mut String, polls: u128) -> Result<(), AllocError>
     ensures text { OnOk result (string_bytes text.new ≡ with_total (string_bytes text.old) polls) }
 {
     writeln!(text, "polls {polls}")
@@ -202,7 +197,7 @@ pub fn report(alloc: Global, answer: &Answer) -> Result<String, AllocError>
         answer.now.polls) }
 {
     let mut text = String::new(alloc);
-    push_jobs(&mut text, answer.horizon, answer.tasks.as_slice())?;
-    push_total(&mut text, answer.polls)?;
+    append_jobs(&mut text, answer)?;
+    append_total(&mut text, u128::from(answer.polls))?;
     Ok(text)
 }

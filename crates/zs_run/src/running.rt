@@ -1,29 +1,29 @@
 //! A run, from the bytes of a plan to the bytes of its report.
-ghost use Rattle.std.specs.Prelude.{◌≡◌, ◌≤◌, ◌+◌, false, IfOk, string_bytes};
-ghost use Rattle.zs_run.specs.PlanView.{ready_record};
+ghost use Rattle.std.specs.Prelude.{◌≡◌, ◌≤◌, ◌+◌, length, false, IfOk, string_bytes};
+ghost use Rattle.zs_run.specs.Plan.{max_jobs};
+ghost use Rattle.zs_run.specs.PlanView.{plan_record};
 ghost use Rattle.zs_run.specs.PlanReport.{report_of};
 ghost use Rattle.zs_run.specs.Headline.{Ends, max_read};
 ghost use Rattle.zs_run.specs.PlanReads.{Reads};
 
-use crate::job_lines::{JobLines, run_to_text};
-use crate::plan::ReadyPlan;
+use crate::plan::Plan;
 use crate::plan_fault::PlanFault;
-use crate::reading::read_planned;
-use crate::reporting::push_total;
+use crate::reading::read_plan;
+use crate::reporting::report;
 use crate::run_fault::RunFault;
 use crate::streams::{Drain, Source};
 use crate::transfer::{InputFault, read_up_to, write_all};
 use std::alloc::Global;
 use std::sync::Wait;
 use std::thread::Threads;
-use zs_engine::EngineFault;
+use zs_engine::{EngineFault, run_to_lines};
 use zs_pool::Gate;
 
 // One byte more than a plan may have: enough to know that there are too many.
 const MAX_READ: usize = 16_777_217;
 
 // The plan that the reader gives.
-fn read_source<R: Source>(alloc: Global, reader: &mut R) -> Result<ReadyPlan, RunFault>
+fn read_source<R: Source>(alloc: Global, reader: &mut R) -> Result<Plan, RunFault>
     requires clear { R.mark reader.old ≡ false }
     ensures reads { Reads result
         (record {
@@ -31,6 +31,7 @@ fn read_source<R: Source>(alloc: Global, reader: &mut R) -> Result<ReadyPlan, Ru
           left = R.remaining reader.new;
           failed = R.mark reader.new;
         }) }
+    ensures few { IfOk result (λ plan. length plan.jobs.items ≤ max_jobs) }
     ensures pulls { R.pulls reader.new ≤ R.pulls reader.old + max_read }
 {
     let mut bytes = Vec::new(alloc);
@@ -39,7 +40,7 @@ fn read_source<R: Source>(alloc: Global, reader: &mut R) -> Result<ReadyPlan, Ru
         Err(InputFault::Read) => return Err(RunFault::Read),
         Err(InputFault::Memory) => return Err(RunFault::Plan(PlanFault::Memory)),
     }
-    match read_planned(alloc, bytes.as_slice()) {
+    match read_plan(alloc, bytes.as_slice()) {
         Ok(plan) => Ok(plan),
         Err(fault) => Err(RunFault::Plan(fault)),
     }
@@ -50,13 +51,14 @@ fn report_plan<T: Threads + Wait + Sync, G: Gate>(
     rt: &T,
     alloc: Global,
     gate: &G,
-    plan: ReadyPlan,
+    plan: Plan,
 ) -> Result<String, EngineFault>
-    ensures text { IfOk result (λ text. string_bytes text ≡ report_of (ready_record plan)) }
+    requires few { length plan.jobs.items ≤ max_jobs }
+    ensures text { IfOk result (λ text. string_bytes text ≡ report_of (plan_record plan)) }
 {
-    let JobLines { mut text, polls } = run_to_text(rt, alloc, gate, plan)?;
-    push_total(&mut text, polls)?;
-    Ok(text)
+    let Plan { clock, cut, jobs } = plan;
+    let answer = run_to_lines(rt, alloc, cut, gate, clock, jobs)?;
+    Ok(report(alloc, &answer)?)
 }
 
 /// Reads a plan to the end of input, runs its jobs, writes their report, and flushes.

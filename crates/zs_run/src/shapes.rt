@@ -1,15 +1,15 @@
 //! The parts of a document, a job and an entry: each is looked up once, and has its type from then
 //! on.
 ghost use Rattle.std.specs.Prelude.{◌≡◌, map, option_map, IfOk, None, Some};
-ghost use Rattle.zs_run.specs.TreeView.{view};
+ghost use Rattle.serde_json.specs.View.{view};
 ghost use Rattle.zs_run.specs.declared.plan_fault.PlanFault.TheVariants as faults;
 ghost use Rattle.zs_run.specs.Refusals.{Gives, demand_some};
 ghost use Rattle.zs_run.specs.Tree.{all_of, as_whole, as_wholes};
 
 use crate::plan_fault::PlanFault;
-use crate::tree::{as_list, as_whole, list, take_list, text, whole_or};
-use json::Value;
-use std::alloc::{AllocError, Global};
+use crate::tree::{as_list, list, take_list, text, whole_or};
+use serde_json::Value;
+use std::alloc::Global;
 use zs_agenda::Clock;
 
 /// The ticks that a document has, which may be invalid for a clock.
@@ -23,30 +23,30 @@ pub(crate) enum AskedTicks {
 
 /// The parts of a document beside its clock.
 #[derive(Drop)]
-pub(crate) struct DocumentParts<'v> {
+pub(crate) struct DocumentParts {
     pub(crate) workers: u64,
     pub(crate) grain: u64,
-    pub(crate) jobs: Vec<Value<'v>>,
+    pub(crate) jobs: Vec<Value>,
 }
 
 /// The parts of a job.
 #[derive(Drop)]
-pub(crate) struct JobParts<'v, 'a> {
-    pub(crate) name: &'a str,
-    pub(crate) mode: &'a str,
-    pub(crate) schedule: &'a str,
+pub(crate) struct JobParts<'v> {
+    pub(crate) name: &'v str,
+    pub(crate) mode: &'v str,
+    pub(crate) schedule: &'v str,
     pub(crate) start: u64,
-    pub(crate) entries: &'v [Value<'a>],
+    pub(crate) entries: &'v [Value],
 }
 
 // The whole numbers of a list.
-fn wholes_of(alloc: Global, items: &[Value<'_>]) -> Result<Vec<u64>, PlanFault>
+fn wholes_of(alloc: Global, items: &[Value]) -> Result<Vec<u64>, PlanFault>
     ensures value { Gives (λ numbers. numbers.items) result
         (demand_some (all_of as_whole (map view items.now)) (faults.Shape None)) }
 {
     let mut numbers = Vec::new(alloc);
     for item in items {
-        let Some(number) = as_whole(item) else {
+        let Some(number) = item.as_u64() else {
             return Err(PlanFault::Shape { job: None });
         };
         numbers.push(number)?;
@@ -55,7 +55,7 @@ fn wholes_of(alloc: Global, items: &[Value<'_>]) -> Result<Vec<u64>, PlanFault>
 }
 
 // The whole numbers of what has to be a list.
-fn wholes_in(alloc: Global, value: &Value<'_>) -> Result<Vec<u64>, PlanFault>
+fn wholes_in(alloc: Global, value: &Value) -> Result<Vec<u64>, PlanFault>
     ensures value { Gives (λ numbers. numbers.items) result
         (demand_some (as_wholes (view value.now)) (faults.Shape None)) }
 {
@@ -72,8 +72,8 @@ impl AskedTicks {
     /// The ticks of a document, by its keys `horizon` and `ticks`: just one of the two.
     pub(crate) fn of(
         alloc: Global,
-        horizon: Option<&Value<'_>>,
-        ticks: Option<&Value<'_>>,
+        horizon: Option<&Value>,
+        ticks: Option<&Value>,
     ) -> Result<AskedTicks, PlanFault>
         ensures value { Gives asked_view result
             (demand_some
@@ -82,25 +82,11 @@ impl AskedTicks {
     {
         match (horizon, ticks) {
             (Some(horizon), None) => {
-                let last = as_whole(horizon).ok_or(PlanFault::Shape { job: None })?;
+                let last = horizon.as_u64().ok_or(PlanFault::Shape { job: None })?;
                 Ok(AskedTicks::EveryMs(last))
             }
             (None, Some(ticks)) => Ok(AskedTicks::Listed(wholes_in(alloc, ticks)?)),
             _ => Err(PlanFault::Shape { job: None }),
-        }
-    }
-
-    /// The same ticks once more.
-    pub(crate) fn copy(&self, alloc: Global) -> Result<AskedTicks, AllocError>
-        ensures same { IfOk result (λ copy. asked_view copy ≡ asked_view self.now) }
-    {
-        match self {
-            AskedTicks::EveryMs(last) => Ok(AskedTicks::EveryMs(*last)),
-            AskedTicks::Listed(ticks) => {
-                let mut copy = Vec::new(alloc);
-                copy.extend_from_slice(ticks)?;
-                Ok(AskedTicks::Listed(copy))
-            }
         }
     }
 
@@ -116,19 +102,19 @@ impl AskedTicks {
     }
 }
 
-impl<'v> DocumentParts<'v> {
+impl DocumentParts {
     ghost use Rattle.zs_run.specs.Shapes.{document_parts};
     ghost use Rattle.zs_run.specs.ShapeViews.{document_view};
 
     /// The parts of a document, if all are there and have their types. The list of jobs is taken
     /// out of it.
     #[tactic(auto, unfolding(crate::specs::Shapes::document_parts))]
-    pub(crate) fn of(document: Value<'v>) -> Option<DocumentParts<'v>>
-        ensures value { option_map document_view result ≡ document_parts (view document.entry) }
+    pub(crate) fn of(alloc: Global, document: &mut Value) -> Option<DocumentParts>
+        ensures value { option_map document_view result ≡ document_parts (view document.old) }
     {
-        let workers = whole_or(&document, "workers", 1)?;
-        let grain = whole_or(&document, "grain", 1)?;
-        let jobs = take_list(document, "jobs")?;
+        let workers = whole_or(document, "workers", 1)?;
+        let grain = whole_or(document, "grain", 1)?;
+        let jobs = take_list(alloc, document, "jobs")?;
         Some(DocumentParts {
             workers,
             grain,
@@ -137,13 +123,13 @@ impl<'v> DocumentParts<'v> {
     }
 }
 
-impl<'v, 'a> JobParts<'v, 'a> {
+impl<'v> JobParts<'v> {
     ghost use Rattle.zs_run.specs.Shapes.{job_parts};
     ghost use Rattle.zs_run.specs.ShapeViews.{job_view};
 
     /// The parts of a job, if all are there and have their types.
     #[tactic(auto, unfolding(crate::specs::Shapes::job_parts))]
-    pub(crate) fn of(job: &'v Value<'a>) -> Option<JobParts<'v, 'a>>
+    pub(crate) fn of(job: &'v Value) -> Option<JobParts<'v>>
         ensures value { option_map job_view result ≡ job_parts (view job.now) }
     {
         Some(JobParts {

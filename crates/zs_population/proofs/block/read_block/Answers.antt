@@ -1,6 +1,7 @@
-use Rattle.std.proofs.Common.{◌≡◌, ◌<◌, ◌+◌, ◌∷◌, [], ℕ, List, Option, length, refl, arith, ◌∙◌}
+use Rattle.std.proofs.Common.{◌≡◌, ◌<◌, ◌+◌, ◌∷◌, [], ℕ, List, Option, map, length, refl, arith, rules}
 use Rattle.std.specs.Io.KnownBytes.{prepend_known}
-use Rattle.zs_drive.specs.Values.{JobRecord}
+use Rattle.std.proofs.lemmas.List.{length-map}
+use Rattle.zs_drive.specs.Values.{JobRecord, job_record}
 use Rattle.zs_population.specs.Buffers.{Took}
 use Rattle.zs_population.specs.Population.{block_jobs}
 use Rattle.zs_population.specs.Reads.{AddsJob}
@@ -11,36 +12,30 @@ use Rattle.zs_population.proofs.block.read_block.Goals as goal
 -- no line was taken
 pub loop-alloc-init : goal.loop-alloc-init
 loop-alloc-init g c =
-    let none : c.args.plan.run.jobs ≡ [] = c.requires.none in
-    record {
-      block = rw none (omega arith);
-      clear = c.requires.clear;
-      few = rw none (omega (arith, c.requires.few));
-      clock = refl;
-      reads = rw none (reads-nothing c.args.first _ c.args.names.now);
-    }
+    let none : c.new-jobs.result.items ≡ [] = c.new-jobs.ensures.items in
+    rw none (omega arith, c.requires.clear, omega (arith, c.requires.few), reads-nothing c.args.first _ c.args.names.now)
 
 -- the next line can't be read
 pub returns-in-Err-clause-fault : goal.returns-in-Err-clause-fault
 returns-in-Err-clause-fault g c =
-    let jobs : List JobRecord = c.loop-alloc.plan.run.jobs in
-    let k : ℕ = c.count-in-loop-alloc.result in
-    let count : k ≡ length jobs = omega (arith, c.count-in-loop-alloc.ensures.value) in
-    let few : k < block_jobs = omega (arith, c.count-in-loop-alloc.ensures.value, c.count.ensures.value, c.loop-alloc-test.true) in
+    let jobs : List JobRecord = map job_record c.loop-alloc.jobs.items in
+    let k : ℕ = c.len-in-loop-alloc.result in
+    let count : k ≡ length jobs = omega (arith, c.len-in-loop-alloc.ensures, c.loop-alloc.jobs.ok.0, length-map c.loop-alloc.jobs.items job_record) in
+    let few : k < block_jobs = omega (arith, c.len-in-loop-alloc.ensures, c.len.ensures, c.loop-alloc-test.true) in
     let old : Option (List ℕ) = prepend_known c.args.buffer.now (g.R.Source.remaining c.args.reader.now) in
     let mid : Option (List ℕ) = prepend_known c.loop-alloc.buffer (g.R.Source.remaining c.loop-alloc.reader) in
     let now : Option (List ℕ) = prepend_known c.next_line.new.self (g.R.Source.remaining c.next_line.new.reader) in
     rw c.line_fault.ensures.value
     (block-unread c.args.first k (c.args.first + k) old mid now c.args.names.now c.loop-alloc.names c.next_line.new.line.items jobs c.in-Err.fault
-    count refl few c.loop-alloc.invariant.reads c.in-Err.ensures.line)
+    count refl few c.loop-alloc.invariant.3 c.in-Err.ensures.line)
 
 -- the next line is no job
 pub returns-in-Err-add_line-clause-fault : goal.returns-in-Err-add_line-clause-fault
 returns-in-Err-add_line-clause-fault g c =
-    let jobs : List JobRecord = c.loop-alloc.plan.run.jobs in
-    let k : ℕ = c.count-in-loop-alloc.result in
-    let count : k ≡ length jobs = omega (arith, c.count-in-loop-alloc.ensures.value) in
-    let few : k < block_jobs = omega (arith, c.count-in-loop-alloc.ensures.value, c.count.ensures.value, c.loop-alloc-test.true) in
+    let jobs : List JobRecord = map job_record c.loop-alloc.jobs.items in
+    let k : ℕ = c.len-in-loop-alloc.result in
+    let count : k ≡ length jobs = omega (arith, c.len-in-loop-alloc.ensures, c.loop-alloc.jobs.ok.0, length-map c.loop-alloc.jobs.items job_record) in
+    let few : k < block_jobs = omega (arith, c.len-in-loop-alloc.ensures, c.len.ensures, c.loop-alloc-test.true) in
     let old : Option (List ℕ) = prepend_known c.args.buffer.now (g.R.Source.remaining c.args.reader.now) in
     let mid : Option (List ℕ) = prepend_known c.loop-alloc.buffer (g.R.Source.remaining c.loop-alloc.reader) in
     let now : Option (List ℕ) = prepend_known c.next_line.new.self (g.R.Source.remaining c.next_line.new.reader) in
@@ -50,27 +45,26 @@ returns-in-Err-add_line-clause-fault g c =
       refl,
       few,
       block-refused c.args.first k (c.args.first + k) old mid now c.args.names.now c.loop-alloc.names line jobs c.in-Err-add_line.fault
-          count refl few c.loop-alloc.invariant.reads took (rw c.as_slice.ensures.value at c.in-Err-add_line.ensures.fault),
+          count refl few c.loop-alloc.invariant.3 took (rw c.as_slice.ensures.value at c.in-Err-add_line.ensures.fault),
     )
 
 -- one job more
 pub loop-alloc-preserved : goal.loop-alloc-preserved
 loop-alloc-preserved g c =
-    let jobs : List JobRecord = c.loop-alloc.plan.run.jobs in
-    let after : List JobRecord = c.in-Ok.plan.run.jobs in
-    let k : ℕ = c.count-in-loop-alloc.result in
-    let place : c.args.first + k ≡ c.args.first + length jobs = omega (arith, c.count-in-loop-alloc.ensures.value) in
+    let jobs : List JobRecord = map job_record c.loop-alloc.jobs.items in
+    let after : List JobRecord = map job_record c.add_line.new.jobs.items in
+    let k : ℕ = c.len-in-loop-alloc.result in
+    let place : c.args.first + k ≡ c.args.first + length jobs = omega (arith, c.len-in-loop-alloc.ensures, c.loop-alloc.jobs.ok.0, length-map c.loop-alloc.jobs.items job_record) in
     let old : Option (List ℕ) = prepend_known c.args.buffer.now (g.R.Source.remaining c.args.reader.now) in
     let mid : Option (List ℕ) = prepend_known c.loop-alloc.buffer (g.R.Source.remaining c.loop-alloc.reader) in
     let now : Option (List ℕ) = prepend_known c.next_line.new.self (g.R.Source.remaining c.next_line.new.reader) in
     let line : List ℕ = c.next_line.new.line.items in
     let took : Took mid now (line ∷ []) = rw c.in-Ok-true.field-0-test at c.in-Ok-true.ensures.line in
-    let adds : AddsJob (c.args.first + k) c.loop-alloc.names c.add_line.new.names c.as_slice.result.now jobs after = c.in-Ok.ensures.job in
-    record {
-      block = omega (arith, c.in-Ok.ensures.count, c.count.ensures.value, c.loop-alloc-test.true);
-      clear = clear-at-ok _ _ _ c.in-Ok-true.ensures.marks.0;
-      few = omega (arith, c.in-Ok.ensures.few, c.in-Ok.ensures.count, place);
-      clock = c.in-Ok.ensures.clock ∙ c.loop-alloc.invariant.clock;
-      reads = reads-more c.args.first (c.args.first + k) old mid now c.args.names.now c.loop-alloc.names c.add_line.new.names line jobs after
-          place c.loop-alloc.invariant.reads took (rw c.as_slice.ensures.value at adds);
-    }
+    let count : length c.add_line.new.jobs.items ≡ length c.loop-alloc.jobs.items + 1 = search rules in
+    let adds : AddsJob (c.args.first + k) c.loop-alloc.names c.add_line.new.names c.as_slice.result.now jobs after = search rules in (
+      omega (arith, count, c.len.ensures, c.loop-alloc-test.true, c.loop-alloc.jobs.ok.0),
+      clear-at-ok _ _ _ c.in-Ok-true.ensures.marks.0,
+      search rules,
+      reads-more c.args.first (c.args.first + k) old mid now c.args.names.now c.loop-alloc.names c.add_line.new.names line jobs after
+          place c.loop-alloc.invariant.3 took (rw c.as_slice.ensures.value at adds),
+    )

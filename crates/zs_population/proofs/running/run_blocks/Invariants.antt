@@ -6,8 +6,8 @@ use Rattle.zs_population.specs.Population.{block_jobs, max_population}
 use Rattle.zs_population.proofs.running.run_blocks.Given as goal
 
 -- all blocks so far are done
-abbrev pub invariant-loop-plan : goal.invariant-loop-plan
-invariant-loop-plan g l = record {
+abbrev pub invariant-loop-names : goal.invariant-loop-names
+invariant-loop-names g l = record {
   reader : g.R.Source.mark l.reader ≡ false;
   writer : g.W.Drain.mark l.writer ≡ false;
   few : l.blocks * block_jobs ≤ max_population;
@@ -18,5 +18,5 @@ invariant-loop-plan g l = record {
   whole : IsWhole l.blocks (g.W.Drain.flushed l.writer) (l.writer ≡ l.fn.writer);
 }
 
-abbrev pub decreases-loop-plan : goal.decreases-loop-plan
-decreases-loop-plan g l = max_population - l.blocks * block_jobs
+abbrev pub decreases-loop-names : goal.decreases-loop-names
+decreases-loop-names g l = max_population - l.blocks * block_jobs
