@@ -1,10 +1,14 @@
-"""What the tests share: the built program, the plans that the tests feed them, and the count of what passed."""
+"""What the tests share: the built programs, runs of commands, and the plans that tests feed them."""
 import argparse
+import gc
 import hashlib
+import io
 import json
+import os
 import pathlib
 import subprocess
 import sys
+from unittest import mock
 
 TOP = pathlib.Path(__file__).resolve().parent.parent
 sys.path.insert(0, str(TOP / "tools"))
@@ -106,6 +110,57 @@ def run(program, text, environment=None, seconds=60, **more):
     except subprocess.TimeoutExpired:
         return None, b"", b""
     return ended.returncode, ended.stdout, ended.stderr
+
+
+def run_tool(words, given=b"", folder=None, seconds=300, **variables):
+    """Runs a command, with more variables: its status, standard output and standard error as texts."""
+    ended = subprocess.run([str(it) for it in words], input=given, capture_output=True, cwd=folder, check=False,
+                           env={**os.environ, **variables}, timeout=seconds)
+    return ended.returncode, ended.stdout.decode(), ended.stderr.decode()
+
+
+def output_of(words, **more):
+    """The output of a command that has to succeed. Words as `cwd` and `env` go to subprocess.run."""
+    ended = subprocess.run([str(it) for it in words], capture_output=True, check=False, timeout=300, **more)
+    said = (ended.stdout[-1000:] + ended.stderr[-2000:]).decode(errors="replace")
+    assert ended.returncode == 0, f"{words}: status {ended.returncode}: {said}"
+    return ended.stdout.decode()
+
+
+def run_here(main, words, given=b""):
+    """Runs the main function of a command in this process: its status, standard output and standard error."""
+    streams = {"stdin": io.TextIOWrapper(io.BytesIO(given)), "stdout": io.TextIOWrapper(io.BytesIO(), "utf-8"),
+               "stderr": io.StringIO()}
+    with mock.patch.multiple(sys, argv=[str(it) for it in words], **streams):
+        try:
+            status = main()
+        except SystemExit as ended:
+            status = ended.code
+        finally:
+            gc.enable()
+    streams["stdout"].flush()
+    return status, streams["stdout"].buffer.getvalue().decode(), streams["stderr"].getvalue()
+
+
+def is_coloured(words, stream, folder=None, **variables):
+    """Whether a command's `stdout` or `stderr` has colours on a terminal, with these variables."""
+    ours, theirs = os.openpty()
+    with os.fdopen(ours, "rb", 0) as terminal:
+        subprocess.run([str(it) for it in words], **{stream: theirs}, cwd=folder, check=False,
+                       env={"PATH": os.environ["PATH"], **variables})
+        os.close(theirs)
+        return b"\x1b[" in terminal.read(4000)
+
+
+def floors():
+    """The number of cases that each file of tests must have at least."""
+    lines = (TOP / "tests" / "floors.txt").read_text(encoding="utf-8").splitlines()
+    return {line.split()[0]: int(line.split()[1]) for line in lines if line and not line.startswith("#")}
+
+
+def examples(number):
+    """The number of random examples of a test: this one, times the option --examples."""
+    return number * int(os.environ.get("ZSCHED_EXAMPLES", "1"))
 
 
 def sources_sum(crate="zsched"):

@@ -1,0 +1,143 @@
+"""What all tests share: options, the built programs, the library, and the floors of tests/floors.txt."""
+import collections
+import fcntl
+import os
+import pathlib
+import subprocess
+import sys
+import tempfile
+
+sys.dont_write_bytecode = True
+
+import hypothesis
+import pytest
+
+from support import TOP, floors
+
+# In which a skipped test is a failure.
+STRICT = [name for name in ["CI", "ZSCHED_GATE"] if os.environ.get(name)]
+COUNTS = pytest.StashKey()
+
+os.environ.setdefault("HYPOTHESIS_STORAGE_DIRECTORY", str(pathlib.Path(tempfile.gettempdir(), "zsched-hypothesis")))
+hypothesis.settings.register_profile(
+    "zsched", deadline=None, derandomize=True, database=None, suppress_health_check=list(hypothesis.HealthCheck))
+hypothesis.settings.load_profile("zsched")
+
+
+def pytest_addoption(parser):
+    """The options."""
+    parser.addoption("--short", action="store_true", help="leave out the tests that are marked `full`")
+    parser.addoption("--examples", type=int, default=1, metavar="N", help="run N times as many random examples")
+    parser.addoption("--update", action="store_true", help="show how cases differ, and write those that you accept")
+
+
+def pytest_configure(config):
+    """Passes the number of examples on to support.examples, which tests call when they are loaded."""
+    os.environ["ZSCHED_EXAMPLES"] = str(config.getoption("--examples"))
+
+
+@pytest.hookimpl(tryfirst=True)
+def pytest_collection_modifyitems(config, items):
+    """Counts the cases of each file before any is left out."""
+    config.stash[COUNTS] = dict(collections.Counter(item.path.name for item in items))
+    if config.getoption("--short"):
+        left = [item for item in items if item.get_closest_marker("full")]
+        config.hook.pytest_deselected(items=left)
+        items[:] = [item for item in items if item not in left]
+
+
+@pytest.hookimpl(optionalhook=True)
+def pytest_testnodedown(node):
+    """Takes the counts that a process of xdist collected."""
+    node.config.stash[COUNTS] = getattr(node, "workeroutput", {}).get("counts", {})
+
+
+def below_floors(config):
+    """What is wrong with the counts of the files that are run."""
+    found, floor, counts = [], floors(), config.stash.get(COUNTS, {})
+    is_whole = any(pathlib.Path(word).is_dir() for word in config.args)
+    names = {path.name for path in (TOP / "tests").glob("test_*.py")}
+    for name in sorted(names | floor.keys() if is_whole else {pathlib.Path(word).name for word in config.args}):
+        if "::" in name:
+            continue
+        if name not in floor:
+            found.append(f"tests/floors.txt has no number for {name}")
+        elif counts.get(name, 0) < floor[name]:
+            found.append(f"{name} has {counts.get(name, 0)} cases, and tests/floors.txt asks for {floor[name]}")
+    return found
+
+
+@pytest.hookimpl(trylast=True)
+def pytest_sessionfinish(session):
+    """Fails a run in which a file has fewer cases than its floor."""
+    config = session.config
+    if hasattr(config, "workeroutput"):
+        config.workeroutput["counts"] = config.stash.get(COUNTS, {})
+    elif not config.option.collectonly and (faults := below_floors(config)):
+        session.exitstatus = session.exitstatus or pytest.ExitCode.TESTS_FAILED
+        print("", *[f"floor: {fault}" for fault in faults], sep="\n")
+
+
+def fail_if_skipped(report):
+    """Makes a skip a failure."""
+    if STRICT and report.skipped:
+        reason = report.longrepr[2] if isinstance(report.longrepr, tuple) else report.longrepr
+        report.outcome, report.longrepr = "failed", f"skipped, which is a failure under {STRICT[0]}: {reason}"
+        vars(report).pop("wasxfail", None)
+
+
+@pytest.hookimpl(hookwrapper=True, tryfirst=True)
+def pytest_runtest_makereport():
+    """Tests that are skipped."""
+    fail_if_skipped((yield).get_result())
+
+
+@pytest.hookimpl(hookwrapper=True, tryfirst=True)
+def pytest_make_collect_report():
+    """Files that are skipped."""
+    fail_if_skipped((yield).get_result())
+
+
+def program(variable, crate):
+    """The path of a built program: the one that a variable names, or the one of its crate."""
+    path = pathlib.Path(os.environ.get(variable) or TOP / "crates" / crate / "out" / crate)
+    assert os.access(path, os.X_OK), f"{path} isn't built (./run --proved builds zsched, ./check all), and {variable} names no other"
+    return path
+
+
+@pytest.fixture(scope="session")
+def zsched():
+    """The program zsched."""
+    return program("ZSCHED", "zsched")
+
+
+@pytest.fixture(scope="session")
+def population():
+    """The program zsched-population."""
+    return program("ZSCHED_POPULATION", "zsched_population")
+
+
+@pytest.fixture(scope="session")
+def bounds():
+    """The program zsched-bounds."""
+    return program("ZSCHED_BOUNDS", "zsched_bounds")
+
+
+@pytest.fixture(scope="session")
+def refusals():
+    """The program zs_refusals, which makes one named call."""
+    return program("ZS_REFUSALS", "zs_refusals")
+
+
+@pytest.fixture(scope="session")
+def library():
+    """The folder of the library, which one process builds if no variable names it."""
+    if named := os.environ.get("ZSCHED_LIBRARY_DIR"):
+        return pathlib.Path(named)
+    held = os.open(TOP / "tests", os.O_RDONLY)
+    try:
+        fcntl.flock(held, fcntl.LOCK_EX)
+        subprocess.run([TOP / "tools" / "make-library"], check=True, stdout=subprocess.DEVNULL)
+    finally:
+        os.close(held)
+    return TOP / "crates" / "zsched_c" / "out"

@@ -1,0 +1,86 @@
+"""Runs the cases that are files: the folders of tests/cases/, and the plans of examples/ and tests/plans/.
+
+A folder tests/cases/TOOL/NAME has `cmd`, a few lines for bash. They run in a copy of the folder, with the commands of
+tools/ and the built programs first in PATH, and with ZSCHED, ZSCHED_BOUNDS, ZSCHED_POPULATION and TOP set. The files
+`stdin`, `stdout`, `stderr` (none: empty) and `status` (none: 0) say what it gets and what it has to give. Each file of
+`out/` is one that the run has to write beside `cmd`, with these bytes.
+
+A plan has its report beside it. It runs as it is, and under twelve cuts: 1, 2, 7 and 64 workers with a grain of 1, 3 and
+10000. Expected files are worked out by hand or by another program. `pytest tests/test_cases.py --update` prints what
+differs, and writes what you accept."""
+import difflib
+import os
+import shutil
+
+import pytest
+
+from support import TOP, plans_with_reports, recut, report_beside, run
+
+CASES = sorted(path.parent for path in TOP.glob("tests/cases/*/*/cmd"))
+CUTS = [None, *[(workers, grain) for workers in [1, 2, 7, 64] for grain in [1, 3, 10000]]]
+STREAMS = ["status", "stdout", "stderr"]
+PATIENCE = 120
+
+
+def content(path):
+    """The bytes of a file, or nothing if it isn't there."""
+    return path.read_bytes() if path.is_file() else b""
+
+
+def wanted(case):
+    """What a run of a case has to give: the bytes of each stream and file."""
+    files = [path for path in (case / "out").rglob("*") if path.is_file()]
+    return {name: content(case / name) for name in STREAMS} | {
+        str(path.relative_to(case)): path.read_bytes() for path in files}
+
+
+def found(case, room, programs):
+    """What a run of a case gives."""
+    shutil.copytree(case, room, ignore=shutil.ignore_patterns("out"))
+    status, output, errors = run(["bash", "cmd"], content(case / "stdin"), programs, PATIENCE, cwd=room)
+    files = [name for name in wanted(case) if name.startswith("out/")]
+    given = {"status": b"" if status == 0 else f"{status}\n".encode(), "stdout": output, "stderr": errors}
+    return given | {name: content(room / name.removeprefix("out/")) for name in files}
+
+
+def difference(name, before, now):
+    """How two texts differ, in lines."""
+    old, new = ([repr(line)[1:] for line in text.splitlines(keepends=True)] for text in [before, now])
+    return "\n".join(difflib.unified_diff(old, new, f"{name}, wanted", f"{name}, found", lineterm="", n=2))
+
+
+def update(case, differing, capture):
+    """Shows how a case differs, and writes what is accepted."""
+    with capture.disabled(), open("/dev/tty", "r+", encoding="utf-8") as terminal:
+        for name, (_, now) in differing.items():
+            print(f"\n{difference(f'{case.relative_to(TOP)}/{name}', *differing[name])}\nright? [y/N] ", file=terminal, end="", flush=True)
+            if terminal.readline().strip() == "y":
+                (case / name).write_bytes(now) if now else (case / name).unlink(missing_ok=True)
+
+
+@pytest.fixture(scope="session")
+def programs(zsched, population, bounds, tmp_path_factory):
+    """The variables of a case, with a folder of links to the programs."""
+    room = tmp_path_factory.mktemp("programs")
+    for path, name in [(zsched, "zsched"), (population, "zsched-population"), (bounds, "zsched-bounds")]:
+        (room / name).symlink_to(path)
+    variables = {"ZSCHED": zsched, "ZSCHED_POPULATION": population, "ZSCHED_BOUNDS": bounds, "TOP": TOP, "COLUMNS": 80,
+                 "PATH": f"{TOP / 'tools'}:{room}:{os.environ['PATH']}"}
+    return os.environ | {name: str(value) for name, value in variables.items()}
+
+
+@pytest.mark.parametrize("case", CASES, ids=[f"{case.parent.name}/{case.name}" for case in CASES])
+def test_a_case_gives_what_its_files_say(case, programs, tmp_path, request, capsys):
+    asked, given = wanted(case), found(case, tmp_path / "case", programs)
+    asked["status"] = b"" if asked["status"].strip() in [b"", b"0"] else asked["status"].strip() + b"\n"
+    differing = {name: (asked[name], given[name]) for name in asked if asked[name] != given[name]}
+    if differing and request.config.getoption("--update"):
+        update(case, differing, capsys)
+    assert not differing, "\n".join(difference(name, *texts) for name, texts in differing.items())
+
+
+@pytest.mark.parametrize("cut", CUTS, ids=lambda cut: "as it is" if cut is None else f"{cut[0]} workers x grain {cut[1]}")
+@pytest.mark.parametrize("path", plans_with_reports(), ids=lambda path: path.stem)
+def test_a_plan_gives_the_report_beside_it(path, cut, zsched):
+    text = path.read_bytes() if cut is None else recut(path.read_bytes(), *cut)
+    assert run(zsched, text) == (0, report_beside(path), b"")
