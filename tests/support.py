@@ -163,17 +163,6 @@ def examples(number):
     return number * int(os.environ.get("ZSCHED_EXAMPLES", "1"))
 
 
-def sources_sum(crate="zsched"):
-    """The checksum of everything that a crate's program or library is proved and built from."""
-    words = [TOP / "tools" / "sources-sum", crate]
-    return subprocess.run(words, capture_output=True, text=True, check=True).stdout.strip()
-
-
-def is_built():
-    """Whether the program in out/ was proved and built from the sources as they are."""
-    return ZSCHED.exists() and STAMP.exists() and STAMP.read_text().strip() == sources_sum()
-
-
 def found_zsched():
     """The program that the variable ZSCHED names, or else the built one. Without one this process exits with 2."""
     try:

@@ -79,7 +79,7 @@ def test_a_case_gives_what_its_files_say(case, programs, tmp_path, request, caps
     assert not differing, "\n".join(difference(name, *texts) for name, texts in differing.items())
 
 
-@pytest.mark.parametrize("cut", CUTS, ids=lambda cut: "as it is" if cut is None else f"{cut[0]} workers x grain {cut[1]}")
+@pytest.mark.parametrize("cut", CUTS, ids=lambda cut: "as_it_is" if cut is None else f"workers_{cut[0]}_grain_{cut[1]}")
 @pytest.mark.parametrize("path", plans_with_reports(), ids=lambda path: path.stem)
 def test_a_plan_gives_the_report_beside_it(path, cut, zsched):
     text = path.read_bytes() if cut is None else recut(path.read_bytes(), *cut)

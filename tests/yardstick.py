@@ -4,7 +4,7 @@ import shutil
 import tempfile
 import threading
 
-from prover import Crate, Toolchain, Unusable
+from toolchain import Crate, Toolchain, Unusable
 
 NAME = "ordmap"
 # The seconds from one proof to the next in a series.
@@ -14,18 +14,14 @@ PAUSE = 300
 def measure():
     """The processor seconds that the proof takes, from nothing and at one job."""
     toolchain = Toolchain()
-    try:
-        with tempfile.TemporaryDirectory() as top:
-            crate = Crate(pathlib.Path(top), NAME, [])
-            shutil.copytree(toolchain.kit / "rattle" / "examples" / "worked" / NAME, crate.folder)
-            log = pathlib.Path(top) / "log"
-            words = [toolchain.kit / "bin" / "rattle", "check", *toolchain.crate_words(crate), "--jobs", "1"]
-            status, seconds = toolchain.run(words, crate.folder, log)
-            if status:
-                raise Unusable(f"the toolchain's example {NAME} is not proved: {log.read_text(errors='replace')[-300:]}")
-            return seconds
-    finally:
-        toolchain.close()
+    with tempfile.TemporaryDirectory() as top:
+        crate, log = Crate(NAME, pathlib.Path(top, "crate"), []), pathlib.Path(top, "log")
+        shutil.copytree(toolchain.kit / "rattle" / "examples" / "worked" / NAME, crate.folder)
+        words = [toolchain.kit / "bin" / "rattle", "check", *toolchain.crate_words(crate), "--jobs", "1"]
+        status, seconds = toolchain.run(words, crate.folder, log)
+        if status:
+            raise Unusable(f"the toolchain's example {NAME} is not proved: {log.read_text(errors='replace')[-300:]}")
+        return seconds
 
 
 class Series:

@@ -1,0 +1,139 @@
+"""The Rattle toolchain: which crates crates.txt lists, how one is checked, and the libraries that `rt ci` proved and left in
+the checkout. tools/make-library reads those below zsched_c and never writes them."""
+import dataclasses
+import fcntl
+import hashlib
+import os
+import pathlib
+import shutil
+import subprocess
+import sys
+
+TOP = pathlib.Path(__file__).resolve().parent.parent
+# The crate that is the library for C.
+LIBRARY = "zsched_c"
+NOTED = TOP / "crates" / LIBRARY / "out" / "libraries"
+
+
+class Unusable(Exception):
+    """What a check needs isn't there. The text says what."""
+
+
+@dataclasses.dataclass(eq=False)
+class Crate:
+    """A crate of the repository, the libraries that it names, and the crates below it, lowest first."""
+    name: str
+    folder: pathlib.Path
+    libraries: list
+    is_static: bool = False
+    below: list = dataclasses.field(default_factory=list)
+
+    @property
+    def rlib(self):
+        """The folder of its library."""
+        return self.folder / "out" / "rlib" / f"{self.name}.rlib"
+
+
+def crates_of(top):
+    """The crates that crates.txt lists, by name, lowest first."""
+    crates = {}
+    for line in (top / "crates.txt").read_text(encoding="utf-8").splitlines():
+        head, colon, libraries = line.partition("#")[0].partition(":")
+        if colon:
+            name, *words = head.split()
+            crate = crates[name] = Crate(name, top / "crates" / name, libraries.split(), "staticlib" in words)
+            for low in [crates[it] for it in crate.libraries if it in crates]:
+                crate.below += [it for it in [*low.below, low] if it not in crate.below]
+    return crates
+
+
+class Toolchain:
+    """The toolchain on this machine."""
+
+    def __init__(self):
+        command = shutil.which("rt")
+        if not command:
+            raise Unusable("the Rattle toolchain (the command 'rt') isn't on this machine")
+        self.kit = pathlib.Path(os.path.realpath(command)).parent.parent
+
+    def run(self, words, folder, log):
+        """Runs a command to its end, with its output in the log: its status, and the processor seconds that it took."""
+        with open(log, "wb") as out:
+            ran = subprocess.Popen([str(it) for it in words], cwd=folder, stdin=subprocess.DEVNULL, stdout=out,
+                                   stderr=subprocess.STDOUT)
+            _, status, used = os.wait4(ran.pid, 0)
+            ran.returncode = os.waitstatus_to_exitcode(status)
+        return ran.returncode, used.ru_utime + used.ru_stime
+
+    def crate_words(self, crate):
+        """The words that name a crate in its folder, and the libraries below it as they are built."""
+        root = "src/main.rt" if (crate.folder / "src" / "main.rt").exists() else "src/lib.rt"
+        words = ["--crate-name", crate.name, root, *["--crate-type", "staticlib"] * crate.is_static]
+        named = {it.name: it.rlib for it in crate.below}
+        for name in ["std", *crate.libraries]:
+            words += ["--extern", f"{name}={named.get(name, self.kit / 'rlibs' / f'{name}.rlib')}"]
+        for folder in [self.kit / "rlibs", *[it.rlib.parent for it in crate.below]]:
+            words += ["-L", f"dependency={folder}"]
+        words += ["--antt-project", self.kit / "rattle" / "logic" / "antt-project.json"]
+        return [*words, "--logic-built", self.kit / "logic_built"]
+
+
+def last_line(log):
+    """The last line of a log."""
+    lines = log.read_text(encoding="utf-8", errors="replace").strip().split("\n")
+    return lines[-1] if lines else ""
+
+
+def lock(crates, say):
+    """Waits until no other check works in these crates' folders, and keeps others out until the files are closed."""
+    held = []
+    for folder in sorted({it.folder for crate in crates for it in [crate, *crate.below]}):
+        number = os.open(folder, os.O_RDONLY)
+        held.append(number)
+        try:
+            fcntl.flock(number, fcntl.LOCK_EX | fcntl.LOCK_NB)
+        except BlockingIOError:
+            say(f"waiting for another check in {folder}")
+            fcntl.flock(number, fcntl.LOCK_EX)
+        except OSError:
+            # Some file systems have no locks.
+            pass
+    return held
+
+
+def sources_sum(crate=LIBRARY):
+    """The checksum of everything that a crate's program or library is proved and built from."""
+    words = [TOP / "tools" / "sources-sum", crate]
+    return subprocess.run(words, capture_output=True, text=True, check=True).stdout.strip()
+
+
+def left(total):
+    """A checksum of the sources' checksum and of the libraries, or None if one of them is missing. A library's file `format`
+    has the checksum of its other files."""
+    formats = [it.rlib / "format" for it in crates_of(TOP)[LIBRARY].below]
+    if not all(it.exists() for it in formats):
+        return None
+    return hashlib.sha256(b"".join([total.encode(), *[it.read_bytes() for it in formats]])).hexdigest()
+
+
+def note(total):
+    """Notes the libraries that an `rt ci` over the sources with this checksum left, once it passed."""
+    found = left(total)
+    if found and sources_sum() == total:
+        NOTED.parent.mkdir(parents=True, exist_ok=True)
+        NOTED.write_text(found)
+
+
+def are_left(total):
+    """Whether the libraries are those that the last noted `rt ci` left, and it was over the sources with this checksum."""
+    return NOTED.exists() and NOTED.read_text() == left(total)
+
+
+def stamp():
+    """Gives each library the stamp by which other commands know that it is up to date, which `rt ci` doesn't leave. Without
+    it the first check of a crate proves all crates below it again."""
+    sys.path.append(os.path.dirname(os.path.realpath(shutil.which("rt"))))
+    import rtlib
+    for crate in rtlib.crates_below(str(TOP / "crates")):
+        if crate.makes_rlib() and pathlib.Path(crate.rlib, "format").exists():
+            pathlib.Path(crate.folder, "out", "rlib", "stamp").write_text(crate.stamp())
