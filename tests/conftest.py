@@ -54,7 +54,8 @@ def pytest_testnodedown(node):
 
 def below_floors(config):
     """What is wrong with the counts of the files that are run."""
-    found, floor, counts = [], floors(), config.stash.get(COUNTS, {})
+    found, counts = [], config.stash.get(COUNTS, {})
+    floor = {name: number for name, number in floors().items() if name.startswith("test_")}
     is_whole = any(pathlib.Path(word).is_dir() for word in config.args)
     names = {path.name for path in (TOP / "tests").glob("test_*.py")}
     for name in sorted(names | floor.keys() if is_whole else {pathlib.Path(word).name for word in config.args}):

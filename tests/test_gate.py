@@ -1,0 +1,102 @@
+"""The gate can fail: faults that are planted in copies of it and in the output of the toolchain, each of which it must find."""
+import os
+import shutil
+import subprocess
+import sys
+
+import pytest
+
+import gate
+import proofs
+from support import TOP
+
+EDITS = {"zs_term/one.edit", "zs_pool/two.edit"}
+ONE, TWO = (f"rt: must-fail {name}: refused, as it must be" for name in ["zs_term/one.edit", "zs_pool/two.edit"])
+GOOD = [ONE, f"{TWO}: src/lib.rt:1:1: error", "4 passed, 0 failed"]
+
+
+@pytest.mark.parametrize("lines, status, failed", [
+    (GOOD, 0, 0),
+    (["rt: must-fail zs_term/one.edit: BAD EDIT: an 'old:' text is in src/lib.rt 0 times, and not once", *GOOD[1:]], 0, 1),
+    (["rt: must-fail zs_term/one.edit: NOT TRIED: its check was killed", *GOOD[1:-1], "3 passed, 1 failed"], 1, 1),
+    (["rt: must-fail zs_term/one.edit: NOT REFUSED: the crate is still proved with this edit", *GOOD[1:-1], "3 passed, 1 failed"], 1, 1),
+    ([*GOOD[:-1], "rt: crates/zs_term/must-fail/more.txt: BAD EDIT: its name ends in .edit", GOOD[-1]], 0, 1),
+    ([TWO, "3 passed, 0 failed"], 0, 1),
+    (["2 passed, 0 failed"], 0, 2),
+    ([ONE, ONE, "4 passed, 0 failed"], 0, 1),
+    ([*GOOD[:-1], "2 passed, 2 failed"], 1, 2),
+    (GOOD, 1, 1),
+    (GOOD[:-1], 0, 1),
+    ([], -9, 1),
+], ids=["all are rejected", "one doesn't apply", "one isn't tried", "one is proved", "one has another name", "one isn't reported",
+        "none is reported", "one is reported twice", "two proofs failed", "another status", "no last line", "killed"])
+def test_edits_that_rt_ci_does_not_reject_fail_the_proofs(lines, status, failed):
+    assert proofs.judged(lines, status, EDITS)[1] == failed
+
+
+@pytest.mark.parametrize("lines, status, is_late, failed", [
+    (["30 passed, 0 failed"], 0, False, 0),
+    (["30 passed in 3.21s"], 0, False, 0),
+    (["2 failed, 30 passed, 1 error in 3.21s"], 1, False, 3),
+    (["29 passed, 0 failed"], 0, False, 1),
+    (["30 passed in 3.21s"], 1, False, 1),
+    (["30 passed in 3.21s", "Segmentation fault"], 139, False, 1),
+    (["30 passed, 0 failed"], 0, True, 1),
+    (["no tests ran in 0.01s"], 5, False, 1),
+    ([], 0, False, 1),
+])
+def test_a_part_fails_by_its_last_line_its_status_its_floor_and_its_time(lines, status, is_late, failed, monkeypatch):
+    monkeypatch.setattr(gate, "floors", lambda: {"tests": 30})
+    assert gate.judged("tests", lines, status, is_late).failed == failed
+
+
+@pytest.fixture
+def tree(tmp_path):
+    """A copy of what pytest reads, with one file of three tests and its floor."""
+    (tmp_path / "tests").mkdir()
+    for name in ["pytest.ini", "tests/conftest.py", "tests/support.py"]:
+        shutil.copy(TOP / name, tmp_path / name)
+    shutil.copytree(TOP / "tools", tmp_path / "tools")
+    (tmp_path / "tests/test_a.py").write_text("import pytest\n@pytest.mark.parametrize('it', range(3))\ndef test_it(it): pass\n")
+    (tmp_path / "tests/floors.txt").write_text("test_a.py 3\n")
+    return tmp_path
+
+
+def passes(tree, *words, **more):
+    """Whether pytest passes in the copy."""
+    variables = {key: value for key, value in os.environ.items() if not key.startswith("PYTEST")} | {"ZSCHED_GATE": "1"}
+    ended = subprocess.run([sys.executable, "-m", "pytest", "-q", *words], cwd=tree, env=variables | more, capture_output=True,
+                           timeout=60, check=False)
+    return ended.returncode == 0
+
+
+def replaced(path, old, new):
+    """Changes a text of a file."""
+    text = path.read_text()
+    assert old in text
+    path.write_text(text.replace(old, new))
+
+
+@pytest.mark.parametrize("name, sabotage", [
+    ("a case is gone", lambda tests: replaced(tests / "test_a.py", "range(3)", "range(2)")),
+    ("a file is empty", lambda tests: (tests / "test_a.py").write_text("")),
+    ("a file is gone", lambda tests: (tests / "test_a.py").rename(tests / "a.py")),
+    ("a file has no floor", lambda tests: (tests / "test_b.py").write_text("def test_it(): pass\n")),
+    ("a test is skipped", lambda tests: replaced(tests / "test_a.py", ": pass", ": pytest.skip()")),
+    ("a test is expected to fail", lambda tests: replaced(tests / "test_a.py", ": pass", ": pytest.xfail()")),
+    ("a file is skipped", lambda tests: replaced(tests / "test_a.py", "import pytest\n", "import pytest\npytest.skip(allow_module_level=True)\n")),
+    ("no cases of a table", lambda tests: replaced(tests / "test_a.py", "range(3)", "[]")),
+    ("a process dies", lambda tests: replaced(tests / "test_a.py", ": pass", ": __import__('os')._exit(0)")),
+], ids=lambda it: it.replace(" ", "_") if isinstance(it, str) else "")
+def test_a_sabotage_of_the_tests_is_found(name, sabotage, tree):
+    sabotage(tree / "tests")
+    assert not passes(tree, "-n", "2"), name
+
+
+def test_floors_hold_for_the_files_that_run(tree):
+    (tree / "tests/test_b.py").write_text("import pytest\n@pytest.mark.full\ndef test_it(): pass\n")
+    (tree / "tests/floors.txt").write_text("survivors 40\ntest_a.py 3\ntest_b.py 1\n")
+    assert all(passes(tree, *words) for words in [["-n", "2"], ["--short"], ["tests/test_a.py"], ["tests/test_a.py::test_it"]])
+    (tree / "tests/floors.txt").write_text("test_a.py 4\ntest_b.py 1\n")
+    assert not passes(tree, "tests/test_a.py")
+    assert passes(tree, "tests/test_b.py")
