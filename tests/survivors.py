@@ -1,13 +1,12 @@
 #!/usr/bin/env python3
-"""Plants each body that the prover can't reject, and sees that a test catches it.
+"""Plants each body that the prover can't reject, in one copy of the crates, and sees that a test catches it.
 
 A survivor is a file crates/NAME/survivors/BELIEF.edit with lines `word: text`. `caught-by:` names a test of a crate, as
 CRATE::TEST, or of this folder, as FILE.py::TEST. `file:` names a file of src/, and below it are pairs of `old:`, a text that
 is in that file once, and `new:`, the text in its place. Those of one file change the body of one function. A body may hold
 one lock of all threads, from `crate::chosen::zs_lock()` to `zs_unlock()`. What catches it has to pass without it.
 
-All are planted in one copy of the crates, whose programs are built without proofs, and a number picks one at run time.
-`survivors.py BELIEF ..` tries only these. The last line is 'N passed, M failed'."""
+The programs are built without proofs, and a number picks a body at run time. The last line is 'N passed, M failed'."""
 import collections
 import concurrent.futures
 import os
@@ -22,12 +21,11 @@ import time
 
 sys.dont_write_bytecode = True
 
-from support import TOP, parser_of
+from support import TOP
 
 FUNCTION = re.compile(r"^( *)(?:pub(?:\([^)]*\))? )?(?:const )?fn \w+", re.M)
 CHOSEN = "".join(f"    pub(crate) safe fn {it};\n" for it in ["zs_chosen() -> u64", "zs_lock()", "zs_unlock()"])
-# The folders of the toolchain in which files are replaced: `rt try` stores no program, so its linker does.
-FOLDERS = [".", "bin", "c", "toolchain", "toolchain/bin"]
+# `rt try` stores no program, so the linker of a copy of the toolchain does. Its compiler leaves out checks at run time.
 LINKER = """#!/bin/sh
 "{kit}/toolchain/bin/ld.lld" "$@" || exit
 while [ $# -gt 1 ]; do [ "$1" != -o ] || {{ cp "$2" "{program}.new" && mv "{program}.new" "{program}"; }}; shift; done
@@ -85,38 +83,33 @@ def plant(crates, survivors):
         root.write_text(f"{root.read_text(encoding='utf-8')}\nmod chosen;\n", encoding="utf-8")
 
 
-def copy_kit(kit, copy, files):
-    """A folder of links to the toolchain, but for these files."""
-    for part in FOLDERS:
-        (copy / part).mkdir()
-        for name in [str(it.relative_to(kit)) for it in (kit / part).iterdir()]:
-            if name in files:
-                (copy / name).write_text(files[name])
-                (copy / name).chmod(0o755)
-            elif name not in FOLDERS:
-                (copy / name).symlink_to(kit / name)
-
-
 def ran(words, seconds, until=lambda: False, **more):
     """The status of a command, or None if it is not done after some seconds. Ends all that it started."""
     limit, running = time.monotonic() + seconds, subprocess.Popen(words, stdin=subprocess.DEVNULL, start_new_session=True, **more)
     while running.poll() is None and time.monotonic() < limit and not until():
         time.sleep(0.02)
     if running.poll() is None:
-        os.killpg(running.pid, signal.SIGKILL)
+        # `rt` ends what it started in other groups.
+        os.killpg(running.pid, signal.SIGTERM)
         return running.wait() and None
     return running.returncode
 
 
 def build(room, crate):
-    """Builds a crate's program, or that of its tests if it is a library, without proofs and without checks."""
-    program, folder, log = room / crate, room / "crates" / crate, room / f"{crate}.log"
+    """Builds a crate's program, or that of its tests if it is a library."""
     kit, copy = pathlib.Path(os.path.realpath(shutil.which("rt"))).parent.parent, room / f"{crate}.kit"
+    program, folder, log = room / crate, room / "crates" / crate, room / f"{crate}.log"
     words = ["--test"] * (folder / "src" / "lib.rt").exists()
     known = {"kit": kit, "program": program, "level": "-O0" if words else "-O2"}
-    copy_kit(kit, copy, {"toolchain/bin/ld.lld": LINKER.format(**known), "toolchain/bin/clang": COMPILER.format(**known),
-                         "bin/rattle": "#!/bin/sh\n", "c/asan.a": "!<arch>\n",
-                         **{name: (kit / name).read_text() for name in ["bin/rt", "bin/rtlib.py"]}})
+    copy.mkdir()
+    subprocess.run(["cp", "-rs", *[kit / it for it in ["bin", "c", "toolchain"]], copy], check=True)
+    for name in ["rattle", "rlibs", "logic_built"]:
+        (copy / name).symlink_to(kit / name)
+    for name, text in [("toolchain/bin/ld.lld", LINKER.format(**known)), ("toolchain/bin/clang", COMPILER.format(**known)),
+                       ("bin/rattle", "#!/bin/sh\n"), ("c/asan.a", "!<arch>\n"), *[(it, None) for it in ["bin/rt", "bin/rtlib.py"]]]:
+        (copy / name).unlink()
+        (copy / name).write_text(text or (kit / name).read_text())
+        (copy / name).chmod(0o755)
     with open(log, "wb") as said:
         ran([copy / "bin/rt", "try", *words, "--steps", "1"], 900, program.exists, cwd=folder, stdout=said, stderr=said,
             env={**os.environ, "RT_ALLOW_C": ",".join(it.parent.name for it in room.glob("crates/*/c"))})
@@ -124,57 +117,46 @@ def build(room, crate):
 
 
 def fails(room, caught_by, number, seconds):
-    """Whether a test fails with the body of this number, or isn't done after some seconds."""
+    """Whether a test fails with the body of this number, or isn't done after some seconds; and how long it took."""
     crate, _, name = caught_by.partition("::")
-    if crate.endswith(".py"):
-        words = [sys.executable, "-m", "pytest", "-q", "-x", TOP / "tests" / caught_by]
-    else:
+    words, begun = [sys.executable, "-m", "pytest", "-q", "-x", TOP / "tests" / caught_by], time.monotonic()
+    if not crate.endswith(".py"):
         listed = subprocess.run([room / crate, "--list"], capture_output=True, text=True, check=True).stdout
         words = [room / crate, *re.findall(rf"^((?:\w+::)*{name}): test$", listed, re.M)]
         assert len(words) == 2, f"{crate} has no test {name}, or several"
     status = ran(words, seconds, cwd=TOP, stdout=subprocess.DEVNULL, stderr=subprocess.DEVNULL,
                  env={**os.environ, "ZS_CHOSEN": str(number), "ZSCHED": str(room / "zsched")})
     assert not crate.endswith(".py") or status in [0, 1, None], f"pytest can't run {caught_by}: status {status}"
-    return status != 0
+    return status != 0, time.monotonic() - begun
 
 
-def judge(room, pool, survivors, tried):
-    """Tries some of the survivors, prints what caught each, and returns how many nothing caught."""
+def judge(room, pool, survivors):
+    """Plants the survivors, and returns for each whether it is caught."""
     shutil.copytree(TOP / "crates", room / "crates", ignore=shutil.ignore_patterns("out", "proofs", "must-fail", "survivors"))
-    shutil.copy(TOP / "crates.txt", room)
-    shutil.copy(TOP / "HANDLES", room)
+    for name in ["crates.txt", "HANDLES"]:
+        shutil.copy(TOP / name, room)
     gates = room / "crates/zs_tests/src/tests/gates.rt"
     gates.write_text(re.sub(r"(TURNS: u64 = )[\d_]+", r"\g<1>3_000_000", gates.read_text()))
     plant(room / "crates", survivors)
-    crates = {it.caught_by.partition("::")[0] for it in tried}
-    list(pool.map(lambda it: build(room, it), {"zsched" if it.endswith(".py") else it for it in crates}))
-
-    def alone(test):
-        """The seconds that a test takes without any of them."""
-        begun = time.monotonic()
-        assert not fails(room, test, 0, 300), f"{test} fails without a survivor"
-        return time.monotonic() - begun
-
-    tests = sorted({it.caught_by for it in tried})
-    limits = {test: 5 + 4 * seconds for test, seconds in zip(tests, pool.map(alone, tests))}
-    caught = pool.map(lambda it: fails(room, it.caught_by, it.number, limits[it.caught_by]), tried)
-    for it, is_caught in zip(tried, missed := list(caught)):
-        print(f"{it.crate}/{it.name}: {'' if is_caught else 'NOT '}caught by {it.caught_by}")
-    return missed.count(False)
+    tests = sorted({it.caught_by for it in survivors})
+    list(pool.map(lambda it: build(room, it), {"zsched" if ".py::" in it else it.partition("::")[0] for it in tests}))
+    alone = dict(zip(tests, pool.map(lambda it: fails(room, it, 0, 300), tests)))
+    assert not any(failed for failed, _ in alone.values()), f"without a survivor too: {[it for it in tests if alone[it][0]]}"
+    ends = pool.map(lambda it: fails(room, it.caught_by, it.number, 5 + 4 * alone[it.caught_by][1]), survivors)
+    return [is_caught for is_caught, _ in ends]
 
 
-def main():
+def main(names):
     """Tries all survivors, or those that are named."""
-    words = parser_of(__doc__)
-    words.add_argument("names", nargs="*", metavar="BELIEF", help="only these")
-    names = words.parse_args().names
-    survivors = [Survivor(number, path) for number, path in enumerate(sorted(TOP.glob("crates/*/survivors/*.edit")), 1)]
-    tried = [it for it in survivors if it.name in names or not names]
+    paths = [it for it in sorted(TOP.glob("crates/*/survivors/*.edit")) if it.stem in names or not names]
+    survivors = [Survivor(number, path) for number, path in enumerate(paths, 1)]
     with tempfile.TemporaryDirectory(prefix="zsched-survivors-") as room, concurrent.futures.ThreadPoolExecutor(2) as pool:
-        missed = judge(pathlib.Path(room), pool, survivors, tried)
-    print(f"{len(tried) - missed} passed, {missed} failed")
-    return 1 if missed or not tried else 0
+        caught = judge(pathlib.Path(room), pool, survivors)
+    for it, is_caught in zip(survivors, caught):
+        print(f"{it.crate}/{it.name}: {'' if is_caught else 'NOT '}caught by {it.caught_by}")
+    print(f"{sum(caught)} passed, {caught.count(False)} failed")
+    return 0 if caught and all(caught) else 1
 
 
 if __name__ == "__main__":
-    sys.exit(main())
+    sys.exit(main(sys.argv[1:]))
