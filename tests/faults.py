@@ -7,7 +7,7 @@ import re
 from typing import NamedTuple
 
 from mistakes import MISTAKES
-from support import ONE_JOB, job, plan, tree
+from support import BLOCK, ONE_JOB, ONE_REPORT, job, plan, tree
 
 LONGEST = 16777216
 DEEP = 100000
@@ -168,6 +168,25 @@ def refused():
     cases = [(name, data, fault.told(numbers)) for fault in table() for name, data, numbers in fault.plans]
     return cases + [(name, text.replace("»", "", 1).encode(errors="surrogateescape"), fault)
                     for name, text, fault, _ in MISTAKES]
+
+
+def accepted():
+    """Plans at the limits: a name, the bytes, and the report."""
+    deep = "forever" + ".collectAll" * 63
+    ended = b"job a repeat\nattempt 1 0..1 err 1\nend failed 1 at 1 polls 2\npolls 2\n"
+    failing = script(['{"ms":1,"err":1}'])
+    entries = ['{"ms":5,"err":7}', '{"ms":5,"ok":1}'] + ['{"ms":1,"ok":1}'] * 998
+    return [
+        ("the greatest horizon", plan(horizon='"horizon":999999999999999'), ONE_REPORT),
+        ("no jobs", plan([]), b"polls 0\n"),
+        ("a name of 64 bytes", plan([job("a" * 64)]), (BLOCK.format("a" * 64) + "polls 3\n").encode()),
+        ("a script of 1,000 entries", plan([job(script=script(entries))]), ONE_REPORT),
+        ("a schedule of depth 64", plan([job(schedule=deep, mode="repeat", script=failing)]), ended),
+        ("a schedule of 1,000 nodes", plan([job("a", tree(500) + ".collectAll", "repeat", failing)]), ended),
+        ("a plan of 16,777,216 bytes", ONE_JOB.ljust(LONGEST), ONE_REPORT),
+        ("workers 64 and grain 10000", plan(more=',"workers":64,"grain":10000'), ONE_REPORT),
+        ("a number with 100,000 spaces before it", plan([job(schedule="recurs(" + " " * DEEP + "3)")]), ONE_REPORT),
+    ]
 
 
 def lines():
