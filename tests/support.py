@@ -3,6 +3,7 @@ import argparse
 import gc
 import hashlib
 import io
+import itertools
 import json
 import os
 import pathlib
@@ -110,6 +111,18 @@ def run(program, text, environment=None, seconds=60, **more):
     except subprocess.TimeoutExpired:
         return None, b"", b""
     return ended.returncode, ended.stdout, ended.stderr
+
+
+def difference(found, wanted):
+    """Where two results of `run` differ, in a few words, or None. pytest itself would compare long reports for hours."""
+    if found == wanted:
+        return None
+    streams = [f"status {found[0]} instead of {wanted[0]}"]
+    for name, one, other in zip(["output", "errors"], found[1:], wanted[1:]):
+        lines = enumerate(itertools.zip_longest(one.splitlines(), other.splitlines()), 1)
+        streams += [f"{name}, line {number}: {str(pair[0])[:300]} instead of {str(pair[1])[:300]}"
+                    for number, pair in lines if pair[0] != pair[1]][:1]
+    return streams
 
 
 def run_tool(words, given=b"", folder=None, seconds=300, **variables):
