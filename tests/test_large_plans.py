@@ -8,7 +8,7 @@ import subprocess
 import pytest
 
 import reference
-from support import run
+from support import difference, run
 
 M = 2 ** 64 - 1
 LAST_TICK = 999999999999999
@@ -96,7 +96,7 @@ PLANS = {
 def test_a_large_plan_has_the_report_of_the_reference(name, zsched):
     make, *arguments = PLANS[name]
     text = make(*arguments)
-    assert run(zsched, text, seconds=PATIENCE) == reference.answer(text)
+    assert difference(run(zsched, text, seconds=PATIENCE), reference.answer(text)) is None
 
 
 # ---- plans whose reports are made here
@@ -170,7 +170,7 @@ SIZES = {
 def test_a_plan_past_a_size(name, zsched):
     make, size = SIZES[name]
     text, wanted = make(size)
-    assert run(zsched, text, seconds=PATIENCE) == wanted
+    assert difference(run(zsched, text, seconds=PATIENCE), wanted) is None
 
 
 def test_a_report_of_100_000_bytes_goes_out_in_one_write(zsched):
