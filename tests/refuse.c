@@ -2,10 +2,9 @@
  *
  * REFUSE_AT=N        the N-th allocation fails; all threads count together
  * REFUSE_FROM=N      the N-th allocation and all later ones fail
- * REFUSE_THREADS=N   the N-th start of a thread fails, and so do all later ones
  * REFUSE_WITHIN=N    each allocation in the N-th started thread fails
- * REFUSE_COUNT=FILE  the number of allocations is written to FILE when the program ends
- * COUNT_THREADS=FILE the number of threads that were started is written to FILE when the program ends
+ * REFUSE_THREADS=N   the N-th start of a thread fails, and so do all later ones
+ * REFUSE_COUNT=FILE  the numbers of allocations and of thread starts are written to FILE when the program ends
  *
  * It uses the names by which the GNU C library passes its own allocator on.
  */
@@ -16,8 +15,6 @@
 #include <limits.h>
 #include <pthread.h>
 #include <stdatomic.h>
-#include <stddef.h>
-#include <stdint.h>
 #include <stdio.h>
 #include <stdlib.h>
 #include <sys/syscall.h>
@@ -32,22 +29,16 @@ extern void *__libc_memalign(size_t, size_t);
 #define THREADS 1024
 
 /* What a started thread runs, and its number from 1 on. */
-struct start {
+static struct start {
     unsigned long number;
     void *(*body)(void *);
     void *argument;
-};
+} starts[THREADS];
 
-static atomic_ulong requests;
-static atomic_ulong started;
-static struct start starts[THREADS];
+static atomic_ulong allocations, started;
 static _Thread_local unsigned long this_thread __attribute__((tls_model("initial-exec")));
-static unsigned long refused_at = ULONG_MAX;
-static unsigned long refused_from = ULONG_MAX;
-static unsigned long refused_starts = ULONG_MAX;
-static unsigned long refused_within = ULONG_MAX;
+static unsigned long at = ULONG_MAX, from = ULONG_MAX, within = ULONG_MAX, threads = ULONG_MAX;
 static const char *count_file;
-static const char *threads_file;
 
 static unsigned long number_in(const char *name)
 {
@@ -57,31 +48,24 @@ static unsigned long number_in(const char *name)
 
 __attribute__((constructor)) static void begin(void)
 {
-    refused_at = number_in("REFUSE_AT");
-    refused_from = number_in("REFUSE_FROM");
-    refused_starts = number_in("REFUSE_THREADS");
-    refused_within = number_in("REFUSE_WITHIN");
+    at = number_in("REFUSE_AT");
+    from = number_in("REFUSE_FROM");
+    within = number_in("REFUSE_WITHIN");
+    threads = number_in("REFUSE_THREADS");
     count_file = getenv("REFUSE_COUNT");
-    threads_file = getenv("COUNT_THREADS");
-    atomic_store(&requests, 0);
-}
-
-static void write_number(const char *name, unsigned long number)
-{
-    char digits[32];
-    int length = snprintf(digits, sizeof digits, "%lu\n", number);
-    int file = name ? open(name, O_WRONLY | O_CREAT | O_TRUNC, 0600) : -1;
-    if (file >= 0) {
-        if (write(file, digits, (size_t)length) != length)
-            unlink(name);
-        close(file);
-    }
+    atomic_store(&allocations, 0);
 }
 
 __attribute__((destructor)) static void end(void)
 {
-    write_number(count_file, atomic_load(&requests));
-    write_number(threads_file, atomic_load(&started));
+    char line[64];
+    int length = snprintf(line, sizeof line, "%lu %lu\n", atomic_load(&allocations), atomic_load(&started));
+    int file = count_file ? open(count_file, O_WRONLY | O_CREAT | O_TRUNC, 0600) : -1;
+    if (file >= 0) {
+        if (write(file, line, (size_t)length) != length)
+            unlink(count_file);
+        close(file);
+    }
 }
 
 /* A program of several threads ends by this call, which runs no destructor. */
@@ -93,10 +77,10 @@ void _exit(int status)
 }
 
 /* Counts one allocation, and returns whether it has to fail. */
-static int is_refused(void)
+static int fails(void)
 {
-    unsigned long number = atomic_fetch_add(&requests, 1) + 1;
-    if (number != refused_at && number < refused_from && this_thread != refused_within)
+    unsigned long number = atomic_fetch_add(&allocations, 1) + 1;
+    if (number != at && number < from && this_thread != within)
         return 0;
     errno = ENOMEM;
     return 1;
@@ -104,32 +88,31 @@ static int is_refused(void)
 
 void *malloc(size_t size)
 {
-    return is_refused() ? NULL : __libc_malloc(size);
+    return fails() ? NULL : __libc_malloc(size);
 }
 
 void *calloc(size_t count, size_t size)
 {
-    return is_refused() ? NULL : __libc_calloc(count, size);
+    return fails() ? NULL : __libc_calloc(count, size);
 }
 
 void *realloc(void *place, size_t size)
 {
-    return is_refused() ? NULL : __libc_realloc(place, size);
+    return fails() ? NULL : __libc_realloc(place, size);
 }
 
 void *reallocarray(void *place, size_t count, size_t size)
 {
     size_t bytes;
-    if (__builtin_mul_overflow(count, size, &bytes)) {
-        errno = ENOMEM;
-        return NULL;
-    }
-    return realloc(place, bytes);
+    if (!__builtin_mul_overflow(count, size, &bytes))
+        return realloc(place, bytes);
+    errno = ENOMEM;
+    return NULL;
 }
 
 void *memalign(size_t alignment, size_t size)
 {
-    return is_refused() ? NULL : __libc_memalign(alignment, size);
+    return fails() ? NULL : __libc_memalign(alignment, size);
 }
 
 void *aligned_alloc(size_t alignment, size_t size)
@@ -140,10 +123,9 @@ void *aligned_alloc(size_t alignment, size_t size)
 int posix_memalign(void **place, size_t alignment, size_t size)
 {
     void *found = memalign(alignment, size);
-    if (!found)
-        return ENOMEM;
-    *place = found;
-    return 0;
+    if (found)
+        *place = found;
+    return found ? 0 : ENOMEM;
 }
 
 static void *run_thread(void *place)
@@ -155,14 +137,13 @@ static void *run_thread(void *place)
 
 int pthread_create(pthread_t *thread, const pthread_attr_t *attributes, void *(*body)(void *), void *argument)
 {
-    typedef int starter(pthread_t *, const pthread_attr_t *, void *(*)(void *), void *);
-    static starter *_Atomic next;
+    static int (*_Atomic next)(pthread_t *, const pthread_attr_t *, void *(*)(void *), void *);
     unsigned long number = atomic_fetch_add(&started, 1) + 1;
     struct start *start = &starts[number % THREADS];
-    if (number >= refused_starts)
+    if (number >= threads)
         return EAGAIN;
     if (!next)
-        next = (starter *)dlsym(RTLD_NEXT, "pthread_create");
+        next = dlsym(RTLD_NEXT, "pthread_create");
     *start = (struct start){number, body, argument};
     return next(thread, attributes, run_thread, start);
 }
