@@ -1,0 +1,202 @@
+"""What runs cost and how that grows: instructions, the peak memory in bytes, and allocations.
+
+A row is a plan, or another input, of n and of 4n things: attempts, jobs, ticks, parentheses and so on. What the program
+costs on no things is subtracted from both. The larger run may take at most 4.4 times the instructions and bytes of the
+smaller. Each further thing may cost at most the row's limits: so a cost that grows in proportion, but is needless, is found
+too. Bytes and allocations are exact, and their limits some twentieths above the measured figures. Instructions depend on
+the compiler; their limits have more room.
+
+valgrind's dhat counts, so nothing depends on the machine's load. `pytest tests/test_growth.py -rP` shows what each row
+costs."""
+import json
+import re
+import shutil
+import subprocess
+from typing import Callable, NamedTuple
+
+import pytest
+
+from support import TOP, tree
+
+PATIENCE = 240
+FAR = 10 ** 9
+# Below these a cost counts as zero, and its growth is not tested.
+FEW_INSTRUCTIONS = 50_000
+FEW_BYTES = 10_000
+TOTAL = re.compile(r"Total: +[\d,]+ bytes in ([\d,]+) blocks")
+MOST_AT_ONCE = re.compile(r"At t-gmax: +([\d,]+) bytes")
+INSTRUCTIONS = re.compile(r'^,"te":(\d+)', re.M)
+
+
+class Cost(NamedTuple):
+    """What a run costs."""
+    instructions: float
+    held: float
+    allocations: float
+
+    def less(self, other, things=1):
+        """What this costs more than another, for each of a number of things."""
+        return Cost(*((mine - its) / things for mine, its in zip(self, other)))
+
+    def __str__(self):
+        return f"{self.instructions:,.0f} instructions, {self.held:,.1f} bytes, {self.allocations:,.2f} allocations"
+
+
+class Row(NamedTuple):
+    """A function that makes the input of n things, the smaller n, and the limit for each further thing. If n is 0 nothing
+    grows, and the limit is for the whole run. `runs` is a fixture, `status` its status, and `times` how often the larger run
+    may cost what the smaller does."""
+    make: Callable
+    size: int
+    most: Cost
+    runs: str = "zsched"
+    status: int = 0
+    times: float = 4.4
+
+
+# ---- plans
+
+def plan(jobs, **more):
+    """The bytes of a plan."""
+    return json.dumps({"horizon": FAR, **more, "jobs": jobs}, separators=(",", ":")).encode()
+
+
+def job(number, schedule, script=((1, 0),), **more):
+    """A job that the schedule alone ends. The script is pairs of milliseconds and values."""
+    entries = [{"ms": ms, "ok": value} for ms, value in script]
+    return {"name": f"job{number}", "mode": "repeat", "schedule": schedule, "script": entries, **more}
+
+
+def one(schedule, script=((1, 0),)):
+    """A plan of one job."""
+    return plan([job(0, schedule, script)])
+
+
+def attempts_of(schedule):
+    """A job of a number of attempts."""
+    return lambda count: plan([job(0, schedule)], horizon=count)
+
+
+def jobs_of(schedule, **more):
+    """Jobs that are due at the same moments."""
+    return lambda count: plan([job(number, schedule) for number in range(count)], **more)
+
+
+def jobs_one_after_the_other(count):
+    """Jobs that begin at different moments, the last one first."""
+    return plan([job(number, "recurs(0)", start=2 * (count - number)) for number in range(count)])
+
+
+def jobs_that_end_together(count):
+    """Jobs that begin one after the other and end at one moment, for which the last one waits before all others."""
+    jobs = [job(number, "recurs(0)", [(count - number, 0)], start=number + 1) for number in range(count - 1)]
+    return plan([*jobs, job(count - 1, "recurs(0)", [(count + 1, 0)])])
+
+
+def ticks(count):
+    """A clock of many ticks, with jobs at its end."""
+    jobs = [job(number, "spaced(3)", start=2 * count - 40) for number in range(100)]
+    return json.dumps({"ticks": list(range(0, 2 * count, 2)), "jobs": jobs}).encode()
+
+
+def records(make):
+    """The same plan for zs_refusals, whose tasks store all their records."""
+    return lambda count: b"jobs\n" + make(count)
+
+
+# ---- requests of tests/clients/client.c
+
+def request_of(command, text, *numbers):
+    """A line: a command, a schedule's text, and numbers."""
+    return " ".join([command, f".{text.encode().hex()}", *map(str, numbers)]).encode() + b"\n"
+
+
+def pairs(count, value=None):
+    """`count` pairs of a moment and an input, which is the moment if no other is given."""
+    return [number for moment in range(count) for number in (moment, moment if value is None else value)]
+
+
+POLICY = "((exponential(100) || spaced(5000)) && recurs({})).whileInput(>= 500)"
+ROWS = {
+    "no job": Row(lambda _: plan([]), 0, Cost(250_000, 1000, 17)),
+    "one job": Row(lambda _: jobs_of("recurs(0)")(1), 0, Cost(280_000, 3300, 52)),
+    "attempts": Row(attempts_of("forever"), 2500, Cost(4400, 138, 0.01)),
+    "attempts with pairs and sides": Row(
+        attempts_of("(recurs(3) andThenEither (forever && identity))"), 2500, Cost(5900, 138, 0.01)),
+    "attempts in records": Row(records(attempts_of("forever")), 2700, Cost(4800, 250, 0.01), "refusals"),
+    "jobs due together": Row(jobs_of("recurs(5)"), 1000, Cost(76_000, 2220, 20.5)),
+    # Most of their cost is the parsing of their schedules.
+    "jobs of 100 nodes": Row(jobs_of(f"(recurs(0) && {tree(50)})"), 100, Cost(290_000, 17_300, 422)),
+    "jobs of 100 attempts": Row(jobs_of("recurs(99)"), 100, Cost(420_000, 11_500, 28.8)),
+    "jobs at moments of their own": Row(jobs_one_after_the_other, 1000, Cost(68_000, 2240, 22.6)),
+    "jobs that come due in another order": Row(jobs_that_end_together, 1000, Cost(68_000, 2240, 22.6)),
+    "ticks": Row(ticks, 20_000, Cost(1200, 95, 0.01)),
+    "leaves of a schedule": Row(lambda n: one(f"({tree(n)} && recurs(99)).map(_2)"), 100, Cost(68_000, 270, 209)),
+    "collected items": Row(
+        lambda n: one(f"(identity.collectAll && recurs({n})).map(_2)"), 1000, Cost(5700, 129, 2.1)),
+    "counted items": Row(
+        lambda n: one(f"(identity.collectAll.map(size) && recurs({n})).map(_2)"), 1000, Cost(5900, 129, 2.1)),
+    "batches": Row(jobs_of("recurs(1)", workers=2, grain=1), 500, Cost(64_000, 2230, 23.6)),
+    "open parentheses": Row(lambda n: one("(" * n + "forever"), 100_000, Cost(150, 3.5, 0.01), status=2),
+    "bytes of a schedule": Row(lambda n: one("recurs(" + " " * n + "0)"), 500_000, Cost(45, 3.2, 0.01)),
+    # The keys of an object are stored in order, which costs a logarithm more.
+    "keys": Row(lambda n: plan([], **{f"key{number}": number for number in range(n)}), 2000, Cost(15_800, 171, 1.2),
+                status=2, times=5.6),
+    "entries of a script": Row(
+        lambda n: one("recurs(9)", [(1, number) for number in range(n)]), 250, Cost(7000, 975, 3.2)),
+    "pairs of an answer": Row(lambda n: request_of("answer", "(exponential(10) && recurs(3))", *pairs(n)), 2500,
+                              Cost(4000, 31, 2.1), "client"),
+    "bytes of an answer's text": Row(lambda n: request_of("answer", "recurs(" + " " * n + "0)", 0, 0), 20_000,
+                                     Cost(500, 4.6, 0.01), "client"),
+    "steps of a program": Row(lambda n: request_of("run", POLICY.format(8), *pairs(n, 503)), 2500,
+                              Cost(2200, 31, 0.01), "client"),
+    "leaves of a program": Row(lambda n: request_of("run", tree(n), *pairs(20)), 100, Cost(800_000, 370, 240), "client"),
+    "steps of bounds": Row(lambda n: request_of("bounds", POLICY.format(1_000_000), n), 1000, Cost(4500, 0.01, 4.2), "client"),
+    "leaves of bounds": Row(lambda n: request_of("bounds", tree(n), 10), 100, Cost(11_000, 580, 8.8), "client"),
+}
+# The input of each program with no things.
+NOTHING = {"zsched": plan([]), "refusals": b"jobs\n" + plan([]), "client": b""}
+
+
+@pytest.fixture(scope="session")
+def client(library, tmp_path_factory):
+    """The client of the library in C."""
+    made = tmp_path_factory.mktemp("client") / "client"
+    subprocess.run(["cc", "-O1", "-I", TOP / "include", "-I", TOP / "bindings" / "c", "-o", made, TOP / "tests/clients/client.c",
+                    library / "libzsched.a", "-Wl,--wrap=malloc,--wrap=realloc,--wrap=free", "-lpthread"], check=True)
+    return made
+
+
+@pytest.fixture
+def cost(tmp_path):
+    """A function that runs a program under dhat."""
+    if shutil.which("valgrind") is None:
+        pytest.skip("valgrind isn't on this machine")
+
+    def measure(program, text, status=0):
+        words = ["valgrind", "--tool=dhat", f"--dhat-out-file={tmp_path / 'dhat'}", program]
+        ended = subprocess.run(words, input=text, capture_output=True, timeout=PATIENCE, check=False)
+        said = ended.stderr.decode(errors="replace")
+        assert ended.returncode == status, said[-300:]
+        # The line of a request to the library begins with 0 or 1.
+        assert program.name != "client" or ended.stdout[:2] in [b"", b"0,", b"1,", b"0 "], ended.stdout[:40]
+        allocations, held = (int(form.search(said)[1].replace(",", "")) for form in [TOTAL, MOST_AT_ONCE])
+        return Cost(int(INSTRUCTIONS.search((tmp_path / "dhat").read_text())[1]), held, allocations)
+    return measure
+
+
+@pytest.mark.parametrize("name", ROWS)
+def test_cost(name, cost, request):
+    row = ROWS[name]
+    program = request.getfixturevalue(row.runs)
+    if not row.size:
+        each = cost(program, row.make(0), row.status)
+    else:
+        nothing = cost(program, NOTHING[row.runs])
+        small, large = (cost(program, row.make(size), row.status).less(nothing) for size in [row.size, 4 * row.size])
+        print(f"{row.size} cost {small}\n{4 * row.size} cost {large}")
+        assert large.instructions <= row.times * max(small.instructions, FEW_INSTRUCTIONS)
+        assert large.held <= row.times * max(small.held, FEW_BYTES)
+        each = large.less(small, 3 * row.size)
+    print(f"each costs {each}")
+    assert all(found <= most for found, most in zip(each, row.most)), f"{each}, at most {row.most}"
