@@ -1,0 +1,156 @@
+"""The documents: links have targets, what they name exists, the plans shown have the reports shown, the figures of
+docs/POLICIES.md are those of its plan, and the language is plain technical English, in the comments of the crates too."""
+import functools
+import json
+import re
+
+import pytest
+
+from reports import jobs_of
+from support import TOP, run, run_tool
+from zsched_tools.durations import duration
+
+PAGES = sorted([*TOP.glob("*.md"), *TOP.glob("docs/*.md"), *TOP.glob("benches/**/*.md"), *TOP.glob("crates/*/README.md")])
+FOLDERS = ("benches/", "crates/", "docs/", "examples/", "tests/", "tools/", "zs_")
+README = (TOP / "README.md").read_text()
+FORMATS = (TOP / "docs" / "FORMATS.md").read_text()
+each_page = pytest.mark.parametrize("page", PAGES, ids=lambda page: str(page.relative_to(TOP)))
+
+
+def anchor_of(title):
+    """The anchor of a heading."""
+    return re.sub(r"[^a-z0-9_ -]", "", title.lower()).replace(" ", "-")
+
+
+def anchors_of(page):
+    """The anchors of a page's headings."""
+    outside = re.sub(r"^```.*?^```$", "", page.read_text(), flags=re.MULTILINE | re.DOTALL)
+    return {anchor_of(title) for title in re.findall(r"^#+ (.*)$", outside, re.MULTILINE)}
+
+
+@each_page
+def test_links_lead_to_files_and_headings(page):
+    lost = []
+    for target in re.findall(r"\]\(([^)\s]+)\)", page.read_text()):
+        name, _, anchor = target.partition("#")
+        path = page.parent / name if name else page
+        if "://" not in target and not (path.exists() and (not anchor or anchor in anchors_of(path))):
+            lost.append(target)
+    assert lost == []
+
+
+@each_page
+def test_files_that_a_page_names_exist(page):
+    """Names of the repository in backquotes; capitals are any name. A crate's page also names the crate's files."""
+    folders = (*FOLDERS, "src/", "specs/") if page.parent.parent.name == "crates" else FOLDERS
+    words = " ".join(re.findall(r"`([^`\n]+)`", page.read_text())).split()
+    named = [word for word in words if word.startswith(folders) and re.fullmatch(r"[\w./-]+/[\w.-]+", word)
+             and not re.search("[A-Z]{3}", word)]
+    assert [name for name in named if not any(place.exists() for place in [
+        TOP / name, page.parent / name, TOP / "crates" / name, TOP / "crates" / f"{name}.antt"])] == []
+
+
+def test_the_readme_names_commands_that_exist():
+    named = set(re.findall(r"`\.?/?((?:tools/[a-z-]+)|run|check)\b", README))
+    assert len(named) >= 7
+    assert [name for name in sorted(named) if not (TOP / name).is_file()] == []
+
+
+def test_the_readme_shows_the_sample(zsched):
+    plan, report = re.search(r"```json\n(.*?)```\n```\n(.*?)```", README, re.DOTALL).groups()
+    sample = TOP / "examples" / "checkout.json"
+    assert json.loads(plan) == json.loads(sample.read_bytes())
+    assert report == sample.with_suffix(".json.stdout").read_text()
+    assert run(zsched, plan.encode()) == (0, report.encode(), b"")
+
+
+def test_formats_shows_a_plan_and_its_report_also_as_json_lines(zsched):
+    plan, report, shown = (re.search(form, FORMATS, re.DOTALL)[1] for form in [
+        r"```json\n(.*?)```", r"```text\n(job .*?)```", r'```json\n(\{"type".*?)```'])
+    whole = f"{report}polls {report.split()[-1]}\n".encode()
+    assert run(zsched, plan.encode()) == (0, whole, b"")
+    assert run_tool([TOP / "tools" / "zsched-report", "lines"], whole) == (0, shown, "")
+
+
+# ---- docs/POLICIES.md
+
+HEAD, *SECTIONS = (TOP / "docs" / "POLICIES.md").read_text().split("\n## ")
+JOBS = json.loads((TOP / "examples" / "policies.json").read_text())["jobs"]
+RAN = jobs_of((TOP / "examples" / "policies.json.stdout").read_bytes())
+TITLES = [section.split("\n")[0] for section in SECTIONS]
+
+
+def test_the_table_of_policies_has_the_figures_of_the_report():
+    """Attempts, the end, and the longest wait between two attempts."""
+    rows = re.findall(r"^(\| \[.*\|)(?:[^|]*\|){3}$", HEAD, re.MULTILINE)
+    assert rows == [f"| [{title}](#{anchor_of(title)}) | {len(job.attempts)} | {job.how} at {duration(job.at)} "
+                    f"| {duration(max(job.waits))} |" for title, job in zip(TITLES, RAN, strict=True)]
+    assert [job["name"] for job in JOBS] == [job.name for job in RAN]
+
+
+@pytest.mark.parametrize("section, job", list(zip(SECTIONS, JOBS)), ids=TITLES)
+def test_a_policy_has_its_schedule_and_the_part_of_each_setting(section, job):
+    said = re.search(r"^- Schedule of the job `(.*?)`: `(.*)`$", section, re.MULTILINE)
+    assert said.groups() == (job["name"], job["schedule"])
+    settings = re.findall(r"^\| `[^`]+`.* \| .+ \| `(.+)` \|$", section, re.MULTILINE)
+    assert len(settings) >= 2
+    assert [part for part in settings if part not in job["schedule"]] == []
+    assert re.search(r"\n- Looked at: (source, \S+.* \d+\.\d+|documents, )", section)
+    assert "\nNot the same:" in section
+
+
+# ---- English
+
+PROSE = tuple(page for page in PAGES if TOP / "benches" not in page.parents)
+CODE = tuple(sorted(it for end in ("rt", "antt") for it in TOP.glob(f"crates/*/[sp]*/**/*.{end}")))
+WIDTH, MOST_WORDS = 100, 22000
+# What has another meaning here than elsewhere or none, what to write instead, and how often the first is right in all
+# pages and in all comments.
+WORDS = [
+    (r"where", "if, when", 16, 3),
+    (r"told|tells?", "reported, says, shown, returned", 0, 0),
+    (r"ask(?:s|ed)?|answer(?:s|ed)?", "evaluates, steps; returns, result", 0, 0),
+    (r"stands?|stood|behind", "is, represents, is unchanged; after", 0, 0),
+    (r"(?:is|are|was|were|what's) left(?! out)|given up|giving up", "remains, the rest; dropped, freed", 0, 0),
+    (r"wants? (?:of|for)|finds? no memory|growths? (?:is|are|was) refused", "out of memory, allocation failure", 0, 0),
+    (r"refus(?:e|es|ed|als?)", "fails, an error; rejected, for input", 0, 0),
+    (r"(?:of|for) (?:its|their) own|nobody|all that|that which", "separate, private; no caller, everything that", 0, 0),
+    (r"keeps?|kept", "stores, unchanged", 3, 0),
+    (r"com(?:e|es|ing) to|lies in|hands? on|meets?", "results in, is stored in, passes, satisfies", 3, 3),
+    (r"(?:whole|a pass's) share", "exclusive access", 2, 0),
+    (r"(?:so|as|this) many", "the number, n, at most n", 7, 0),
+    (r"(?:light|heavy) (?:job|plan|poll|round)s?", "the number of nodes", 0, 0),
+]
+
+
+def prose(files):
+    """The lines of pages and the comments of code, without samples: the place, the line, and its text."""
+    for file in files:
+        is_sample, form = False, re.compile(r"(.*)" if file.suffix == ".md" else r"\s*(?://[/!]?|--) ?(.*)")
+        for number, line in enumerate(map(form.fullmatch, file.read_text().splitlines()), 1):
+            is_sample ^= bool(line and line[1].startswith("```"))
+            if line and not is_sample:
+                yield f"{file.relative_to(TOP)}:{number}", line[0], line[1]
+
+
+@functools.cache
+def sentences(files):
+    """The lines of pages or comments, each with its place. A name in backquotes is no word."""
+    return [(place, re.sub(r"`[^`]*`|\]\([^)]*\)", "`", text)) for place, _, text in prose(files)]
+
+
+@pytest.mark.parametrize("words, better, in_pages, in_comments", WORDS)
+def test_words_mean_what_they_mean_elsewhere(words, better, in_pages, in_comments):
+    for files, most in [(PROSE, in_pages), (CODE, in_comments)]:
+        assert len(sentences(files)) > 1000
+        found = [place for place, text in sentences(files) for _ in re.findall(rf"\b(?:{words})\b", text, re.IGNORECASE)]
+        assert len(found) <= most, f"write: {better}"
+
+
+def test_the_pages_are_short():
+    assert sum(len(re.findall(r"(?<!\S)\S*[A-Za-z]\S*", text)) for _, text in sentences(PROSE)) <= MOST_WORDS
+
+
+def test_lines_have_100_columns_except_for_tables_and_code():
+    assert [where for where, line, _ in prose(PROSE + CODE)
+            if len(line) > WIDTH and not re.search(r"^\||`[^`]{60,}`|\]\([^)]{50,}\)", line)] == []
