@@ -1,0 +1,139 @@
+"""benches/: the results of zsched and of the baseline for the plans are those of the reference, and the commands run. Other
+programs take the place of zsched and the baseline if nothing is to be measured."""
+import contextlib
+import io
+import json
+import os
+import re
+import shutil
+import subprocess
+import sys
+from xml.etree import ElementTree
+
+import pytest
+
+import reference
+from support import TOP, difference, run, run_tool
+
+BENCHES = TOP / "benches"
+sys.path.insert(0, str(BENCHES))
+
+import bench
+import growth
+import plans
+import population as populations
+
+CAT = shutil.which("cat")
+POPULATION = [sys.executable, BENCHES / "population.py"]
+NO_SOURCE = r"failed to (get|download|query)|no matching package|[Cc]ould not resolve|offline"
+# Plans that the program rejects.
+REJECTED = [b"", b"[]", b'{"horizon":1}', b'{"horizon":1,"jobs":[7]}', b'{"ticks":[2,1],"jobs":[]}',
+            *(plans.plan([plans.job(name, schedule)]) for name, schedule in [
+                ("a", "windowed(0)"), ("a", "recurs(1).map(_1)"), ("a", "recurs(1) && forever"), ("", "forever")])]
+
+
+def ran(*words):
+    """The exit status of bench.py, and the lines that it printed."""
+    output = io.StringIO()
+    with contextlib.redirect_stdout(output), contextlib.redirect_stderr(output):
+        return bench.main([str(it) for it in words]), output.getvalue().splitlines()
+
+
+@pytest.fixture
+def script(tmp_path):
+    """A function that makes a program of a shell's commands."""
+    def make(text):
+        path = tmp_path / f"script{len(os.listdir(tmp_path))}"
+        path.write_text(f"#!/bin/sh\n{text}\n")
+        path.chmod(0o755)
+        return path
+    return make
+
+
+@pytest.mark.parametrize("name", plans.plans())
+def test_zsched_has_the_results_of_the_reference(name, zsched):
+    """A plan of large schedules has one job: the reference evaluates the whole history at each step."""
+    text = plans.plans(2000 if name.startswith("heavy_") else 100)[name]()
+    assert difference(run(zsched, text), reference.answer(text)) is None
+
+
+def test_plans_are_as_large_as_their_names_say():
+    trees = {name: json.loads(make()) for name, make in plans.plans().items()}
+    schedules = {name: tree["jobs"][0]["schedule"] for name, tree in trees.items()}
+    assert trees["one_job"]["horizon"] == 500_000
+    assert 1 + schedules["deep_64"].count(".") == 64
+    assert schedules["wide_999"].count("forever") + schedules["wide_999"].count("&&") == 999
+    assert len(schedules["parentheses"]) == 15_000_000
+    assert len(trees["million_ticks"]["ticks"]) == 1_000_000
+
+
+def test_each_plan_has_a_row_of_results():
+    page = (BENCHES / "RESULTS.md").read_text()
+    assert re.findall(r"^\| `(\w+)` \|.*\| yes \|$", page, re.MULTILINE) == list(plans.plans())
+
+
+def test_other_bytes_fail_the_check(script):
+    words = ["--check", "--only", "one_job", "--divisor", "10000", "--zsched", CAT, "--baseline"]
+    assert ran(*words, CAT) == (0, ["1 passed, 0 failed"])
+    for shell in ["cat > /dev/null; echo other", "cat; echo more >&2"]:
+        status, lines = ran(*words, script(shell))
+        assert (status, lines[1]) == (1, "0 passed, 1 failed")
+
+
+def test_a_run_prints_a_row(script):
+    words = ["--only", "resets", "--runs", "2", "--divisor", "10000", "--zsched", CAT, "--baseline"]
+    status, lines = ran(*words, CAT)
+    assert status == 0
+    assert re.fullmatch(r"\| `resets` \| 0\.0 \| .* \| yes \|", lines[2])
+    status, lines = ran(*words, script("exit 4"))
+    assert (status, lines[-1]) == (1, "bench.py: baseline ended with status 4 on resets.json")
+
+
+def test_growth_is_drawn(tmp_path):
+    picture = tmp_path / "growth.svg"
+    status, lines = ran("--growth", "--zsched", CAT, "--baseline", CAT, "--runs", "1", "--divisor", "1000", "--picture", picture)
+    assert (status, "\n".join(lines).count("| Against |")) == (0, 1)
+    assert ElementTree.parse(picture).getroot().get("width") == str(4 * growth.COLUMN)
+    assert growth.exponent([(size, 3 * size ** 2) for size in growth.up_to(1000)]) == pytest.approx(2)
+
+
+def test_a_population_is_split_run_and_joined(population, tmp_path):
+    status, rows, errors = run_tool([*POPULATION, "--jobs", "250", "--part", "100", "--folder", tmp_path])
+    assert (status, errors, os.listdir(tmp_path)) == (0, "", [])
+    number = r"[\d,]+\.\d"
+    found = re.findall(rf"^\| ([\w ]+) \|( {number} \|){{3}} [\d,]+ \|( {number} \|){{2}}$", rows, re.MULTILINE)
+    assert [row[0] for row in found] == ["cut", "run", "digests", "join by the manifest", "join by lines", "one program",
+                                         *["the pipe"] * populations.has_parallel(), "lines", "summary", "load"]
+
+
+IDLE = "cat > /dev/null; printf 'job j0 repeat\\nend unfinished at 9 polls 0\\npolls 0\\n'"
+
+
+@pytest.mark.parametrize("shell, wanted", [
+    ("exit 4", r"^population.py: run ended with status 4\n$"),
+    ("cat > /dev/null; echo polls 0", "has other jobs .*\n.* join by the manifest ended with status 2\n$"),
+    (IDLE, "^population.py: the joined report isn't that of 1 jobs: .*polls 0")], ids=["a status", "no job", "another end"])
+def test_a_population_has_the_wrong_report(shell, wanted, script):
+    status, _, errors = run_tool([*POPULATION, "--jobs", "1", "--zsched", script(shell)])
+    assert status == 1
+    assert re.search(wanted, errors)
+
+
+@pytest.mark.parametrize("words", [["--jobs", "0"], ["--part", "x"], ["plan.json"], ["--zsched", "/nowhere"]])
+def test_wrong_arguments_of_a_population(words):
+    status, output, errors = run_tool([*POPULATION, *words])
+    assert (status, output) == (2, "")
+    assert "population.py: error: " in errors
+
+
+@pytest.mark.full
+def test_the_baseline_has_the_results_of_zsched_and_of_the_reference(zsched):
+    if shutil.which("cargo") is None:
+        pytest.skip("cargo isn't on this machine")
+    built = subprocess.run([BENCHES / "baseline" / "build", "--quiet"], env={**os.environ, "CARGO_NET_RETRY": "0"},
+                           capture_output=True, text=True, check=False)
+    if built.returncode != 0 and re.search(NO_SOURCE, built.stderr):
+        pytest.skip("cargo finds no serde_json: no network, and no package librust-serde-json-dev")
+    assert built.returncode == 0, built.stderr
+    assert ran("--check", "--divisor", "100", "--zsched", zsched)[0] == 0
+    assert [text for text in REJECTED if run(bench.BASELINE, text) != reference.answer(text)] == []
