@@ -14,16 +14,17 @@ from support import ONE_JOB, ONE_REPORT, difference, equal_jobs, heavy_jobs, job
 
 PATIENCE = 20
 SHORT_MEMORY = 300_000_000
+REJECTED, ACCEPTED = refused(), accepted()
 # Their report doesn't fit into a pipe.
 LONG = equal_jobs([f"job{number}" for number in range(2000)], 2, 100)
 
 
-@pytest.mark.parametrize("text, fault", [case[1:] for case in refused()], ids=[case[0] for case in refused()])
+@pytest.mark.parametrize("text, fault", [case[1:] for case in REJECTED], ids=[case[0] for case in REJECTED])
 def test_a_rejected_plan_has_its_fault_on_standard_error_alone(text, fault, zsched):
     assert difference(run(zsched, text, seconds=PATIENCE), (2, b"", f"zsched: {fault}\n".encode())) is None
 
 
-@pytest.mark.parametrize("text, report", [case[1:] for case in accepted()], ids=[case[0] for case in accepted()])
+@pytest.mark.parametrize("text, report", [case[1:] for case in ACCEPTED], ids=[case[0] for case in ACCEPTED])
 def test_a_plan_at_a_limit_is_run(text, report, zsched):
     assert difference(run(zsched, text, seconds=PATIENCE), (0, report, b"")) is None
 
