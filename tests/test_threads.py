@@ -9,17 +9,15 @@ import json
 import hypothesis
 import pytest
 
+import generator
 import reference
-from generator import made, made_plan
 from refuser import refuser
 from reports import jobs_of
-from support import TOP, difference, equal_jobs, examples, recut, report_beside
+from support import TOP, difference, equal_jobs, recut, report_beside
 from test_cases import CUTS
 
 # Plans of tests/plans/.
 PLANS = ["seven_jobs", "seven_jobs_on_listed_ticks", "thirteen_jobs", "more_workers_than_jobs"]
-# More than 500 have more than one worker.
-RANDOM_PLANS = 750
 
 
 def threads_of(report, workers, grain):
@@ -49,16 +47,14 @@ def test_three_rounds_of_ten_thousand_jobs(workers, grain, zsched, refuser):
     started(refuser, zsched, plan, report, workers, grain)
 
 
-def test_random_plans_start_the_threads_of_their_rounds(zsched, refuser):
+@pytest.mark.parametrize("chunk", generator.chunks(750))
+def test_random_plans_start_the_threads_of_their_rounds(chunk, zsched, refuser):
     """A third of the plans or more start threads."""
     threads = []
 
-    @hypothesis.settings(max_examples=examples(RANDOM_PLANS))
-    @hypothesis.given(made(made_plan))
-    def hold(tree):
-        plan = json.dumps(tree).encode()
-        status, report, _ = reference.answer(plan)
+    def start(tree):
+        status, report, _ = reference.answer(plan := json.dumps(tree).encode())
         hypothesis.assume(status == 0)
         threads.append(started(refuser, zsched, plan, report, tree.get("workers", 1), tree.get("grain", 1)))
-    hold()
-    assert 3 * sum(number > 0 for number in threads) >= len(threads) >= RANDOM_PLANS
+    generator.hold(chunk, start, generator.made(generator.made_plan))
+    assert 3 * sum(number > 0 for number in threads) >= len(threads) >= generator.CHUNK
