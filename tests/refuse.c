@@ -86,20 +86,11 @@ static int fails(void)
     return 1;
 }
 
-void *malloc(size_t size)
-{
-    return fails() ? NULL : __libc_malloc(size);
-}
-
-void *calloc(size_t count, size_t size)
-{
-    return fails() ? NULL : __libc_calloc(count, size);
-}
-
-void *realloc(void *place, size_t size)
-{
-    return fails() ? NULL : __libc_realloc(place, size);
-}
+void *malloc(size_t size) { return fails() ? NULL : __libc_malloc(size); }
+void *calloc(size_t count, size_t size) { return fails() ? NULL : __libc_calloc(count, size); }
+void *realloc(void *place, size_t size) { return fails() ? NULL : __libc_realloc(place, size); }
+void *memalign(size_t alignment, size_t size) { return fails() ? NULL : __libc_memalign(alignment, size); }
+void *aligned_alloc(size_t alignment, size_t size) { return memalign(alignment, size); }
 
 void *reallocarray(void *place, size_t count, size_t size)
 {
@@ -108,16 +99,6 @@ void *reallocarray(void *place, size_t count, size_t size)
         return realloc(place, bytes);
     errno = ENOMEM;
     return NULL;
-}
-
-void *memalign(size_t alignment, size_t size)
-{
-    return fails() ? NULL : __libc_memalign(alignment, size);
-}
-
-void *aligned_alloc(size_t alignment, size_t size)
-{
-    return memalign(alignment, size);
 }
 
 int posix_memalign(void **place, size_t alignment, size_t size)
