@@ -150,7 +150,7 @@ ROWS = {
                                      Cost(500, 4.6, 0.01), "client"),
     "steps of a program": Row(lambda n: request_of("run", POLICY.format(8), *pairs(n, 503)), 2500,
                               Cost(2200, 31, 0.01), "client"),
-    "leaves of a program": Row(lambda n: request_of("run", tree(n), *pairs(20)), 100, Cost(800_000, 370, 240), "client"),
+    "leaves of a program": Row(lambda n: request_of("run", tree(n), *pairs(20)), 100, Cost(800_000, 370, 8.5), "client"),
     "steps of bounds": Row(lambda n: request_of("bounds", POLICY.format(1_000_000), n), 1000, Cost(4500, 0.01, 4.2), "client"),
     "leaves of bounds": Row(lambda n: request_of("bounds", tree(n), 10), 100, Cost(11_000, 580, 8.8), "client"),
 }
