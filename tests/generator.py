@@ -1,502 +1,415 @@
-"""Plans made at random for compare.py. The seed alone fixes the plan.
+"""Schedules, plans and texts made at random, for hypothesis and for tests that need many of them at once.
 
-Two plans of three are valid; the others have a fault, two faults that are neighbours in the order of
-docs/FORMATS.md, or bytes that are odd JSON or no JSON. A plan is bounded as it is made: each of its jobs has at most
-some 2,000 attempts."""
+Each function takes `chance`, of which it uses `choice` alone: a random.Random(seed), or hypothesis by `made`. The first
+of the options is the simplest one, toward which hypothesis shrinks. A valid plan is bounded as it is made: each of its
+jobs has at most some 2,000 attempts."""
+import itertools
 import json
 import random
 import re
 
+import hypothesis
+from hypothesis import strategies
+
+from support import examples, tree
+
 M = 2 ** 64 - 1
 LAST_TICK = 999999999999999
 LONGEST_PLAN = 16777216
+# How many examples a test of random plans or policies has.
+CHUNK = 250
 
 SMALL = [0, 1, 1, 2, 2, 3, 3, 4, 5, 7, 10, 20]
 EDGES = [2 ** 53 - 1, 2 ** 53, 2 ** 53 + 1, 2 ** 63 - 1, 2 ** 63, 2 ** 63 + 1, M - 1, M]
-COMPARISONS = ["<", "<=", "=", "!=", ">", ">="]
+NUMBERS = SMALL * 4 + [13, 37, 64, 100, 256, 404, 500, 999] + EDGES
+# What a letter in a form below stands for.
+LETTERS = {"N": NUMBERS, "P": [max(1, number) for number in NUMBERS], "C": ["<", "<=", "=", "!=", ">", ">="],
+           "L": [M + 1, M + 5, 10 ** 20 - 1, 10 ** 40]}
 
 
-class Raw(str):
-    """JSON text that is written unchanged."""
+class Drawn:
+    """The choices of hypothesis, as `chance`."""
+
+    def __init__(self, draw):
+        self.draw = draw
+
+    def choice(self, options):
+        """One of the options."""
+        return options[self.draw(strategies.integers(0, len(options) - 1))]
+
+
+@strategies.composite
+def made(draw, make, *words):
+    """The strategy of what a function of this file makes."""
+    return make(Drawn(draw), *words)
+
+
+def chunks(number):
+    """The numbers of the chunks of so many examples, times the option --examples. Chunks may run side by side."""
+    return range(-(-examples(number) // CHUNK))
+
+
+def hold(chunk, test, strategy):
+    """Tests the examples of a chunk. Hypothesis makes the first that fails small, and shows it."""
+    given = hypothesis.given(strategy)(test)
+    hypothesis.seed(chunk)(hypothesis.settings(max_examples=CHUNK)(given))()
+
+
+def seldom(chance, times):
+    """True once in so many times."""
+    return chance.choice(range(times)) == times - 1
 
 
 def whole(chance, least=0):
     """A whole number: mostly a small one, now and then one at a limit."""
-    form = chance.random()
-    number = chance.choice(SMALL) if form < 0.75 else chance.randrange(1000) if form < 0.87 else chance.choice(EDGES)
-    return max(least, number)
+    return max(least, chance.choice(NUMBERS))
 
 
-# ---- Schedules: lists of tokens, and their kinds as tuples
+# ---- Schedules: texts, and their kinds as tuples
+
+LEAVES = ["forever", "recurs(N)", "recurs(N)", "spaced(N)", "identity", "elapsed", "linear(N)", "fixed(N)",
+          "windowed(P)", "fibonacci(N)", "exponential(N)", "exponential(N, P)"]
+TOKEN = re.compile(r"[A-Za-z]+|_[12]|\d+|&&|\|\||[<>!]=|[^ ]")
+NUM = ("num",)
+
+
+def filled(chance, form):
+    """A form with something for each of its letters."""
+    return re.sub(r"\b[NPCL]\b", lambda it: str(chance.choice(LETTERS[it[0]])), form)
+
 
 def leaf(chance):
-    """The tokens of a leaf."""
-    form = chance.choice(["forever", "recurs", "recurs", "spaced", "fixed", "exponential", "fibonacci", "identity",
-                          "elapsed", "linear", "windowed"])
-    if form in ("forever", "identity", "elapsed"):
-        return [form]
-    numbers = [str(whole(chance, 1 if form == "windowed" else 0))]
-    if form == "exponential" and chance.random() < 0.6:
-        numbers += [",", str(whole(chance, 1))]
-    return [form, "(", *numbers, ")"]
+    """The text of a leaf."""
+    return filled(chance, chance.choice(LEAVES))
 
 
-def tested(chance, form, *pick):
-    """The tokens of a test after a point."""
-    return [form, "(", *pick, chance.choice(COMPARISONS), str(whole(chance)), ")"]
-
-
-def fitting_tails(chance, kind):
+def fitting_tails(kind):
     """What may follow a schedule of this kind at a point, with the resulting kind."""
-    tails = [(["collectAll"], ("items", kind)), (["map", "(", "as", str(whole(chance)), ")"], "num"),
-             (tested(chance, "whileInput"), kind)]
-    tests = []
-    if kind == "num":
-        tests = [()]
-        tails += [(["map", "(", sign, str(whole(chance)), ")"], kind) for sign in "+*"]
-    elif kind[0] == "pair":
-        tails += [(["map", "(", "_1", ")"], kind[1]), (["map", "(", "_2", ")"], kind[2])]
-        tests = [(pick,) for pick, side in [("_1", 1), ("_2", 2)] if kind[side] == "num"]
-    elif kind[0] == "sum" and kind[1] == kind[2]:
-        tails += [(["map", "(", "merge", ")"], kind[1])] * 3
-    elif kind[0] == "items":
-        tails.append((["map", "(", "size", ")"], "num"))
-        tests = [("size",)]
-    forms = ["whileOutput", "resetWhen", "resetWhen"]
-    return tails + [(tested(chance, form, *pick), kind) for pick in tests for form in forms]
+    name, *parts = kind
+    maps, picks = [("as N", NUM)], []
+    if name == "num":
+        maps, picks = [("+ N", NUM), ("* N", NUM), *maps], [""]
+    elif name == "pair":
+        maps, picks = [("_1", parts[0]), ("_2", parts[1]), *maps], [f"_{k} " for k in (1, 2) if kind[k] == NUM]
+    elif name == "items":
+        maps, picks = [("size", NUM), *maps], ["size "]
+    elif parts[0] == parts[1]:
+        maps = [("merge", parts[0])] * 3 + maps
+    tests = [f"{form}({pick}C N)" for pick in picks for form in ("whileOutput", "resetWhen", "resetWhen")]
+    return ([("whileInput(C N)", kind), ("collectAll", ("items", kind))] + [(test, kind) for test in tests]
+            + [(f"map({function})", its_kind) for function, its_kind in maps])
 
 
 def made_term(chance, nodes):
-    """The tokens of a term of about `nodes` nodes, and its kind."""
+    """The text of a schedule of about `nodes` nodes, and its kind."""
     if nodes <= 1:
-        return leaf(chance), "num"
-    if nodes >= 3 and chance.random() < 0.5:
-        cut = chance.randrange(1, nodes - 1)
-        part, kind = made_term(chance, cut)
-        other, other_kind = (part, kind) if chance.random() < 0.1 else made_term(chance, nodes - 1 - cut)
-        operator = chance.choice(["&&", "||", "andThenEither"])
-        side_by_side = "sum" if operator == "andThenEither" else "pair"
-        return ["(", *part, operator, *other, ")"], (side_by_side, kind, other_kind)
-    part, kind = made_term(chance, nodes - 1)
-    tail, kind = chance.choice(fitting_tails(chance, kind))
-    return [*part, ".", *tail], kind
+        return leaf(chance), NUM
+    operator = chance.choice(["", "", "", "&&", "||", "andThenEither"]) if nodes > 2 else ""
+    if not operator:
+        text, kind = made_term(chance, nodes - 1)
+        tail, kind = chance.choice(fitting_tails(kind))
+        return f"{text}.{filled(chance, tail)}", kind
+    a, kind = made_term(chance, nodes // 2 if nodes < 5 else chance.choice(range(1, nodes - 1)))
+    b, other = (a, kind) if seldom(chance, 10) else made_term(chance, (nodes - 1) // 2)
+    return f"({a} {operator} {b})", ("sum" if operator == "andThenEither" else "pair", kind, other)
 
 
 def at_a_limit(chance):
-    """The tokens of a schedule whose depth or weight is the greatest that is allowed."""
-    if chance.random() < 0.5:
-        tokens = leaf(chance)
-        for _ in range(63):
-            tail = [".", "map", "(", "+", "1", ")"] if chance.random() < 0.5 else [".", *tested(chance, "whileInput")]
-            first = ["(", *tokens, "||", *leaf(chance), ")", ".", "map", "(", "_1", ")"]
-            tokens = chance.choice([tokens + tail, first])
-        depth = 1 + sum(token in (".", "||") for token in tokens)
-        return tokens if depth <= 64 else at_a_limit(chance)
-    tokens = leaf(chance)
-    for _ in range(8):
-        tokens += [".", *tested(chance, "resetWhen")]
-    return ["(", *balanced(chance, 244), chance.choice(["&&", "||"]), *tokens, ")"]
+    """A schedule of the greatest depth or weight that is allowed."""
+    text, depth = leaf(chance), 1
+    if chance.choice([True, False]):
+        leaves = tree(244).replace("forever", leaf(chance), 122)
+        return f"({leaves} || {text}{'.resetWhen(= 3)' * 8}).map(_1)"
+    while depth < 64:
+        tail = chance.choice([".map(+ 1)", ".whileInput(C N)", " || spaced(N)).map(_1)"][:64 - depth + 1])
+        text, depth = "(" * ("||" in tail) + text + filled(chance, tail), depth + 1 + ("||" in tail)
+    return text
 
 
-def balanced(chance, leaves):
-    """The tokens of a balanced tree of `leaves` leaves: its weight is twice their number less one."""
-    if leaves == 1:
-        return leaf(chance)
-    left = balanced(chance, leaves // 2)
-    return ["(", *left, chance.choice(["&&", "||"]), *balanced(chance, leaves - leaves // 2), ")"]
-
-
-def spelled(chance, tokens):
-    """A text of tokens: as people write it, or with the fewest spaces, or with any number of them."""
-    style = chance.choice(["nice", "nice", "tight", "loose"])
-    text = ""
-    for before, token in zip(["(", *tokens], tokens):
-        needs = before.isalpha() and token.isalpha()
-        if style == "nice" and (needs or before in ("&&", "||", ",", "+", "*", "as", *COMPARISONS)
-                                or token in ("&&", "||", "andThenEither", *COMPARISONS) and before != "("):
-            text += " "
-        elif style == "tight":
-            text += " " * needs
-        elif style == "loose":
-            text += " " * max(needs, chance.choice([0, 0, 1, 3]))
-        text += token
-    return text + chance.choice(["", " ", "  "]) if style == "loose" else text
-
-
-def most_attempts(tokens, is_long):
-    """How many attempts a job with this schedule may have: lists of lists grow fast."""
-    lists = tokens.count("collectAll")
-    if is_long:
-        return [2000, 300, 40][lists] if lists < 3 and len(tokens) < 300 else 20
-    return [60, 30, 15][lists] if lists < 3 else 8
+def spelled(chance, text):
+    """The text of a schedule with other spaces: as people write it, with the fewest, or with many."""
+    gaps = chance.choice([None, None, [0], [0, 3], [1, 0, 0], [2]])
+    if gaps is None:
+        return text
+    tokens = TOKEN.findall(text)
+    spaces = [max(gap, before.isalpha() and token.isalpha())
+              for before, token, gap in zip(["("] + tokens, tokens, itertools.cycle(gaps))]
+    return "".join(" " * space + token for space, token in zip(spaces, tokens)) + " " * gaps[-1]
 
 
 # ---- Valid plans
 
+def most_attempts(text, is_long):
+    """How many attempts a job with this schedule may have: lists of lists grow fast."""
+    lists = min(text.count("collectAll"), 3)
+    if is_long:
+        return [2000, 300, 40, 20][lists if len(text) < 1000 else 3]
+    return [60, 30, 15, 8][lists]
+
+
 def made_clock(chance, is_long):
     """A clock, as the key and the value of a document, and how many attempts it has room for."""
-    if chance.random() < 0.6:
+    if chance.choice([True, True, False]):
         horizon = chance.choice([10, 100, 500, 1000, 2000, 3000] if is_long else
                                 [0, 1, 2, 5, 10, 20, 50, 100, 300, 1000, 10 ** 6, 10 ** 12, LAST_TICK])
         return "horizon", horizon, horizon + 1
-    ticks = [chance.choice([0, 0, 1, 5, 100])]
-    gaps = chance.choice([[1], [1, 2, 5], [1, 1, 2, 10, 100], [1, 7, 10 ** 6, 10 ** 14]])
-    for _ in range(chance.choice([0, 1, 5, 20, 50]) if not is_long else chance.randrange(10, 2000)):
-        ticks.append(ticks[-1] + chance.choice(gaps))
-    ticks = [tick for tick in ticks if tick <= LAST_TICK]
-    if chance.random() < 0.1 and ticks[-1] < LAST_TICK:
-        ticks.append(LAST_TICK)
+    gaps = chance.choice([[1], [1, 2, 5], [2, 1, 1, 100, 10], [7, 1, 10 ** 6, 10 ** 14]])
+    count = chance.choice([10, 100, 400, 2000] if is_long else [0, 1, 5, 20, 50])
+    first = chance.choice([0, 0, 1, 5, 100])
+    ticks = [first, *(first + tick for tick in itertools.accumulate(itertools.islice(itertools.cycle(gaps), count)))]
+    ticks = [tick for tick in ticks if tick < LAST_TICK] + [LAST_TICK] * seldom(chance, 10)
     return "ticks", ticks, len(ticks)
 
 
 def made_entry(chance, how):
     """An entry of a script."""
-    ms = chance.choice([1, 1, 1, 2, 3, 5, 10, 50]) if chance.random() < 0.9 else max(1, whole(chance))
-    return {"ms": ms, how: whole(chance)}
+    return {"ms": chance.choice([1, 1, 1, 2, 3, 5, 10, 50] * 8 + [404, 1000, 2 ** 53, 2 ** 63, M]), how: whole(chance)}
 
 
 def made_job(chance, number, room, is_long):
     """A job within its bound on attempts, for a clock that has room for at most `room` attempts."""
     mode = chance.choice(["retry", "repeat"])
     goes_on, ends = ("err", "ok") if mode == "retry" else ("ok", "err")
-    form = chance.random()
-    nodes = 1 + int(chance.expovariate(0.18))
-    tokens = at_a_limit(chance) if form < 0.02 else made_term(chance, nodes)[0]
-    if is_long and form > 0.02:
-        more = chance.choice([["forever"], ["spaced", "(", "1", ")"], ["fixed", "(", "3", ")"], ["identity"]])
-        tokens = ["(", *tokens, "||", *more, ")"]
-    most = most_attempts(tokens, is_long)
+    is_limit = seldom(chance, 50)
+    nodes = chance.choice([1, 2, 3, 4, 5, 6, 8, 10, 12, 16, 24])
+    text = at_a_limit(chance) if is_limit else made_term(chance, nodes)[0]
+    if is_long and not is_limit:
+        text = f"({text} || {chance.choice(['forever', 'spaced(1)', 'fixed(3)', 'identity'])})"
+    most = most_attempts(text, is_long)
     script = [made_entry(chance, goes_on) for _ in range(chance.choice([1, 1, 2, 3, 5, 8]))]
-    if chance.random() < 0.3 and not is_long:
+    if chance.choice([False, False, True]) and not is_long:
         script.append(made_entry(chance, ends))
-    if chance.random() < 0.01:
+    elif seldom(chance, 100):
         script = (script * 1000)[:1000]
-    if room > most:
-        if chance.random() < 0.5 and len(script) < min(most, 50):
-            script.append(made_entry(chance, ends))
-        else:
-            tokens = ["(", *tokens, "&&", "recurs", "(", str(chance.randrange(most // 2, most)), ")", ")"]
-    name = f"j{number}" if chance.random() < 0.9 else f"{number}".ljust(64, chance.choice("._-AZaz09"))
-    job = {"name": name, "mode": mode, "schedule": spelled(chance, tokens), "script": script}
-    if chance.random() < 0.25:
-        job["start"] = whole(chance)
-    return job
+    if room > most and len(script) <= min(most, 50) and (is_limit or chance.choice([False, True])):
+        script.append(made_entry(chance, ends))
+    elif room > most:
+        text = f"({text} && recurs({chance.choice(range(most // 2, most))}))"
+    name = chance.choice([f"j{number}"] * 9 + [f"{number}".ljust(64, "-")])
+    return {"name": name, "mode": mode, "schedule": spelled(chance, text), "script": script}
 
 
 def made_plan(chance):
-    """The tree of a valid plan, except that a bound may lift schedules at a limit past it."""
-    is_long = chance.random() < 0.1
+    """The tree of a valid plan. Most jobs start together, so that threads share the polls of one moment."""
+    is_long = seldom(chance, 10)
     key, value, room = made_clock(chance, is_long)
-    count = chance.choice([1, 2, 2, 2, 3, 3, 4, 5, 6]) if chance.random() < 0.93 else chance.choice([0, chance.randrange(6, 50)])
-    count = 1 if is_long else count
+    count = 1 if is_long else chance.choice([1, 2, 2, 2, 3, 3, 4, 5, 6])
     jobs = [made_job(chance, number, room, is_long) for number in range(count)]
-    tree = {key: value, "jobs": start_together(chance, jobs)}
-    if chance.random() < 0.95:
-        tree["workers"] = chance.choice([1, 2, 2, 3, 3, 4, 4, 7, 8, 63, 64])
-    if chance.random() < 0.45:
-        tree["grain"] = chance.choice([1, 1, 1, 1, 1, 2, 7, 100, 10000])
-    return tree
-
-
-def start_together(chance, jobs):
-    """The jobs of a plan. Most start together, so that polls of several are due at one moment and threads share them."""
-    together = {"start": jobs[0]["start"]} if jobs and "start" in jobs[0] else {}
+    if seldom(chance, 20) and not is_long:
+        copies = range(chance.choice([0, 3, 8]))
+        jobs = [{**job, "name": f"{job['name'][:60]}.{copy}"} for copy in copies for job in jobs]
+    start = chance.choice([None, None, None, whole(chance)])
     for job in jobs:
-        if chance.random() < 0.85:
-            job.pop("start", None)
-            job.update(together)
-    return jobs
+        its_start = whole(chance) if seldom(chance, 7) else start
+        job.update({} if its_start is None else {"start": its_start})
+    tree = {key: value, "jobs": jobs, "workers": chance.choice([1, 2, 2, 3, 3, 4, 4, 7, 8, 63, 64])}
+    return {**tree, **chance.choice([{}] * 8 + [{"grain": grain} for grain in [1, 1, 1, 1, 2, 7, 100, 10000]])}
 
 
-# ---- Faults, in the order of docs/FORMATS.md
-#
-# Each takes the random generator, a plan's tree and the number of one of its jobs, and returns the tree with the fault.
+# ---- Faults
 
-NO_WHOLE = [Raw(text) for text in ("null", "true", '"1"', "[]", "{}", "1.0", "1e3", "1E2", "-0", "-1", "0.0", "-0.0",
-                                   "1e-400", "18446744073709551616", "20000000000000000000", "1" * 30)]
-NO_TEXT = [Raw(text) for text in ("null", "false", "7", "[]", "{}", '["retry"]')]
-NO_TREE = [Raw(text) for text in ("null", "true", "7", '"x"', "[]", "0.5")]
-
-
-def wrong_document_shape(chance, tree, _):
-    """The document has a wrong shape."""
-    form = chance.choice(["tree", "jobs", "no jobs", "no clock", "two clocks", "number", "number", "number", "tick"])
-    if form == "tree":
-        return chance.choice(NO_TREE)
-    if form == "jobs":
-        tree["jobs"] = chance.choice(NO_WHOLE[:3] + [{}, 7])
-    elif form == "no jobs":
-        del tree["jobs"]
-    elif form == "no clock":
-        tree.pop("horizon", None)
-        tree.pop("ticks", None)
-    elif form == "two clocks":
-        tree.setdefault("ticks", [1])
-        tree.setdefault("horizon", chance.choice([1, Raw("null")]))
-    elif form == "number":
-        keys = ["workers", "grain"] + ["horizon"] * ("horizon" in tree)
-        tree[chance.choice(keys)] = chance.choice(NO_WHOLE)
-    else:
-        tree.pop("horizon", None)
-        tree["ticks"] = chance.choice([[0, chance.choice(NO_WHOLE)], {}, 5, Raw("null")])
-    return tree
-
-
-def unknown_document_key(chance, tree, _):
-    """A key of the document is unknown."""
-    keys = ["x", "", "Jobs", "job", "name", "ms", "horizon ", "ti\u00e7ks"]
-    tree[chance.choice(keys)] = chance.choice([1, Raw("null"), []])
-    return tree
-
-
-def document_out_of_range(chance, tree, _):
-    """A number of the document is out of range."""
-    key, value = chance.choice([("horizon", LAST_TICK + 1), ("horizon", M), ("ticks", []), ("ticks", [5, 5]),
-                                ("ticks", [0, 1, 1]), ("ticks", [1, 0]), ("ticks", [0, LAST_TICK + 1]), ("workers", 0),
-                                ("workers", 65), ("grain", 0), ("grain", 10001), ("jobs", tree["jobs"] + [7] * 10001)])
-    if key in ("horizon", "ticks"):
-        tree.pop("horizon", None)
-        tree.pop("ticks", None)
-    tree[key] = value[:10001] if key == "jobs" else value
-    return tree
-
-
-def wrong_job_shape(chance, tree, number):
-    """A job has a wrong shape."""
-    job = tree["jobs"][number]
-    key = chance.choice(["job", "name", "mode", "schedule", "script", "entry"] + ["start", "ms", "ok"] * 2)
-    if key == "job":
-        tree["jobs"][number] = chance.choice(NO_TREE + [[job]])
-    elif key in ("name", "mode", "schedule"):
-        job[key] = chance.choice(NO_TEXT)
-    elif key == "script":
-        job[key] = chance.choice([Raw("null"), {}, 7, "x"])
-    elif key == "start":
-        job[key] = chance.choice(NO_WHOLE)
-    else:
-        at = chance.randrange(len(job["script"]) + 1)
-        odd = chance.choice(NO_WHOLE)
-        entries = {"entry": [odd, [1, 2]], "ms": [{"ms": odd, "ok": 1}, {"ok": 1}],
-                   "ok": [{"ms": 1}, {"ms": 1, "ok": 1, "err": 1}, {"ms": 1, "ok": odd}, {"ms": 0, "err": odd}]}
-        job["script"] = [*job["script"][:at], chance.choice(entries[key]), *job["script"][at:]]
-    if key in ("name", "mode", "schedule", "script") and chance.random() < 0.4:
-        del job[key]
-    return tree
-
-
-def unknown_job_key(chance, tree, number):
-    """A key of a job or of an entry is unknown."""
-    job = tree["jobs"][number]
-    if chance.random() < 0.5 and job["script"]:
-        chance.choice(job["script"])[chance.choice(["x", "", "MS", "name", "start"])] = 1
-    else:
-        job[chance.choice(["x", "", "Name", "ms", "horizon", "jobs"])] = chance.choice([1, Raw("null")])
-    return tree
-
-
-def same_name(chance, tree, number):
-    """A job has the name of an earlier one."""
-    jobs = tree["jobs"]
-    if number == 0:
-        jobs.append(json.loads(json.dumps(jobs[0])))
-        return tree
-    jobs[number]["name"] = jobs[chance.randrange(number)]["name"]
-    return tree
-
-
-def of_job(change):
-    """A fault that is a change of a job."""
-    def changed(chance, tree, number):
-        change(chance, tree["jobs"][number])
-        return tree
-    return changed
-
-
-def reworded(change):
-    """A fault that changes the text of a job's schedule."""
-    return of_job(lambda chance, job: job.update(schedule=change(chance, job["schedule"])))
+SIGNS = ("( ) , . : ; ' \" \\ { } [ ] [] {} && || & | andThenEither < <= = != > >= ! + - * _ _1 _2 _3 as size x $ "
+         "recurs recurs( spaced( collectAll .map .collectAll. 00 01 7 -1 1.5").split() + [
+    " ", "\t", "\n", "\r\n", "\0", "# x\n", "// x\n", "\u00e9", "\u2028", "\U0001f600", "\\u0041"]
 
 
 def no_term(chance, text):
-    """The text isn't a term."""
-    at = chance.randrange(len(text) + 1)
-    signs = ["(", ")", ",", ".", "&&", "&", "|", "<", "=", "!", "+", "*", "_1", "_3", "_", "01", "00", "7", " ", "\t",
-             "\n", "\0", "x", "as", "forever", "recurs(", "\u00e9", "\u2028", "\U0001f600", ".map", ".collectAll.", "$",
-             "-1", "1.5"]
-    return chance.choice([text[:at] + chance.choice(signs) + text[at:], text[:at], text[:at] + text[at + 1:],
-                          text + chance.choice(signs), "(" * chance.randrange(1, 200) + text,
-                          re.sub("(?=[0-9]+)", "0", text, count=1), f"({text} && recurs(00))"])
+    """A text that isn't a term, mostly."""
+    at = chance.choice(range(len(text) + 1))
+    return chance.choice([text[:at], text[:at] + chance.choice(SIGNS) + text[at:], text[:at] + text[at + 1:],
+                          "(" * chance.choice([1, 2, 200]) + text, re.sub("[0-9]+", r"0\g<0>", text, count=1)])
 
 
-def too_big(chance, text):
-    """A term that is too deep or too heavy."""
-    form = chance.choice(["deep", "deepest", "reset", "wide"])
-    if form == "deep":
-        return text + ".collectAll" * chance.choice([64, 64, 80, 300])
-    if form == "deepest":
-        return f"({text} && forever" + ".map(+ 0)" * 63 + ")"
-    if form == "reset":
-        return text + ".map(as 1)" + ".resetWhen(= 0)" * 9
-    return f"({text} || " + " ".join(balanced(chance, 500)) + ")"
+def spoiler(*forms):
+    """The function that puts a schedule's text into one of these forms."""
+    return lambda chance, text: filled(chance, chance.choice(forms)).replace("{}", text)
 
 
-def big_number(chance, text):
-    """A number is too large."""
-    number = chance.choice(["18446744073709551616", "18446744073709551620", "99999999999999999999", "1" + "0" * 40])
-    return chance.choice([f"({text} || recurs({number}))", f"{text}.whileInput(< {number})", f"{text}.map(as {number})",
-                          f"(spaced({number}) && {text})", f"({text} || exponential({number}, {number}))"])
+too_big = spoiler("{}.map(as 1)" + ".resetWhen(= 0)" * 9, f"({{}} || {tree(500)})", "{}" + ".collectAll" * 64,
+                  "({} && forever" + ".map(+ 0)" * 63 + ")", "{}" + ".collectAll" * 300)
+big_number = spoiler("({} || recurs(L))", "{}.whileInput(< L)", "{}.map(as L)", "({} && exponential(L, 2))")
+zero_factor = spoiler("({} || exponential(1, 0))", "(exponential(0,0) && {}).map(as 2)")
+zero_window = spoiler("({} || windowed(0))", "({} andThenEither windowed(0).map(+ 1))")
+# A pick or a function that doesn't fit, whatever the kind of the text is.
+no_kind = spoiler("(forever.collectAll andThenEither {}.map(as 1)).map(merge)", *(
+    f"{{}}.map(as 1){wrong}{tail}" for tail in ["", ".map(as 1)", ".collectAll", ".resetWhen(= 1)"] for wrong in [
+        ".map(_1)", ".map(size)", ".map(merge)", ".whileOutput(size < 1)", ".resetWhen(_2 > 1)", ".collectAll.map(_2)",
+        ".collectAll.map(+ 1)", ".collectAll.whileOutput(< 1)", ".collectAll.resetWhen(_1 = 1)"]))
+SPOILED = [no_term, too_big, big_number, zero_factor, no_kind, zero_window]
 
 
-def zero_factor(chance, text):
-    """A factor is 0."""
-    return chance.choice([f"({text} || exponential(1, 0))", f"(exponential(0,0) && {text})",
-                          f"(forever andThenEither exponential({whole(chance)}, 0)).map(as 2)"])
+def written(tree, **style):
+    """A tree as JSON, in which a text @TEXT@ becomes TEXT."""
+    return re.sub('"@(.*?)@"', lambda it: json.loads(f'"{it[1]}"'), json.dumps(tree, **style))
 
 
-def no_kind(chance, text):
-    """A pick or a function doesn't fit, whatever the kind of the text is."""
-    tails = [".map(as 1).map(_1)", ".map(as 1).map(size)", ".map(as 1).map(merge)", ".map(as 1).whileOutput(size < 1)",
-             ".map(as 1).resetWhen(_2 > 1)", ".collectAll.map(_2)", ".collectAll.map(+ 1)", ".collectAll.map(* 2)",
-             ".collectAll.whileOutput(< 1)", ".collectAll.resetWhen(_1 = 1)", ".collectAll.collectAll.map(merge)"]
-    return text + chance.choice(tails) + chance.choice(["", ".map(as 1)", ".collectAll", ".resetWhen(= 1)"])
+ODD_NUMBERS = ("1.0 1e3 1E2 -0 -1 0.0 -0.0 1e-400 18446744073709551616 20000000000000000000 01 1e400 -1e400 "
+               "0e999999999999 1e99999999999999999999 +1 .5 1. 1.e1 1e 1e+ 0x1 NaN Infinity -Infinity - 5e-324 "
+               "1.7976931348623158e308 1.797693134862315808e308 1.8e308").split() + ["1" * 309, "-" + "9" * 400]
+WRONG = [*map("@{}@".format, ODD_NUMBERS[:10]), None, True, "1", [], {}, 7, ["retry"]]
+# Wrong values at the places of some keys, and all keys with some that are unknown or misplaced.
+WRONG_AT = {
+    "horizon": [LAST_TICK + 1, M], "ticks": [[], [5, 5], [0, 1, 1], [1, 0], [0, LAST_TICK + 1], [0, "@1.0@"]],
+    "workers": [0, 65], "grain": [0, 10001], "jobs": [[7] * 10001], "ms": [0],
+    "script": [[], [{"ms": 1, "ok": 1}] * 1001],
+    "name": ["", "a" * 65, "a b", "\u00e9" * 32, "a\n", "a/b", "\0", "\uff41", "j0", "j1"],
+    "mode": ["loop", "Retry", "", "retry ", "repeat\0"]}
+OFTEN = {"jobs": 16, "schedule": 6, "script": 2}
+KEYS = [*WRONG_AT, "schedule", "start", "ok", "err", "x", "", "Jobs", "horizon ", "ti\u00e7ks", "MS"]
 
 
-def zero_window(chance, text):
-    """A window is 0."""
-    return chance.choice([f"({text} || windowed(0))", f"(windowed(0) && {text})",
-                          f"({text} andThenEither windowed(0).map(+ 1))"])
+def place_in(chance, root):
+    """A place of a tree, which is the one value of a list: its list or object, and its index or key."""
+    holder, key = root, 0
+    while isinstance(holder[key], (dict, list)) and holder[key] and not seldom(chance, 20 if holder is root else 6):
+        holder = holder[key]
+        key = chance.choice(range(len(holder)) if isinstance(holder, list) else
+                            [key for key in holder for _ in range(OFTEN.get(key, 1))])
+    return holder, key
 
 
-def zero_ms(chance, job):
-    """An entry takes 0 ms."""
-    script = job["script"]
-    script.insert(chance.randrange(len(script) + 1), {"ms": 0, chance.choice(["ok", "err"]): 1})
-
-
-MODES = ["loop", "Retry", "", "retry ", "repeat\0", "retryrepeat"]
-NAMES = ["", "a" * 65, "a" * 65, "a b", "\u00e9" * 32, "a\n", "a/b", "\0", "\uff41"]
-wrong_mode = of_job(lambda chance, job: job.update(mode=chance.choice(MODES)))
-wrong_name = of_job(lambda chance, job: job.update(name=chance.choice(NAMES)))
-empty_script = of_job(lambda _, job: job.update(script=[]))
-long_script = of_job(lambda _, job: job.update(script=((job["script"] or [{"ms": 1, "ok": 1}]) * 1001)[:1001]))
-FAULTS = [wrong_document_shape, unknown_document_key, document_out_of_range, wrong_job_shape, unknown_job_key,
-          wrong_mode, wrong_name, same_name, reworded(no_term), reworded(too_big), reworded(big_number),
-          reworded(zero_factor), reworded(no_kind), reworded(zero_window), empty_script, long_script, of_job(zero_ms)]
-
-DOCUMENT_FAULTS = 3     # the first of them are faults of the document
-
-# The faults with many causes are made more often.
-WEIGHTS = {wrong_document_shape: 4, document_out_of_range: 4, wrong_job_shape: 4, wrong_name: 2}
-CAUSES = [at for at, fault in enumerate(FAULTS) for _ in range(WEIGHTS.get(fault, 1))]
+def damaged(chance, tree):
+    """A tree with another value at one place, a value fewer, one more, or one several times."""
+    root = [json.loads(json.dumps(tree))]
+    holder, key = place_in(chance, root)
+    value, how = holder[key], chance.choice(["another", "another", "another", "fewer", "more", "again"])
+    if how == "fewer" and holder is not root:
+        del holder[key]
+    elif how == "more" and isinstance(value if isinstance(value, dict) else holder, dict):
+        holder = value if isinstance(value, dict) else holder
+        holder[chance.choice(KEYS)] = chance.choice([1, None, [], "x"])
+    elif how == "again" and isinstance(holder, list) and holder is not root:
+        holder.extend([value] * chance.choice([1, 1, 3, 1001 if len(str(value)) < 2000 else 9]))
+    elif key == "schedule" and isinstance(value, str):
+        holder[key] = chance.choice(SPOILED)(chance, value)
+    else:
+        holder[key] = chance.choice(WRONG_AT.get(key, []) * 8 + WRONG)
+    return root[0]
 
 
 def faulty_plan(chance):
-    """The tree of a plan with a fault, or with two that are neighbours, or with two of different jobs."""
+    """The tree of a plan with one to three faults."""
     tree = made_plan(chance)
-    while not tree["jobs"]:
-        tree = made_plan(chance)
-    at = chance.choice(CAUSES)
-    number = chance.randrange(len(tree["jobs"]))
-    chosen = [(at, number)]
-    form = chance.random()
-    if form < 0.5 and at + 1 < len(FAULTS):
-        chosen.append((at + 1, number))
-    elif form < 0.7:
-        chosen.append((chance.randrange(len(FAULTS)), chance.randrange(len(tree["jobs"]))))
-    # The earlier fault is made later, since it may leave no place for the other, nor for itself once more.
-    chosen = {(fault, its_job if fault >= DOCUMENT_FAULTS else 0) for fault, its_job in chosen}
-    for fault, its_job in sorted(chosen, reverse=True):
-        tree = FAULTS[fault](chance, tree, its_job)
+    for _ in range(chance.choice([1, 1, 2, 2, 3])):
+        tree = damaged(chance, tree)
     return tree
 
 
 # ---- JSON
 
-def json_text(chance, value, is_odd=False):
-    """A value as JSON. If it is odd, keys may occur twice, and letters may be escapes."""
-    space = chance.choice(["", "", " ", "\n  ", "\t\r\n "]) if is_odd else ""
-    if isinstance(value, Raw):
-        return str(value)
-    if isinstance(value, str):
-        return text_as_json(chance, value, is_odd)
-    if isinstance(value, list):
-        items = [json_text(chance, item, is_odd and len(value) < 50) for item in value]
-        return "[" + ("," + space).join(items) + space + "]"
-    if isinstance(value, dict):
-        members = list(value.items())
-        if is_odd or chance.random() < 0.2:
-            chance.shuffle(members)
-        if is_odd and members and chance.random() < 0.1:
-            key = chance.choice(members)[0]
-            its_value = chance.choice([1, Raw("null"), "x", [], value[key]])
-            members.insert(chance.randrange(len(members) + 1), (key, its_value))
-        texts = [(text_as_json(chance, key, is_odd), json_text(chance, its, is_odd)) for key, its in members]
-        return "{" + ("," + space).join(f"{key}{space}:{space}{its}" for key, its in texts) + space + "}"
-    return str(value)
+ORDERS = [dict, dict, lambda pairs: dict(pairs[::-1]), lambda pairs: dict(sorted(pairs))]
 
 
-def text_as_json(chance, text, is_odd):
-    """A text as JSON. If it is odd, some letters are escapes."""
-    if not is_odd or chance.random() < 0.7:
-        return json.dumps(text, ensure_ascii=chance.random() < 0.5)
-    return '"' + "".join(json.dumps(sign)[1:-1] if chance.random() < 0.7 or ord(sign) > 0xffff else
-                         f"\\u{ord(sign):04{chance.choice('xX')}}" for sign in text) + '"'
+def json_text(chance, tree, is_odd=False):
+    """A tree as JSON, with its keys in some order. If it is odd, a key may occur twice, and letters may be escapes."""
+    tree = json.loads(json.dumps(tree), object_pairs_hook=chance.choice(ORDERS))
+    separators = chance.choice([(",", ":"), (", ", ": "), (", ", " : ")])
+    text = written(tree, ensure_ascii=chance.choice([True, False]), separators=separators,
+                   indent=chance.choice([None, "\t\r\n "]) if is_odd else None)
+    if is_odd and chance.choice([True, False]):
+        member = chance.choice([*re.finditer(r'"(\w+)" ?:', text)] or [None])
+        twice = f"{member[0]}{chance.choice(['1', 'null', '[]', 'true'])}," if member else ""
+        text = text[:member.start()] + twice + text[member.start():] if member else text
+    if is_odd and chance.choice([True, False]):
+        form = chance.choice(["\\u{:04x}", "\\u{:04X}"])
+        text = re.sub(r'(?<=")([a-zA-Z(])(?=[^"\\]*")', lambda it: form.format(ord(it[1])), text)
+    return text
 
 
-ODD_PIECES = [
-    "01", "-0", "1.0", "1e400", "-1e400", "1e-400", "0e999999999999", "1e99999999999999999999", "+1", ".5", "1.",
-    "1.e1", "1e", "1e+", "0x1", "NaN", "Infinity", "-Infinity", "-", "tru", "True", "nul", "null", "true", "'a'", ",",
-    ":", "{", "}", "[", "]", '"', "\\", "//x\n", "/**/", "\ufeff", "\u00a0", "\u2028", "\x0b", "\x0c", "\0", "\x7f",
-    "\x1f", '"\\ud800"', '"\\udc00\\ud800"', '"\\ud83d\\ude00"', '"\\ud83dx"', '"\\ud83d\\u0041"', '"\\u00"', '"\\x"',
-    '"\\/"', '"\\u0000"', '"\\b\\f\\n\\r\\t"', '"\x01"', '"\x7f"', '"\u00e9\U0001f600"', "1" * 309, "9" * 400,
-    "-" + "9" * 400, "1" * 20, "18446744073709551615", "18446744073709551616", "1.7976931348623158e308",
-    "1.797693134862315808e308", "1.8e308", "5e-324"]
-ODD_BYTES = [b"\xff", b"\x80", b"\xc3", b"\xc0\x80", b"\xed\xa0\x80", b"\xf4\x90\x80\x80", b"\xe2\x82", b"\xef\xbb\xbf",
-             b"\xf0\x9f\x98\x80"]
+# ---- Texts that were changed: by slips of the hand, and as a hostile user does
+
+ESCAPES = [f'"{text}"' for text in
+           r"\ud800 \udc00\ud800 \ud83d\ude00 \ud83dx \ud83d\u0041 \u00 \x \/ \u0000 \b\f\n\r\t".split()]
+BYTES = [b"\xff", b"\x80", b"\xc3", b"\xc0\x80", b"\xed\xa0\x80", b"\xf4\x90\x80\x80", b"\xe2\x82", b"\xef\xbb\xbf"]
+NESTS = [opened * depth + inside + closed * depth for depth in [123, 125, 127, 128, 3000]
+         for opened, inside, closed in [("[", "", "]"), ('{"x":', "1", "}"), ("[", "", "")]]
+ODD_PIECES = [*ODD_NUMBERS, *"tru True nul null true 'a' , : \\ /**/".split(), "//x\n", "\ufeff", "\u00a0", "\u2028",
+              "\x0b", "\x0c", "\0", "\x7f", "\x1f", '"\x01"', '"\x7f"', '"\u00e9\U0001f600"',
+              *ESCAPES, *(odd.decode(errors="surrogateescape") for odd in BYTES)]
+NAMES = [f'"{key}"' for key in [*KEYS, "note", "m\\u0073", "a b", "retry", "Repeat"]]
+VALUES = ('0 1 2 3 7 63 64 65 255 999 1000 1001 10001 4294967296 9007199254740993 999999999999999 1000000000000000 '
+          '007 10s null true None "5s" "5" [] {}').split() + ODD_NUMBERS[:20]
+TERMS = LEAVES + ["recurs(0)", "windowed(0)", "exponential(1, 0)", "upTo(5)"]
+WORDS = SIGNS + VALUES + NAMES + ODD_PIECES + NESTS + TERMS
+# What may be replaced, and by what: & is what was there.
+VALUE = r'(?<=:)("[^"]*"|\d+)'
+SWAPS = [*((VALUE, words) for words in [NESTS, NESTS, ODD_PIECES, ESCAPES]), (r"\d+", VALUES), (r"\d+", VALUES),
+         (r'"[a-z]+"(?= *:)', NAMES), (r"[a-zA-Z]+\(?", TERMS), (r"[().,]", SIGNS),
+         (r'"[^"\n]*"|[A-Za-z]+|\d+|\S', WORDS),
+         (r"\[[^\[\]]*\]|\{[^{}]*\}|\([^()]*\)", ["", '"&"', "7", "&&", "&,&"])]
 
 
-def odd_bytes(chance, text):
-    """JSON text with something odd in it, as bytes."""
-    plan = text.encode()
-    at = chance.randrange(len(plan) + 1)
-    form = chance.choice(["cut", "drop", "bytes", "around"] + ["piece"] * 2 + ["value"] * 3 + ["nest"] * 3)
-    if form == "cut":
-        return plan[:at]
-    if form == "drop":
-        return plan[:at] + plan[at + chance.choice([1, 1, 2, 10]):]
-    if form == "bytes":
-        return plan[:at] + chance.choice(ODD_BYTES) + plan[at:]
-    if form == "piece":
-        return plan[:at] + chance.choice(ODD_PIECES).encode() + plan[at:]
-    if form == "around":
-        return chance.choice(["\ufeff", " ", "\n\t", "x", ""]).encode() + plan + chance.choice(
-            ["\n", " ", "x", "\0", "{}", ",", "]", "//"]).encode()
-    depth = chance.choice([123, 124, 125, 126, 127, 128, 3000])
-    piece = chance.choice(ODD_PIECES) if form == "value" else chance.choice(
-        ["[" * depth + "]" * depth, '{"x":' * depth + "1" + "}" * depth, "[" * depth])
-    places = [place for place, sign in enumerate(plan) if sign == ord(":")]
-    if not places:
-        return piece.encode()
-    begin = chance.choice(places) + 1
-    end = begin
-    while end < len(plan) and plan[end:end + 1] not in b",}]":
-        end += 1
-    return plan[:begin] + piece.encode() + plan[end:]
+def changed_text(chance, text):
+    """A text with a few characters fewer, more, twice or at another place, or with another word."""
+    at = chance.choice(range(len(text) + 1))
+    end = at + chance.choice([1, 1, 1, 2, 3, 8, 29])
+    how = chance.choice(["fewer", "cut", "twice", "moved", "word"] + ["other"] * 4)
+    found = list(re.finditer((swap := chance.choice(SWAPS))[0], text)) if how == "other" else []
+    if found:
+        place, another = chance.choice(found), chance.choice(found)[0]
+        word = another if seldom(chance, 5) else filled(chance, chance.choice(swap[1]).replace("&", place[0]))
+        return text[:place.start()] + word + text[place.end():]
+    return {"fewer": text[:at] + text[end:], "cut": text[:at], "twice": text[:end] + text[at:],
+            "moved": text[:at] + text[at + 1:end + 1] + text[at:at + 1] + text[end + 1:]}.get(
+                how, text[:at] + filled(chance, chance.choice(WORDS)) + text[at:])
+
+
+def longer(chance, text):
+    """A schedule with one more method, which often doesn't fit its kind."""
+    tails = fitting_tails(("pair", NUM, NUM)) + fitting_tails(("items", NUM)) + fitting_tails(NUM)
+    return f"{text}.{filled(chance, chance.choice(tails)[0])}"
+
+
+def damaged_text(chance, text):
+    """The text of a document with something else at one place."""
+    try:
+        return written(damaged(chance, json.loads(text)))
+    except (ValueError, RecursionError):
+        return changed_text(chance, text)
+
+
+# What is changed, by a pattern, or all of the text; and how.
+SCHEDULE = r'(?<="schedule":")[^"\n\\]*(?=")|(?<="schedule": ")[^"\n\\]*(?=")'
+CHANGES = [*[("", changed_text)] * 4, *[("", damaged_text)] * 2, (r'(?<=")[a-z]+(?=" *:)', changed_text)] + [
+    (SCHEDULE, change) for change in [changed_text, changed_text, longer, *SPOILED]]
+
+
+def mutated(chance, plan, times=1):
+    """The bytes of a plan after some changes: of the whole text, or of a key or a schedule in it."""
+    text = plan.decode(errors="surrogateescape")
+    for _ in range(times):
+        pattern, change = chance.choice(CHANGES)
+        found = list(re.finditer(pattern, text)) if pattern else []
+        if found:
+            place = chance.choice(found)
+            new = json.dumps(change(chance, place[0]), ensure_ascii=False)[1:-1]
+            text = text[:place.start()] + new + text[place.end():]
+        else:
+            text = change(chance, text)
+    return text.encode(errors="surrogateescape")
+
+
+def changed_plans(plans, count, seed):
+    """`count` plans, each one of these, changed one to three times."""
+    chance = random.Random(seed)
+    return (mutated(chance, chance.choice(plans), chance.choice([1, 1, 1, 2, 3])) for _ in range(count))
+
+
+# ---- Any plan
+
+def any_plan(chance):
+    """The bytes of a plan: two of three are valid, and the others have faults, or are odd JSON or none."""
+    form = chance.choice(range(40))
+    if form < 24:
+        return json_text(chance, made_plan(chance)).encode()
+    if form < 34:
+        return json_text(chance, faulty_plan(chance), form > 31).encode(errors="surrogateescape")
+    text = json_text(chance, made_plan(chance), True).encode()
+    if form == 39 and seldom(chance, 12):
+        return text.ljust(LONGEST_PLAN + chance.choice([0, 1, -1, 2]), chance.choice([b" ", b"\n", b"x"]))
+    return mutated(chance, text) if form > 35 else text
 
 
 def plan_of(seed):
     """The plan of a seed, as bytes."""
-    chance = random.Random(seed)
-    form = chance.random()
-    if form < 0.6:
-        return json_text(chance, made_plan(chance)).encode()
-    if form < 0.87:
-        return json_text(chance, faulty_plan(chance), chance.random() < 0.2).encode()
-    tree = made_plan(chance) if chance.random() < 0.8 else faulty_plan(chance)
-    text = json_text(chance, tree, True)
-    if form < 0.90:
-        return text.encode()
-    if form < 0.902:
-        length = LONGEST_PLAN + chance.choice([-1, 0, 0, 1, 1, 2])
-        return text.encode().ljust(length, chance.choice([b" ", b"\n", b"x"]))
-    return odd_bytes(chance, text)
+    return any_plan(random.Random(seed))
