@@ -20,14 +20,6 @@ class Attempt(NamedTuple):
     next: int | None
 
 
-class Step(NamedTuple):
-    """A step of a schedule: its moment and input, the text of its output, and the next moment or None if it is done."""
-    at: int
-    input: int
-    out: str
-    next: int | None
-
-
 class Job(NamedTuple):
     """A job: how it ended, with the text of a value or of an output or None, and at which moment."""
     name: str
@@ -40,8 +32,8 @@ class Job(NamedTuple):
 
     @property
     def steps(self):
-        """The steps of the job's schedule."""
-        return [Step(it.end, it.value, it.out, it.next) for it in self.attempts if it.out is not None]
+        """The moment, input, output and next moment (None if done) of each step of the schedule."""
+        return [(it.end, it.value, it.out, it.next) for it in self.attempts if it.out is not None]
 
     @property
     def waits(self):
@@ -54,11 +46,6 @@ class Job(NamedTuple):
         return {moment for it in self.attempts for moment in (it.begin, it.end) if moment is not None}
 
 
-def number(text):
-    """A number, or None if there is none."""
-    return None if text is None else int(text)
-
-
 def attempts_of(lines):
     """The attempts of these lines, or None if a line has another form or another number."""
     attempts, at = [], 0
@@ -67,14 +54,15 @@ def attempts_of(lines):
         if found is None or {found[1], found[6] or found[1]} != {str(len(attempts) + 1)}:
             return None
         _, begin, end, how, value, _, out, following = found.groups()
-        attempts.append(Attempt(int(begin), number(end), how, number(value), out, number(following)))
+        begin, end, value, following = (it and int(it) for it in (begin, end, value, following))
+        attempts.append(Attempt(begin, end, how, value, out, following))
         at = found.end()
     return attempts
 
 
 def jobs_of(report):
-    """The jobs of a report, which is bytes or a text. Raises ValueError if it isn't a whole report: the polls of each job
-    must be the number of its moments, and the last line their sum."""
+    """The jobs of a report, which is bytes or a text. Raises ValueError if it isn't a whole report: the polls of each
+    job must be the number of its moments, and the last line their sum."""
     text = report.decode() if isinstance(report, bytes) else report
     jobs, at = [], 0
     while found := JOB.match(text, at):
@@ -84,11 +72,6 @@ def jobs_of(report):
             break
         jobs.append(job)
         at = found.end()
-    if text[at:] != f"polls {total_of(jobs)}\n":
+    if text[at:] != f"polls {sum(job.polls for job in jobs)}\n":
         raise ValueError(f"not a report from line {text.count(chr(10), 0, at) + 1} on: {text[at:at + 200]!r}")
     return jobs
-
-
-def total_of(jobs):
-    """The number in the last line of the report of these jobs."""
-    return sum(job.polls for job in jobs)
