@@ -3,15 +3,15 @@
 
     python3 tests/reference.py < plan.json
 
-It prints the report, or the line of the fault on standard error, and ends with zsched's status: 0, or 2 for a fault
-of the plan. It never runs out of memory or threads, so it has no status 3 or 4. It is as naive as the documents: an
-output is evaluated from the whole history, one job is evaluated after another, and there is no state, timer or thread.
-Results are cached, but only so that none is computed twice. What has one letter in the documents has it here."""
-import argparse
+It prints the report, or the fault on standard error, and ends with zsched's status: 0, or 2 for a fault. It never runs
+out of memory or threads. It is as naive as the documents: an output is evaluated from the whole history, one job after
+another, without state, timer or thread. Results are cached only so that none is computed twice. What has one letter in
+the documents has it here."""
 import bisect
 import itertools
 import json
 import math
+import operator
 import re
 import sys
 from typing import NamedTuple
@@ -30,7 +30,7 @@ def sat(x):
     return min(x, M)
 
 
-# ---- Schedules: tokens
+# ---- Schedules: grammar
 #
 # A term is a tuple: its form, and then its parts, numbers and words in the order in which they are written. A test is
 # three of them: a pick or None, a comparison and a number.
@@ -38,13 +38,11 @@ def sat(x):
 # The leaves, and how many numbers have to follow each.
 LEAVES = {"forever": 0, "recurs": 1, "spaced": 1, "fixed": 1, "exponential": 1, "fibonacci": 1, "identity": 0,
           "elapsed": 0, "linear": 1, "windowed": 1}
-TAILS = ["whileInput", "whileOutput", "collectAll", "map", "resetWhen"]
-INFIX = ["&&", "||", "andThenEither"]
-COMPARISONS = ["<", "<=", "=", "!=", ">", ">="]
+COMPARISONS = {"<": operator.lt, "<=": operator.le, "=": operator.eq, "!=": operator.ne, ">": operator.gt,
+               ">=": operator.ge}
 PICKS = ["_1", "_2", "size"]
-FUNCTIONS = ["_1", "_2", "size", "merge"]
-FUNCTIONS_OF_A_NUMBER = ["as", "+", "*"]
-
+# The functions, and how many numbers have to follow each.
+FUNCTIONS = {"_1": 0, "_2": 0, "size": 0, "merge": 0, "as": 1, "+": 1, "*": 1}
 SPACES = re.compile(rb" *")
 TOKEN = re.compile(rb"[A-Za-z]+|0(?![0-9])|[1-9][0-9]*|_1|_2|&&|\|\||<=|>=|!=|[().,<=>+*]")
 
@@ -84,8 +82,6 @@ class Tokens:
         return min(number, M + 1)
 
 
-# ---- Schedules: grammar
-
 class Spelled(NamedTuple):
     """A term that was read, with its depth and its weight. Past 1,000 a weight isn't counted on."""
     term: tuple
@@ -95,43 +91,31 @@ class Spelled(NamedTuple):
 
 def read_leaf(tokens):
     """Reads a leaf."""
-    form = tokens.take(*LEAVES)
-    numbers = ()
+    form, numbers = tokens.take(*LEAVES), ()
     if LEAVES[form]:
         tokens.take("(")
         numbers = (tokens.number(),)
-        if form == "exponential" and tokens.token == ",":
-            tokens.take(",")
-            numbers += (tokens.number(),)
-        elif form == "exponential":
-            numbers += (2,)
+        if form == "exponential":
+            numbers += (tokens.number() if tokens.token == "," and tokens.take(",") else 2,)
         tokens.take(")")
     return Spelled((form, *numbers), 1, 1)
-
-
-def read_test(tokens, picks):
-    """Reads a pick, if there is one here, a comparison and a number."""
-    pick = tokens.take(*picks) if tokens.token in picks else None
-    return pick, tokens.take(*COMPARISONS), tokens.number()
-
-
-def read_function(tokens):
-    """Reads a function, with its number or None."""
-    function = tokens.take(*FUNCTIONS, *FUNCTIONS_OF_A_NUMBER)
-    return function, tokens.number() if function in FUNCTIONS_OF_A_NUMBER else None
 
 
 def read_tail(tokens, part):
     """Reads what follows a term at a point."""
     tokens.take(".")
-    form = tokens.take(*TAILS)
-    words = ()
+    form, words = tokens.take("whileInput", "whileOutput", "collectAll", "map", "resetWhen"), ()
     if form != "collectAll":
         tokens.take("(")
-        words = read_function(tokens) if form == "map" else read_test(tokens, [] if form == "whileInput" else PICKS)
+        if form == "map":
+            function = tokens.take(*FUNCTIONS)
+            words = function, tokens.number() if FUNCTIONS[function] else None
+        else:
+            pick = tokens.take(*PICKS) if form != "whileInput" and tokens.token in PICKS else None
+            words = pick, tokens.take(*COMPARISONS), tokens.number()
         tokens.take(")")
-    weight = part.weight * 2 if form == "resetWhen" else part.weight
-    return Spelled((form, part.term, *words), part.depth + 1, min(weight + 1, 1001))
+    weight = part.weight * (2 if form == "resetWhen" else 1) + 1
+    return Spelled((form, part.term, *words), part.depth + 1, min(weight, 1001))
 
 
 def read_spelled(tokens):
@@ -149,12 +133,12 @@ def read_spelled(tokens):
                 tokens.take("")
                 return spelled
             if is_open[-1] is None:
-                is_open[-1] = spelled, tokens.take(*INFIX)
+                is_open[-1] = spelled, tokens.take("&&", "||", "andThenEither")
                 break
             tokens.take(")")
-            a, operator = is_open.pop()
+            a, infix = is_open.pop()
             depth = max(a.depth, spelled.depth) + 1
-            spelled = Spelled((operator, a.term, spelled.term), depth, min(a.weight + spelled.weight + 1, 1001))
+            spelled = Spelled((infix, a.term, spelled.term), depth, min(a.weight + spelled.weight + 1, 1001))
 
 
 # ---- Schedules: kinds and faults
@@ -164,48 +148,40 @@ def parts_of(s):
     return [part for part in s if isinstance(part, tuple)]
 
 
-def picked_fits(pick, kind):
-    """Whether a pick fits a kind."""
-    match pick, kind:
-        case ((None, ["Num"]) | ("_1", ["Pair", ["Num"], _]) | ("_2", ["Pair", _, ["Num"]]) | ("size", ["Items", _])):
-            return True
-    return False
+def every_part(s):
+    """A term, its parts, and theirs."""
+    return [s] + [inner for part in parts_of(s) for inner in every_part(part)]
 
 
 def mapped_kind(function, kind):
-    """The kind that a function gives from a kind."""
+    """The kind that a function or a pick gives from a kind."""
     match function, kind:
-        case "_1", ["Pair", a, _]:
+        case (None | "+" | "*"), ["Num"]:
+            return kind
+        case ("as", _) | ("size", ["Items", _]):
+            return ("Num",)
+        case ("_1", ["Pair", a, _]) | ("_2", ["Pair", _, a]):
             return a
-        case "_2", ["Pair", _, b]:
-            return b
         case "merge", ["Sum", a, b] if a == b:
             return a
-        case ("size", ["Items", _]) | ("as", _) | ("+" | "*", ["Num"]):
-            return ("Num",)
     raise Fault("no kind")
 
 
 def kind_of(s):
     """The kind of the outputs of a term."""
     kinds = [kind_of(part) for part in parts_of(s)]
-    match s:
-        case "&&" | "||", _, _:
-            return ("Pair", *kinds)
-        case "andThenEither", _, _:
-            return ("Sum", *kinds)
-        case "whileOutput" | "resetWhen", _, pick, _, _ if not picked_fits(pick, kinds[0]):
+    match s[0]:
+        case "&&" | "||":
+            return "Pair", *kinds
+        case "andThenEither":
+            return "Sum", *kinds
+        case "collectAll":
+            return "Items", *kinds
+        case "map":
+            return mapped_kind(s[2], *kinds)
+        case "whileOutput" | "resetWhen" if mapped_kind(s[2], *kinds) != ("Num",):
             raise Fault("no kind")
-        case "collectAll", _:
-            return ("Items", *kinds)
-        case "map", _, function, _:
-            return mapped_kind(function, kinds[0])
     return kinds[0] if kinds else ("Num",)
-
-
-def every_part(s):
-    """A term, its parts, and theirs."""
-    return [s] + [inner for part in parts_of(s) for inner in every_part(part)]
 
 
 def read_schedule(text):
@@ -232,8 +208,6 @@ def read_schedule(text):
 class History:
     """The steps of a job from one to another, oldest first: a piece of the job's one list of pairs (moment, input). The
     pieces of a list cache the results on each of them."""
-
-    __slots__ = "pairs", "kept", "begin", "end"
 
     def __init__(self, pairs, kept, begin, end):
         self.pairs, self.kept, self.begin, self.end = pairs, kept, begin, end
@@ -278,48 +252,35 @@ def step(s, h):
             return n - 1, next_run(s, p, m, m1, h)
         case "windowed", p:
             return n - 1, sat(m + p - (m - m1) % p)
-        case "exponential", b, f:
-            x = sat(b * f ** (n - 1))
-            return x, sat(m + x)
-        case "fibonacci", o:
-            x = sat(o * fibonacci(n))
-            return x, sat(m + x)
-        case "linear", b:
-            x = sat(b * n)
+        case ("exponential" | "fibonacci" | "linear") as form, *numbers:
+            x = sat({"exponential": lambda b, f: b * f ** (n - 1), "fibonacci": lambda o: o * fibonacci(n),
+                     "linear": lambda b: b * n}[form](*numbers))
             return x, sat(m + x)
         case ["identity"]:
             return i, m
         case ["elapsed"]:
             return m - m1, m
-        case "whileInput", part, _, comparison, number:
-            out, goes_on = step(part, h)
-            return out, goes_on if passes(i, comparison, number) else None
-    return step_of_outputs(s, h)
-
-
-def step_of_outputs(s, h):
-    """The result of the schedules that depend on the outputs or decisions of their parts."""
-    match s:
-        case "&&", a, b:
+        case ("&&" | "||") as infix, a, b:
             (left, x), (right, y) = step(a, h), step(b, h)
-            return ("Pair", left, right), None if x is None or y is None else max(x, y)
-        case "||", a, b:
-            (left, x), (right, y) = step(a, h), step(b, h)
-            return ("Pair", left, right), min((z for z in (x, y) if z is not None), default=None)
+            going = [z for z in (x, y) if z is not None]
+            is_done = len(going) < (2 if infix == "&&" else 1)
+            return ("Pair", left, right), None if is_done else max(going) if infix == "&&" else min(going)
         case "andThenEither", a, b:
             k = first_done(a, h)
             side, (out, goes_on) = ("Left", step(a, h)) if k is None else ("Right", step(b, h.since(k)))
             return (side, out), goes_on
-        case "whileOutput", part, pick, comparison, number:
-            out, goes_on = step(part, h)
-            return out, goes_on if passes(picked(pick, out), comparison, number) else None
-        case "collectAll", part:
-            return collected(part, h.before), step(part, h)[1]
-        case "map", part, function, number:
-            out, goes_on = step(part, h)
-            return mapped(function, number, out), goes_on
         case "resetWhen", part, *_:
             return step(part, h.since(last_reset(s, h)))
+    out, goes_on = step(s[1], h)
+    match s:
+        case "whileInput", _, _, comparison, number:
+            return out, goes_on if COMPARISONS[comparison](i, number) else None
+        case "whileOutput", _, *test:
+            return out, goes_on if passes(out, *test) else None
+        case "collectAll", part:
+            return collected(part, h.before) if h.before else [], goes_on
+        case "map", _, function, number:
+            return mapped(function, number, out), goes_on
 
 
 def next_run(s, p, m, m1, h):
@@ -327,9 +288,7 @@ def next_run(s, p, m, m1, h):
     if h.before is None:
         return sat(m1 + p)
     r = step(s, h.before)[1]
-    if m > r + p or p == 0:
-        return m
-    return sat(m + p - (m - m1) % p)
+    return m if m > r + p or p == 0 else sat(m + p - (m - m1) % p)
 
 
 def fibonacci(n):
@@ -347,131 +306,83 @@ def first_done(a, h):
     return h.n if earlier is None and step(a, h)[1] is None else earlier
 
 
-def collected(part, before):
-    """The outputs of a schedule at those steps of a history at which it continued."""
-    return collected_outputs(part, before) if before else []
-
-
 @kept
-def collected_outputs(part, h):
-    """`collected` of a history that has a step."""
+def collected(part, h):
+    """The outputs of a schedule at those steps of a history at which it continued."""
     out, goes_on = step(part, h)
-    return collected(part, h.before) + ([] if goes_on is None else [out])
+    return (collected(part, h.before) if h.before else []) + ([] if goes_on is None else [out])
 
 
 @kept
 def last_reset(s, h):
     """The last step of a history that reset a `resetWhen`, counted from 1, or else the first step."""
-    _, part, pick, comparison, number = s
+    _, part, *test = s
     k = last_reset(s, h.before) if h.before else 1
-    return h.n if passes(picked(pick, step(part, h.since(k))[0]), comparison, number) else k
+    return h.n if passes(step(part, h.since(k))[0], *test) else k
 
 
-def passes(value, comparison, number):
-    """Whether a value passes a test."""
-    return {"<": value < number, "<=": value <= number, "=": value == number,
-            "!=": value != number, ">": value > number, ">=": value >= number}[comparison]
-
-
-def picked(pick, out):
-    """The number that a pick takes of an output."""
-    return {None: lambda: out, "_1": lambda: out[1], "_2": lambda: out[2], "size": lambda: len(out)}[pick]()
+def passes(out, pick, comparison, number):
+    """Whether what a pick takes of an output passes a test."""
+    return COMPARISONS[comparison](mapped(pick, None, out), number)
 
 
 def mapped(function, number, out):
-    """A function of an output."""
-    match function:
-        case "_1" | "merge":
-            return out[1]
-        case "_2":
-            return out[2]
-        case "size":
-            return len(out)
-        case "as":
-            return number
-        case "+":
-            return sat(out + number)
-        case "*":
-            return sat(out * number)
+    """A function of an output, or what a pick takes of it."""
+    return {None: lambda: out, "_1": lambda: out[1], "_2": lambda: out[2], "merge": lambda: out[1],
+            "size": lambda: len(out), "as": lambda: number, "+": lambda: sat(out + number),
+            "*": lambda: sat(out * number)}[function]()
 
 
 def out_text(out):
     """The text of an output."""
-    match out:
-        case int():
-            return str(out)
-        case list():
-            return "[" + ",".join(map(out_text, out)) + "]"
-        case "Pair", a, b:
-            return f"({out_text(a)},{out_text(b)})"
-        case side, a:
-            return f"{side}({out_text(a)})"
+    if isinstance(out, int):
+        return str(out)
+    if isinstance(out, list):
+        return f"[{','.join(map(out_text, out))}]"
+    side, *parts = out
+    return f"{side.removeprefix('Pair')}({','.join(map(out_text, parts))})"
 
 
 # ---- Timelines
 
-class Clock(NamedTuple):
-    """A clock. If no ticks are listed, it ticks at each millisecond from 0 to the horizon."""
-    ticks: list
-    horizon: int
-
-    def first_from(self, moment):
-        """The first tick at or after a moment, or None."""
-        if self.ticks is None:
-            return moment if moment <= self.horizon else None
-        at = bisect.bisect_left(self.ticks, moment)
-        return self.ticks[at] if at < len(self.ticks) else None
-
-
-class Job(NamedTuple):
-    """A job. An entry of the script is a duration, "ok" or "err", and the value or code."""
-    name: str
-    mode: str
-    schedule: tuple
-    start: int
-    script: list
+def first_from(moment, ticks):
+    """The first of the ticks, which are a list or a range, at or after a moment, or None."""
+    at = bisect.bisect_left(ticks, moment)
+    return ticks[at] if at < len(ticks) else None
 
 
 class TooManyAttempts(Exception):
     """A job has more attempts than the caller allows."""
 
 
-def job_lines(job, clock, most):
+def job_lines(job, ticks, most):
     """The lines of a job's attempts and steps, how it ended, and the moments at which attempts of it began or ended."""
     lines, moments, pairs, remembered = [], set(), [], {}
-    s = clock.first_from(job.start)
+    s = first_from(job.get("start", 0), ticks)
     while s is not None:
         k = len(pairs) + 1
         if most is not None and k > most:
             raise TooManyAttempts
         moments.add(s)
-        d, how, value = job.script[min(k, len(job.script)) - 1]
-        e = clock.first_from(sat(s + d))
+        entry = job["script"][min(k, len(job["script"])) - 1]
+        d, how = entry["ms"], "ok" if "ok" in entry else "err"
+        value = entry[how]
+        e = first_from(sat(s + d), ticks)
         if e is None:
             lines.append(f"attempt {k} {s}.. running")
             break
         moments.add(e)
         lines.append(f"attempt {k} {s}..{e} {how} {value}")
-        if how == ("ok" if job.mode == "retry" else "err"):
+        if how == ("ok" if job["mode"] == "retry" else "err"):
             return lines, f"{'succeeded' if how == 'ok' else 'failed'} {value} at {e}", moments
         pairs.append((e, value))
-        out, x = step(job.schedule, History(pairs, remembered, 0, k))
+        out, x = step(job["term"], History(pairs, remembered, 0, k))
         lines.append(f"step {k} out {out_text(out)} {'done' if x is None else f'next {x}'}")
         if x is None:
-            ending = f"failed {value}" if job.mode == "retry" else f"finished {out_text(out)}"
+            ending = f"failed {value}" if job["mode"] == "retry" else f"finished {out_text(out)}"
             return lines, f"{ending} at {e}", moments
-        s = e if x <= e else clock.first_from(x)
-    return lines, f"unfinished at {clock.horizon}", moments
-
-
-def report(jobs, clock, most=None):
-    """The report of jobs on a clock."""
-    lines, total = [], 0
-    for job in jobs:
-        its_lines, ending, moments = job_lines(job, clock, most)
-        total += len(moments)
-        lines += [f"job {job.name} {job.mode}", *its_lines, f"end {ending} polls {len(moments)}"]
-    return "".join(f"{line}\n" for line in [*lines, f"polls {total}"])
+        s = e if x <= e else first_from(x, ticks)
+    return lines, f"unfinished at {ticks[-1]}", moments
 
 
 # ---- JSON
@@ -481,17 +392,13 @@ def report(jobs, clock, most=None):
 JSON_STRING = re.compile(r'"(?:[^"\\]|\\.)*+"')
 # An escape, as two if both are halves of one character. The group is a half that is alone.
 JSON_ESCAPE = re.compile(r"\\(?:u[dD][89abAB]\w\w\\u[dD][c-fC-F]|(u[dD][89a-fA-F])|.)")
-DEEPEST_JSON = 127
-NO_JSON = "plan is not JSON"
 
 
 def json_number(text):
     """A whole number as an int, and another number as a float."""
-    if text.isdigit() and len(text) <= 20 and int(text) <= M:
-        return int(text)
     if not math.isfinite(float(text)):
-        raise Fault(NO_JSON)
-    return float(text)
+        raise ValueError
+    return int(text) if text.isdigit() and len(text) <= 20 and int(text) <= M else float(text)
 
 
 def read_json(plan):
@@ -500,25 +407,21 @@ def read_json(plan):
         text = plan.decode("utf-8")
         tree = json.loads(text, parse_int=json_number, parse_float=json_number, parse_constant=json_number)
     except (ValueError, RecursionError):
-        raise Fault(NO_JSON) from None
+        raise Fault("plan is not JSON") from None
     signs = re.findall(r"[\[{\]}]", JSON_STRING.sub("", text))
     depth = max(itertools.accumulate(1 if sign in "[{" else -1 for sign in signs), default=0)
-    if depth > DEEPEST_JSON or any(found[1] for found in JSON_ESCAPE.finditer(text)):
-        raise Fault(NO_JSON)
+    if depth > 127 or any(found[1] for found in JSON_ESCAPE.finditer(text)):
+        raise Fault("plan is not JSON")
     return tree
 
 
 # ---- Plans
 
-KEYS = {"horizon", "ticks", "workers", "grain", "jobs"}
-JOB_KEYS = {"name", "mode", "schedule", "start", "script"}
-ENTRY_KEYS = {"ms", "ok", "err"}
+# The keys of objects, with the types of their values.
+DOCUMENT = {"jobs": list, "horizon": int, "ticks": list, "workers": int, "grain": int}
+JOB = {"name": str, "mode": str, "schedule": str, "script": list, "start": int}
+ENTRY = {"ms": int, "ok": int, "err": int}
 NAME = re.compile(r"[A-Za-z0-9._-]{1,64}")
-
-
-def is_whole(value):
-    """Whether a value is a whole number. (To Python, true and false are numbers too.)"""
-    return type(value) is int
 
 
 def check(where, is_so, text):
@@ -527,89 +430,69 @@ def check(where, is_so, text):
         raise Fault(f"{where}: {text}")
 
 
-def has_document_shape(tree):
-    """Whether a document has the right shape."""
-    return (isinstance(tree, dict) and isinstance(tree.get("jobs"), list) and ("horizon" in tree) != ("ticks" in tree)
-            and all(is_whole(tree[key]) for key in ("horizon", "workers", "grain") if key in tree)
-            and ("ticks" not in tree or isinstance(tree["ticks"], list) and all(map(is_whole, tree["ticks"]))))
+def has_types(tree, types, *needed):
+    """Whether a tree is an object whose values have these types, and that has all needed keys. (True isn't an int.)"""
+    return isinstance(tree, dict) and all(key in tree for key in needed) and all(
+        type(value) is types.get(key, type(value)) for key, value in tree.items())
 
 
-def has_clock_in_range(tree):
-    """Whether the clock of a document is in range."""
-    if "horizon" in tree:
-        return tree["horizon"] <= LAST_TICK
-    ticks = tree["ticks"]
-    rises = all(tick < later for tick, later in zip(ticks, ticks[1:]))
-    return 1 <= len(ticks) <= 1000000 and rises and ticks[-1] <= LAST_TICK
-
-
-def has_entry_shape(entry):
-    """Whether an entry of a script has the right shape."""
-    return (isinstance(entry, dict) and "ms" in entry and ("ok" in entry) != ("err" in entry)
-            and all(is_whole(entry[key]) for key in ENTRY_KEYS & entry.keys()))
-
-
-def has_job_shape(tree):
-    """Whether a job has the right shape."""
-    return (isinstance(tree, dict) and all(isinstance(tree.get(key), str) for key in ("name", "mode", "schedule"))
-            and is_whole(tree.get("start", 0))
-            and isinstance(tree.get("script"), list) and all(map(has_entry_shape, tree["script"])))
+def is_in_range(tree):
+    """Whether the numbers of a document are in range."""
+    ticks = tree.get("ticks", [tree.get("horizon")])
+    return (1 <= len(ticks) <= 1000000 and all(map(operator.lt, ticks, ticks[1:])) and ticks[-1] <= LAST_TICK
+            and 1 <= tree.get("workers", 1) <= 64 and 1 <= tree.get("grain", 1) <= 10000 and len(tree["jobs"]) <= 10000)
 
 
 def read_job(tree, j, names):
-    """The j-th job of a document, counted from 0. The jobs before it have these names."""
+    """The j-th job of a document, counted from 0, with its schedule's term. Its name is added to those before it."""
     where = f"job {j}"
-    check(where, has_job_shape(tree), "wrong shape")
-    check(where, tree.keys() <= JOB_KEYS and all(entry.keys() <= ENTRY_KEYS for entry in tree["script"]), "unknown key")
+    check(where, has_types(tree, JOB, "name", "mode", "schedule", "script") and all(
+        has_types(it, ENTRY, "ms") and ("ok" in it) != ("err" in it) for it in tree["script"]), "wrong shape")
+    check(where, tree.keys() <= JOB.keys() and all(it.keys() <= ENTRY.keys() for it in tree["script"]), "unknown key")
     check(where, tree["mode"] in ("retry", "repeat"), "out of range")
     check(where, NAME.fullmatch(tree["name"]), "bad name")
     check(where, tree["name"] not in names, "name used before")
+    names.add(tree["name"])
     try:
-        schedule = read_schedule(tree["schedule"].encode())
+        term = read_schedule(tree["schedule"].encode())
     except Fault as fault:
         raise Fault(f"{where}: schedule: {fault}") from None
-    script = [(entry["ms"], how, entry[how]) for entry in tree["script"] for how in ("ok", "err") if how in entry]
-    check(where, script, "script: empty")
-    check(where, len(script) <= 1000, "script: more than 1000 entries")
-    check(where, all(ms > 0 for ms, _, _ in script), "script: an entry takes 0 ms")
-    return Job(tree["name"], tree["mode"], schedule, tree.get("start", 0), script)
+    check(where, tree["script"], "script: empty")
+    check(where, len(tree["script"]) <= 1000, "script: more than 1000 entries")
+    check(where, all(entry["ms"] > 0 for entry in tree["script"]), "script: an entry takes 0 ms")
+    return {**tree, "term": term}
 
 
 def read_plan(plan):
-    """The jobs and the clock of a plan. The number of workers and the grain never change a report."""
+    """The jobs and the ticks of a plan. The number of workers and the grain never change a report."""
     if len(plan) > LONGEST_PLAN:
         raise Fault(f"plan is longer than {LONGEST_PLAN} bytes")
     tree = read_json(plan)
-    check("plan", has_document_shape(tree), "wrong shape")
-    check("plan", tree.keys() <= KEYS, "unknown key")
-    check("plan", has_clock_in_range(tree) and 1 <= tree.get("workers", 1) <= 64 and 1 <= tree.get("grain", 1) <= 10000
-          and len(tree["jobs"]) <= 10000, "out of range")
-    jobs, names = [], set()
-    for j, job_tree in enumerate(tree["jobs"]):
-        jobs.append(read_job(job_tree, j, names))
-        names.add(jobs[-1].name)
-    return jobs, Clock(tree.get("ticks"), tree["horizon"] if "horizon" in tree else tree["ticks"][-1])
+    check("plan", has_types(tree, DOCUMENT, "jobs") and ("horizon" in tree) != ("ticks" in tree)
+          and all(type(tick) is int for tick in tree.get("ticks", [])), "wrong shape")
+    check("plan", tree.keys() <= DOCUMENT.keys(), "unknown key")
+    check("plan", is_in_range(tree), "out of range")
+    ticks, names = tree["ticks"] if "ticks" in tree else range(tree["horizon"] + 1), set()
+    return [read_job(job, j, names) for j, job in enumerate(tree["jobs"])], ticks
 
 
 def answer(plan, most=None):
     """The status, standard output and standard error of zsched for a plan. Raises TooManyAttempts if a job has more
     attempts than `most`."""
     try:
-        jobs, clock = read_plan(plan)
+        jobs, ticks = read_plan(plan)
     except Fault as fault:
         return 2, b"", f"zsched: {fault}\n".encode()
-    return 0, report(jobs, clock, most).encode(), b""
-
-
-def main():
-    """The command line."""
-    arguments = argparse.ArgumentParser(description=__doc__, formatter_class=argparse.RawDescriptionHelpFormatter)
-    arguments.parse_args()
-    status, output, errors = answer(sys.stdin.buffer.read(LONGEST_PLAN + 1))
-    sys.stdout.buffer.write(output)
-    sys.stderr.buffer.write(errors)
-    return status
+    lines, total = [], 0
+    for job in jobs:
+        its_lines, ending, moments = job_lines(job, ticks, most)
+        total += len(moments)
+        lines += [f"job {job['name']} {job['mode']}", *its_lines, f"end {ending} polls {len(moments)}"]
+    return 0, "".join(f"{line}\n" for line in [*lines, f"polls {total}"]).encode(), b""
 
 
 if __name__ == "__main__":
-    sys.exit(main())
+    status, *texts = answer(sys.stdin.buffer.read(LONGEST_PLAN + 1))
+    for stream, text in zip([sys.stdout, sys.stderr], texts):
+        stream.buffer.write(text)
+    sys.exit(status)
