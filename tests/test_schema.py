@@ -1,0 +1,108 @@
+"""docs/plan.schema.json: what it accepts, what it rejects, and that the program rejects whatever it rejects. The
+validator is the Python package jsonschema (Debian: python3-jsonschema)."""
+import json
+import random
+import re
+
+import pytest
+
+import faults
+import generator
+from support import TOP, job, plan, plans_with_reports, run
+
+jsonschema = pytest.importorskip("jsonschema")
+
+SCHEMA = json.loads((TOP / "docs" / "plan.schema.json").read_text())
+VALIDATOR = jsonschema.Draft202012Validator(SCHEMA)
+SEEDS = [path.read_bytes() for path in sorted(TOP.glob("examples/*.json"))]
+# A plan of more bytes takes the validator long.
+LONGEST = 20000
+CHANGES = 2000
+# What the schema can't express, as docs/FORMATS.md says: faults, and plans, some of them by their names.
+UNTOLD = re.compile(r"name used before|too big|number too large|no kind")
+MISSED = [
+    "a byte order mark", "horizon 1e3", "a horizon with an exponent", "schedule (recurs(1) && recurs(2)",
+    "parentheses behind forever", "parentheses behind collectAll", "a parenthesis too few", "a parenthesis too many",
+    "parentheses for nothing", "an operator too few", "half an operator's schedules"]
+
+
+def described(part, place):
+    """Each key that a part of the schema describes, with its place and its description."""
+    for key, value in part.get("properties", {}).items():
+        yield f"{place}.{key}", value.get("description", "")
+    for name, value in part.get("$defs", {}).items():
+        yield name, value.get("description", "")
+        yield from described(value, name)
+
+
+KEYS = dict(described(SCHEMA, "plan"))
+
+
+def test_it_is_a_schema():
+    jsonschema.Draft202012Validator.check_schema(SCHEMA)
+
+
+def test_each_key_has_a_description():
+    assert len(KEYS) == 15 and all(len(text) > 20 for text in KEYS.values()), KEYS
+
+
+@pytest.mark.parametrize("key, text", [
+    *((key, "millisecond") for key in ["plan.horizon", "plan.ticks", "job.schedule", "job.start", "entry.ms"]),
+    ("plan.horizon", "0 to 999999999999999"), ("plan.workers", "1 to 64"), ("plan.grain", "1 to 10000"),
+    ("plan.jobs", "at most 10000"), ("job.name", "1 to 64"), ("job.script", "1 to 1000"),
+    ("entry.ms", "1 to 18446744073709551615"), ("entry.ok", "0 to 18446744073709551615")])
+def test_ranges_and_units_are_described(key, text):
+    assert text in KEYS[key]
+
+
+@pytest.mark.parametrize("path", plans_with_reports(), ids=lambda path: path.stem)
+def test_it_accepts_a_plan_of_the_repository(path):
+    assert VALIDATOR.is_valid(json.loads(path.read_bytes()))
+
+
+def test_it_accepts_random_schedules():
+    chance = random.Random(20)
+    for _ in range(500):
+        text = generator.spelled(chance, generator.made_term(chance, chance.choice([1, 2, 3, 5, 12]))[0])
+        assert VALIDATOR.is_valid(json.loads(plan([job(schedule=text)]))), text
+
+
+@pytest.mark.parametrize("text", SCHEMA["$defs"]["job"]["properties"]["schedule"]["examples"])
+def test_its_own_examples_are_right(text, zsched):
+    data = plan([job(schedule=text)])
+    assert (VALIDATOR.is_valid(json.loads(data)), run(zsched, data)[0]) == (True, 0)
+
+
+@pytest.mark.parametrize("verdict, data", [
+    pytest.param(verdict, data, id=name) for verdict, name, data in faults.lines_of("schema.tsv")])
+def test_a_faulty_plan_is_marked_or_missed_as_the_table_says(verdict, data, zsched):
+    assert (VALIDATOR.is_valid(json.loads(data)), run(zsched, data)[0]) == (verdict == "missed", 2)
+
+
+def test_it_rejects_each_fault_that_it_can_express():
+    rejected = 0
+    for name, data, fault in faults.refused():
+        try:
+            is_valid = VALIDATOR.is_valid(json.loads(data)) if len(data) <= LONGEST else None
+        except (ValueError, RecursionError):
+            continue
+        rejected += is_valid is False
+        assert not is_valid or UNTOLD.search(fault) or name in MISSED, name
+    assert rejected > 180
+
+
+@pytest.mark.parametrize("chunk", generator.chunks(CHANGES))
+def test_the_program_rejects_whatever_it_rejects(chunk, zsched):
+    rejected = []
+
+    def holds(data):
+        try:
+            is_valid = VALIDATOR.is_valid(json.loads(data.decode()))
+        except (ValueError, RecursionError):
+            return
+        if not is_valid:
+            rejected.append(data)
+            assert run(zsched, data, seconds=5)[0] == 2
+    generator.hold(chunk, holds, generator.made(
+        lambda chance: generator.mutated(chance, chance.choice(SEEDS), chance.choice([1, 1, 2]))))
+    assert len(rejected) > generator.CHUNK // 5
