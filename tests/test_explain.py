@@ -1,0 +1,261 @@
+"""zsched-explain: the table of mistakes, plans that are changed at random, and long plans. How a fault is shown is in
+tests/cases/zsched-explain/."""
+import contextlib
+import io
+import json
+import re
+import resource
+import subprocess
+
+import pytest
+from hypothesis import given, settings
+from hypothesis import strategies as st
+
+import faults
+from generator import changed_plans
+from mistakes import MISTAKES, split
+from support import ONE_JOB, TOP, examples, job, plan
+from zsched_tools import alike, all_faults, explain, hints, json_reading, plan_size, positions, program
+
+PLACE = re.compile(r"^ *--> plan\.json:(\d+):(\d+)$", re.M)
+
+
+def told(look, status, line):
+    """What the command writes on a plan on which the program ended so: status, output and errors."""
+    output, errors = io.StringIO(), io.StringIO()
+    with contextlib.redirect_stdout(output), contextlib.redirect_stderr(errors):
+        ended = explain.tell("plan.json", look, status, line)
+    return ended, output.getvalue(), errors.getvalue()
+
+
+@pytest.mark.parametrize("marked, fault, word", [it[1:] for it in MISTAKES], ids=[it[0] for it in MISTAKES])
+def test_a_mistake_is_shown_at_its_place(marked, fault, word, zsched):
+    data, line, column = split(marked)
+    assert program.run(zsched, data) == (2, b"", f"zsched: {fault}\n".encode())
+    look = explain.Look(data)
+    look.start()
+    ended, output, errors = told(look, 2, f"zsched: {fault}\n")
+    assert (ended, output, errors.partition("\n")[0]) == (2, "", f"zsched: {fault}")
+    assert PLACE.findall(errors) == [(str(line), str(column))]
+    assert word in "".join(re.findall(r"^ *= help: (.*)$", errors, re.M))
+    source, caret = re.search(r"^ *\d+ \|(.*)\n *\|( *\^+)", errors, re.M).groups()
+    here = marked[marked.index("»") + 1:].split("\n")[0][:1]
+    if here.isascii() and here.isprintable():
+        assert source[caret.index("^"):][:1].strip() == here.strip()
+
+
+TEXTS = st.text('aé😀"\\[]{},:\n/', max_size=6)
+VALUES = st.recursive(
+    TEXTS | st.sampled_from([0, -0.0, 17, 1.5, 1e300, 2**64, True, False, None]),
+    lambda inner: st.lists(inner, max_size=3) | st.dictionaries(TEXTS, inner, max_size=3), max_leaves=20)
+
+
+def value_of(node):
+    """The Python value of a node of a document."""
+    if node.kind == "object":
+        return {key.string(): value_of(value) for key, value in node.members()}
+    if node.kind == "list":
+        return [value_of(item) for item in node.items()]
+    return json.loads(node.source)
+
+
+@settings(max_examples=examples(1000))
+@given(VALUES, st.booleans(), st.sampled_from([None, 1]))
+def test_both_readers_of_json_agree_with_that_of_python(value, is_ascii, indent):
+    text = json.dumps([value], ensure_ascii=is_ascii, indent=indent)
+    assert value_of(positions.Document(text).root()) == [value]
+    assert json_reading.fault_of(text) is None
+
+
+def test_a_place_in_a_text_is_found_after_escapes():
+    node = positions.Document('{"a": "x\\u0041\\ud83d\\ude00\\n\\\\é!"}').root().get("a")
+    places = [node.place_in(index) - node.at for index in range(len(node.string()) + 1)]
+    assert (node.string(), places) == ("xA😀\n\\é!", [1, 2, 8, 20, 22, 24, 25, 26])
+
+
+def filled(text):
+    """A schedule with its letters filled in: S, A, B are schedules, D, E, N, CAP numbers, C a comparison."""
+    text = text.replace("andThenEither ..)", "andThenEither forever)").replace("C N", "< 5").replace("..", "< 5")
+    text = re.sub(r"\b(S|A|B)\b", "forever", text).replace("map(F)", "map(+ 1)")
+    return ("forever" if text.startswith(".") else "") + re.sub(r"\b(D|E|N|CAP)\b", "5", text)
+
+
+def test_the_program_accepts_what_a_hint_says_to_write(zsched):
+    found = [re.match(r"write (\.?\(*[A-Za-z].*?)(?:,|;| with| or | where|$)", help)
+             for help in [*hints.ZIO.values(), *hints.SYMBOLS.values()]]
+    texts = [filled(it[1]) for it in found if it]
+    assert len(texts) > 40
+    jobs = [job(f"j{number}", text, script='"script":[{"ms":1,"ok":1}]') for number, text in enumerate(texts)]
+    assert program.run(zsched, plan(jobs, '"horizon":9'))[::2] == (0, b""), texts
+
+
+@pytest.fixture
+def two_gigabytes():
+    """A limit of this process's memory."""
+    limits = resource.getrlimit(resource.RLIMIT_AS)
+    resource.setrlimit(resource.RLIMIT_AS, (2 << 30, limits[1]))
+    yield
+    resource.setrlimit(resource.RLIMIT_AS, limits)
+
+
+def outcome(zsched, look):
+    """How the program ends on a plan, in five seconds."""
+    try:
+        return explain.refusal(zsched, look, 5)
+    except subprocess.TimeoutExpired:
+        return None, ""
+
+
+def test_each_changed_plan_that_is_rejected_gets_a_place(zsched, two_gigabytes):
+    ends, count = [], examples(2000)
+    plans = [path.read_bytes() for path in sorted(TOP.glob("examples/*.json"))]
+    for data in changed_plans(plans, count, seed=20):
+        look = explain.Look(data)
+        status, line = outcome(zsched, look)
+        ends.append(status)
+        if status == 0:
+            assert told(look, 0, line) == (0, "plan.json: no fault\n", ""), data
+        elif status == 2:
+            ended, output, errors = told(look, 2, line)
+            assert (ended, output, errors.split("\n")[0] + "\n") == (2, "", line), data
+            assert "the fault is in" not in errors, data
+            [(row, column)] = PLACE.findall(errors)
+            lines = data.decode(errors="replace").split("\n")
+            assert 1 <= int(row) <= len(lines) and 1 <= int(column) <= len(lines[int(row) - 1]) + 1, data
+    assert ends.count(2) > count // 2 and ends.count(0) > count // 50
+    assert ends.count(2) + ends.count(0) > count - count // 50
+
+
+SMALL, LONGER = (f'"script":[{",".join([entry] * count)}]'
+                 for entry, count in [('{"ms":1,"ok":1}', 1000), ('{"ms":1000,"ok":1732050807}', 64)])
+Z = '{"name":"z","mode":"retry","schedule":"recurs(3)","script":[{"ms":1,"ok":1}'
+
+
+# Plans of nearly 16 MB of the parts that take longest: jobs with a script, or ticks, and then the text with a fault.
+@pytest.mark.full
+@pytest.mark.parametrize("script, last, fault", [
+    (SMALL, Z + "]}]}", None),
+    (SMALL, Z + "»,]}]}", "plan is not JSON"),
+    (SMALL, Z + ',{"ms":»0,"ok":1}]}]}', "job N: script: an entry takes 0 ms"),
+    (SMALL, Z + ']}],"grain":»0}', "plan: out of range"),
+    (LONGER, Z.replace("(3", "(3»s") + "]}]}", "job N: schedule: no term at byte 8"),
+    (LONGER, Z.replace('"recurs(3)"', "»5") + "]}]}", "job N: wrong shape"),
+    (LONGER, Z.replace('"z"', '»"j0"') + "]}]}", "job N: name used before"),
+    (None, "»7]}", "plan: out of range")], ids=range(8))
+def test_the_fault_at_the_end_of_a_long_plan_is_shown(script, last, fault, zsched):
+    number = 16_000_000 // len(job(script=script)) + 1 if script else 0
+    front = '{"horizon":1000,"jobs":[' + "".join(job(f"j{at}", script=script) + "," for at in range(number))
+    if script is None:
+        front = '{"jobs":[],"ticks":[' + "".join(f"{tick}," for tick in range(10**14, 10**14 + 10**6))
+    data, _, column = split(front + last) if fault else ((front + last).encode(), 1, 0)
+    assert 16_000_000 <= len(data) <= program.MAX_BYTES
+    look = explain.Look(data)
+    ended, output, errors = told(look, *explain.refusal(zsched, look))
+    wanted = (2, "", f"zsched: {fault}".replace("job N", f"job {number}")) if fault else (0, "plan.json: no fault\n", "")
+    assert (ended, output, errors.split("\n")[0]) == wanted
+    assert PLACE.findall(errors) == ([("1", str(column))] if fault else [])
+
+
+def alike_jobs(count, schedule="(exponential({}) && recurs(3))"):
+    """Jobs that differ only in their names and their numbers."""
+    return [job(f"j{at}", schedule.format(at + 1), script=f'"script":[{{"ms":{at + 5},"err":503}}]',
+                more=f',"start":{at + 1}') for at in range(count)]
+
+
+def test_of_jobs_that_are_alike_the_first_one_remains():
+    found = alike.fewer(plan([*alike_jobs(20), job("last")]))
+    assert (found.numbers, found.data) == ([0, 20], plan([alike_jobs(1)[0], job("last")]))
+    assert found.line("zsched: job 1: wrong shape\n") == "zsched: job 20: wrong shape\n"
+    assert found.line("zsched: plan: out of range\n") == "zsched: plan: out of range\n"
+
+
+LIKE = alike_jobs(8)[7]
+
+
+@pytest.mark.parametrize("changed, are_first_ones", [
+    *[(LIKE.replace('"name":"j7"', f'"name":"{name}"'), False) for name in ["j 7", "j3", "\\u006a3", ""]],
+    *[(LIKE.replace('"start":8', f'"start":{it}'), False) for it in ["0", "-8", "1.5", "8e9", "18446744073709551616"]],
+    *[(text, True) for text in ["7", "[]", "{}", '{"name":7}', LIKE.replace("recurs(3)", "recurs(0)"),
+                                LIKE.replace("503", "0"), LIKE.replace('"err":503', '"ok":503')]]])
+def test_a_job_that_may_have_a_different_fault_remains(changed, are_first_ones):
+    numbers = alike.fewer(plan([*alike_jobs(7), changed, *alike_jobs(20)[8:]])).numbers
+    assert 7 in numbers and (numbers == [0, 7] or not are_first_ones)
+
+
+@pytest.mark.parametrize("data", [
+    ONE_JOB, plan([job("a"), job("b", "recurs(3 )"), job("c", "recurs( 3)")]), plan(alike_jobs(10001)),
+    b"", b"[]", b"{}", b'{"jobs":7}', plan(alike_jobs(20))[:-1], plan(alike_jobs(20)) + b"\xff",
+    plan([*alike_jobs(20), LIKE.replace('"start":8', '"start":08')])], ids=range(10))
+def test_a_plan_with_few_jobs_alike_or_too_many_or_no_plan_is_run_as_it_is(data):
+    assert alike.fewer(data) is None
+
+
+def test_the_fault_of_fewer_jobs_is_that_of_all(zsched):
+    for name, marked, fault, _ in MISTAKES:
+        found = re.search(r'"jobs": \[\n    (.*)\n  \]\n\}\n$', split(marked)[0].decode(errors="replace"), re.S)
+        if found and fault.startswith("job 0: "):
+            data = plan([*alike_jobs(9), found[1], *alike_jobs(18)[9:]])
+            fewer, whole = alike.fewer(data), explain.outcome(zsched, data)
+            assert whole == (2, f"zsched: job 9{fault.removeprefix('job 0')}\n"), name
+            assert not fewer or len(fewer.numbers) <= 14 and explain.fault_of_fewer(zsched, data) == whole, name
+
+
+def test_a_program_that_takes_long_runs_fewer_jobs(tmp_path, monkeypatch):
+    slow = tmp_path / "slow"
+    slow.write_text("""#!/bin/sh\ncase "$(cat)" in *'"name":"j5"'*) exec sleep 60;; esac
+        echo "zsched: job 1: wrong shape" >&2\nexit 2\n""")
+    slow.chmod(0o755)
+    monkeypatch.setattr(explain, "PATIENCE", 0.2)
+    look = explain.Look(plan([*alike_jobs(20), "7"]))
+    assert explain.refusal(str(slow), look) == (2, "zsched: job 20: wrong shape\n")
+
+
+def test_each_mistake_is_the_first_of_all_faults(zsched):
+    for name, marked, fault, _ in MISTAKES[::7]:
+        found = all_faults.all_faults(lambda text: explain.outcome(zsched, text), split(marked)[0], 10)
+        line, first = next(found)
+        assert (line, first.cause.at) == (f"zsched: {fault}\n", marked.index("»")), name
+
+
+LAST = '"horizon":999999999999999'
+ERR = '{"ms":1,"err":7}'
+LONG = ["forever", "spaced(1)", "(exponential(100) || spaced(2000))", "fixed(60000)", "forever.whileInput(= 7)",
+        "(recurs(3) andThenEither spaced(9))", "recurs(3).resetWhen(= 2)", "exponential(5, 1)"]
+SHORT = ["recurs(3)", "exponential(100)", "linear(1)", "fibonacci(7)", "(spaced(1) && recurs(5))", "recurs(3).collectAll",
+         "((exponential(100) || spaced(2000)) && recurs(10)).map(_1)", "elapsed.whileOutput(< 500)",
+         "(spaced(1) && elapsed).whileOutput(_2 < 30000)", "((recurs(3) && spaced(2)) andThenEither recurs(9))",
+         "forever.whileOutput(< 100)", "forever.whileInput(!= 7)", "identity.whileOutput(< 7)"]
+
+
+@pytest.mark.parametrize("is_long, schedule, clock, entries", [
+    *[(True, schedule, LAST, ERR) for schedule in LONG], *[(False, schedule, LAST, ERR) for schedule in SHORT],
+    (False, "forever", '"horizon":99999998', ERR), (True, "forever", '"horizon":100000001', ERR),
+    (False, "forever", LAST, ERR + ',{"ms":1,"ok":7}'), (False, "forever", LAST, '{"ms":100000000,"err":7}'),
+    (False, "forever", '"ticks":[0,5,999999999999999]', ERR)])
+def test_a_plan_that_may_continue_for_long_gets_a_warning(is_long, schedule, clock, entries):
+    found = plan_size.warning(plan([job("a", schedule, script=f'"script":[{entries}]')], clock))
+    assert bool(found) == is_long
+    assert not found or re.match(r"its attempts may be [0-9.]+e\+[0-9]+, more than 100000000: ", found)
+
+
+def test_a_plan_with_one_tick_has_the_faults_of_the_plan(zsched):
+    for name, data, text in faults.refused():
+        changed = plan_size.with_one_tick(data)
+        assert len(changed) <= len(data), name
+        assert program.run(zsched, changed)[::2] == (2, f"zsched: {text}\n".encode()), name
+    assert program.run(zsched, plan_size.with_one_tick(plan([job("a", "forever")], LAST)))[0] == 0
+
+
+@pytest.mark.parametrize("clock", [
+    '"horizon":-0', '"horizon":1000000000000000', '"horizon":true', '"ticks":[2,2]', '"ticks":[]', '"ticks":5',
+    '"ticks":[1],"horizon":2', '"x":-0,"horizon":1', '"horizon":1e400'])
+def test_a_plan_with_a_wrong_clock_is_run_as_it_is(clock):
+    data = plan([job("a", "forever")], clock)
+    assert plan_size.with_one_tick(data) == data
+
+
+def test_no_plan_of_the_repository_is_large_and_an_invalid_one_has_no_size():
+    plans = {path: path.read_bytes() for path in [*TOP.glob("examples/*.json"), *TOP.glob("tests/plans/*.json")]}
+    plans |= {name: split(marked)[0] for name, marked, _, _ in MISTAKES}
+    assert len(plans) >= 60 + len(MISTAKES)
+    assert [name for name, data in plans.items() if plan_size.warning(data) is not None] == []
