@@ -1,0 +1,108 @@
+"""zsched-try, and the bounds in the tables of RECIPES and POLICIES. What it prints is in tests/cases/zsched-try/."""
+import json
+import random
+import re
+import shlex
+
+import pytest
+from hypothesis import given
+from hypothesis import strategies as st
+
+from reports import jobs_of
+from support import TOP, run, run_here
+from zsched_tools import bounding, program, try_command, trying
+from zsched_tools.duration_text import milliseconds
+from zsched_tools.durations import duration
+
+HEAD, *SECTIONS = (TOP / "docs" / "RECIPES.md").read_text().split("\n### ")
+POLICIES = (TOP / "docs" / "POLICIES.md").read_text()
+JOBS = json.loads((TOP / "examples" / "policies.json").read_text())["jobs"]
+README = (TOP / "README.md").read_text()
+SHOWN = re.findall(r"```console\n\$ tools/zsched-try (.*?)\n(.*?)```", README + "".join(SECTIONS), re.S)
+
+
+def tool(*words):
+    """Runs the command in this process."""
+    return run_here(try_command.main, ["zsched-try", *words])
+
+
+@pytest.mark.parametrize("seed", range(12))
+def test_a_line_has_the_figures_of_the_report(seed, zsched):
+    chance = random.Random(seed)
+    policies = ["spaced(30)", "exponential(20)", "(fixed(50) && recurs(7))", "fibonacci(10).whileOutput(< 90)",
+                "(recurs(3) || spaced(40))", "identity.collectAll.whileOutput(size < 30)"]
+    entries = [(chance.randint(1, 60), chance.choice(["ok", "err"]), chance.randint(0, 9)) for _ in range(4)]
+    mode = chance.choice(["retry", "repeat"])
+    report = run(zsched, trying.plan_of(policies, mode, chance.randint(0, 900), entries).encode())[1]
+    for found, job in zip(trying.tried_in(report), jobs_of(report), strict=True):
+        waits, last = list(job.waits), job.attempts[-1]
+        waits += [job.at - last.end] if job.how == "unfinished" and last.end is not None else []
+        result = job.value or ""
+        result = result if len(result) <= 30 else result[:28] + ".."
+        assert found == trying.Tried(job.how, result, job.at, len(job.attempts), sum(waits), max(waits, default=0))
+
+
+@given(st.integers(0, 10**15))
+def test_a_duration_is_read_as_it_is_written(ms):
+    assert milliseconds(duration(ms)) == ms
+
+
+def test_bounds_are_left_out_without_their_program_unless_they_are_required(zsched, monkeypatch):
+    monkeypatch.setattr(program, "find_bounds", lambda named: named)
+    words = ["recurs(1)", "--zsched", zsched]
+    assert tool(*words) == (0, "failed 503 after 2 attempts, 80 ms (waited 0 ms, longest wait 0 ms)\n", "")
+    for option in ["--require-most", "--require-wait", "--require-total"]:
+        status, output, errors = tool(*words, option, "9")
+        assert (status, output) == (2, "")
+        assert "need zsched-bounds, which is neither built nor installed" in errors
+
+
+@pytest.mark.parametrize("words, lines", SHOWN, ids=[words for words, _ in SHOWN])
+def test_the_documents_show_runs_as_they_are(words, lines, zsched, bounds):
+    status, output, errors = tool(*shlex.split(words), "--zsched", zsched, "--bounds", bounds)
+    assert output + errors == lines and "for every input: " in lines
+
+
+def test_the_help_shows_a_run_as_it_is_and_the_documents_five(zsched, bounds):
+    status, output, _ = tool("--help")
+    policy, line, every = re.search(r"\$ zsched-try '(.+)'\n +(.+\n) +(.+\n)", output).groups()
+    assert tool(policy, "--zsched", zsched, "--bounds", bounds) == (0, line + every, "")
+    assert len(SHOWN) == 5
+
+
+def cells(bounds):
+    """The bounds of a table's cell: attempts, the longest wait and all waits. A dash is a number without a limit."""
+    attempts = f"{bounds.least} or more" if bounds.most is None else f"{bounds.least} to {bounds.most}"
+    attempts = attempts if bounds.most != bounds.least else str(bounds.most)
+    longest = None if bounds.longest > bounding.LAST_MOMENT else bounds.longest
+    is_beginning = bounds.most is None and bounds.seen == bounding.MOST_STEPS
+    total = None if longest is None or is_beginning else bounds.total
+    return attempts, *("–" if wait is None else bounding.rounded(wait) for wait in (longest, total))
+
+
+def shown_in(section):
+    """The schedules of a recipe that its plan runs, and the table's bounds of each."""
+    schedules = re.search(r"^- Schedules? \(.*?(?=^- Plan:)", section, re.M | re.S)[0]
+    plan = re.search(r"^- Plan:\s+\[\w+\]\(\.\./(.*?)\)", section, re.M)[1]
+    run_ones = {job["schedule"] for job in json.loads((TOP / plan).read_text())["jobs"]}
+    title = re.escape(section.partition("\n")[0])
+    columns = re.search(rf"^\| \[{title}\].* \| ([^|]*) \| ([^|]*) \| ([^|]*) \|$", HEAD, re.M).groups()
+    said = list(zip(*(column.split(", ") for column in columns), strict=True))
+    return zip([it for it in re.findall(r"`([^`]+)`", schedules) if it in run_ones], said, strict=True)
+
+
+RECIPES = [list(shown_in(section)) for section in SECTIONS if re.search("^- Schedules? ", section, re.M)]
+ROWS = re.findall(r"^\| \[.* \| ([^|]*) \| ([^|]*) \| ([^|]*) \|$", POLICIES, re.M)
+TABLES = [*sum(RECIPES, []), *zip([job["schedule"] for job in JOBS], ROWS, strict=True)]
+
+
+def test_each_recipe_with_a_schedule_has_its_bounds():
+    assert len(RECIPES) >= 27 and all(RECIPES)
+    assert f"the longest wait is that of the first {bounding.MOST_STEPS:,}.\n" in HEAD
+
+
+def test_bounds_of_the_tables_are_those_of_the_program(bounds):
+    policies = (TOP / "tests/cases/zsched-try/bounds_worked_out_by_hand/policies").read_text().splitlines()
+    assert set(policies) <= {schedule for schedule, _ in TABLES}
+    found = bounding.run(bounds, [schedule for schedule, _ in TABLES])
+    assert [cells(it) for it in found] == [row for _, row in TABLES]
