@@ -1,0 +1,86 @@
+"""What all commands of tools/ have in common, beside tests/cases/tools/: colours on a terminal, the program that they run,
+the Python that they need, and work that processes share."""
+import ast
+import multiprocessing
+import os
+import re
+import signal
+import sys
+
+import pytest
+
+from support import ONE_JOB, TOP, is_coloured
+from zsched_tools import program, starting
+from zsched_tools.processes import in_order
+
+TOOLS = sorted((TOP / "tools").glob("zsched-*"))
+
+
+@pytest.mark.parametrize("variables, is_painted", [
+    ({"TERM": "xterm"}, True), ({"TERM": "xterm", "NO_COLOR": "1"}, False), ({"TERM": "dumb"}, False)])
+@pytest.mark.parametrize("words, stream", [
+    (["zsched-try", "recurs(1)"], "stdout"), (["zsched-report", "summary", "/nowhere"], "stderr"),
+    (["zsched-explain", "plan.json"], "stderr")])
+def test_colours_are_for_a_terminal(words, stream, variables, is_painted, tmp_path, zsched):
+    (tmp_path / "plan.json").write_bytes(ONE_JOB.replace(b"recurs(3)", b"recurs(3s)"))
+    words = [sys.executable, TOP / "tools" / words[0], *words[1:]]
+    assert is_coloured(words, stream, tmp_path, ZSCHED=str(zsched), **variables) == is_painted
+
+
+def test_an_unproved_program_is_named_and_not_taken(tmp_path, monkeypatch):
+    monkeypatch.setenv("PATH", str(tmp_path))
+    monkeypatch.delenv("ZSCHED", raising=False)
+    monkeypatch.setattr(program, "BUILT", tmp_path / "zsched")
+    for name, said in [("other", "as the unproved one that ./run leaves in crates/zsched/out"),
+                       ("unproved-1", f"as {tmp_path}/unproved-1, unproved")]:
+        (tmp_path / name).touch(0o755)
+        with pytest.raises(program.NoProgram, match=re.escape(said) + "$"):
+            program.find()
+    (tmp_path / "zsched").touch(0o755)
+    assert program.find() == f"{tmp_path}/zsched"
+
+
+def test_an_old_python_is_named_in_one_line():
+    assert [starting.old_python("zsched-explain", it) for it in [None, (3, 11, 0), (4, 0, 0)]] == [None] * 3
+    assert starting.old_python("zsched-explain", (3, 9, 2)) == (
+        "zsched-explain: needs Python 3.11 or later, and this is Python 3.9")
+
+
+@pytest.mark.parametrize("path", TOOLS, ids=lambda path: path.name)
+def test_a_command_looks_for_an_old_python_before_it_reads_its_own_files(path, monkeypatch, capsys):
+    text = path.read_text()
+    assert f'require_python("{path.name}")\n\nfrom zsched_tools.' in text
+    assert len(re.findall(r"^from zsched_tools", text, re.M)) == 2
+    monkeypatch.setattr(sys, "version_info", (3, 10, 4))
+    with pytest.raises(SystemExit, match="3"):
+        exec(compile(text, path, "exec"), {"__file__": str(path)})
+    assert capsys.readouterr() == ("", f"{path.name}: needs Python 3.11 or later, and this is Python 3.10\n")
+
+
+def test_that_look_needs_no_new_python():
+    package = TOP / "tools" / "zsched_tools"
+    for file in [*TOOLS, package / "starting.py", package / "__init__.py"]:
+        ast.parse(file.read_text(), feature_version=(3, 4))
+
+
+@pytest.mark.parametrize("size", [0, 1, 2, 3, 100])
+def test_results_of_processes_are_in_order(size):
+    assert list(in_order(hex, range(size))) == list(map(hex, range(size)))
+
+
+def test_an_error_is_raised_in_its_place_and_no_process_remains():
+    taken = []
+    with pytest.raises(ZeroDivisionError):
+        taken.extend(in_order(lambda item: 60 // item, [5, 4, 3, 0, 2, 0, 1]))
+    assert taken == [12, 15, 20]
+    assert multiprocessing.active_children() == []
+
+
+def test_a_process_that_is_killed_is_an_error(monkeypatch):
+    monkeypatch.setattr(os, "sched_getaffinity", lambda _: {0, 1})
+    with pytest.raises(ChildProcessError):
+        list(in_order(lambda item: os.kill(os.getpid(), signal.SIGKILL) if item == 7 else item, range(10)))
+
+
+def test_long_results_do_not_block():
+    assert list(map(len, in_order(lambda item: b"x" * item, [10**6] * 9))) == [10**6] * 9
