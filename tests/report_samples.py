@@ -1,0 +1,34 @@
+"""Reports for the tests of zsched-report: those of its cases, texts that aren't reports, and long ones."""
+import json
+
+from support import TOP
+
+RETRIED, RUNNING, COARSE, NEVER, WAITING, GREATEST = REPORTS = [
+    (TOP / "tests" / "cases" / "zsched-report" / name / "report").read_text() for name in [
+        "a_retry_that_succeeds", "an_attempt_that_runs_at_the_horizon", "steps_of_a_coarse_clock",
+        "a_job_that_never_begins", "a_wait_at_the_horizon_and_a_failed_repeat", "the_greatest_numbers"]]
+KNOWN = sorted([*TOP.glob("examples/*.stdout"), *TOP.glob("tests/plans/*.stdout")])
+# Texts that aren't reports, and the beginning of the error.
+NO_REPORTS = [json.loads(line) for line in (TOP / "tests" / "no_reports.jsonl").read_text().splitlines()]
+
+
+def long_report(attempts):
+    """A retry of `attempts` attempts, one each ten milliseconds, all of which fail."""
+    lines = "".join(f"attempt {at // 10 + 1} {at}..{at + 7} err 503\nstep {at // 10 + 1} out ({at},{at // 10}) next {at + 10}\n"
+                    for at in range(0, 10 * attempts, 10)).removesuffix(f"next {10 * attempts}\n")
+    return f"job hammer retry\n{lines}done\nend failed 503 at {10 * attempts - 3} polls {2 * attempts}\npolls {2 * attempts}\n"
+
+
+def wide_report(jobs, attempts):
+    """Retries that start apart, each with `attempts` attempts and growing waits."""
+    lines = []
+    for job in range(jobs):
+        lines.append(f"job service-{job:03} retry")
+        begin = 37 * job
+        for number in range(1, attempts):
+            end = begin + 30 + job
+            lines += [f"attempt {number} {begin}..{end} err 503", f"step {number} out {100 * number} next {end + 100 * number}"]
+            begin = end + 100 * number
+        lines += [f"attempt {attempts} {begin}..{begin + 50} ok {job}",
+                  f"end succeeded {job} at {begin + 50} polls {2 * attempts}"]
+    return "\n".join([*lines, f"polls {2 * attempts * jobs}", ""])
