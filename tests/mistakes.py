@@ -1,6 +1,6 @@
-"""Plans with one mistake each, from mistakes.tsv. A line has a part of a plan, the name of the mistake, the text of that
-part, the program's line, and a word of the help. The sign » marks the place of the mistake, and isn't part of the plan.
-In a text ␊ is a line end, ␉ a tab, ⟨8b⟩ the byte 8b, and ⟨9×x⟩ is x nine times."""
+"""Plans with one mistake each, from mistakes.tsv. A line has a part of a plan, the name of the mistake, the text of
+that part, the program's line, and a word of the help. The sign » marks the place of the mistake, and isn't part of
+the plan. In a text ␊ is a line end, ␉ a tab, ⟨8b⟩ the byte 8b, and ⟨9×x⟩ is x nine times."""
 import pathlib
 import re
 

@@ -14,9 +14,10 @@ NO_REPORTS = [json.loads(line) for line in (TOP / "tests" / "no_reports.jsonl").
 
 def long_report(attempts):
     """A retry of `attempts` attempts, one each ten milliseconds, all of which fail."""
-    lines = "".join(f"attempt {at // 10 + 1} {at}..{at + 7} err 503\nstep {at // 10 + 1} out ({at},{at // 10}) next {at + 10}\n"
-                    for at in range(0, 10 * attempts, 10)).removesuffix(f"next {10 * attempts}\n")
-    return f"job hammer retry\n{lines}done\nend failed 503 at {10 * attempts - 3} polls {2 * attempts}\npolls {2 * attempts}\n"
+    lines = "".join(f"attempt {at + 1} {10 * at}..{10 * at + 7} err 503\n"
+                    f"step {at + 1} out ({10 * at},{at}) next {10 * at + 10}\n" for at in range(attempts))
+    end = f"done\nend failed 503 at {10 * attempts - 3} polls {2 * attempts}\npolls {2 * attempts}\n"
+    return "job hammer retry\n" + lines.removesuffix(f"next {10 * attempts}\n") + end
 
 
 def wide_report(jobs, attempts):
@@ -27,7 +28,8 @@ def wide_report(jobs, attempts):
         begin = 37 * job
         for number in range(1, attempts):
             end = begin + 30 + job
-            lines += [f"attempt {number} {begin}..{end} err 503", f"step {number} out {100 * number} next {end + 100 * number}"]
+            lines += [f"attempt {number} {begin}..{end} err 503",
+                      f"step {number} out {100 * number} next {end + 100 * number}"]
             begin = end + 100 * number
         lines += [f"attempt {attempts} {begin}..{begin + 50} ok {job}",
                   f"end succeeded {job} at {begin + 50} polls {2 * attempts}"]

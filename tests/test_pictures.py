@@ -1,6 +1,5 @@
 """The pictures and pages of zsched-report: where things are, and that no figure is missing. Their words are in
 tests/cases/zsched-report/."""
-import io
 import math
 import re
 from xml.etree import ElementTree
@@ -10,9 +9,8 @@ import pytest
 from report_samples import COARSE, GREATEST, REPORTS, RETRIED, RUNNING, WAITING, long_report, wide_report
 from support import run_here
 from zsched_tools import report_command
-from zsched_tools.axis import Scale, View
-from zsched_tools.page import LOAD_WIDTHS, page
-from zsched_tools.picture import draw, rows_of
+from zsched_tools.axis import Scale
+from zsched_tools.page import LOAD_WIDTHS
 
 SVG = "{http://www.w3.org/2000/svg}"
 PICTURES = [
@@ -33,11 +31,6 @@ def output(*words, text):
 def drawn_by(*words, text):
     """The picture that the command draws, read as XML."""
     return ElementTree.fromstring(output(*words, text=text))
-
-
-def picture_of(text, chosen=(), title="", view=View()):
-    """The picture of a report, read as XML."""
-    return ElementTree.fromstring("".join(draw(rows_of(io.StringIO(text), chosen), title, view)))
 
 
 def classed(root, kind, style):
@@ -95,8 +88,8 @@ def corners(element, size):
 def check_nothing_outside(root):
     """No element extends beyond a picture."""
     _, _, width, height = map(float, root.get("viewBox").split())
-    sizes = {name: float(size) for names, size in re.findall(r"([.\w,]+)\{[^}]*font-size:(\d+)px", root.find(f"{SVG}style").text)
-             for name in names.replace(".", "").split(",")}
+    sizes = re.findall(r"([.\w,]+)\{[^}]*font-size:(\d+)px", root.find(f"{SVG}style").text)
+    sizes = {name: float(size) for names, size in sizes for name in names.replace(".", "").split(",")}
     in_patterns = list(root.iterfind(f"{SVG}defs//*"))
     for element in [it for it in root.iterfind(".//*") if it not in in_patterns]:
         size = max([sizes.get(style, 0) for style in element.get("class", "").split()], default=0)
@@ -105,28 +98,29 @@ def check_nothing_outside(root):
 
 
 @each_picture
-@pytest.mark.parametrize("is_log, least", [(False, 89), (True, 60)])
-def test_nothing_is_outside_of_a_picture_and_labels_are_apart(text, is_log, least):
-    root = picture_of(text, title="A title & <more>", view=View(is_log=is_log))
+@pytest.mark.parametrize("words, least", [([], 89), (["--log"], 60)], ids=["plain", "log"])
+def test_nothing_is_outside_of_a_picture_and_labels_are_apart(text, words, least):
+    root = drawn_by("svg", "--title", "A title & <more>", *words, text=text)
     check_nothing_outside(root)
-    places = sorted({float(it.get("x")) for it in classed(root, "text", "axis") if it.text[0] != "t"})[is_log:]
+    places = sorted({float(it.get("x")) for it in classed(root, "text", "axis") if it.text[0] != "t"})[len(words):]
     assert all(right - left >= least for left, right in zip(places, places[1:]))
 
 
 @pytest.mark.parametrize("text", [*REPORTS, wide_report(50, 3)], ids=range(7))
 def test_each_attempt_that_has_room_has_a_title(text):
-    assert len(titles(picture_of(text))) == text.count("\nattempt ")
+    assert len(titles(drawn_by("svg", text=text))) == text.count("\nattempt ")
 
 
 def test_attempts_that_are_near_each_other_share_a_block():
     form = re.compile(r"attempts (\d+) to (\d+) of hammer: \d+\.\.\d+ ms, 0 ok, (\d+) err")
-    found = [tuple(map(int, form.fullmatch(title).groups())) for title in titles(picture_of(long_report(5_000)))]
+    root = drawn_by("svg", text=long_report(5_000))
+    found = [tuple(map(int, form.fullmatch(title).groups())) for title in titles(root)]
     assert len(found) < 120 and sum(number for _, _, number in found) == 5_000
     assert [first for first, _, _ in found[1:]] == [last + 1 for _, last, _ in found[:-1]]
 
 
 def test_outcomes_have_different_shapes():
-    drawn = bars(picture_of(COARSE))
+    drawn = bars(drawn_by("svg", text=COARSE))
     [ok], [err] = ({float(bar.get("height")) for bar in drawn if bar.get("class") == style} for style in ["ok", "err"])
     assert err < 0.6 * ok and {bar.get("class") for bar in drawn if bar.get("rx")} == {"ok"}
 
@@ -144,28 +138,18 @@ def test_of_more_than_200_jobs_the_load_is_drawn_with_all_figures(form):
 
 
 def test_the_jobs_that_are_chosen_by_name_are_drawn():
-    many = wide_report(201, 2)
-    for root in [drawn_by("svg", "--job", "service-200", "--job", "service-007", text=many),
-                 picture_of(many, ["service-200", "service-007"])]:
-        assert {title.split(" of ")[1].split(":")[0] for title in titles(root)} == {"service-007", "service-200"}
-        assert begun(root) == []
-
-
-@pytest.mark.parametrize("form, make", [("svg", draw), ("html", page)])
-def test_the_command_writes_the_picture_and_the_page(form, make):
-    made = "".join(make(rows_of(io.StringIO(WAITING), ["beat"]), "T"))
-    assert output(form, "--title", "T", "--job", "beat", text=WAITING).replace("\n", "") == made.replace("\n", "")
+    root = drawn_by("svg", "--job", "service-200", "--job", "service-007", text=wide_report(201, 2))
+    assert {title.split(" of ")[1].split(":")[0] for title in titles(root)} == {"service-007", "service-200"}
+    assert begun(root) == []
 
 
 @each_picture
 def test_a_page_has_the_picture_and_its_report_and_no_network_address(text):
-    made = "".join(page(rows_of(io.StringIO(text), ()), "A & B", view=View(0, None, True)))
+    made = output("html", "--title", "A & B", text=text)
     assert re.findall(r"://|src=|href|@import|url\((?!#)", made) == []
-    assert "<title>A &amp; B</title>" in made and 'id="view">{"from": 0, "isLog": true}</script>' in made
+    assert "<title>A &amp; B</title>" in made and output("svg", "--title", "A & B", text=text).split("\n", 1)[1] in made
     held = re.search(r'<script type="text/plain" id="report">\n(.*?)</script>', made, re.S)[1]
     assert held == (text[:text.rindex("polls ", 0, -1)] if text.count("\n") > 1 else "")
-    plain = "".join(page(rows_of(io.StringIO(text), ()), "A & B"))
-    assert "".join(f"{line}\n" for line in draw(rows_of(io.StringIO(text), ()), "A & B", is_file=False)) in plain
 
 
 @pytest.mark.parametrize("jobs", [20, 201])
@@ -207,22 +191,23 @@ def test_the_page_of_a_load_has_a_picture_for_each_width_of_a_window():
 def test_no_line_of_the_grid_crosses_the_words_of_a_load():
     root = drawn_by("svg", text=wide_report(201, 2))
     words = [float(it.get("y")) for it in root.iter(f"{SVG}text") if ":" in "".join(it.itertext())]
-    lines = [it for path in classed(root, "path", "grid") for it in re.findall(r"M\S+ ([\d.]+)V([\d.]+)", path.get("d"))]
+    grid = "".join(path.get("d") for path in classed(root, "path", "grid"))
+    lines = re.findall(r"M\S+ ([\d.]+)V([\d.]+)", grid)
     assert words and lines
     assert not [y for above, below in lines for y in words if float(above) < y < float(below)]
 
 
 def test_equal_ratios_are_equally_long_on_a_logarithmic_axis():
-    left = [float(bar.get("x")) for bar in bars(picture_of(RUNNING, view=View(is_log=True)))]
+    left = [float(bar.get("x")) for bar in bars(drawn_by("svg", "--log", text=RUNNING))]
     scale = Scale(0, 10000, left[0], left[0] + 1000, 700)
     assert [round(scale.at(moment)) for moment in (0, 700, 2100, 4900)] == [
         round(left[0] + 1000 * number / math.log2(1 + 10000 / 700)) for number in (0, 1, 2, 3)]
-    plain = [float(bar.get("x")) for bar in bars(picture_of(RUNNING))]
+    plain = [float(bar.get("x")) for bar in bars(drawn_by("svg", text=RUNNING))]
     assert left[1] - left[0] > 2 * (plain[1] - plain[0])
 
 
 def test_a_picture_is_dark_if_that_is_preferred_and_has_no_small_letter():
-    text = "".join(draw(rows_of(io.StringIO(WAITING), ()), ""))
+    text = output("svg", text=WAITING)
     assert "@media(prefers-color-scheme:dark){text{fill:#e4e7eb}" in text
     assert min(int(size) for size in re.findall(r"font-size:(\d+)px", text)) >= 11
 

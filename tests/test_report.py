@@ -14,8 +14,8 @@ from generator import made_plan
 from measured import measured
 from report_samples import KNOWN, NEVER, NO_REPORTS, REPORTS, RETRIED, RUNNING, WAITING, long_report, wide_report
 from reports import jobs_of
-from support import TOP, run, run_here
-from zsched_tools import columns, lines, load, progress, report_command, summary
+from support import TOP, examples, run
+from zsched_tools import columns, lines, load, progress, summary
 from zsched_tools.command import Refused
 from zsched_tools.durations import duration
 from zsched_tools.join import write_joined
@@ -80,27 +80,19 @@ def test_another_text_is_rejected_with_the_line(text, beginning):
 
 
 @pytest.mark.parametrize("text", REPORTS, ids=range(6))
-def test_a_report_that_is_cut_after_a_line_is_rejected(text):
+def test_a_report_that_is_cut_or_has_a_line_removed_or_repeated_is_rejected(text):
     kept = text.splitlines(keepends=True)
-    for count in range(1, len(kept)):
-        assert in_pieces("".join(kept[:count]))[1].startswith(f"ends after line {count}, but ")
-
-
-def test_a_report_that_is_cut_in_a_line_is_rejected():
-    for end in range(1, len(WAITING)):
-        if WAITING[end - 1] != "\n":
-            assert in_pieces(WAITING[:end])[1].startswith(f"line {WAITING.count(chr(10), 0, end) + 1} is cut")
-
-
-def test_a_report_with_a_line_removed_or_repeated_is_rejected():
-    kept = WAITING.splitlines(keepends=True)
     for at in range(len(kept)):
-        assert in_pieces("".join(kept[:at] + kept[at + 1:]))[1] and in_pieces("".join(kept[:at + 1] + kept[at:]))[1], at
+        before = "".join(kept[:at])
+        assert at == 0 or in_pieces(before)[1].startswith(f"ends after line {at}, but ")
+        for end in range(1, len(kept[at])):
+            assert in_pieces(before + kept[at][:end])[1].startswith(f"line {at + 1} is cut")
+        assert in_pieces(before + "".join(kept[at + 1:]))[1] and in_pieces(before + kept[at] + "".join(kept[at:]))[1]
 
 
 def test_a_long_report_takes_little_memory_and_time(tmp_path):
-    report, out = tmp_path / "report", tmp_path / "lines"
-    report.write_text(long_report(50_000))
+    (report := tmp_path / "report").write_text(long_report(50_000))
+    out = tmp_path / "lines"
     status, kilobytes, seconds = measured(TOOL, "lines", report, out=out)
     assert (status, out.read_bytes().count(b"\n")) == (0, 50_002)
     assert kilobytes < 40_000 and seconds < 10
@@ -108,8 +100,7 @@ def test_a_long_report_takes_little_memory_and_time(tmp_path):
 
 @pytest.mark.parametrize("form", [["lines"], ["summary", "--one-line"], ["load"]], ids=lambda form: form[0])
 def test_a_form_keeps_up_with_the_program(form, tmp_path):
-    report, text = tmp_path / "report", wide_report(800, 60)
-    report.write_text(text)
+    (report := tmp_path / "report").write_text(text := wide_report(800, 60))
     start = measured(TOOL, "from-lines", os.devnull, out=os.devnull)[2]
     status, kilobytes, seconds = measured(TOOL, *form, report, out=os.devnull)
     assert status == 0 and kilobytes < 60_000
@@ -129,22 +120,6 @@ def test_a_long_command_shows_its_progress_on_a_terminal(is_terminal, first, sho
     assert re.fullmatch(shown, terminal.getvalue())
 
 
-def test_times_to_the_end_and_the_jobs_that_ended_in_time():
-    # Job k of 100 has an attempt of 30 + k ms, a wait of 100 ms, and an attempt of 50 ms.
-    said, _ = summed_up(wide_report(100, 2), one_line=True, within=229)
-    assert said[0].endswith("time to the end: p50 229 ms, p95 274 ms, p99 278 ms; ended well within 229 ms: 50 of 100 jobs, "
-                            "50.00 %\n")
-
-
-@pytest.mark.parametrize("every", [1, 7, 50, 1000, 10**6])
-def test_the_figures_of_a_load_fit_together(every):
-    rows = list(load.read(io.BytesIO(wide_report(60, 5).encode()), every).rows())
-    assert [sum(row[place] for row in rows) for place in (1, 2, 3)] == [300, 60, 240]
-    assert rows[-1][4:] == [0, 0]
-    for before, row in zip([[0] * 6, *rows], rows):
-        assert row[4] == before[4] + row[1] - row[2] - row[3] and min(row) >= 0
-
-
 TWO_POLICIES = (TOP / "examples" / "two_policies.json.stdout").read_text()
 TEXTS = [*REPORTS, *(text for text, _ in NO_REPORTS), wide_report(8, 4), long_report(40)]
 
@@ -154,19 +129,6 @@ def test_pieces_of_any_length_give_the_lines_of_the_records(length, cut):
     cut(length)
     for text in TEXTS:
         assert in_pieces(text) == by_records(text), text
-
-
-def test_changed_reports_give_the_lines_and_the_error_of_the_records(cut):
-    chance, errors = random.Random(5), []
-    for _ in range(800):
-        text = chance.choice([*REPORTS, *TEXTS[-2:]])
-        at = chance.randrange(len(text))
-        text = text[:at] + chance.choice("0123456789\n ejaosdk.,(%") + text[at + chance.randrange(3):]
-        cut(chance.choice([20, 200, 10**6]))
-        found = in_pieces(text)
-        assert found == by_records(text), text
-        errors.append(found[1])
-    assert len(errors) - errors.count(None) > 300
 
 
 @pytest.mark.parametrize("length", [300, 10**6])
@@ -210,20 +172,30 @@ def test_jobs_with_equal_lines_are_read_once(text, slow):
     assert in_pieces(equal) == by_records(equal)
 
 
-def test_changed_reports_of_equal_jobs_give_the_lines_and_the_error_of_the_records(cut):
-    chance, errors = random.Random(9), []
-    for _ in range(600):
-        text = repeated(chance, chance.choice([RETRIED, WAITING, NEVER, RUNNING]), 8).splitlines(keepends=True)
-        line, what = chance.choice([*text, "polls 3\n", "job x retry\n"]), chance.randrange(4)
-        # A line is removed or repeated, or another one follows it: once, or in each job that has it.
-        places = [at for at, it in enumerate(text) if it == line] or [chance.randrange(len(text))]
-        for at in reversed(places[:chance.choice([1, 9])]):
-            text[at:at + 1] = [[], [line, line], [text[at], "polls 3\n"], [text[at]]][what]
+def changed(chance):
+    """A report with a character changed; or one of equal jobs in which a line is removed or repeated, or another one
+    follows it: once, or in each job that has it."""
+    if chance.random() < 0.5:
+        text = chance.choice([*REPORTS, *TEXTS[-2:]])
+        at = chance.randrange(len(text))
+        return text[:at] + chance.choice("0123456789\n ejaosdk.,(%") + text[at + chance.randrange(3):]
+    text = repeated(chance, chance.choice([RETRIED, WAITING, NEVER, RUNNING]), 8).splitlines(keepends=True)
+    line, what = chance.choice([*text, "polls 3\n", "job x retry\n"]), chance.randrange(4)
+    places = [at for at, it in enumerate(text) if it == line] or [chance.randrange(len(text))]
+    for at in reversed(places[:chance.choice([1, 9])]):
+        text[at:at + 1] = [[], [line, line], [text[at], "polls 3\n"], [text[at]]][what]
+    return "".join(text)
+
+
+def test_changed_reports_give_the_lines_and_the_error_of_the_records(cut):
+    chance, errors = random.Random(5), []
+    for _ in range(examples(1400)):
+        text = changed(chance)
         cut(chance.choice([20, 200, 10**6]))
-        found = in_pieces("".join(text))
-        assert found == by_records("".join(text)), text
+        found = in_pieces(text)
+        assert found == by_records(text), text
         errors.append(found[1])
-    assert 300 < len(errors) - errors.count(None) < 500
+    assert len(errors) // 10 < errors.count(None) < len(errors) // 2
 
 
 def figures_of(text, every):
@@ -261,11 +233,12 @@ def figures_of(text, every):
 def test_summary_and_load_are_those_of_the_attempts(length, cut, zsched):
     cut(length)
     texts = [path.read_text() for path in KNOWN]
-    for seed in range(20):
+    for seed in range(examples(20)):
         texts.append(run(zsched, json.dumps(made_plan(random.Random(seed))).encode())[1].decode())
         texts.append(repeated(random.Random(seed), texts[-1], 40))
-    for text in texts:
-        every = max(map(int, re.findall(r" at (\d+) polls", text)), default=0) // 1000 + 1
+    for number, text in enumerate(it for it in texts if len(it) < 60_000):
+        latest = max(map(int, re.findall(r" at (\d+) polls", text)), default=0)
+        every = latest // 1000 + [1, 7, 50, 1000, 10**6][number % 5]
         ((table, _), rows), (cells, wanted) = summed_up(text, every), figures_of(text, every)
         assert [re.split(r"\s{2,}", line) for line in table.splitlines()[1:len(cells) + 1]] == cells, text
         assert rows == wanted, text
@@ -280,19 +253,6 @@ def test_a_table_of_many_lines_is_written_by_several_processes(sort, cut, monkey
     monkeypatch.setattr(summary, "LINES_AT_ONCE", 7)
     assert summed_up(wide_report(300, 2), sort=sort) == alone
     assert alone[0][0].count("\n") == 305
-
-
-@pytest.mark.parametrize("number", range(8))
-def test_of_two_bad_parts_the_first_is_named(number, tmp_path, monkeypatch):
-    monkeypatch.chdir(tmp_path)
-    others = [f"good-{at}" for at in range(number)]
-    for name, text in [("good", WAITING), ("cut", RETRIED[:-1]), ("foreign", RUNNING),
-                       *((name, RETRIED.replace("job a", f"job {name}")) for name in others)]:
-        (tmp_path / name).write_text(text)
-    for words, error in [([*others, "cut", "good", "foreign"], "cut: line 6 is cut"),
-                         (["good", *others, "foreign", "cut"], "foreign: line 11 has another horizon")]:
-        status, output, errors = run_here(report_command.main, [TOOL.name, "join", *words])
-        assert (status, output) == (2, "") and errors.startswith(f"zsched-report: {error}")
 
 
 def test_a_part_that_changes_after_it_was_read_is_not_copied(tmp_path):

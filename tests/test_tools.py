@@ -1,5 +1,5 @@
-"""What all commands of tools/ have in common, beside tests/cases/tools/: colours on a terminal, the program that they run,
-the Python that they need, and work that processes share."""
+"""What all commands of tools/ have in common, beside tests/cases/tools/: colours on a terminal, the program that they
+run, the Python that they need, and work that processes share."""
 import ast
 import multiprocessing
 import os
