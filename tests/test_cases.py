@@ -3,7 +3,8 @@
 A folder tests/cases/TOOL/NAME has `cmd`, a few lines for bash. They run in a copy of the folder, with the commands of
 tools/ and the built programs first in PATH, and with ZSCHED, ZSCHED_BOUNDS, ZSCHED_POPULATION and TOP set. The files
 `stdin`, `stdout`, `stderr` (none: empty) and `status` (none: 0) say what it gets and what it has to give. Each file of
-`out/` is one that the run has to write beside `cmd`, with these bytes.
+`out/` is one that the run has to write beside `cmd`, with these bytes. Each line of `needs` is a program that few machines
+have, and its Debian package: such a case is marked `full`, and skipped without it.
 
 A plan has its report beside it. It runs as it is, and under twelve cuts: 1, 2, 7 and 64 workers with a grain of 1, 3 and
 10000. Expected files are worked out by hand or by another program. `pytest tests/test_cases.py --update` prints what
@@ -25,6 +26,11 @@ PATIENCE = 120
 def content(path):
     """The bytes of a file, or nothing if it isn't there."""
     return path.read_bytes() if path.is_file() else b""
+
+
+def needs(case):
+    """The programs that a case needs and few machines have, each with its package."""
+    return [line.split() for line in content(case / "needs").decode().splitlines()]
 
 
 def wanted(case):
@@ -69,8 +75,12 @@ def programs(zsched, population, bounds, tmp_path_factory):
     return os.environ | {name: str(value) for name, value in variables.items()}
 
 
-@pytest.mark.parametrize("case", CASES, ids=[f"{case.parent.name}/{case.name}" for case in CASES])
+@pytest.mark.parametrize("case", [
+    pytest.param(case, id=f"{case.parent.name}/{case.name}", marks=[pytest.mark.full] if needs(case) else []) for case in CASES])
 def test_a_case_gives_what_its_files_say(case, programs, tmp_path, request, capsys):
+    for name, package in needs(case):
+        if not shutil.which(name):
+            pytest.skip(f"{name} isn't installed (Debian: {package})")
     asked, given = wanted(case), found(case, tmp_path / "case", programs)
     asked["status"] = b"" if asked["status"].strip() in [b"", b"0"] else asked["status"].strip() + b"\n"
     differing = {name: (asked[name], given[name]) for name in asked if asked[name] != given[name]}

@@ -1,0 +1,321 @@
+"""zsched-outage: its runs against the decision of one event after another, budgets, draws, the certificate, files and
+pictures. What the command prints, and its faults, are the cases in tests/cases/zsched-outage."""
+import io
+import json
+import random
+import re
+import sys
+import time
+from unittest import mock
+
+import pytest
+from hypothesis import given, settings
+from hypothesis import strategies as st
+
+import reference
+from browser import inside, opened
+from reports import jobs_of
+from support import TOP, examples, job, plan, run_here
+from zsched_tools import certificate, curve, curve_page, curve_picture, drawn, outage, outage_command, scenario
+from zsched_tools.cause import Cause
+from zsched_tools.progress import Now
+from zsched_tools.world import DENIED, Bucket, Ending, Service
+
+CASES = TOP / "tests" / "cases" / "zsched-outage"
+SMALL = json.loads((CASES / "three_clients_meet_an_outage" / "outage.json").read_text())
+DRAWN = json.loads((CASES / "the_same_seed_gives_the_same_bytes" / "drawn.json").read_text().replace("SEED", "0"))
+REPORT = (TOP / "examples" / "three_clients_in_an_outage.json.stdout").read_text()
+
+
+def read(parts):
+    """A scenario from its parts, of which those that are None are left out."""
+    return scenario.read_scenario(json.dumps({key: part for key, part in parts.items() if part is not None}).encode())
+
+
+def simulated(zsched, parts, name="steady"):
+    """The run of a policy: jobs, plans, the most jobs of a plan, reports and figures."""
+    return outage_command.simulate(read(parts), str(zsched), name, 50, lambda words: None)
+
+
+def figures_of(zsched, parts):
+    """The scenario and the figures of all its policies."""
+    return read(parts), {name: simulated(zsched, parts, name)[-1] for name in parts["policies"]}
+
+
+def picture(found, figures, *more):
+    return "\n".join(curve_picture.draw_curves(found, figures, *more))
+
+
+def test_the_recipe_shows_the_case():
+    page = (TOP / "docs" / "RECIPES.md").read_text().split("### Many clients meet an outage\n")[1]
+    assert json.loads(re.search(r"```json\n(.*?)```", page, re.S)[1]) == SMALL
+    table = re.search(r"```console\n\$ tools/zsched-outage outage.json\n(.*?)```", page, re.S)[1]
+    assert (CASES / "three_clients_meet_an_outage" / "stdout").read_text().startswith(table)
+
+
+def test_help_has_an_example():
+    status, out, _ = run_here(outage_command.main, ["zsched-outage", "--help"])
+    example = re.search(r"\n  (\{\n.*?\n  \})\n", out, re.S)[1]
+    assert (status, len(read(json.loads(example)).starts)) == (0, 10_000)
+
+
+# ---- The search
+
+@st.composite
+def windows(draw):
+    """Some windows, one after another."""
+    at, found = 0, []
+    for _ in range(draw(st.integers(1, 4))):
+        begin = at + draw(st.one_of(st.just(0), st.integers(1, 900)))
+        at = begin + draw(st.integers(300, 2500))
+        more = draw(st.sampled_from([{"is": "down"}, {"is": "slow"}, {"capacity": draw(st.integers(1, 3))},
+                                     {"is": "slow", "capacity": draw(st.integers(1, 2))}]))
+        found.append({"from": begin, "to": at, **more})
+    return found
+
+
+def outcome(how, code):
+    """An outcome of a short attempt."""
+    return st.integers(1, 90).map(lambda ms: {"ms": ms, how: code})
+
+
+POLICIES = ["spaced(300)", "exponential(rand(50, 150))", "(exponential(100) || spaced(700))", "fixed(350)",
+            "jitter(200, 900, 6)", "(spaced(250) && recurs(4)).whileInput(!= 429)"]
+SCENARIOS = st.fixed_dictionaries({
+    "horizon": st.integers(2000, 7000), "seed": st.integers(0, 99), "windows": windows(),
+    "outcomes": st.fixed_dictionaries({
+        "up": outcome("ok", 200), "down": outcome("err", 503), "full": outcome("err", 429),
+        "slow": st.sampled_from([{"ms": 800, "err": 504}, {"ms": 700, "ok": 200}])}),
+    "clients": st.fixed_dictionaries({"number": st.integers(1, 6), "within": st.sampled_from([0, 500, 2000])}),
+    "policies": st.fixed_dictionaries({"steady": st.sampled_from(POLICIES)}),
+    "budget": st.one_of(st.none(), st.fixed_dictionaries(
+        {"like": st.sampled_from(["grpc", "aws"]), "tokens": st.integers(5, 40)}))})
+
+
+def next_begin(found, client, schedule, kinds):
+    """When the attempt after these begins, or None, and whether the schedule is done, by the reference."""
+    script = [json.loads(found.outcomes[kind].entry()) for kind in kinds] + [{"ms": 1, "ok": 0}]
+    one = {"name": "c", "mode": "retry", "schedule": schedule, "start": found.starts[client], "script": script}
+    [ran] = jobs_of(reference.answer(json.dumps({"horizon": found.horizon, "jobs": [one]}).encode())[1])
+    return ran.attempts[-1].begin if len(ran.attempts) > len(kinds) else None, ran.how == "failed"
+
+
+def decided(found, schedules):
+    """The kinds of each client's attempts: the earliest event, an end (0) or a begin (1), is decided first."""
+    service, bucket = Service(found.windows), Bucket(found.budget) if found.budget else None
+    kinds = [[] for _ in schedules]
+    events = [(next_begin(found, client, schedule, [])[0], 1, client) for client, schedule in enumerate(schedules)]
+    while events := [event for event in events if event[0] is not None]:
+        moment, is_begin, client = event = min(events)
+        events.remove(event)
+        if is_begin:
+            kinds[client].append(service.kind(moment))
+            end = moment + found.outcomes[kinds[client][-1]].ms
+            events += [(end, 0, client)] if end <= found.horizon else []
+        elif found.outcomes[kinds[client][-1]].is_ok:
+            if bucket:
+                bucket.succeeded(len(kinds[client]) == 1)
+        else:
+            begin, is_done = next_begin(found, client, schedules[client], kinds[client])
+            if bucket and not bucket.lets_retry(not is_done) and not is_done:
+                kinds[client][-1] += DENIED
+            else:
+                events.append((begin, 1, client))
+    return kinds
+
+
+def test_the_search_finds_what_deciding_one_event_after_another_finds(zsched):
+    denied = []
+
+    @settings(max_examples=examples(30))
+    @given(SCENARIOS)
+    def compare(parts):
+        found = read(parts)
+        schedules = outage.schedules_of(found, "steady")
+        walk = outage.Search(found, str(zsched), schedules, 50).settle(lambda words: None)
+        assert [list(kinds) for kinds in walk.found] == decided(found, schedules)
+        denied.extend(kinds for kinds in walk.found if kinds and kinds[-1] >= DENIED)
+        _, plans, _, reports, _ = simulated(zsched, parts)
+        assert reports == [reference.answer(plan)[1] for plan in plans]
+    compare()
+    assert len(denied) > 5
+
+
+def test_a_bucket_like_awss_gets_back_what_a_served_retry_took():
+    bucket = Bucket(scenario.Budget("aws", 10_000, 1000, 5000, 0))
+    assert [bucket.lets_retry(True) for _ in range(3)] == [True, True, False]
+    bucket.succeeded(is_first=True)
+    assert bucket.tokens == 1000
+    bucket.succeeded(is_first=False)
+    assert (bucket.tokens, bucket.lets_retry(False), bucket.tokens) == (6000, False, 6000)
+
+
+def test_a_bucket_like_grpcs_is_never_more_than_full():
+    bucket = Bucket(scenario.Budget("grpc", 4000, 100, 1000, 0))
+    assert [bucket.lets_retry(True) for _ in range(2)] == [True, False]
+    for _ in range(30):
+        bucket.succeeded(is_first=False)
+    assert bucket.tokens == 4000
+
+
+def test_a_report_with_outcomes_of_another_scenario_is_no_certificate():
+    endings = [Ending("succeeded", 200, 1200, 3), Ending("succeeded", 200, 2600, 4), Ending("succeeded", 200, 3300, 4)]
+    assert [it.ending for it in certificate.certified(read(SMALL), endings, [REPORT.encode()])] == endings
+    # c2 is served at 2400, in the second of c1, and its last attempt isn't there.
+    late = REPORT[REPORT.rindex("attempt 3 2400..2700"):REPORT.index(" polls 8\npolls")]
+    early = REPORT.replace(late, "attempt 3 2400..2600 ok 200\nend succeeded 200 at 2600")
+    said = "^job c2: simulated unfinished; the report has succeeded 200 at 2600 after 3 attempts$"
+    with pytest.raises(certificate.Uncertified, match=said):
+        certificate.certified(read(SMALL), [*endings[:2], Ending("succeeded", 200, 2600, 3)], [early.encode()])
+
+
+# ---- Draws
+
+def test_rand_is_between_its_bounds_and_takes_each_value():
+    source = random.Random(1)
+    assert {drawn.drawn(source, 3, 6) for _ in range(200)} == {3, 4, 5, 6}
+    assert drawn.drawn(source, 7, 7) == 7
+
+
+@pytest.mark.parametrize("count", [1, 2, 3, 5, 24, drawn.MOST_DELAYS])
+def test_jitter_is_a_list_of_delays_below_the_cap(zsched, count):
+    text = drawn.Policy(f"jitter(100, 1000, {count})").schedule(random.Random(2))
+    delays = list(map(int, re.findall(r"spaced\((\d+)\)", text)))
+    assert len(delays) == count and all(delay <= min(1000, 100 * 2**number) for number, delay in enumerate(delays))
+    # The program waits exactly these, one after another, and is then done.
+    more = '"script":[{"ms":1,"err":5}]'
+    [ran] = jobs_of(outage.run_plan(str(zsched), plan([job(schedule=text, script=more)], '"horizon":9999999')))
+    assert (ran.waits, ran.how, ran.value) == (delays, "failed", "5")
+
+
+def test_draws_come_from_the_seed_and_the_name_alone():
+    policies = {"a": "exponential(rand(1, 1000000))", "b": "exponential(rand(1, 1000000))", "c": "recurs(3)"}
+    one, other = (read({**SMALL, "policies": policies, "seed": seed}) for seed in [0, 1])
+    alone = read({**SMALL, "policies": {"b": policies["b"]}})
+    assert outage.schedules_of(one, "b") == outage.schedules_of(alone, "b") != outage.schedules_of(one, "a")
+    assert outage.schedules_of(other, "a") != outage.schedules_of(one, "a")
+    assert len(set(outage.schedules_of(one, "a"))) == 3
+    # The first number of Python's generator for this seed, as it always will be.
+    assert outage.schedules_of(one, "a")[0] == f"exponential({1 + int(random.Random('0 a').random() * 10**6)})"
+
+
+@pytest.mark.parametrize("within, size, marked", [("recur(", 5, "recur"), ("0000", 1, "rand(100000, 100000)")])
+def test_a_cause_after_a_draw_is_at_its_place_in_the_policy(within, size, marked):
+    policy = drawn.Policy("(spaced(rand(100000, 100000)) && recur(3))")
+    at = policy.schedule(random.Random(0)).index(within)
+    cause = policy.cause_at(random.Random(0), Cause(at, size, "no"))
+    assert policy.text[cause.at:cause.at + cause.size] == marked
+
+
+# ---- Files
+
+def test_a_plan_in_parts_is_what_split_makes(zsched, tmp_path):
+    with mock.patch.object(outage, "MOST_JOBS", 2):
+        found = simulated(zsched, SMALL)
+    outage_command.write_files(tmp_path, "steady", 5000, found)
+    lines = (tmp_path / "steady.jsonl").read_text().splitlines()
+    assert (lines[0], len(lines)) == ('{"horizon":5000}', 4)
+    assert [(tmp_path / "steady.parts" / f"part-00000{number}.json").read_bytes() for number in (1, 2)] == found[1]
+    assert (tmp_path / "steady.report").read_text() == REPORT
+    curve_of_case = (CASES / "three_clients_meet_an_outage" / "stdout").read_text().partition("steady.report\n")[2]
+    assert (tmp_path / "steady.csv").read_text() == curve_of_case
+
+
+def test_a_plan_that_is_too_long_is_cut_by_its_bytes():
+    with mock.patch.object(outage, "MAX_BYTES", 150):
+        plans, most = outage.cut_plans(9, [f'{{"name":"c{number}"}}' for number in range(20)])
+    found = [[job["name"] for job in json.loads(plan)["jobs"]] for plan in plans]
+    assert all(len(plan) <= 150 for plan in plans) and sum(found, []) == [f"c{number}" for number in range(20)]
+    assert {len(names) for names in found[:-1]} == {most}
+
+
+def test_more_bytes_than_a_plan_takes_are_said_before_the_run(capsys):
+    with mock.patch.object(outage_command, "LONGEST_PLAN", 32):
+        outage_command.warn_of_parts(read(SMALL), "steady")
+    assert capsys.readouterr().err == (
+        "zsched-outage: policy steady: 3 jobs with schedules of 33 bytes are more than one plan of 10,000 jobs and "
+        "32 bytes: it is written as JSON lines and parts\n")
+
+
+# ---- Curves and pictures
+
+def test_running_is_what_begun_less_what_ended(zsched):
+    found = simulated(zsched, SMALL)[-1].curve
+    assert [row[4] for row in found.rows()] == [0, 2, 0, 0]
+    assert [found.peak(), found.peak(2000), found.peak(9000)] == [(5, 1), (2, 2), None]
+
+
+def test_a_share_is_the_least_value_that_so_many_do_not_exceed():
+    hundred = list(range(1, 101))
+    assert [curve.share_of([5], percent) for percent in [50, 95, 100]] == [5, 5, 5]
+    assert [curve.share_of(hundred, percent) for percent in [50, 95, 99, 100]] == [50, 95, 99, 100]
+    assert (curve.share_of([1, 2, 3, 4], 50), curve.share_of([], 50)) == (2, None)
+
+
+def test_pictures_are_whole_and_have_all_policies(zsched):
+    found, figures = figures_of(zsched, DRAWN)
+    drawing, page = picture(found, figures), "".join(curve_page.curve_page(found, figures))
+    for text in [drawing, page]:
+        assert "prefers-color-scheme:dark" in text
+        assert re.findall(r"(?:src|href)=|url\(|@import|<script", text) == []
+        assert set(re.findall('class="name"[^>]*>([^<]+)', text)) == {"a", "b"}
+        assert min(map(int, re.findall(r"font-size:(\d+)px", text))) >= 11
+    assert (drawing.count('class="down"'), page.count("<svg")) == (2, 2)
+    assert len(re.findall(r">\d+ attempts; peak \d+ at 0 s; \d+ of 40 served, the last at [^<]+<title>", drawing)) == 2
+    assert f"<td>{figures['a'].attempts:,}</td>" in page
+
+
+@pytest.mark.parametrize("width", [360, 960])
+def test_no_load_and_no_line_goes_through_a_windows_name(zsched, width):
+    found, figures = figures_of(zsched, DRAWN)
+    names = re.findall(r'<text class="soft" x="[\d.]+" y="([\d.]+)">(?:down|slow)<', picture(found, figures, width))
+    layout = curve_picture.Layout(found, figures, width)
+    assert len(names) == 2
+    for number, base in enumerate(map(float, names)):
+        assert base + 3 < min(curve_picture._height(layout, layout.panel(number), layout.most), layout.panel(number))
+        assert base - curve_picture.SMALL > layout.panel(number) - curve_picture.WORDS
+
+
+def test_a_picture_has_a_most_of_columns(zsched):
+    rows = [(0, 5, 1, 2, 0), (1, 3, 4, 0, 2), (2, 0, 0, 0, 0), (3, 9, 0, 0, 9), (4, 1, 1, 1, 1)]
+    assert curve_picture.columns(rows, 1) == rows
+    assert curve_picture.columns(rows, 2) == [(0, 5, 4, 2, 2), (2, 9, 0, 0, 9), (4, 1, 1, 1, 1)]
+    far = {**SMALL, "clients": {"number": 9, "per_second": 1}, "horizon": "3d",
+           "windows": [{"from": 0, "to": "2d", "is": "down"}],
+           "policies": {"steady": "exponential(100)", "other": "spaced(7200000)"}}
+    drawing = picture(*figures_of(zsched, far))
+    assert len(drawing) < 200_000 and "attempts in each second, the most of " in drawing
+
+
+def test_a_picture_of_nothing_says_so(zsched):
+    never = {**SMALL, "clients": {"number": 2, "start": "9s"}}
+    assert "0 attempts; peak 0 at 0 s; 0 of 2 served" in picture(*figures_of(zsched, never))
+
+
+@pytest.mark.full
+def test_long_names_leave_all_figures_in_sight(zsched, tmp_path):
+    names = ["W" * 64, "a-policy-with-" + "long-" * 10]
+    found = figures_of(zsched, {**SMALL, "policies": dict.fromkeys(names, "spaced(400)")})
+    (tmp_path / "page.html").write_text("".join(curve_page.curve_page(*found)))
+    frames = "".join(f'<iframe width="{width}" height="1500" src="page.html"></iframe>' for width in [360, 400, 1280])
+    (tmp_path / "frames.html").write_text(f"<!doctype html>{frames}" + """<p id="found"></p><script>
+onload = () => { document.getElementById("found").textContent = [...document.querySelectorAll("iframe")].map(frame => {
+  const page = frame.contentDocument, table = page.querySelector(".table").getBoundingClientRect();
+  const cells = [...page.querySelectorAll("td")].map(it => it.getBoundingClientRect());
+  return `${frame.width} ${cells.length} ${cells.filter(it => it.right > table.right + 1).length}`;
+}).join(); };</script>""")
+    document = opened(f"file://{tmp_path}/frames.html", 1700, ["--allow-file-access-from-files"])
+    assert inside(document, "found") == "360 30 0,400 30 0,1280 30 0"
+
+
+# ---- Progress
+
+@pytest.mark.parametrize("is_terminal", [True, False])
+def test_progress_is_written_on_a_terminal_alone(is_terminal):
+    said, words, deadline = io.StringIO(), "steady: pass 1, 3 clients", time.monotonic() + (20 if is_terminal else 0.05)
+    said.isatty = lambda: is_terminal
+    with mock.patch.object(sys, "stderr", said), Now(every=0.01) as progress:
+        progress.say(words)
+        while words not in said.getvalue() and time.monotonic() < deadline:
+            time.sleep(0.01)
+    assert re.fullmatch(rf"(\r\x1b\[K\d+ s: ({words})?)+\r\x1b\[K" if is_terminal else "", said.getvalue())
