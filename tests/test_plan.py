@@ -10,9 +10,10 @@ from unittest import mock
 import pytest
 
 import generator
+import reference
 from mistakes import MISTAKES
 from reports import jobs_of
-from support import TOP, equal_jobs, examples, job, output_of, plan, run, write_digest
+from support import TOP, equal_jobs, examples, job, output_of, plan, write_digest
 from zsched_tools import importing, join, manifest, placed, plan_text, policy_file, policy_plan, processes
 from zsched_tools.command import Refused
 from zsched_tools.split import write_parts
@@ -105,19 +106,19 @@ def joined(folder):
 
 
 @pytest.fixture
-def parts(tmp_path, zsched):
+def parts(tmp_path):
     """The parts of a plan of 11 jobs with their reports and digests, in a folder beside its report."""
     (tmp_path / "report").write_bytes(equal_jobs([f"job-{number}" for number in range(11)], 1, 1)[1])
     texts = split(tmp_path, plan([job(f"job-{number}") for number in range(11)]).decode(), 3)
     with mock.patch.object(processes, "in_order", map):
-        yield with_reports(zsched, tmp_path / "parts", texts)
+        yield with_reports(tmp_path / "parts", texts)
 
 
-def with_reports(zsched, folder, texts):
-    """Writes the reports and digests of parts. Returns the folder."""
+def with_reports(folder, texts):
+    """Writes the reports and digests of parts, by the reference. Returns the folder."""
     for number, text in enumerate(texts, 1):
         path = folder / f"part-{number:06}.report"
-        path.write_bytes(run(zsched, text.encode())[1])
+        path.write_bytes(reference.answer(text.encode())[1])
         write_digest(path)
     return folder
 
@@ -145,18 +146,19 @@ def test_a_change_of_a_byte_a_bit_or_a_digit_is_found(parts):
     assert joined(parts) == (parts.parent / "report").read_bytes()
 
 
-def test_the_report_of_a_plan_is_the_reports_of_its_parts_joined(tmp_path, zsched):
+def test_the_report_of_a_plan_is_the_reports_of_its_parts_joined(tmp_path):
     attempts = count = 0
     for chance in map(random.Random, range(examples(220))):
         text = generator.json_text(chance, generator.made_plan(chance))
-        status, whole, _ = run(zsched, text.encode())
+        status, whole, _ = reference.answer(text.encode())
         if status != 0:
             continue
         most, out, count = 1 + count % 8, io.BytesIO(), count + 1
-        folder = with_reports(zsched, tmp_path / "parts", split(tmp_path, text, most))
-        join.write_joined(sorted(folder.glob("*.report")), out.write)
+        folder = with_reports(tmp_path / "parts", split(tmp_path, text, most))
+        with mock.patch.object(processes, "in_order", map):
+            join.write_joined(sorted(folder.glob("*.report")), out.write)
+            assert out.getvalue() == joined(folder) == whole, text
         counts = [entry.jobs for entry in manifest.read(folder / "manifest")]
-        assert out.getvalue() == joined(folder) == whole, text
         assert max(counts) <= most and sum(counts) == len(jobs_of(whole))
         attempts += whole.count(b"\nattempt ")
     assert count >= 200 and attempts > 2000

@@ -1,5 +1,5 @@
-"""zsched-population: the report of a population is that of its jobs as one plan, and an error has the line's number. Lines
-of any form, blocks and broken streams are the cases in tests/cases/zsched-population."""
+"""zsched-population: the report of a population is that of its jobs as one plan, and an error has its line's number.
+Lines of any form, blocks and broken streams are the cases in tests/cases/zsched-population."""
 import json
 import random
 import re
@@ -30,8 +30,9 @@ def jobs(begin, end):
 
 def report(begin, end):
     """What is reported of such jobs, computed by hand."""
-    first, second = "attempt 1 0..1 err 1\nstep 1 out 0 next 1\n", "attempt 2 1..2 err 1\nstep 2 out 1 done\n"
-    return "".join(f"job j{number} retry\n{first}{second}end failed 1 at 2 polls 3\n" for number in range(begin, end)).encode()
+    lines = ["retry", "attempt 1 0..1 err 1", "step 1 out 0 next 1", "attempt 2 1..2 err 1", "step 2 out 1 done",
+             "end failed 1 at 2 polls 3", ""]
+    return "".join(f"job j{number} " + "\n".join(lines) for number in range(begin, end)).encode()
 
 
 def joined(lines):
