@@ -16,7 +16,7 @@ def opened(address, width=1280, words=()):
                 "--no-first-run", "--host-resolver-rules=MAP * ~NOTFOUND , EXCLUDE 127.0.0.1",
                 f"--user-data-dir={folder}", f"--window-size={width},900", "--virtual-time-budget=8000", *words,
                 "--dump-dom", address]
-        ended = subprocess.run(said, capture_output=True, check=False, timeout=60, env={**os.environ, "HOME": folder})
+        ended = subprocess.run(said, capture_output=True, check=False, timeout=180, env={**os.environ, "HOME": folder})
     assert ended.returncode == 0, ended.stderr[-500:]
     return ended.stdout.decode()
 

@@ -1,0 +1,304 @@
+"""docs/play.html: its evaluator against the reference, its bounds against tests/bounds.py, its pictures; the file; and
+the page in a real browser. What else its functions return are the cases in tests/cases/play-page."""
+import base64
+import contextlib
+import json
+import re
+import shutil
+import subprocess
+import urllib.parse
+import xml.etree.ElementTree
+
+import pytest
+
+import bounds
+import faults
+import generator
+import reference
+from browser import inside, opened
+from reports import jobs_of
+from support import TOP, examples, plan, plans_with_reports, report_beside
+from zsched_tools import play_page
+
+PAGE = TOP / "docs" / "play.html"
+TEXT = PAGE.read_text()
+EXAMPLES = json.loads(re.search(r'id="example-list">\n(.*?)</script>', TEXT, re.S)[1])
+BACKOFF = (TOP / "examples" / "capped_backoff.json.stdout").read_text()
+MOST_ATTEMPTS = 2100
+
+
+@contextlib.contextmanager
+def functions_of(path):
+    """A function that calls those of a page, by their names."""
+    node = shutil.which("node") or pytest.skip("node isn't installed (Debian: nodejs)")
+    words, pipe = [node, TOP / "tests" / "page_scripts.js", path], subprocess.PIPE
+    with subprocess.Popen(words, stdin=pipe, stdout=pipe) as child:
+        def call(*words):
+            child.stdin.write(f"{json.dumps(words)}\n".encode())
+            child.stdin.flush()
+            return json.loads(child.stdout.readline())
+        yield call
+
+
+@pytest.fixture(scope="module")
+def page():
+    """A function that calls those of the page."""
+    with functions_of(PAGE) as call:
+        yield call
+
+
+def answer(page, text):
+    """The status, report and fault's line of the page's evaluator for a plan."""
+    status, report, fault = page("page.answer", base64.b64encode(text).decode())
+    return status, report.encode(), fault.encode()
+
+
+# ---- The evaluator
+
+@pytest.mark.parametrize("path", plans_with_reports(), ids=lambda path: path.stem)
+def test_the_evaluator_gives_the_report_beside_a_plan(page, path):
+    assert answer(page, path.read_bytes()) == (0, report_beside(path), b"") == reference.answer(path.read_bytes())
+
+
+LIMITS = [(name, text) for name, text, _ in faults.refused() + faults.accepted() if "1,000,001" not in name]
+
+
+@pytest.mark.parametrize("text", [text for _, text in LIMITS], ids=[name for name, _ in LIMITS])
+def test_the_evaluator_gives_what_the_reference_gives_at_the_limits(page, text):
+    assert answer(page, text) == reference.answer(text)
+
+
+@pytest.mark.parametrize("part", range(8))
+def test_the_evaluator_gives_what_the_reference_gives_on_random_plans(page, part):
+    found = set()
+    for seed in range(part, examples(2000), 8):
+        text = generator.plan_of(seed)
+        wanted = reference.answer(text, MOST_ATTEMPTS)
+        assert answer(page, text) == wanted, f"seed {seed}"
+        found.add(wanted[2].rstrip(b"0123456789\n"))
+    assert len(found) > 20
+
+
+def test_an_evaluator_that_counts_wrong_is_noticed(tmp_path):
+    wrong = tmp_path / "wrong.html"
+    wrong.write_text(TEXT.replace("n++ < term.n ? m : null", "n++ <= term.n ? m : null"))
+    text = plan().replace(b"recurs(3)", b"recurs(0)")
+    with functions_of(wrong) as call:
+        assert answer(call, plan()) == reference.answer(plan())
+        assert answer(call, text) != reference.answer(text)
+
+
+# ---- Bounds for every input
+
+def judge_bounds(page, text, schedule, steps=120):
+    """The page's bounds by at most so many steps are those of tests/bounds.py."""
+    found, wanted = page("bounding.boundsOf", text, steps), bounds.bounds(schedule, steps)
+    numbers = [found[key] and int(found[key]) for key in ["least", "most", "longest", "total", "seen"]]
+    others = [wanted[key] for key in ["longest_wait", "total_wait", "steps_seen"]]
+    assert numbers == [*wanted["attempts"].values(), *others], text
+    assert found["isCut"] or wanted["attempts"]["most"] is not None or wanted["steps_seen"] < steps, text
+
+
+def test_bounds_of_random_schedules(page):
+    policies = [found for seed in range(examples(400)) if (found := bounds.random_policy(seed))]
+    for text, schedule in policies:
+        judge_bounds(page, text, schedule)
+    assert len(policies) > 100
+
+
+def test_bounds_of_the_schedules_of_the_plans(page):
+    texts = {job["schedule"] for path in plans_with_reports() for job in json.loads(path.read_bytes())["jobs"]}
+    short = sorted(text for text in texts if len(text) < 2000)
+    for text in short:
+        judge_bounds(page, text, reference.read_schedule(text.encode()))
+    assert len(short) > 60
+
+
+# ---- The plan of the fields
+
+def test_the_plan_is_what_the_fields_say(page):
+    fields = {"a": "spaced(7)", "b": "forever", "until": "2min", "start": "1s",
+              "script": "1.5s err 503 x2, 35 ok 18446744073709551615"}
+    script = [{"ms": 1500, "err": 503}] * 2 + [{"ms": 35, "ok": 18446744073709551615}]
+    jobs = [{"name": name, "mode": "retry", "start": 1000, "schedule": schedule, "script": script}
+            for name, schedule in [("A", "spaced(7)"), ("B", "forever")]]
+    assert json.loads(page("page.plan", fields)["text"]) == {"horizon": 120000, "jobs": jobs}
+
+
+def test_ten_examples_give_reports(page):
+    assert [bool(jobs_of(page("page.report", example))) for example in EXAMPLES] == [True] * 10
+
+
+def test_what_is_typed_never_becomes_markup(page):
+    typed = 'recurs(3)"<script>alert(1)</script>\\'
+    assert json.loads(page("page.plan", {"a": typed})["text"])["jobs"][0]["schedule"] == typed
+    assert set(re.findall(r"innerHTML = (.*);", TEXT)) == {"drawn.svg", "curves"}
+
+
+def test_in_an_outage_each_attempt_meets_the_service_as_it_is_at_its_begin(page):
+    text = page("page.plan", {
+        "world": "outage", "a": "(exponential(rand(50, 150)) || spaced(rand(1000,3000)))", "until": "3min",
+        "b": "(spaced(500) && recurs(9))", "down": "5s..35s, 1min..70s", "spread": "70s"})["text"]
+    jobs = jobs_of(reference.answer(text.encode(), MOST_ATTEMPTS)[1])
+    attempts = [it for job in jobs for it in job.attempts if it.end is not None]
+    for it in attempts:
+        is_down = 5000 <= it.begin < 35000 or 60000 <= it.begin < 70000
+        assert (it.how, it.value, it.end - it.begin) == (("err", 503, 50) if is_down else ("ok", 200, 40))
+    assert [job["start"] for job in json.loads(text)["jobs"]] == [3500 * number for number in range(20)] * 2
+    assert len(attempts) > 200 and sum(job.how == "failed" for job in jobs) > 1
+
+
+def test_the_same_seed_gives_the_same_plan(page):
+    fields = {"world": "outage", "a": "spaced(rand(1, 1000000))"}
+    one, again, other = (page("page.plan", {**fields, "seed": seed})["text"] for seed in "112")
+    numbers = {int(found) for found in re.findall(r"spaced\((\d+)\)", one)}
+    assert one == again != other and len(numbers) > 15 and all(1 <= number <= 1000000 for number in numbers)
+
+
+# ---- Pictures
+
+@pytest.mark.parametrize("width", [330, 1200])
+@pytest.mark.parametrize("is_log", [False, True])
+def test_nothing_is_outside_of_a_picture(page, width, is_log):
+    for path in sorted(TOP.glob("examples/*.stdout")):
+        svg = page("page.picture", path.read_text(), {"width": width, "isLog": is_log})
+        root = xml.etree.ElementTree.fromstring(svg)
+        height = float(root.get("height"))
+        assert float(root.get("width")) == width
+        for it in root.iter():
+            x, y, wide, tall = (float(it.get(key, 0)) for key in ["x", "y", "width", "height"])
+            assert 0 <= x <= x + wide <= width + 0.1 and 0 <= y <= y + tall <= height, (path.name, it.attrib)
+
+
+@pytest.mark.parametrize("name, begin, below", [("a-name-that-leaves-no-room", "a-name", 15), ("short", "short", 0)])
+def test_a_verdict_in_a_narrow_picture_is_whole(page, name, begin, below):
+    end = "attempt 1 0..40 err 503\nstep 1 out 0 done\nend failed 503 at 40 polls 2\n"
+    svg = page("page.picture", f"job {name} retry\n{end}polls 2\n", {"width": 376})
+    shown = re.findall(r'<text [^>]*y="([\d.]+)"[^>]*>([^<]*)', svg)
+    [named] = [float(y) for y, words in shown if words.startswith(begin)]
+    [verdict] = [float(y) for y, words in shown if words.startswith("gives up with 503 after 1 attempt, 40 ms")]
+    assert verdict - named == below
+
+
+def test_each_attempt_that_is_shown_has_a_title(page):
+    attempts = [it for job in jobs_of(BACKOFF) for it in job.attempts]
+    for begin, end, part in [(0, 10**15, {}), (12000, 30000, {"from": 12000, "to": 30000})]:
+        svg = page("page.picture", BACKOFF, {"width": 1200, **part})
+        titles = re.findall(r"<title>attempt \d+ of \S+: (\d+)\.\.", svg)
+        assert list(map(int, titles)) == [it.begin for it in attempts if it.end >= begin and it.begin <= end]
+
+
+# ---- The file
+
+def test_the_page_loads_nothing_from_elsewhere_and_says_what_its_evaluator_is():
+    assert re.findall(r"https?:|//[a-z]|@import|url\(", TEXT.replace("// ", "")) == []
+    assert set(re.findall(r'\b(?:src|href)="([^"]*)"', TEXT)) == {"data:,"}
+    assert re.search("Content-Security-Policy\"\\s+content=\"default-src 'none'; ", TEXT)
+    assert re.findall(r"fetch\((.*?),", TEXT) == ['"/report"']
+    assert "a separate implementation of zsched, unproved and in" in TEXT
+
+
+def test_every_field_has_a_label_and_a_place_for_its_fault():
+    named = set(re.findall(r'<label for="(\w+)"', TEXT))
+    defaults = re.search(r"const DEFAULTS = \{(.*?)\};", TEXT, re.S)[1]
+    fields = set(re.findall(r'<(?:input|textarea|select) id="(\w+)"', TEXT))
+    assert named == fields == set(re.findall(r'(\w+): "', defaults)) and len(named) == 13
+    assert set(re.findall(r'id="(\w+)-fault"', TEXT)) == (named | {"plan"}) - {"world"}
+
+
+def test_other_pages_take_its_pieces():
+    assert "return { attemptTitle," in play_page.piece("drawing")
+    assert "color-scheme: light dark" in play_page.piece("drawing-style")
+
+
+def brightness(color):
+    """The relative luminance of #rrggbb or #rgb, as the guidelines for accessible pages (WCAG) define it."""
+    digits = color[1:] if len(color) == 7 else "".join(2 * digit for digit in color[1:])
+    parts = [int(digits[at:at + 2], 16) / 255 for at in (0, 2, 4)]
+    linear = [part / 12.92 if part <= 0.04045 else ((part + 0.055) / 1.055)**2.4 for part in parts]
+    return sum(share * part for share, part in zip([0.2126, 0.7152, 0.0722], linear))
+
+
+def test_letters_are_readable_on_each_ground_by_day_and_at_night():
+    themes = [dict(re.findall(r"--(\w+): (#[0-9a-f]+);", block))
+              for block in re.findall(r":root \{(.*?)\}", play_page.piece("drawing-style"), re.S)]
+    for colors in themes:
+        for ink in ["ink", "soft", "green", "red"]:
+            for ground in ["page", "band", "down"]:
+                low, high = sorted([brightness(colors[ink]), brightness(colors[ground])])
+                assert (high + 0.05) / (low + 0.05) >= 4.5, (ink, ground, colors)
+    assert len(themes) == 2 and "::placeholder { color: var(--soft); opacity: 1; }" in TEXT
+    assert min(int(size) for size in re.findall(r"font(?:-size)?: (?:600 )?(\d+)px", TEXT)) >= 11
+
+
+# ---- In a browser, without any server
+
+def shown(**fields):
+    """The page's document for some fields."""
+    return opened(f"file://{PAGE}#{urllib.parse.urlencode(fields)}" if fields else f"file://{PAGE}")
+
+
+@pytest.mark.full
+def test_a_browser_shows_the_first_example():
+    document = shown()
+    assert "unproved and in JavaScript" in inside(document, "engine")
+    assert re.findall('aria-pressed="true">(.*?)<', document) == ["Backoff with a cap"]
+    said = inside(document, "state").replace("\n", "")
+    assert "A: gives up with 503 after 11 attempts, 13.54 s; longest wait 2 s" in said
+    # 100, 200, 400, 800, 1600, and 2000 five times.
+    assert "for every input (unproved): 11 attempts, always; waits of at most 2 s, 13.1 s in all" in document
+    assert "end failed 503 at 13540 polls 22" in inside(document, "report")
+    assert re.search(r'<div id="picture"[^>]*><svg ', document) and 'class="fault shown"' not in document
+
+
+@pytest.mark.full
+def test_a_browser_compares_two_policies_in_an_outage():
+    document = shown(a="exponential(100)", b="spaced(1000)", world="outage", until="3min")
+    served = "all 200 clients are served, the last at "
+    assert re.search(rf"A: {served}.*B: {served}", document)
+    assert re.search(r"each of its \d+ attempts ends as the service says for its moment", document)
+    assert len(re.findall(r"attempts that begin in each 1 s</text>", document)) == 0
+    assert len(re.findall(r'aria-label="[AB]: attempts that begin in each 1 s"', document)) == 2
+
+
+@pytest.mark.full
+def test_nothing_is_out_of_sight_from_360_to_1600_pixels(tmp_path):
+    queries = ["", urllib.parse.urlencode({"a": "exponential(100)", "b": "fibonacci(100)", "world": "outage"}),
+               urllib.parse.urlencode({"a": "(" * 300, "b": "recurs(1)" + ".collectAll" * 9})]
+    widths = ["360", "400", "1280", "1600"]
+    frames = "".join(f'<iframe width="{width}" height="2500" src="file://{PAGE}#{query}"></iframe>'
+                     for width in widths for query in queries)
+    (tmp_path / "frames.html").write_text(f"""<!doctype html>{frames}<p id="found"></p><script>
+onload = () => setTimeout(() => {{
+  const widths = [...document.querySelectorAll("iframe")].map(frame => {{
+    const page = frame.contentDocument, width = page.documentElement.clientWidth;
+    const beyond = [...page.querySelectorAll("body *")].filter(it => !it.closest("pre") && it.tagName !== "path"
+      && it.getBoundingClientRect().right > width + 1).map(it => it.id || it.className || it.tagName);
+    return [frame.width, page.documentElement.scrollWidth <= width, page.querySelectorAll("svg").length > 0, beyond];
+  }});
+  document.getElementById("found").textContent = JSON.stringify(widths);
+}}, 3000);</script>""")
+    found = inside(opened(f"file://{tmp_path}/frames.html", 1700, ["--allow-file-access-from-files"]), "found")
+    assert json.loads(found) == [[width, True, number < 2, []] for width in widths for number in range(3)]
+
+
+@pytest.mark.full
+@pytest.mark.parametrize("schedule, until, labels", [
+    ("(exponential(100) && recurs(12))", "20min", ["0 ms", "1 min", "2 min", "3 min"]),
+    ("(exponential(1000, 10) && recurs(7))", "300d", ["0 ms", "5 d", "10 d"]), ("recurs(3)", "1s", ["0 ms", "1 ms"])])
+def test_the_axis_of_waits_has_round_labels(schedule, until, labels):
+    curves = inside(shown(a=schedule, until=until, script="5 err 7"), "curves")
+    assert re.findall(r'text-anchor="end"[^>]*>([^<]*)</text>', curves) == labels
+
+
+@pytest.mark.full
+def test_one_word_that_is_missing_is_named_alone():
+    assert inside(shown(a="((recurs(3) || spaced(5)) && recurs(4).map(_1)"), "a-fault").endswith(">write )")
+
+
+@pytest.mark.full
+def test_a_fault_is_shown_with_its_caret():
+    document = shown(a="recurs(3)", b="(spaced(10) && recur(3))")
+    assert "<strong class=\"\">there is no recur</strong>" in document
+    assert "(spaced(10) &amp;&amp; recur(3))\n" + " " * 15 + '<b class="">^^^^^</b>' in document
+    assert re.search(r'<textarea id="b"[^>]* aria-invalid="true"', document)
