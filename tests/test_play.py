@@ -1,0 +1,282 @@
+"""zsched-play: what the server takes and rejects, its responses, runs that are stopped, and its page in a real browser.
+What the page does with typed text is in test_page.py; the command line is in tests/cases/zsched-play."""
+import contextlib
+import http.client
+import json
+import os
+import re
+import signal
+import socket
+import subprocess
+import threading
+import urllib.parse
+from unittest import mock
+
+import pytest
+
+from browser import inside, opened
+from support import ONE_JOB, TOP, run, run_tool
+from zsched_tools import duration_text, durations, play
+
+TOOL = TOP / "tools" / "zsched-play"
+PAGE = (TOP / "docs" / "play.html").read_text()
+SERVED = PAGE.replace('data-engine="page"', 'data-engine="program"', 1)
+
+
+def question(schedule="recurs(3)", horizon=1000, script=({"ms": 1, "err": 7},), schedules=()):
+    """The bytes of a plan of a retry with each schedule."""
+    jobs = [{"name": f"A{number}", "mode": "retry", "schedule": text, "script": list(script)}
+            for number, text in enumerate(schedules or [schedule])]
+    return json.dumps({"horizon": horizon, "jobs": jobs}).encode()
+
+
+def program(folder, text):
+    """The path of a program that a shell runs."""
+    path = folder / "program"
+    path.write_text(f"#!/bin/sh\n{text}\n")
+    path.chmod(0o755)
+    return str(path)
+
+
+@contextlib.contextmanager
+def served(zsched, **variables):
+    """A server's process and its address."""
+    words, pipe = [TOOL, "--port", "0", "--zsched", zsched], subprocess.PIPE
+    with subprocess.Popen(words, stdout=pipe, stderr=pipe, text=True, env={**os.environ, **variables}) as server:
+        try:
+            yield server, server.stdout.readline().removeprefix("zsched-play: ").strip()
+        finally:
+            server.kill()
+
+
+@pytest.fixture(scope="module")
+def url(zsched, bounds):
+    """The address of a server that all tests share."""
+    with served(zsched, ZSCHED_BOUNDS=str(bounds)) as (_, found):
+        yield found
+
+
+def request(url, method, path="/", body=None, **headers):
+    """A response's status, headers and body. A header that is None isn't sent."""
+    host = urllib.parse.urlsplit(url).netloc
+    sent = {"Host": host, "Content_Length": None if body is None else len(body), **headers}
+    with contextlib.closing(http.client.HTTPConnection(host, timeout=30)) as connection:
+        connection.putrequest(method, path, skip_host=True, skip_accept_encoding=True)
+        for name, value in sent.items():
+            if value is not None:
+                connection.putheader(name.replace("_", "-"), value)
+        connection.endheaders(body)
+        response = connection.getresponse()
+        return response.status, response.headers, response.read()
+
+
+def asked(url, text):
+    """The response for a plan."""
+    status, _, body = request(url, "POST", "/report", text)
+    assert status == 200, body
+    return json.loads(body)
+
+
+@pytest.mark.parametrize("text, ms", [
+    ("40", 40), ("40ms", 40), (" 1.5s ", 1500), ("0.001 s", 1), ("2min", 120000), ("2m", 120000), ("1h", 3600000),
+    ("1d", 86400000), ("1h30m", 5400000), ("0.5d", 43200000), ("0", 0), ("007", 7), (str(2**64 - 1), 2**64 - 1),
+    *((durations.duration(ms), ms) for ms in [0, 7, 999, 1000, 1001, 61000, 123456, 3600000, 90061001]),
+    *((text, None) for text in ["", "1 week", "-5", "1.5", "9" * 5000, "5x", "-1", "s", "1 2", "1s!", "0.5ms"])],
+    ids=lambda it: str(it)[:20])
+def test_a_duration_is_read(text, ms):
+    with contextlib.nullcontext() if ms is not None else pytest.raises(ValueError):
+        assert duration_text.milliseconds(text) == ms
+
+
+# ---- Responses
+
+@pytest.mark.parametrize("path", sorted(TOP.glob("examples/*.json"))[:8], ids=lambda path: path.stem)
+def test_the_report_is_that_of_the_program(url, path):
+    found, report = asked(url, path.read_bytes()), path.with_name(f"{path.name}.stdout").read_text()
+    assert found == {"report": report, "size": len(report), "bounds": found["bounds"]}
+
+
+def test_the_page_says_what_holds_for_every_input(url):
+    policy, said = "(exponential(100) && recurs(5))", "6 attempts, always; waits of at most 1.6 s, 3.1 s in all"
+    assert asked(url, question(policy))["bounds"] == {policy: said}
+
+
+@pytest.mark.parametrize("status, schedules, wanted", [
+    (0, ["recurs(3)"], {"recurs(3)": "4 attempts, always; no waits"}), (4, ["recurs(3)"], {}),
+    (None, ["recurs(3)"], {}), (0, ["recurs(0)", "recurs(1)", "recurs(2)"], {})],
+    ids=["good", "failed", "without", "of three policies"])
+def test_bounds_are_left_out_if_there_are_none(zsched, tmp_path, status, schedules, wanted):
+    line = '{"policy":"","attempts":{"least":4,"most":4},"longest_wait":0,"total_wait":0,"steps_seen":4}'
+    bounds = None if status is None else program(tmp_path, f"cat > /dev/null\necho '{line}'\nexit {status}")
+    assert play.answer(zsched, question(schedules=schedules), 10, bounds)["bounds"] == wanted
+
+
+# A schedule that is rejected, the place and size of the mark, and words of the cause or the help.
+@pytest.mark.parametrize("schedule, at, size, word", [
+    ("recur(3)", 0, 5, "did you mean recurs?"), ("(spaced(10) && recurs(3s))", 23, 1, "milliseconds"),
+    ("recurs(3).map(_1)", 10, 7, "_1"), ("spaced(10) && recurs(3)", 11, 2, "parenthes"),
+    ("exponential(10, 0)", 16, 1, "factor"), ("recurs(18446744073709551616)", 7, 20, "18446744073709551615"),
+    ('recurs(3)"<script>', 9, 1, "quotes"), ("(recurs(3) && forever", 21, 1, ") is missing")])
+def test_a_fault_of_a_schedule_has_its_place(url, zsched, schedule, at, size, word):
+    fault = asked(url, question(schedule))["fault"]
+    assert run(zsched, question(schedule)) == (2, b"", f"zsched: {fault['text']}\n".encode())
+    assert (fault["job"], fault["key"], fault["at"], fault["size"]) == (0, "schedule", at, size)
+    assert word in fault["cause"] + fault["help"]
+
+
+def test_a_place_in_a_schedule_counts_no_escapes(url):
+    fault = asked(url, question().replace(b"recurs(3)", rb"(recurs(\u0033) \u0026 forever)"))["fault"]
+    assert (fault["at"], fault["size"], fault["help"]) == (11, 1, "write &&")
+
+
+@pytest.mark.parametrize("text, said, word", [
+    (question(horizon=10**15), "plan: out of range", "milliseconds"), (b"", "plan is not JSON", "begins as"),
+    (question(script=[{"ms": 0, "ok": 1}]), "job 0: script: an entry takes 0 ms", "1"),
+    (b"\xff", "plan is not JSON", "UTF-8")])
+def test_another_fault_has_its_cause(url, text, said, word):
+    fault = asked(url, text)["fault"]
+    assert (sorted(fault), fault["text"]) == (["cause", "help", "text"], said)
+    assert word in fault["cause"] + fault["help"]
+
+
+def test_a_long_report_is_cut(zsched):
+    with mock.patch.multiple(play, LONGEST_REPORT=1000, LONGEST_SHOWN=500):
+        found = play.answer(zsched, question("forever"), 10)
+    report = run(zsched, question("forever"))[1].decode()
+    assert (found["size"], found["isCut"]) == (len(report), True)
+    assert len(found["report"]) <= 500 and report.startswith(found["report"]) and found["report"].endswith("\n")
+
+
+# ---- Requests: their method, path, body and headers, and the status of the response. PORT is the server's.
+
+GET, REPORT = ("GET", "/", None), ("POST", "/report", ONE_JOB)
+METHODS = ["PUT", "DELETE", "PATCH", "OPTIONS", "TRACE"]
+REQUESTS = {
+    "localhost is its name too": [(*GET, {"Host": "localhost:PORT"}, 200)],
+    "another host": [(*words, {"Host": host}, 421) for words in [GET, REPORT] for host in [
+        "zsched.example", "zsched.example:PORT", "127.0.0.1", "127.0.0.1:1", "127.0.0.1:PORT.example", "", None]],
+    "another origin": [(*REPORT, {"Origin": it}, 403) for it in [
+        "http://zsched.example", "null", "https://127.0.0.1:PORT"]],
+    "the same origin": [(*REPORT, {"Origin": "http://127.0.0.1:PORT"}, 200)],
+    "another method": [("GET", "/report", None, {}, 405), ("BREW", "/", None, {}, 501), ("POST", "/", b"{}", {}, 405),
+                       *((it, "/", b"{}", {}, 405) for it in METHODS), *((it, "/report", b"{}", {}, 405) for it in METHODS)],
+    "another path": [(method, path, body, {}, 404) for method, body in [("GET", None), ("POST", b"{}")] for path in [
+        "/play.html", "/../play.py", "/report/", "/report.json", "/index.html", "/%2e%2e/"]],
+    "a long plan": [("POST", "/report", b" " * 16777217, {}, 413), ("POST", "/report", b" " * 16777216, {}, 200)],
+    "a length": [("POST", "/report", None, {"Content_Length": it}, status) for it, status in [
+        (None, 411), ("ten", 400), ("-1", 400), ("1_0", 400), ("1" * 19, 400), ("1" * 18, 413)]],
+    "a body in chunks": [("POST", "/report", None, {"Transfer_Encoding": "chunked"}, 411)],
+}
+
+
+@pytest.mark.parametrize("row", [
+    pytest.param(row, id=f"{name} {number}") for name, rows in REQUESTS.items() for number, row in enumerate(rows)])
+def test_requests_that_are_taken_and_rejected(url, row):
+    method, path, body, headers, status = row
+    port = str(urllib.parse.urlsplit(url).port)
+    headers = {name: it and it.replace("PORT", port) for name, it in headers.items()}
+    found, said, _ = request(url, method, path, body, **headers)
+    assert found == status and (status != 405 or said["Allow"] == ("GET, HEAD" if path == "/" else "POST"))
+
+
+def test_the_page_loads_nothing_from_elsewhere(url):
+    status, headers, body = request(url, "GET", "/?schedule=forever")
+    assert (status, body.decode(), len(SERVED) - len(PAGE)) == (200, SERVED, 3)
+    assert headers["Content-Security-Policy"].startswith("default-src 'none'; ")
+
+
+def test_head_has_no_body(url):
+    status, headers, body = request(url, "HEAD", "/")
+    assert (status, headers["Content-Length"], body) == (200, str(len(SERVED.encode())), b"")
+
+
+def test_a_request_of_two_hosts_is_rejected_and_a_browser_that_goes_away_does_no_harm(url):
+    own = urllib.parse.urlsplit(url)
+    with socket.create_connection((own.hostname, own.port), timeout=30) as line:
+        line.sendall(f"GET / HTTP/1.1\r\nHost: {own.netloc}\r\nHost: {own.netloc}\r\n\r\n".encode())
+        assert line.recv(100).startswith(b"HTTP/1.0 421 ")
+    with socket.create_connection((own.hostname, own.port), timeout=30) as line:
+        line.sendall(f"POST /report HTTP/1.1\r\nHost: {own.netloc}\r\nContent-Length: 100\r\n\r\n{{".encode())
+    assert request(url, "GET", "/")[0] == 200
+
+
+def test_it_listens_on_this_machine_alone(url):
+    with pytest.raises(ConnectionRefusedError):
+        socket.create_connection(("127.0.0.2", urllib.parse.urlsplit(url).port), timeout=5)
+
+
+# ---- A run that takes too long or too much memory
+
+def fault_of_endless(zsched, seconds):
+    """The fault of a plan without end, from a server in this process with this patience."""
+    with play.Server(0, str(zsched), seconds) as server:
+        thread = threading.Thread(target=server.serve_forever)
+        thread.start()
+        try:
+            return asked(server.url(), question("forever", horizon=99999998))["fault"]
+        finally:
+            server.shutdown()
+            thread.join()
+
+
+def test_a_plan_that_runs_too_long_is_killed_and_told(zsched):
+    cause, help = "no report within 1 seconds, so zsched was stopped", "shorten the horizon, or lengthen the waits"
+    assert fault_of_endless(zsched, 1) == {"field": "until", "cause": cause, "help": help}
+    children = run(["ps", "-o", "args=", "--ppid", str(os.getpid())], b"")[1].decode().splitlines()
+    assert (str(zsched) in children, play.SECONDS) == (False, 10)
+
+
+def test_a_plan_that_takes_too_much_memory_is_told(zsched):
+    with mock.patch.object(play, "MEMORY", 64 << 20):
+        fault = fault_of_endless(zsched, 30)
+    assert fault == {"field": "until", "cause": "out of memory (64 MB are given to it)", "help": play.SMALLER}
+
+
+def test_a_plan_of_too_many_attempts_is_not_run():
+    fault = play.answer("/nowhere", question("forever", horizon=999999999999999), 10)["fault"]
+    assert fault["field"] == "until"
+    assert fault["cause"].startswith("its attempts may be 1.0e+15, more than 100000000: ")
+
+
+@pytest.mark.parametrize("line, said, is_limited", [
+    ("", b"\n", True), ("# AddressSanitizer", b"hard_rss_limit_mb=1024\n", False)])
+def test_a_program_that_maps_terabytes_limits_its_memory_itself(tmp_path, line, said, is_limited):
+    path = program(tmp_path, f'{line}\ncat > /dev/null\necho "$ASAN_OPTIONS"')
+    with mock.patch.object(play.resource, "prlimit") as limit:
+        assert (*play.run(path, b"", 10)[:2], limit.called) == (0, said, is_limited)
+
+
+# ---- The process
+
+def test_a_port_that_is_taken_is_told(zsched):
+    with socket.create_server(("127.0.0.1", 0)) as taken:
+        port = taken.getsockname()[1]
+        ended = run_tool([TOOL, "--port", port, "--zsched", zsched])
+    assert ended == (2, "", f"zsched-play: port {port}: Address already in use\n")
+
+
+@pytest.mark.parametrize("number", [signal.SIGINT, signal.SIGTERM])
+def test_it_ends_when_it_is_told_to(zsched, number):
+    with served(zsched) as (server, _):
+        server.send_signal(number)
+        assert (server.wait(timeout=20), server.stderr.read()) == (0, "")
+
+
+# ---- The page over the program, in a browser that can reach no other host
+
+@pytest.mark.full
+def test_a_browser_shows_what_the_program_gives(url):
+    document = opened(url)
+    for name, words in [("engine", "comes from zsched itself"), ("report", "end failed 503 at 13540 polls 22"),
+                        ("state", "gives up with 503 after 11 attempts, 13.54 s; longest wait 2 s")]:
+        assert words in inside(document, name)
+    assert 'class="fault shown"' not in document
+
+
+@pytest.mark.full
+def test_a_browser_shows_a_fault_as_the_program_tells_it(url):
+    document = opened(f"{url}#{urllib.parse.urlencode({'a': 'recurs(3)', 'b': '(spaced(10) && recur(3))'})}")
+    fault = re.search(r'<div class="fault shown" id="b-fault" role="alert">(.*?)</div><', document + "<", re.S)[1]
+    assert fault.startswith("<strong class=\"\">there is no recur</strong><pre>")
+    assert "(spaced(10) &amp;&amp; recur(3))\n" + " " * 15 + '<b class="">^^^^^</b>' in fault
+    assert "did you mean recurs?" in document and "zsched: job 1: schedule: no term at byte 15" in document
