@@ -159,7 +159,7 @@ REQUESTS = {
         "http://zsched.example", "null", "https://127.0.0.1:PORT"]],
     "the same origin": [(*REPORT, {"Origin": "http://127.0.0.1:PORT"}, 200)],
     "another method": [("GET", "/report", None, {}, 405), ("BREW", "/", None, {}, 501), ("POST", "/", b"{}", {}, 405),
-                       *((it, "/", b"{}", {}, 405) for it in METHODS), *((it, "/report", b"{}", {}, 405) for it in METHODS)],
+                       *((it, path, b"{}", {}, 405) for it in METHODS for path in ["/", "/report"])],
     "another path": [(method, path, body, {}, 404) for method, body in [("GET", None), ("POST", b"{}")] for path in [
         "/play.html", "/../play.py", "/report/", "/report.json", "/index.html", "/%2e%2e/"]],
     "a long plan": [("POST", "/report", b" " * 16777217, {}, 413), ("POST", "/report", b" " * 16777216, {}, 200)],
