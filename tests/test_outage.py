@@ -61,16 +61,12 @@ def test_help_has_an_example():
 
 # ---- The search
 
-@st.composite
-def windows(draw):
-    """Some windows, one after another."""
+def laid(rows):
+    """Windows one after another, from the gap before each, its length and what else it has."""
     at, found = 0, []
-    for _ in range(draw(st.integers(1, 4))):
-        begin = at + draw(st.one_of(st.just(0), st.integers(1, 900)))
-        at = begin + draw(st.integers(300, 2500))
-        more = draw(st.sampled_from([{"is": "down"}, {"is": "slow"}, {"capacity": draw(st.integers(1, 3))},
-                                     {"is": "slow", "capacity": draw(st.integers(1, 2))}]))
-        found.append({"from": begin, "to": at, **more})
+    for gap, length, more in rows:
+        found.append({"from": at + gap, "to": at + gap + length, **more})
+        at += gap + length
     return found
 
 
@@ -81,8 +77,12 @@ def outcome(how, code):
 
 POLICIES = ["spaced(300)", "exponential(rand(50, 150))", "(exponential(100) || spaced(700))", "fixed(350)",
             "jitter(200, 900, 6)", "(spaced(250) && recurs(4)).whileInput(!= 429)"]
+STATES = [{"is": "down"}, {"is": "slow"}, *({"capacity": most} for most in [1, 2, 3]),
+          *({"is": "slow", "capacity": most} for most in [1, 2])]
+WINDOWS = st.tuples(st.one_of(st.just(0), st.integers(1, 900)), st.integers(300, 2500), st.sampled_from(STATES))
 SCENARIOS = st.fixed_dictionaries({
-    "horizon": st.integers(2000, 7000), "seed": st.integers(0, 99), "windows": windows(),
+    "horizon": st.integers(2000, 7000), "seed": st.integers(0, 99),
+    "windows": st.lists(WINDOWS, min_size=1, max_size=4).map(laid),
     "outcomes": st.fixed_dictionaries({
         "up": outcome("ok", 200), "down": outcome("err", 503), "full": outcome("err", 429),
         "slow": st.sampled_from([{"ms": 800, "err": 504}, {"ms": 700, "ok": 200}])}),
@@ -141,16 +141,13 @@ def test_the_search_finds_what_deciding_one_event_after_another_finds(zsched):
     assert len(denied) > 5
 
 
-def test_a_bucket_like_awss_gets_back_what_a_served_retry_took():
+def test_a_bucket_gets_tokens_back_and_is_never_more_than_full():
     bucket = Bucket(scenario.Budget("aws", 10_000, 1000, 5000, 0))
     assert [bucket.lets_retry(True) for _ in range(3)] == [True, True, False]
     bucket.succeeded(is_first=True)
     assert bucket.tokens == 1000
     bucket.succeeded(is_first=False)
     assert (bucket.tokens, bucket.lets_retry(False), bucket.tokens) == (6000, False, 6000)
-
-
-def test_a_bucket_like_grpcs_is_never_more_than_full():
     bucket = Bucket(scenario.Budget("grpc", 4000, 100, 1000, 0))
     assert [bucket.lets_retry(True) for _ in range(2)] == [True, False]
     for _ in range(30):
