@@ -20,7 +20,7 @@ from support import TOP, plans_with_reports, recut, report_beside, run
 CASES = sorted(path.parent for path in TOP.glob("tests/cases/*/*/cmd"))
 CUTS = [None, *[(workers, grain) for workers in [1, 2, 7, 64] for grain in [1, 3, 10000]]]
 STREAMS = ["status", "stdout", "stderr"]
-PATIENCE = 120
+PATIENCE = 600
 
 
 def content(path):
