@@ -1,20 +1,19 @@
 /* A real retry: a client calls a server on this machine until it is ready. It is busy at first.
  *
  *     cc example.c -o example $(pkg-config --cflags --libs zsched) -lpthread
- */
+ *
+ * The loop is in retry.h. */
 #define _POSIX_C_SOURCE 200809L
+#include "retry.h"
+
 #include <arpa/inet.h>
 #include <pthread.h>
 #include <stdio.h>
-#include <string.h>
 #include <sys/socket.h>
-#include <time.h>
 #include <unistd.h>
-#include <zsched.h>
 
 #define POLICY "((exponential(20) || spaced(100)) && recurs(5)).whileInput(= 503)"
 #define BUSY 3
-#define WORDS 64
 
 static struct sockaddr_in address = {.sin_family = AF_INET};
 
@@ -46,38 +45,24 @@ static int fetch(char *text, size_t size)
     return strcmp(text, "busy") == 0 ? 503 : 200;
 }
 
-/* Returns the milliseconds of a monotonic clock. */
-static uint64_t now(void)
-{
-    struct timespec time;
-    clock_gettime(CLOCK_MONOTONIC, &time);
-    return (uint64_t)time.tv_sec * 1000 + (uint64_t)time.tv_nsec / 1000000;
-}
+/* What an attempt gets: the room for the server's text, and the number of attempts so far. */
+struct call {
+    char text[64];
+    int attempts;
+};
 
-/* Retries until the server is ready or the schedule is done. Returns the number of attempts, or 0
- * if it ended without the server's text. */
-static int fetch_by(const char *policy, char *text, size_t size)
+/* Requests the text. Returns 0, or the code of the error. */
+static uint64_t attempt(void *data)
 {
-    const uint8_t *bytes = (const uint8_t *)policy;
-    uint64_t program[WORDS], state[WORDS], at;
-    zs_reply reply;
-    if (zs_compile(bytes, strlen(policy), program, WORDS, &at) || zs_program_begin(program, WORDS, state, WORDS))
-        return 0;
-    for (int attempt = 1;; attempt++) {
-        int code = fetch(text, size);
-        uint64_t moment = now();
-        if (code == 200)
-            return attempt;
-        if (zs_program_step(program, WORDS, state, WORDS, moment, (uint64_t)code, &reply, NULL, 0) != ZS_NEXT)
-            return 0;
-        uint64_t wait = reply.next - moment;
-        nanosleep(&(struct timespec){(time_t)(wait / 1000), (long)(wait % 1000) * 1000000}, NULL);
-    }
+    struct call *it = data;
+    it->attempts++;
+    int code = fetch(it->text, sizeof it->text);
+    return code == 200 ? 0 : (uint64_t)code;
 }
 
 int main(void)
 {
-    char text[64] = "";
+    struct call call = {"", 0};
     pthread_t server;
     socklen_t length = sizeof address;
     int listening = socket(AF_INET, SOCK_STREAM, 0);
@@ -85,11 +70,10 @@ int main(void)
     if (listening < 0 || bind(listening, (struct sockaddr *)&address, sizeof address) || listen(listening, 8) ||
         getsockname(listening, (struct sockaddr *)&address, &length) || pthread_create(&server, NULL, serve, &listening))
         return 2;
-    uint64_t begun = now();
-    int attempts = fetch_by(POLICY, text, sizeof text);
-    if (attempts == 0 || now() - begun < 140)
+    uint64_t begun = retry_now();
+    if (retry(POLICY, attempt, &call) || retry_now() - begun < 140)
         return 1;
     pthread_join(server, NULL);
-    printf("%s after %d attempts\n", text, attempts);
+    printf("%s after %d attempts\n", call.text, call.attempts);
     return 0;
 }
