@@ -1,0 +1,441 @@
+/* The client of the library in C and C++. It reads requests, and prints a line for each; the clients of the other languages
+ * read and print the same. A request is a line of words, of which TEXT is a '.' and a schedule's text in hexadecimal digits.
+ *
+ *   list TEXT MOMENT INPUT ..     steps the schedule by the list of its steps (zs_answer)
+ *   program TEXT MOMENT INPUT ..  steps a program
+ *   stored TEXT MOMENT INPUT ..   the same, each step by a new program with the stored state (not in C)
+ *   moved TEXT                    stores a state of the text's first line, for a program of its second line (not in C)
+ *   retry TEXT CODE TIMES         retries an effect that fails at once with CODE, the first TIMES times
+ *   many TEXT COUNT               steps a program COUNT times, each time when it may; prints a line after each tenth
+ *   bounds TEXT STEPS             zs_bounds: the number, all seven of struct zs_bounds, and the place (C alone)
+ *   answer, run                   as list and program, but only the last step's result is printed (C alone)
+ *   version TEXT                  the version of the library
+ *
+ * The line of steps has a word NUMBER,NEXT,VISITS,OUTPUT for each; a fault ends it: NUMBER,AT,WORDS. The line of a retry has
+ * the code at which it gave up, or 'done', and the microseconds at which each attempt began.
+ *
+ * client refuse   prints how many allocations each request makes, after it has made each of them fail
+ * client threads  runs all requests on four threads at once too, with as much stack as zsched.h says
+ *
+ * Each block that is passed to a call is exactly as long as its arguments say, so that a memory checker finds each access
+ * outside of it. --wrap=malloc, --wrap=realloc and --wrap=free of the linker count allocations and make them fail. */
+#ifndef _GNU_SOURCE
+#define _GNU_SOURCE
+#endif
+#include "retry.h"
+
+#include <pthread.h>
+#include <stdio.h>
+#include <stdlib.h>
+
+#define THREADS 4
+#define TIMES 3
+#define STACK (64 * 1024)
+#define BOUNDS_STACK (192 * 1024)
+#define UNTOUCHED 0xAA
+#define LENGTH(words, size) ((size) * sizeof *(words))
+
+typedef struct request {
+    char *command;
+    uint8_t *text;
+    size_t text_len;
+    uint64_t *numbers;
+    size_t count;
+    char *answer;
+} request;
+
+/* A schedule that is stepped by its program and state, or by its list if it has no program. */
+typedef struct schedule {
+    const request *of;
+    uint64_t *program, *state, size, state_size;
+} schedule;
+
+static request *requests;
+static size_t request_count;
+static long asked, held, refused_at = -1;
+static int is_alone = 1;
+
+#ifdef __cplusplus
+extern "C" {
+#endif
+void *__real_malloc(size_t size);
+void *__real_realloc(void *place, size_t size);
+void __real_free(void *place);
+
+static int is_refused(void)
+{
+    return __atomic_add_fetch(&asked, 1, __ATOMIC_SEQ_CST) == refused_at;
+}
+
+void *__wrap_malloc(size_t size)
+{
+    void *found = is_refused() ? NULL : __real_malloc(size);
+    __atomic_add_fetch(&held, found != NULL, __ATOMIC_SEQ_CST);
+    return found;
+}
+
+void *__wrap_realloc(void *place, size_t size)
+{
+    void *found = is_refused() ? NULL : __real_realloc(place, size);
+    __atomic_add_fetch(&held, found != NULL && place == NULL, __ATOMIC_SEQ_CST);
+    return found;
+}
+
+void __wrap_free(void *place)
+{
+    __atomic_sub_fetch(&held, place != NULL, __ATOMIC_SEQ_CST);
+    __real_free(place);
+}
+#ifdef __cplusplus
+}
+#endif
+
+/* Ends the program unless something holds of a request. */
+static void hold(int is_well, const request *it, const char *what)
+{
+    if (!is_well)
+        printf("%s %.*s: it doesn't hold that %s\n", it->command, (int)it->text_len, (const char *)it->text, what);
+    if (!is_well)
+        exit(1);
+}
+
+/* A separate block of this size with a copy of these bytes, or with bytes that show whether they were written. */
+static void *block(const void *bytes, size_t size)
+{
+    void *found = size ? __real_malloc(size) : NULL;
+    return !found ? found : bytes ? memcpy(found, bytes, size) : memset(found, UNTOUCHED, size);
+}
+
+static int is_untouched(const void *bytes, size_t size)
+{
+    while (size && ((const uint8_t *)bytes)[size - 1] == UNTOUCHED)
+        size--;
+    return size == 0;
+}
+
+static void say_fault(FILE *said, uint32_t number, uint64_t at)
+{
+    uint8_t text[80];
+    fprintf(said, " %u,%lu,%.*s", number, at, (int)zs_fault_text(number, at, text, sizeof text), (const char *)text);
+}
+
+static uint32_t last_step(const schedule *it, uint64_t size, uint64_t state_size)
+{
+    zs_reply reply;
+    return zs_program_step(it->program, size, it->state, state_size, UINT64_MAX, UINT64_MAX, &reply, NULL, 0);
+}
+
+/* Tests what zsched.h says of words that are too few, that were changed or that are another program's. */
+static void test_words(const schedule *it)
+{
+    uint64_t at, size = it->size, state_size = it->state_size, *few = (uint64_t *)block(NULL, LENGTH(few, size - 1));
+    uint64_t *before = (uint64_t *)block(it->state, LENGTH(before, state_size));
+    int is_well = zs_compile(it->of->text, it->of->text_len, few, size - 1, &at) == ZS_NO_ROOM && at == 0 &&
+                  is_untouched(few, LENGTH(few, size - 1)) && last_step(it, size, state_size - 1) == ZS_NO_ROOM &&
+                  zs_program_begin(it->program, size, it->state, state_size - 1) == ZS_NO_ROOM;
+    for (size_t i = 0; i < size; i++)
+        for (uint64_t change = 1; change; change <<= 21) {
+            it->program[i] ^= change;
+            is_well &= zs_program_begin(it->program, size, it->state, state_size) == ZS_NO_PROGRAM &&
+                       last_step(it, size, state_size) == ZS_NO_PROGRAM;
+            it->program[i] ^= change;
+        }
+    for (size_t short_size = 0; short_size < size; short_size += 1 + short_size / 4)
+        is_well &= last_step(it, short_size, state_size) == ZS_NO_PROGRAM;
+    for (uint64_t change = 1; change; change <<= 21) {
+        it->state[0] ^= change;
+        is_well &= last_step(it, size, state_size) == ZS_OTHER_STATE;
+        it->state[0] ^= change;
+    }
+    hold(is_well && memcmp(it->state, before, LENGTH(before, state_size)) == 0, it->of, "wrong words are rejected");
+    __real_free(few);
+    __real_free(before);
+}
+
+/* A step over words that, after the check word, represent no state returns, and changes none after the state. */
+static void test_odd_states(const schedule *it)
+{
+    static const uint64_t odd[] = {0, 1, 2, 1ull << 63, UINT64_MAX};
+    uint64_t size = it->state_size, *words = (uint64_t *)block(NULL, LENGTH(words, size + 2));
+    schedule changed = {it->of, it->program, words, it->size, size};
+    for (size_t kind = 0; kind < 5; kind++) {
+        for (size_t i = 0; i < size; i++)
+            words[i] = kind == 2 ? i * 0x9E3779B97F4A7C15 : odd[kind];
+        words[0] = it->state[0];
+        hold(last_step(&changed, it->size, size + 2) <= ZS_DONE && is_untouched(words + size, LENGTH(words, 2)), it->of,
+             "any words may be stepped");
+    }
+    __real_free(words);
+}
+
+/* Writes the program of a schedule and its state. Returns the number of the last call. */
+static uint32_t compile(schedule *it, uint64_t *at)
+{
+    uint32_t number = zs_program_size(it->of->text, it->of->text_len, &it->size, &it->state_size, at);
+    hold(!number || it->size + it->state_size == 0, it->of, "a text without a program has no sizes");
+    if (number)
+        return number;
+    it->program = (uint64_t *)block(NULL, LENGTH(it->program, it->size));
+    it->state = (uint64_t *)block(NULL, LENGTH(it->state, it->state_size));
+    number = zs_compile(it->of->text, it->of->text_len, it->program, it->size, at);
+    return number ? number : zs_program_begin(it->program, it->size, it->state, it->state_size);
+}
+
+/* One call for the step of this number, over a state and with a room for the output. */
+static uint32_t call(const schedule *it, size_t number, uint64_t *state, zs_reply *reply, uint8_t *out, size_t room)
+{
+    const zs_seen *seen = (const zs_seen *)it->of->numbers, *last = seen + number - 1;
+    if (!it->program)
+        return zs_answer(it->of->text, it->of->text_len, seen, number, reply, out, room);
+    long before = asked;
+    uint32_t found = zs_program_step(it->program, it->size, state, it->state_size, last->moment, last->input, reply, out, room);
+    hold(!is_alone || asked == before, it->of, "a step of a program allocates no memory");
+    return found;
+}
+
+/* Makes a step, first with another room and over a copy of the state. Says its result, and returns its number. */
+static uint32_t step(schedule *it, size_t number, FILE *said)
+{
+    static const size_t rooms[] = {0, 1, 5, 30, 400};
+    size_t room = rooms[number % 5], length = it->program ? LENGTH(it->state, it->state_size) : 0, size;
+    uint64_t *state = (uint64_t *)block(it->state, length);
+    uint8_t *cut = (uint8_t *)block(NULL, room), *out = NULL;
+    zs_reply *reply = (zs_reply *)block(NULL, sizeof *reply), *again = (zs_reply *)block(NULL, sizeof *again);
+    uint32_t found = call(it, number, state, reply, cut, room);
+    hold(found <= ZS_DONE || (is_untouched(cut, room) && (!length || memcmp(state, it->state, length) == 0)), it->of,
+         "a failed step changes nothing");
+    if (found <= ZS_DONE) {
+        size = reply->size;
+        out = (uint8_t *)block(NULL, size);
+        found = call(it, number, it->state, again, out, size);
+        room = found > ZS_DONE || room < size ? room : size;
+        hold(found > ZS_DONE || (memcmp(reply, again, sizeof *reply) == 0 && (!room || memcmp(cut, out, room) == 0) &&
+                                 is_untouched(cut + room, rooms[number % 5] - room)), it->of, "an output is cut at its room");
+        hold(!length || memcmp(state, it->state, length) == 0, it->of, "the room doesn't change the state");
+        memcpy(reply, again, sizeof *reply);
+    }
+    if (found <= ZS_DONE)
+        fprintf(said, " %u,%lu,%lu,%.*s", found, reply->next, reply->visits, (int)reply->size, (const char *)out);
+    else
+        say_fault(said, found, reply->at);
+    hold(found <= ZS_DONE || (reply->next | reply->size | reply->visits) == 0, it->of, "a fault has a place alone");
+    __real_free(state);
+    __real_free(cut);
+    __real_free(out);
+    __real_free(reply);
+    __real_free(again);
+    return found;
+}
+
+static void say_steps(const request *it, FILE *said)
+{
+    schedule made = {it, NULL, NULL, 0, 0};
+    uint64_t at = UNTOUCHED;
+    uint32_t number = *it->command == 'l' ? zs_check(it->text, it->text_len, &at) : compile(&made, &at);
+    if (number)
+        say_fault(said, number, at);
+    if (!number && made.program && refused_at < 0) {
+        test_words(&made);
+        test_odd_states(&made);
+    }
+    for (size_t i = 1; i <= it->count / 2 && number <= ZS_DONE; i++)
+        number = step(&made, i, said);
+    __real_free(made.program);
+    __real_free(made.state);
+}
+
+static void say_last(const request *it, FILE *said)
+{
+    schedule made = {it, NULL, NULL, 0, 0};
+    uint8_t out[400];
+    zs_reply reply = {0, 0, 0, 0};
+    size_t last = it->count / 2;
+    uint32_t number = *it->command == 'r' ? compile(&made, &reply.at) : 0;
+    for (size_t i = made.program ? 1 : last; i <= last && number <= ZS_DONE; i++)
+        number = call(&made, i, made.state, &reply, out, sizeof out);
+    if (number > ZS_DONE)
+        say_fault(said, number, reply.at);
+    else
+        fprintf(said, " %u,%lu,%lu,%.*s", number, reply.next, reply.visits, (int)reply.size % 400, (const char *)out);
+    __real_free(made.program);
+    __real_free(made.state);
+}
+
+static void say_bounds(const request *it, FILE *said)
+{
+    struct zs_bounds *found = (struct zs_bounds *)block(NULL, sizeof *found);
+    uint64_t *at = (uint64_t *)block(NULL, sizeof *at);
+    uint32_t number = zs_bounds(it->text, it->text_len, it->numbers[0], found, at);
+    fprintf(said, " %u %lu %lu %lu %lu %lu %lu %lu %lu", number, found->seen, found->least, found->has_most, found->most,
+            found->longest, found->has_total, found->total, *at);
+    __real_free(found);
+    __real_free(at);
+}
+
+/* An effect that fails, and says when each attempt began. */
+typedef struct effect {
+    FILE *said;
+    uint64_t begun, code, times;
+} effect;
+
+static uint64_t microseconds(void)
+{
+    struct timespec time;
+    clock_gettime(CLOCK_MONOTONIC, &time);
+    return (uint64_t)time.tv_sec * 1000000 + (uint64_t)time.tv_nsec / 1000;
+}
+
+static uint64_t attempt(void *data)
+{
+    effect *it = (effect *)data;
+    fprintf(it->said, " %lu", microseconds() - it->begun);
+    return it->times-- ? it->code : 0;
+}
+
+static void say_retry(const request *it, FILE *said)
+{
+    char *moments, *policy = strndup((const char *)it->text, it->text_len);
+    size_t size;
+    effect failing = {open_memstream(&moments, &size), microseconds(), it->numbers[0], it->numbers[1]};
+    uint64_t code = retry(policy, attempt, &failing);
+    fclose(failing.said);
+    fprintf(said, code ? " %lu" : " done", code);
+    fputs(moments, said);
+    __real_free(policy);
+    __real_free(moments);
+}
+
+static void step_many(const request *it)
+{
+    schedule made = {it, NULL, NULL, 0, 0};
+    zs_reply reply = {0, 0, 0, 0};
+    hold(compile(&made, &reply.at) == 0, it, "the policy has a program");
+    for (uint64_t i = 1; i <= it->numbers[0]; i++) {
+        zs_program_step(made.program, made.size, made.state, made.state_size, reply.next, 503, &reply, NULL, 0);
+        if (i % (it->numbers[0] / 10) == 0)
+            puts("");
+        fflush(stdout);
+    }
+    __real_free(made.program);
+    __real_free(made.state);
+}
+
+static int is(const request *it, const char *command)
+{
+    return strcmp(it->command, command) == 0;
+}
+
+/* Runs a request, and returns its line. */
+static char *served(const request *it)
+{
+    char *line;
+    size_t size;
+    FILE *said = open_memstream(&line, &size);
+    if (is(it, "version"))
+        fprintf(said, " %u", zs_version());
+    else if (is(it, "bounds"))
+        say_bounds(it, said);
+    else if (is(it, "retry"))
+        say_retry(it, said);
+    else if (is(it, "answer") || is(it, "run"))
+        say_last(it, said);
+    else
+        say_steps(it, said);
+    fclose(said);
+    return line;
+}
+
+/* Makes each allocation of a request fail in turn, and returns how many there are. Whichever fails: the line is the same, or
+ * ends early and says so. */
+static long refuse(const request *it)
+{
+    char *wanted = served(it);
+    for (long at = 1;; at++) {
+        long before = held;
+        asked = 0;
+        refused_at = at;
+        char *found = served(it), *end = strstr(found, *it->command == 'b' ? " 5 0 0 0 0 0 0 0 0" : " 5,0,out of memory");
+        refused_at = -1;
+        hold(held == before, it, "each block is freed");
+        hold(end ? asked >= at && strncmp(found, wanted, (size_t)(end - found)) == 0 : strcmp(found, wanted) == 0, it, found);
+        __real_free(found);
+        if (asked < at) {
+            __real_free(wanted);
+            return at - 1;
+        }
+    }
+}
+
+static void *thread(void *ignored)
+{
+    for (size_t i = 0; i < TIMES * request_count; i++) {
+        const request *it = &requests[i % request_count];
+        char *found = served(it);
+        hold(strcmp(found, it->answer) == 0, it, found);
+        __real_free(found);
+    }
+    return ignored;
+}
+
+/* Runs all requests on four threads with small stacks; they have the size for zs_bounds if the first request is for it. */
+static void run_at_once(void)
+{
+    pthread_t threads[THREADS];
+    pthread_attr_t attributes;
+    pthread_attr_init(&attributes);
+    pthread_attr_setstacksize(&attributes, *requests->command == 'b' ? BOUNDS_STACK : STACK);
+    is_alone = 0;
+    for (int i = 0; i < THREADS; i++)
+        hold(pthread_create(&threads[i], &attributes, thread, NULL) == 0, requests, "a thread starts");
+    for (int i = 0; i < THREADS; i++)
+        pthread_join(threads[i], NULL);
+    pthread_attr_destroy(&attributes);
+}
+
+static void read_request(request *it, char *line)
+{
+    size_t words = 0;
+    for (char *at = line; *at; at++)
+        words += *at == ' ';
+    char *rest, *digits, *word;
+    it->command = strdup(strtok_r(line, " \n", &rest));
+    digits = strtok_r(NULL, " \n", &rest) + 1;
+    it->text_len = strlen(digits) / 2;
+    it->text = (uint8_t *)block(NULL, it->text_len);
+    for (size_t i = 0; i < it->text_len; i++)
+        sscanf(digits + 2 * i, "%2hhx", &it->text[i]);
+    it->numbers = (uint64_t *)block(NULL, LENGTH(it->numbers, words - 1));
+    for (it->count = 0; (word = strtok_r(NULL, " \n", &rest)); it->count++)
+        it->numbers[it->count] = strtoull(word, NULL, 10);
+}
+
+int main(int count, char **words)
+{
+    char *line = NULL;
+    size_t size = 0;
+    while (getline(&line, &size, stdin) > 0) {
+        requests = (request *)__real_realloc(requests, LENGTH(requests, request_count + 1));
+        request *it = &requests[request_count++];
+        read_request(it, line);
+        it->answer = NULL;
+        if (*it->command == 'm')
+            step_many(it);
+        else if (count > 1 && *words[1] == 'r')
+            printf("%ld\n", refuse(it));
+        else
+            it->answer = served(it);
+    }
+    if (count > 1 && *words[1] == 't')
+        run_at_once();
+    for (size_t i = 0; i < request_count; i++) {
+        if (requests[i].answer)
+            puts(requests[i].answer + (*requests[i].answer == ' '));
+        __real_free(requests[i].command);
+        __real_free(requests[i].text);
+        __real_free(requests[i].numbers);
+        __real_free(requests[i].answer);
+    }
+    __real_free(requests);
+    __real_free(line);
+    return 0;
+}

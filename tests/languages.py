@@ -1,0 +1,170 @@
+"""The clients of the library in tests/clients/, one for each language: how each is built over a library, and what it prints.
+
+A client is built in an empty folder, of copies of its source and of its language's binding, with no variable of this process
+but those that compilers need. tests/clients/client.c documents its requests and lines."""
+import contextlib
+import fcntl
+import json
+import os
+import pathlib
+import shutil
+import subprocess
+import sys
+from typing import NamedTuple
+
+import pytest
+
+from support import TOP, output_of
+
+BINDINGS, CLIENTS = TOP / "bindings", TOP / "tests" / "clients"
+STRICT = ["-Wall", "-Wextra", "-Werror", "-pedantic", "-O2"]
+# What checks at run time that nothing is read or written beside what is given.
+WATCHED = ["-g", "-fsanitize=address,undefined", "-fno-sanitize-recover=all"]
+CPP = ("c++", "-x", "c++", "-std=c++17")
+WRAPPED = ["-Wl,--wrap=malloc,--wrap=realloc,--wrap=free", "-lpthread"]
+JNA = pathlib.Path("/usr/share/java/jna.jar")
+UNWANTED = shutil.ignore_patterns("__pycache__", "target", "Cargo.lock", "*.node", "example*")
+CLEAN = {name: os.environ[name] for name in ["PATH", "HOME", "CARGO_HOME", "RUSTUP_HOME", "NODE_INCLUDE"] if name in os.environ}
+
+
+def need(*tools):
+    """Skips the test if one of these commands or files isn't on this machine."""
+    missing = [str(it) for it in tools if not (os.path.exists(it) if "/" in str(it) else shutil.which(it))]
+    if missing:
+        pytest.skip(f"not on this machine: {', '.join(missing)}")
+
+
+def ran(words, room, **variables):
+    """The output of a command that has to succeed, in a folder and with few variables."""
+    return output_of(words, cwd=room, env=CLEAN | {name: str(it) for name, it in variables.items()})
+
+
+class Place(NamedTuple):
+    """The folders of the header and of the library, and what links a program in C with it."""
+    include: pathlib.Path
+    library: pathlib.Path
+    flags: list
+
+
+class Client(NamedTuple):
+    """The words and variables of a built client."""
+    words: list
+    variables: dict
+
+    def says(self, requests, *more, before=()):
+        """The lines that it prints of these requests, with more words after and before its own."""
+        words = [str(it) for it in [*before, *self.words, *more]]
+        ended = subprocess.run(words, input="".join(f"{it}\n" for it in requests), capture_output=True, text=True, check=False,
+                               env=CLEAN | self.variables)
+        assert ended.returncode == 0, f"{words}: {ended.returncode}: {ended.stdout[-500:]}{ended.stderr[-3000:]}"
+        return ended.stdout.splitlines()
+
+    def retries(self, text, code, times):
+        """How a retry ended, and the milliseconds at which its attempts began."""
+        line, = self.says([request("retry", text, code, times)])
+        ended, *moments = line.split()
+        return ended, [int(it) / 1000 for it in moments]
+
+
+def request(command, text, *numbers):
+    """The request of a command."""
+    return " ".join([command, f".{text.encode().hex()}", *map(str, numbers)])
+
+
+def are_kept(waits, moments):
+    """Whether these are the milliseconds between attempts, but for what a step's moment leaves out and a busy machine adds."""
+    gaps = [after - before for before, after in zip(moments, moments[1:])]
+    return len(gaps) == len(waits) and all(wait - 1 <= gap < wait + 3000 for gap, wait in zip(gaps, waits))
+
+
+def built_library(folder):
+    """The place of the library that tools/make-library made in a folder."""
+    return Place(TOP / "include", folder, ["-I", TOP / "include", folder / "libzsched.a"])
+
+
+def c(room, place, *more, compiler=("cc", "-std=gnu11")):
+    """The client in C."""
+    need(compiler[0])
+    for source in [CLIENTS / "client.c", BINDINGS / "c" / "retry.h"]:
+        shutil.copy(source, room)
+    ran([*compiler, *STRICT, *more, "-o", "client", "client.c", "-x", "none", *place.flags, *WRAPPED], room)
+    return Client([room / "client"], {"LD_LIBRARY_PATH": str(place.library)})
+
+
+def python(_, place):
+    """The client in Python."""
+    return Client([sys.executable, "-B", CLIENTS / "client.py"],
+                  {"ZSCHED_LIBRARY": str(place.library / "libzsched.so"), "PYTHONPATH": str(BINDINGS / "python")})
+
+
+def go_variables(place):
+    """The variables with which Go finds the library and uses no network."""
+    return {"CGO_CFLAGS": f"-I{place.include}", "CGO_LDFLAGS": f"-L{place.library}", "LD_LIBRARY_PATH": str(place.library),
+            "GOPROXY": "off"}
+
+
+def go(room, place):
+    """The client in Go, over the module by its path."""
+    need("go")
+    shutil.copytree(BINDINGS / "go", room / "zsched", ignore=UNWANTED)
+    (room / "client").mkdir()
+    shutil.copy(CLIENTS / "client.go", room / "client")
+    (room / "client" / "go.mod").write_text(
+        "module client\n\ngo 1.19\n\nrequire zsched v0.0.0\n\nreplace zsched => ../zsched\n")
+    ran(["go", "build", "-o", room / "answers", "."], room / "client", **go_variables(place))
+    return Client([room / "answers"], go_variables(place))
+
+
+def node(room, place):
+    """The client in JavaScript, over the folder in node_modules."""
+    need("node", pathlib.Path(os.environ.get("NODE_INCLUDE", "/usr/include/node"), "node_api.h"))
+    package = room / "node_modules" / "zsched"
+    shutil.copytree(BINDINGS / "node", package, ignore=UNWANTED)
+    ran(["./build"], package, ZSCHED_LIBRARY_DIR=place.library, CPATH=place.include)
+    shutil.copy(CLIENTS / "client.js", room)
+    return Client(["node", room / "client.js"], {})
+
+
+def java(room, place, jar=None):
+    """The client in Java, over the classes of the binding or a jar of them. It has little memory."""
+    need("javac", JNA)
+    classes = jar or room / "classes"
+    if not jar:
+        ran(["javac", "-Xlint:all", "-Werror", "-cp", JNA, "-d", classes, *sorted(BINDINGS.glob("java/zsched/*.java"))], room)
+    path = f"{JNA}:{classes}"
+    ran(["javac", "-Xlint:all", "-Werror", "-cp", path, "-d", "client", CLIENTS / "Client.java"], room)
+    return Client(["java", "-XX:+UseSerialGC", "-Xmx16m", "-cp", f"{path}:{room / 'client'}",
+                   f"-Djna.library.path={place.library}", "Client"], {})
+
+
+def rust(room, place):
+    """The client in Rust, over the crate by its path."""
+    need("cargo")
+    shutil.copytree(BINDINGS / "rust", room / "zsched", ignore=UNWANTED)
+    (room / "src").mkdir()
+    shutil.copy(CLIENTS / "client.rs", room / "src" / "main.rs")
+    (room / "Cargo.toml").write_text('[package]\nname = "client"\nversion = "0.1.0"\nedition = "2021"\n\n'
+                                     '[dependencies]\nzsched = { path = "zsched" }\n')
+    ran(["cargo", "build", "--quiet", "--offline", "--release"], room, ZSCHED_LIBRARY_DIR=place.library, RUSTFLAGS="-D warnings")
+    return Client([room / "target" / "release" / "client"], {})
+
+
+LANGUAGES = {"C": c, "C watched": lambda room, place: c(room, place, *WATCHED),
+             "C++": lambda room, place: c(room, place, compiler=CPP), "Python": python, "Go": go, "Node": node, "Java": java,
+             "Rust": rust}
+
+
+def built(name, factory, library):
+    """The client of a language over a built library. Of all processes of a run one builds it, in a folder of pytest's."""
+    folder = factory.getbasetemp().parent if "PYTEST_XDIST_WORKER" in os.environ else factory.getbasetemp()
+    room = folder / "clients" / name.replace(" ", "-")
+    room.parent.mkdir(exist_ok=True)
+    with open(f"{room}.lock", "w", encoding="utf-8") as held:
+        fcntl.flock(held, fcntl.LOCK_EX)
+        noted = pathlib.Path(f"{room}.json")
+        if not noted.exists():
+            with contextlib.suppress(FileNotFoundError):
+                shutil.rmtree(room)
+            room.mkdir()
+            noted.write_text(json.dumps(LANGUAGES[name](room, built_library(library)), default=str))
+        return Client(*json.loads(noted.read_text()))

@@ -1,0 +1,207 @@
+"""The bindings: one client in each language (tests/clients/) steps the same schedules, fails with the same faults and retries
+by the same policies. What only Python has is in tests/test_python.py. The example of each binding really waits."""
+import pathlib
+import re
+import shutil
+import subprocess
+import time
+
+import pytest
+
+from histories import FALLS, KEEPS_LIST, History, histories, judge
+from languages import (BINDINGS, CLEAN, JNA, LANGUAGES, STRICT, WATCHED, are_kept, built, built_library, go_variables, need,
+                       node, ran, request)
+from support import TOP
+
+# Languages whose texts are bytes, UTF-8 or not.
+BYTES = ["C", "C watched", "C++", "Go", "Node"]
+# Debian's packages put the sources of crates here.
+CRATES = pathlib.Path("/usr/share/cargo/registry")
+FAULTS = {b"recurs(1) && recurs(2)": "11,10,no term at byte 10", b"exponential(1, 0)": "14,0,factor is 0",
+          b"recurs(18446744073709551616)": "13,7,number too large at byte 7", b"windowed(0)": "16,0,window is 0",
+          b"recurs(1).map(_1)": "15,0,no kind", b"forever" + b".map(+ 1)" * 64: "12,0,too big",
+          b"?": "11,0,no term at byte 0", b"forever.": "11,8,no term at byte 8", b"": "11,0,no term at byte 0"}
+# A policy, the code of the failures and how many there are; how it ends, and the milliseconds between attempts.
+RETRIES = [("(exponential(10) && recurs(5))", 503, 3, "done", [10, 20, 40]),
+           ("(spaced(30) && recurs(2))", 503, 99, "503", [30, 30]),
+           ("((exponential(4) || spaced(10)) && recurs(5)).whileInput(>= 500)", 503, 4, "done", [4, 8, 10, 10]),
+           ("((exponential(4) || spaced(10)) && recurs(5)).whileInput(>= 500)", 404, 99, "404", []),
+           ("spaced(30).whileInput(!= 18446744073709551615)", 2 ** 64 - 1, 9, str(2 ** 64 - 1), []),
+           ("(linear(5) && recurs(9)).collectAll", 7, 3, "done", [5, 10, 15]),
+           ("(linear(5) && recurs(2)).collectAll", 7, 99, "7", [5, 10])]
+MANY, TIMES, BYTES_A_STEP = 1_000_000, 1.5, 4
+
+
+def named(*names):
+    """These languages, or all, as parameters."""
+    return [pytest.param(name, marks=[pytest.mark.full] * (name == "Java")) for name in names or LANGUAGES]
+
+
+@pytest.fixture(scope="session")
+def client(library, tmp_path_factory):
+    """Returns the client of a language."""
+    return lambda name: built(name, tmp_path_factory, library)
+
+
+def ways(name):
+    """The ways in which a language's client steps."""
+    return ["list", "program"] if name.startswith("C") else ["list", "program", "stored"]
+
+
+@pytest.mark.parametrize("name", named())
+def test_all_schedules_are_stepped_as_the_reference_says(client, name):
+    chosen = [it for it in histories() if name in BYTES or it.text.decode(errors="ignore").encode() == it.text]
+    assert sum(it.is_flat for it in chosen) >= 2000
+    for command in ways(name):
+        judge(client(name), chosen, command)
+
+
+@pytest.mark.parametrize("name", named())
+def test_faults_have_their_number_place_and_text(client, name):
+    chosen = [History(text, [(1, 0)]) for text in FAULTS]
+    assert [it.fault for it in chosen] == list(FAULTS.values())
+    for command in ways(name):
+        judge(client(name), chosen, command)
+    assert client(name).says([request("program", "forever.collectAll", 1, 0), request("program", "recurs(1)", 5, 0, 4, 0),
+                              request("list", "recurs(2)", 5, 0, 5, 0, 4, 0)]) == [
+        KEEPS_LIST, f"0,5,1,0 3,0,{FALLS}", f"0,5,1,0 0,5,1,1 3,2,{FALLS}"]
+
+
+@pytest.mark.parametrize("name", named("Go", "Node", "Rust", "Java"))
+def test_the_state_of_another_schedule_is_a_fault(client, name):
+    texts = ["(exponential(10) && recurs(3))", "(exponential(10) && recurs(4))", "recurs(3)"]
+    pairs = [f"{first}\n{second}" for first in texts for second in texts if first != second]
+    assert client(name).says(request("moved", pair) for pair in pairs) == ["9,0,the state of another program"] * 6
+
+
+@pytest.mark.parametrize("name", named())
+def test_outputs_of_any_length_are_whole(client, name):
+    wide = "spaced(18446744073709551615)"
+    for _ in range(7):
+        wide = f"({wide} && {wide})"
+    long = History(f"({wide} && linear(9))".encode(), [(3, 0), (5, 0), (8, 0)])
+    assert len(long.steps[0]) > 256
+    for command in ways(name):
+        judge(client(name), [long, History(b"forever.collectAll", [(moment, 0) for moment in range(200)])], command)
+
+
+@pytest.mark.parametrize("name", named())
+def test_the_library_has_the_version_of_this_tree(client, name):
+    major, minor, patch = map(int, (TOP / "VERSION").read_text().split("."))
+    assert client(name).says([request("version", "")]) == [str(1_000_000 * major + 1000 * minor + patch)]
+
+
+@pytest.mark.parametrize("text, code, times, wanted, waits", RETRIES)
+@pytest.mark.parametrize("name", named())
+def test_a_retry_waits_as_its_policy_says(client, name, text, code, times, wanted, waits):
+    ended, moments = client(name).retries(text, code, times)
+    if "collectAll" in text and name.startswith("C"):
+        # The loop in C steps a program.
+        assert (ended, moments) == (str(2 ** 64 - 1), [])
+    else:
+        assert ended == wanted and are_kept(waits, moments)
+
+
+@pytest.mark.parametrize("name, wanted", [("Go", "503 (context deadline exceeded) true true"), ("Node", "in a wait in an attempt")])
+def test_a_retry_may_be_ended_from_outside(client, name, wanted):
+    begun = time.monotonic()
+    assert client(name).says([request("aborted", "spaced(100000)")]) == [wanted]
+    assert time.monotonic() - begun < 50
+
+
+@pytest.mark.parametrize("name, wanted", [
+    ("Node", "attempt attempt failed TypeError: Cannot convert undefined to a BigInt"),
+    pytest.param("Java", r"503 / by zero \d+ \d+", marks=pytest.mark.full)])
+def test_an_input_that_cannot_be_had_hides_no_error(client, name, wanted):
+    for line in client(name).says([request("unread", text) for text in ["recurs(2)", "recurs(2).collectAll"]]):
+        assert re.fullmatch(wanted, line)
+
+
+@pytest.mark.full
+def test_java_waits_for_unsigned_times(client):
+    assert client("Java").says([request("wait", "spaced(18446744073709551615)", 1)]) == ["PT5124095576030H25M51.614S"]
+
+
+@pytest.mark.full
+@pytest.mark.parametrize("name", named("C", "C++", "Python", "Go", "Node", "Java", "Rust"))
+def test_a_million_steps_take_flat_time_and_memory(client, name):
+    policy = f"((exponential(100) || spaced(5000)) && recurs({2 * MANY})).whileInput(>= 500)"
+    for _ in range(3):
+        begun, spent, memory = time.monotonic(), [], []
+        it = client(name)
+        with subprocess.Popen(list(map(str, it.words)), env=CLEAN | it.variables, stdin=subprocess.PIPE, stdout=subprocess.PIPE,
+                              text=True) as running:
+            running.stdin.write(f"{request('many', policy, MANY)}\n")
+            running.stdin.close()
+            for _ in range(10):
+                assert running.stdout.readline() == "\n"
+                status = pathlib.Path(f"/proc/{running.pid}/status").read_text()
+                spent.append(time.monotonic() - begun)
+                memory.append(int(re.search(r"VmRSS:\s+(\d+)", status)[1]))
+        # The first tenth has the start of the program.
+        tenths = [after - before for before, after in zip(spent, spent[1:])]
+        assert (memory[-1] - memory[4]) * 1024 / (MANY / 2) < BYTES_A_STEP
+        # Other programs make the machine slower now and then.
+        if min(tenths[4:]) <= TIMES * min(tenths[:4]):
+            return
+    raise AssertionError(f"{name}: {tenths} s")
+
+
+# ---- The examples, which call a server of their own and really wait
+
+READY = "ready after 4 attempts\n"
+
+
+@pytest.mark.parametrize("words", [["-std=c99"], ["-std=gnu17"], ["-std=gnu11", *WATCHED]], ids=["c99", "gnu17", "watched"])
+def test_the_example_in_c_waits_for_its_server(library, tmp_path, words):
+    ran(["cc", *STRICT, *words, *built_library(library).flags, "-o", "example", BINDINGS / "c" / "example.c",
+         library / "libzsched.a", "-lpthread"], tmp_path)
+    assert ran(["./example"], tmp_path) == READY
+
+
+def test_the_example_in_go_waits_for_its_server(library, tmp_path):
+    need("go")
+    ran(["go", "vet", "./..."], BINDINGS / "go", **go_variables(built_library(library)))
+    ran(["go", "build", "-o", tmp_path / "example", "./example"], BINDINGS / "go", **go_variables(built_library(library)))
+    assert ran(["./example"], tmp_path, LD_LIBRARY_PATH=library) == READY
+
+
+def test_the_example_in_node_waits_for_its_server(library, tmp_path):
+    node(tmp_path, built_library(library))
+    assert ran(["node", BINDINGS / "node" / "example.js"], tmp_path,
+               ZSCHED_NODE=tmp_path / "node_modules/zsched/zsched.node") == READY
+
+
+def crate(library, tmp_path):
+    """A copy of the binding for Rust, and the variables for its programs."""
+    need("cargo")
+    shutil.copytree(BINDINGS / "rust", tmp_path / "rust", ignore=shutil.ignore_patterns("target", "Cargo.lock"))
+    return tmp_path / "rust", {"ZSCHED_LIBRARY_DIR": library, "RUSTFLAGS": "-D warnings", "CARGO_INCREMENTAL": "0",
+                               "CARGO_PROFILE_DEV_DEBUG": "0"}
+
+
+def test_the_example_in_rust_waits_for_its_server_and_its_tests_pass(library, tmp_path):
+    folder, variables = crate(library, tmp_path)
+    cargo = ["cargo", "--quiet", "--offline"]
+    assert ran([*cargo, "run", "--example", "retry"], folder, **variables) == 'Ok("ready") after 4 attempts\n'
+    assert re.findall(r"\d+ passed", ran([*cargo, "test"], folder, **variables)) == ["6 passed", "2 passed"]
+    ran([*cargo, "check", "--no-default-features"], folder, **variables)
+
+
+@pytest.mark.full
+def test_the_example_under_tokio_waits_for_its_server(library, tmp_path):
+    if not any(CRATES.glob("tokio-1.*")):
+        pytest.skip("tokio (of the package librust-tokio-dev) isn't on this machine")
+    folder, variables = crate(library, tmp_path)
+    places = {"crates-io.replace-with": "debian", "debian.directory": CRATES}
+    words = [word for name, place in places.items() for word in ["--config", f'source.{name}="{place}"']]
+    said = ran(["cargo", "run", "--quiet", "--offline", *words], folder / "tokio", **variables)
+    assert said == 'Ok("ready") after 4 attempts\n'
+
+
+@pytest.mark.full
+def test_the_example_in_java_waits_for_its_server(library, tmp_path):
+    need("javac", JNA)
+    sources = [*sorted(BINDINGS.glob("java/zsched/*.java")), BINDINGS / "java" / "Example.java"]
+    ran(["javac", "-Xlint:all", "-Werror", "-cp", JNA, "-d", "classes", *sources], tmp_path)
+    assert ran(["java", "-cp", f"{JNA}:classes", f"-Djna.library.path={library}", "Example"], tmp_path) == READY

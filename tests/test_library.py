@@ -1,0 +1,178 @@
+"""The calls of the library from C: by tests/clients/client.c, which passes blocks of the stated lengths, changes words,
+makes allocations fail and calls from several threads; also under sanitizers and valgrind. tests/test_bindings.py has the
+steps of all schedules."""
+import ctypes
+import re
+import subprocess
+
+import pytest
+
+from histories import FALLS, History, histories, judge
+from languages import STRICT, built, need, request
+from support import TOP, tree
+
+REFUSED = 250
+UNDER_VALGRIND = 40
+VALGRIND = ["valgrind", "--quiet", "--error-exitcode=9", "--leak-check=full", "--show-leak-kinds=all"]
+# Schedules of the greatest depth.
+DEEPEST = ["(forever && " * 63 + "forever" + ")" * 63, "(" * 63 + "forever" + " || elapsed)" * 63,
+           "(recurs(0) andThenEither " * 63 + "forever" + ")" * 63, "forever" + ".map(+ 1)" * 63,
+           "forever" + ".collectAll" * 63, "identity" + ".whileOutput(>= 0)" * 63,
+           "forever" + ".map(+ 1)" * 55 + ".resetWhen(> 1)" * 3]
+# Worked out by hand: the numbers of struct zs_bounds in turn, for at most 1000 steps.
+BOUNDS = {
+    # 100, 200, 400, 800, 1600
+    "(exponential(100) && recurs(5))": "6 6 1 6 1600 1 3100",
+    # 100, 200, 400, 800, 1600, 3200, and 5000 twice; any error may be below 500
+    "((exponential(100) || spaced(5000)) && recurs(8)).whileInput(>= 500)": "9 1 1 9 5000 1 16300",
+    # The sixth step has 5 * 401 ms at least, and the fifth 4 * 401, which is less than 2000.
+    "(spaced(400) && elapsed).whileOutput(_2 < 2000)": "6 2 1 6 400 1 2000",
+    # 250, 500, 750, 1000, 1250
+    "linear(250).whileOutput(< 1500)": "6 6 1 6 1250 1 3750",
+    # 100, 200, 400, and 5000 four times
+    "(((exponential(100) && recurs(3)) andThenEither (spaced(5000) && recurs(4))).map(merge)"
+    " && elapsed.whileOutput(< 60000))": "8 2 1 8 5000 1 20700",
+    "spaced(1000).whileInput(!= 404)": "1000 1 0 0 1000 0 0",
+}
+# A prime that isn't among the counts of digits, and a policy's program, by crates/zs_c/specs/Program.antt and Code.antt.
+POLICY = b"((exponential(100) || spaced(5000)) && recurs(8)).whileInput(>= 500)"
+CODE = [14, 5, 500, 11, 8, 4, 12, 3, 2, 10, 100, 2, 5, 5000, 4, 8]
+
+
+@pytest.fixture(scope="session")
+def client(library, tmp_path_factory):
+    """The client in C."""
+    return built("C", tmp_path_factory, library)
+
+
+@pytest.fixture(scope="session")
+def watched(library, tmp_path_factory):
+    """The client in C under sanitizers."""
+    return built("C watched", tmp_path_factory, library)
+
+
+def test_histories_have_all_faults_of_texts_and_many_steps():
+    faults = {it.fault.partition(",")[0] for it in histories() if it.fault}
+    assert faults == set("3 4 11 12 13 14 15 16".split())
+    assert sum(len(it.steps) for it in histories() if it.is_flat) > 20_000
+    assert sum(bool(it.steps) and not it.is_flat for it in histories()) > 100
+
+
+def test_no_step_has_no_result(client):
+    texts = [b"forever", b"recurs(", b"forever.collectAll"]
+    assert client.says(f"answer .{text.hex()}" for text in texts) == [
+        "2,0,a schedule answers once it has seen a step", "11,7,no term at byte 7",
+        "2,0,a schedule answers once it has seen a step"]
+
+
+@pytest.mark.parametrize("command", ["list", "program"])
+def test_four_threads_with_small_stacks_may_call_at_once(client, command):
+    asked = histories()[::2]
+    judge(client, asked, command, "threads")
+
+
+@pytest.mark.parametrize("command", ["list", "program", "bounds"])
+def test_each_allocation_may_fail(client, command):
+    asked = [it for it in histories() if it.is_flat and len(it.pairs) < 6][:REFUSED]
+    requests = [request("bounds", text, 5) for text in BOUNDS] if command == "bounds" else [it.request(command) for it in asked]
+    found = [int(line) for line in client.says(requests, "refuse")]
+    assert len(found) == len(requests)
+    assert sum(found) > 2 * len(found) and min(found) > 0
+
+
+def test_a_failed_allocation_is_a_fault_of_a_faulty_text_too(client):
+    asked = [it for it in histories() if it.weight == 0][:REFUSED]
+    assert len(client.says([it.request("list") for it in asked], "refuse")) == len(asked) > 100
+
+
+@pytest.mark.parametrize("command", ["list", "program"])
+def test_valgrind_finds_no_error_and_no_lost_memory(client, command):
+    need("valgrind")
+    asked = histories()[:UNDER_VALGRIND]
+    judge(client, asked, command, before=VALGRIND)
+    assert len(client.says([request("bounds", text, 1000) for text in BOUNDS], before=VALGRIND)) == len(BOUNDS)
+
+
+def test_bounds_of_policies_are_those_that_were_worked_out_by_hand(client, watched):
+    asked = [*(request("bounds", text, 1000) for text in BOUNDS), request("bounds", "recurs(3)", 3), request("bounds", "forever", 0)]
+    wanted = [*(f"0 {numbers} 0" for numbers in BOUNDS.values()), "0 3 4 0 0 0 0 0 0", "0 0 1 0 0 0 0 0 0"]
+    assert client.says(asked, "threads") == watched.says(asked) == wanted
+
+
+def test_a_text_that_has_no_bounds_is_refused_as_a_check_refuses_it(client):
+    faults = [it for it in histories() if it.weight == 0]
+    wanted = [it.fault.split(",") for it in faults]
+    assert len(faults) > 300
+    assert client.says(f"bounds .{it.text.hex()} 1000" for it in faults) == [f"{it[0]} 0 0 0 0 0 0 0 {it[1]}" for it in wanted]
+
+
+def test_the_deepest_schedules_need_no_more_stack_than_the_header_says(client):
+    header, source = ((TOP / name).read_text() for name in ["include/zsched.h", "tests/clients/client.c"])
+    for name, words in [("STACK", " {} KiB of stack are free"), ("BOUNDS_STACK", "for zs_bounds {} KiB")]:
+        assert words.format(re.search(rf"define {name} .(\d+) . 1024", source)[1]) in header
+    asked = [History(text.encode(), [(1, 5), (5, 7), (9, 9)]) for text in DEEPEST]
+    for command in ["list", "program"]:
+        judge(client, asked, command, "threads")
+    found = client.says([request("bounds", text, 9) for text in DEEPEST], "threads")
+    assert [line.split()[0] for line in found] == ["0"] * len(DEEPEST)
+
+
+def test_long_texts_long_lists_and_many_words_are_taken(client):
+    many_words = tree(400).replace("forever", "fixed(7)").encode()
+    asked = [History(b"recurs(" + b" " * 100_000 + b"3)", [(5, 7)]), History(many_words, [(1, 0), (9, 0)])]
+    for command in ["list", "program"]:
+        judge(client, asked, command)
+    steps = " ".join(f"{number} 0" for number in range(5000))
+    asked = [f"{command} .{b'recurs(9000)'.hex()} {steps}" for command in ["answer", "run"]]
+    assert client.says(asked) == ["0,4999,1,4999"] * 2
+
+
+def test_a_step_visits_a_part_twice_where_it_resets(client):
+    text = b"elapsed.resetWhen(>= 5)".hex()
+    asked = [f"{command} .{text} 1 0{more}" for command in ["answer", "run"] for more in ["", " 5 0", " 6 0"]]
+    assert client.says(asked) == ["0,1,2,0", "0,5,2,4", "0,6,3,0"] * 2
+
+
+def test_a_fault_leaves_the_steps_before_it(client):
+    asked = [f"{command} .{b'recurs(1)'.hex()} 5 7 4 7" for command in ["list", "program"]]
+    assert client.says(asked) == [f"0,5,1,0 3,1,{FALLS}", f"0,5,1,0 3,0,{FALLS}"]
+
+
+def test_each_number_of_the_header_has_a_text_that_is_cut_where_its_room_ends(library):
+    calls = ctypes.CDLL(str(library / "libzsched.so"))
+    calls.zs_fault_text.argtypes = [ctypes.c_uint32, ctypes.c_uint64, ctypes.c_char_p, ctypes.c_size_t]
+    calls.zs_fault_text.restype = ctypes.c_uint64
+
+    def text(number, at=0):
+        room = ctypes.create_string_buffer(256)
+        return room.raw[:calls.zs_fault_text(number, at, room, 256)].decode()
+    numbers = re.findall(r"^    ZS_\w+ = (\d+)", (TOP / "include" / "zsched.h").read_text(), re.M)
+    texts = [text(int(number), 23) for number in numbers if int(number) > 1]
+    assert len(set(texts)) == len(numbers) - 2 and all(0 < len(it) <= 80 for it in texts)
+    assert [it for it in texts if "23" in it] == ["not UTF-8 at byte 23", "no term at byte 23", "number too large at byte 23"]
+    assert [text(number) for number in [0, 1, 10, 2 ** 32 - 1]] == [""] * 4
+    assert text(11, 2 ** 64 - 1) == "no term at byte 18446744073709551615"
+    whole = b"number too large at byte 1234"
+    for size in range(len(whole) + 3):
+        room = ctypes.create_string_buffer(b"-" * (len(whole) + 3))
+        assert calls.zs_fault_text(13, 1234, room, size) == len(whole)
+        assert room.value == whole[:size].ljust(len(whole) + 3, b"-")
+
+
+def test_a_program_is_the_words_that_its_definition_says(library):
+    body, check = [len(CODE), 6, *CODE], 0
+    for word in body:
+        check = (check * 0x9e3779b97f4a7c15 + word) % 2 ** 64
+    calls, at, size = ctypes.CDLL(str(library / "libzsched.so")), ctypes.c_uint64(), len(body) + 3
+    words, state = (ctypes.c_uint64 * size)(*[7] * size), (ctypes.c_uint64 * 9)(*[7] * 9)
+    sizes = [ctypes.c_size_t(len(it)) for it in (words, state)]
+    assert calls.zs_compile(POLICY, ctypes.c_size_t(len(POLICY)), words, sizes[0], ctypes.byref(at)) == 0
+    assert (at.value, list(words)) == (0, [0x7a73636865640001, check, *body, 7])
+    assert calls.zs_program_begin(words, sizes[0], state, sizes[1]) == 0
+    assert list(state) == [check, 0, 100, 100, 0, 0, 0, 0, 7]
+
+
+def test_the_header_is_one_of_cpp_too():
+    need("c++")
+    words = ["c++", "-x", "c++", "-std=c++11", *STRICT, "-fsyntax-only", "-I", TOP / "include", "-"]
+    subprocess.run(words, input=b'#include "zsched.h"\n', check=True)

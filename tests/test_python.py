@@ -1,0 +1,334 @@
+"""The binding for Python: what it has beside the steps and retries of tests/test_bindings.py."""
+import asyncio
+import concurrent.futures
+import contextlib
+import http.server
+import multiprocessing
+import os
+import pickle
+import re
+import sys
+import threading
+import time
+
+import pytest
+
+from languages import BINDINGS, ran
+from support import TOP
+from test_library import BOUNDS
+
+LARGEST = 2 ** 64 - 1
+POLICY = "(exponential(10) && recurs(3))"
+
+
+@pytest.fixture(scope="module", autouse=True)
+def zsched(library):
+    """The module, over the library."""
+    os.environ["ZSCHED_LIBRARY"] = str(library / "libzsched.so")
+    sys.path.insert(0, str(BINDINGS / "python"))
+    import zsched
+    return zsched
+
+
+@contextlib.contextmanager
+def flaky(*codes):
+    """A server on this machine that responds with these codes in turn, then with the last one: its URL, and when it did."""
+    moments = []
+
+    class Handler(http.server.BaseHTTPRequestHandler):
+        def do_GET(self):
+            moments.append(time.monotonic())
+            self.send_response(codes[min(len(moments), len(codes)) - 1])
+            self.end_headers()
+            self.wfile.write(b"ready")
+
+        def log_message(self, *_):
+            pass
+    with http.server.HTTPServer(("127.0.0.1", 0), Handler) as server:
+        threading.Thread(target=server.serve_forever, args=[0.01]).start()
+        yield f"http://127.0.0.1:{server.server_port}/", moments
+        server.shutdown()
+
+
+class Clock:
+    """A clock that only its sleeps advance, and the sleeps so far."""
+
+    def __init__(self):
+        self.seconds, self.slept = 100.0, []
+
+    def __call__(self):
+        return self.seconds
+
+    def sleep(self, seconds):
+        """Sleeps, in no time."""
+        self.slept.append(round(seconds, 6))
+        self.seconds += seconds
+
+    def failing(self, times, error=OSError):
+        """An effect that fails some times, each time after 5 ms."""
+        left = times
+
+        def effect(value="done"):
+            nonlocal left
+            self.seconds += 0.005
+            left -= 1
+            if left >= 0:
+                raise error(f"{left} left")
+            return value
+        return effect
+
+
+@pytest.fixture
+def clock():
+    """A clock that makes no caller wait."""
+    return Clock()
+
+
+@pytest.fixture
+def retrying(zsched, clock):
+    """zsched.retrying, by that clock."""
+    return lambda text, **more: zsched.retrying(text, clock=clock, **{"sleep": clock.sleep, **more})
+
+
+# ---- Schedules
+
+def test_a_fault_has_its_text_number_and_place(zsched):
+    for call in [zsched.check, zsched.Schedule, zsched.Stepper, zsched.retrying, lambda text: zsched.bounds(text, 9)]:
+        with pytest.raises(zsched.ScheduleFault) as caught:
+            call("recurs(1) && recurs(2)")
+        fault = caught.value
+        assert (fault.text, fault.number, fault.at, str(fault)) == ("recurs(1) && recurs(2)", 11, 10, "no term at byte 10")
+
+
+@pytest.mark.parametrize("text", BOUNDS)
+def test_bounds_are_those_that_were_worked_out_by_hand(zsched, text):
+    seen, least, has_most, most, longest, has_total, total = map(int, BOUNDS[text].split())
+    wanted = (seen, least, most if has_most else None, longest, total if has_total else None)
+    stepped = zsched.Schedule(text)
+    stepped.after(1)
+    for schedule in [text, stepped, zsched.Stepper(text)]:
+        assert zsched.bounds(schedule, 1000) == wanted
+
+
+def test_numbers_of_steps_that_bounds_take(zsched):
+    for error, steps in [(OverflowError, -1), (OverflowError, 2 ** 64), (TypeError, 9.0), (TypeError, None)]:
+        with pytest.raises(error):
+            zsched.bounds("recurs(1)", steps)
+    # This number of steps is never made: the schedule is done at its second one.
+    assert zsched.bounds("recurs(1)", LARGEST) == (2, 2, 2, 0, 0)
+    assert zsched.bounds("forever.collectAll", 3) == (3, 4, None, 0, None)
+
+
+def test_a_policy_is_within_its_bounds_and_not_within_less(zsched):
+    # 6 attempts, and 3100 milliseconds
+    found = zsched.bounds("(exponential(100) && recurs(5))", 1000)
+    assert [found.within(most, total) for most, total in [(6, 3100), (9, 5000), (5, 3100), (6, 3099), (0, 0)]] == [
+        True, True, False, False, False]
+    # It may end at any step; it continues at the last step; three waits of up to 2^64 - 1 have no sum.
+    for text, steps in [("forever.whileInput(= 1)", 1000), ("recurs(5)", 5), ("(fixed(18446744073709551615) && recurs(3))", 9)]:
+        assert not zsched.bounds(text, steps).within(2 ** 64, 2 ** 64)
+    assert zsched.bounds("recurs(5)", 6).within(6, 0)
+
+
+def seen_of(schedule):
+    """What a schedule stores."""
+    return schedule.seen if hasattr(schedule, "seen") else schedule.state[1:]
+
+
+@pytest.mark.parametrize("kind, first, second", [("Schedule", [], [(5, 7)]), ("Stepper", [0, 0, 0], [5, 0, 1])])
+def test_a_step_that_is_refused_leaves_the_schedule(zsched, kind, first, second):
+    made = getattr(zsched, kind)("recurs(1)")
+    assert seen_of(made) == first
+    assert made.after(5, 7) == (5, "0", 1)
+    for error, moment, value in [(ValueError, 4, 7), (OverflowError, -1, 7), (OverflowError, 5, 2 ** 64), (TypeError, 5.0, 7)]:
+        with pytest.raises(error):
+            made.after(moment, value)
+    assert seen_of(made) == second
+    assert made.after(5, LARGEST) == (None, "1", 1)
+
+
+WRONG = ["", "{}", "[]", '{"schedule":"recurs(","seen":[],"state":[]}', '{"schedule":1,"seen":[],"state":[]}']
+WRONG_SEEN = ['{"schedule":"recurs(1)","seen":[[2,1],[1,1]]}', '{"schedule":"recurs(1)","seen":[[1]]}',
+              '{"schedule":"recurs(1)","seen":[[-1,0]]}']
+WRONG_STATE = ['{"schedule":"recurs(1)","state":[1]}', '{"schedule":"recurs(1)","state":[1,-1]}',
+               '{"schedule":"forever.collectAll","state":[1,1]}']
+
+
+@pytest.mark.parametrize("kind, wanted, wrong", [("Schedule", [(1, 2)], WRONG_SEEN), ("Stepper", [1, 10, 20, 0, 1], WRONG_STATE)])
+def test_what_is_saved_goes_on(zsched, kind, wanted, wrong):
+    made = getattr(zsched, kind)(POLICY)
+    made.after(1, 2)
+    again, saved = made.load(made.save()), made.save()
+    assert (again.text, seen_of(again)) == (made.text, wanted)
+    assert again.after(12, 2) == made.after(12, 2)
+    for text in [*WRONG, *wrong, *[saved.replace("recurs(3)", "recurs(4)")] * (kind == "Stepper")]:
+        with pytest.raises(ValueError):
+            made.load(text)
+
+
+@pytest.mark.parametrize("kind", ["Schedule", "Stepper"])
+def test_schedules_and_their_faults_are_pickled(zsched, kind):
+    made = getattr(zsched, kind)(POLICY)
+    made.after(1, 2)
+    again = pickle.loads(pickle.dumps(made))
+    assert (again.text, again.save()) == (made.text, made.save())
+    assert again.after(12, 2) == made.after(12, 2)
+    with pytest.raises(zsched.Fault) as caught:
+        made.after(0)
+    again = pickle.loads(pickle.dumps(caught.value))
+    assert (again.number, str(again)) == (3, "the moment is below that of the step before it")
+
+
+def test_faults_pass_between_processes(zsched):
+    with concurrent.futures.ProcessPoolExecutor(1, multiprocessing.get_context("spawn")) as pool:
+        with pytest.raises(zsched.ScheduleFault, match="^no term at byte 8$") as caught:
+            pool.submit(zsched.check, "forever.").result(60)
+    assert (caught.value.text, caught.value.number, caught.value.at) == ("forever.", 11, 8)
+
+
+def test_threads_may_call_at_once(zsched):
+    together = threading.Barrier(4)
+
+    def work(_):
+        together.wait(60)
+        schedule = zsched.Schedule("fibonacci(10)")
+        return [schedule.after(number).output for number in range(60)]
+    with concurrent.futures.ThreadPoolExecutor(4) as pool:
+        found = list(pool.map(work, range(4)))
+    assert found[0][:5] == ["10", "10", "20", "30", "50"] and found == [found[0]] * 4
+
+
+def test_a_missing_library_names_the_command_that_makes_it(tmp_path):
+    words = [sys.executable, "-B", "-c", "try:\n import zsched; zsched.check('forever')\nexcept OSError as fault:\n print(fault)"]
+    said = ran(words, tmp_path, ZSCHED_LIBRARY="/nowhere/libzsched.so", PYTHONPATH=BINDINGS / "python")
+    assert re.match(r"/nowhere/libzsched.so: .* tools/make-library", said)
+
+
+# ---- Retries
+
+@pytest.mark.parametrize("text, more, times, error, wanted, slept", [
+    ("(exponential(10) && recurs(5))", {}, 3, OSError, None, [0.01, 0.02, 0.04]),
+    ("(linear(10) && recurs(5)).collectAll", {}, 3, OSError, None, [0.01, 0.02, 0.03]),
+    ("(spaced(30) && recurs(2))", {}, 10, OSError, "^7 left$", [0.03, 0.03]),
+    ("spaced(30)", {"on": (OSError, EOFError)}, 10, KeyError, "left", []),
+    ("spaced(30).whileInput(> 7)", {"input_of": lambda error: int(str(error)[0])}, 10, OSError, "^7 left$", [0.03] * 2)],
+    ids=["it returns", "a list", "the last error", "another error", "its input"])
+def test_a_function_is_tried_until_the_schedule_is_done(retrying, clock, text, more, times, error, wanted, slept):
+    told = []
+    tried = retrying(text, before_sleep=lambda *words: told.append(words[1:]), **more)(clock.failing(times, error))
+    if wanted:
+        with pytest.raises(error, match=wanted):
+            tried()
+    else:
+        assert tried(value=7) == 7
+    assert (clock.slept, told) == (slept, list(enumerate(slept, 1)))
+
+
+def test_it_is_a_loop_too(retrying, clock):
+    effect, numbers = clock.failing(2), []
+    for attempt in retrying("linear(10)"):
+        with attempt:
+            numbers.append(attempt.number)
+            value = effect()
+    assert (value, numbers, clock.slept) == ("done", [1, 2, 3], [0.01, 0.02])
+
+
+def test_coroutines_are_tried_too(retrying, clock):
+    async def sleep(seconds):
+        clock.sleep(seconds)
+    effect, by = clock.failing(2), retrying("linear(10)", sleep=sleep)
+
+    @by
+    async def tried():
+        return effect()
+
+    async def loop():
+        async for attempt in by:
+            with attempt:
+                return clock.failing(0)()
+    assert (asyncio.run(tried()), asyncio.run(loop()), clock.slept) == ("done", "done", [0.01, 0.02])
+
+
+@pytest.mark.parametrize("input_of, note", [
+    *[(lambda error, code=code: code, "zsched: not tried again") for code in [None, "503", 2.0, -1, 2 ** 64]],
+    (lambda error: error.code, "has no attribute 'code'")])
+def test_an_input_that_is_no_number_hides_no_error(retrying, clock, input_of, note):
+    with pytest.raises(OSError, match="^9 left$") as caught:
+        retrying("spaced(1)", input_of=input_of)(clock.failing(10))()
+    assert note in caught.value.__notes__[0] and clock.slept == []
+
+
+def test_a_wait_that_no_clock_has_is_an_error(retrying, clock):
+    with pytest.raises(OverflowError, match="18446744073709552 seconds away") as caught:
+        retrying("spaced(18446744073709551615)", sleep=None)(clock.failing(1))()
+    assert str(caught.value.__cause__) == "0 left"
+
+
+@pytest.mark.parametrize("where", ["attempt", "wait"])
+def test_a_task_that_is_cancelled_is_not_tried_again(retrying, clock, where):
+    numbers = []
+
+    async def cancelled():
+        async for attempt in retrying("spaced(1000)", on=BaseException, sleep=None):
+            with attempt:
+                numbers.append(attempt.number)
+                await asyncio.sleep(60) if where == "attempt" else clock.failing(1)()
+
+    async def main():
+        task = asyncio.create_task(cancelled())
+        await asyncio.sleep(0.02)
+        task.cancel()
+        with pytest.raises(asyncio.CancelledError):
+            await task
+    asyncio.run(main())
+    assert numbers == [1]
+
+
+def test_many_attempts_keep_no_list(zsched, retrying, clock):
+    run, effect = iter(retrying("(linear(1) || spaced(7))")), clock.failing(5000)
+    for attempt in run:
+        with attempt:
+            effect()
+    assert (attempt.number, len(clock.slept), clock.slept[-1]) == (5001, 5000, 0.007)
+    assert len(run.schedule.state) == len(zsched.Stepper("(linear(1) || spaced(7))").state)
+
+
+def test_one_may_serve_many_calls(retrying, clock):
+    by = retrying("(spaced(10) && recurs(1))")
+    assert [by(clock.failing(1))() for _ in range(3)] == ["done"] * 3
+    assert clock.slept == [0.01] * 3
+
+
+# ---- Examples
+
+def test_the_example_waits_for_its_server(library, tmp_path):
+    said = ran([sys.executable, "-B", BINDINGS / "python" / "example.py"], tmp_path, ZSCHED_LIBRARY=library / "libzsched.so")
+    assert "ready after 4 attempts\n" in said and "attempt 3: 503, the next one in 80 ms\n" in said
+
+
+def python_of_document():
+    """The pieces of Python in docs/LIBRARY.md."""
+    return re.findall(r"```python\n(.*?)```", (TOP / "docs" / "LIBRARY.md").read_text(), re.S)
+
+
+def test_the_service_of_the_document_waits_for_its_server():
+    service, found = python_of_document()[0], {}
+    assert len(service.splitlines()) == 10
+    exec(service, found)
+    with flaky(503, 503, 200) as (url, moments):
+        assert found["fetch"](url) == b"ready"
+    assert len(moments) == 3 and moments[2] - moments[0] > 0.299
+    with flaky(404) as (url, moments):
+        with pytest.raises(OSError, match="404"):
+            found["fetch"](url)
+    assert len(moments) == 1
+
+
+def test_the_check_of_the_document_ends_a_service_whose_policy_may_go_on():
+    service, _, check = python_of_document()[:3]
+    assert len(check.splitlines()) == 5
+    exec(check, {"POLICY": re.search(r'^POLICY = "(.*)"$', service, re.M)[1]})
+    # Too many attempts, too long, and neither bounded.
+    for other in ["(spaced(1) && recurs(9))", "(spaced(5000) && recurs(5))", "spaced(1)"]:
+        with pytest.raises(SystemExit, match=f"^{re.escape(other)} may go on for too long: Bounds"):
+            exec(check, {"POLICY": other})
