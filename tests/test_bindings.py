@@ -8,6 +8,7 @@ import time
 
 import pytest
 
+import reference
 from histories import FALLS, KEEPS_LIST, History, histories, judge
 from languages import (BINDINGS, CLEAN, JNA, LANGUAGES, STRICT, WATCHED, are_kept, built, built_library, go_variables, need,
                        node, ran, request)
@@ -29,6 +30,10 @@ RETRIES = [("(exponential(10) && recurs(5))", 503, 3, "done", [10, 20, 40]),
            ("spaced(30).whileInput(!= 18446744073709551615)", 2 ** 64 - 1, 9, str(2 ** 64 - 1), []),
            ("(linear(5) && recurs(9)).collectAll", 7, 3, "done", [5, 10, 15]),
            ("(linear(5) && recurs(2)).collectAll", 7, 99, "7", [5, 10])]
+# Policies of which each attempt fails at once.
+PROMISED = ["elapsed.whileOutput(< 200)", "(spaced(1) && elapsed).whileOutput(_2 < 200)", "recurs(100)",
+            "((exponential(1) || spaced(4)) && elapsed).whileOutput(_2 < 200)", "(exponential(2) && recurs(6))",
+            "(spaced(10) && elapsed).whileOutput(_2 < 200)", "(fixed(7) && recurs(20))", "(windowed(10) && recurs(9))"]
 MANY, TIMES, BYTES_A_STEP = 1_000_000, 1.5, 4
 
 
@@ -100,6 +105,29 @@ def test_a_retry_waits_as_its_policy_says(client, name, text, code, times, wante
         assert (ended, moments) == (str(2 ** 64 - 1), [])
     else:
         assert ended == wanted and are_kept(waits, moments)
+
+
+def least_moments(text):
+    """The least milliseconds at which the attempts begin, by the reference: each counts as 1 millisecond."""
+    schedule, pairs, known, begins = reference.read_schedule(text.encode()), [], {}, [0]
+    while begins[-1] is not None:
+        pairs.append((begins[-1] + 1, 7))
+        begins.append(reference.step(schedule, reference.History(pairs, known, 0, len(pairs)))[1])
+    return begins[:-1]
+
+
+@pytest.mark.parametrize("name", named())
+def test_what_fails_at_once_is_retried_within_the_bounds_of_its_policy(client, name):
+    bounds = client("C").says(request("bounds", text, 1000) for text in PROMISED)
+    lines = client(name).says(request("retry", text, 7, 10 ** 6) for text in PROMISED)
+    for text, line, promised in zip(PROMISED, lines, bounds, strict=True):
+        _, _, least, _, most, longest, _, total, _ = map(int, promised.split())
+        ended, *moments = line.split()
+        waits = [(int(after) - int(before)) / 1000 - 1 for before, after in zip(moments, moments[1:])]
+        assert ended == "7" and least <= len(moments) <= most, text
+        assert all(int(moment) >= 1000 * begin for moment, begin in zip(moments, least_moments(text))), text
+        # A busy machine wakes late.
+        assert max(waits) <= longest + 3000 and sum(waits) <= total + 3000, text
 
 
 @pytest.mark.parametrize("name, wanted", [("Go", "503 (context deadline exceeded) true true"), ("Node", "in a wait in an attempt")])
@@ -184,7 +212,7 @@ def test_the_example_in_rust_waits_for_its_server_and_its_tests_pass(library, tm
     folder, variables = crate(library, tmp_path)
     cargo = ["cargo", "--quiet", "--offline"]
     assert ran([*cargo, "run", "--example", "retry"], folder, **variables) == 'Ok("ready") after 4 attempts\n'
-    assert re.findall(r"\d+ passed", ran([*cargo, "test"], folder, **variables)) == ["6 passed", "2 passed"]
+    assert re.findall(r"\d+ passed", ran([*cargo, "test"], folder, **variables)) == ["7 passed", "2 passed"]
     ran([*cargo, "check", "--no-default-features"], folder, **variables)
 
 

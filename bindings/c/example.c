@@ -63,6 +63,7 @@ static uint64_t attempt(void *data)
 int main(void)
 {
     struct call call = {"", 0};
+    struct timespec begun;
     pthread_t server;
     socklen_t length = sizeof address;
     int listening = socket(AF_INET, SOCK_STREAM, 0);
@@ -70,8 +71,8 @@ int main(void)
     if (listening < 0 || bind(listening, (struct sockaddr *)&address, sizeof address) || listen(listening, 8) ||
         getsockname(listening, (struct sockaddr *)&address, &length) || pthread_create(&server, NULL, serve, &listening))
         return 2;
-    uint64_t begun = retry_now();
-    if (retry(POLICY, attempt, &call) || retry_now() - begun < 140)
+    clock_gettime(CLOCK_MONOTONIC, &begun);
+    if (retry(POLICY, attempt, &call) || retry_passed(&begun) < 140)
         return 1;
     pthread_join(server, NULL);
     printf("%s after %d attempts\n", call.text, call.attempts);

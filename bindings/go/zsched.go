@@ -230,21 +230,25 @@ func begun(text string) (follower, error) {
 
 // Retry calls attempt until there is no error or the schedule is done, and sleeps between two
 // attempts. It returns the last error. The input of an error is what inputOf returns. Moments are
-// in milliseconds from the start of the first attempt. If the context ends during a sleep, the last
-// error is returned in an *Ended, which is the context's error too. A text that is no schedule is a
-// *Fault.
+// in milliseconds from the start of the first attempt. No attempt begins before the moment that the
+// schedule plans, and each counts as 1 millisecond at least, so the bounds of a schedule hold of
+// each run. If the context ends during a sleep, the last error is returned in an *Ended, which is
+// the context's error too. A text that is no schedule is a *Fault.
 func Retry(ctx context.Context, text string, inputOf func(error) uint64, attempt func(context.Context) error) error {
 	schedule, err := begun(text)
 	if err != nil {
 		return err
 	}
-	start := time.Now()
+	start, planned := time.Now(), uint64(0)
 	for {
 		failure := attempt(ctx)
 		if failure == nil {
 			return nil
 		}
 		moment := uint64(time.Since(start).Milliseconds())
+		if moment <= planned {
+			moment = planned + 1
+		}
 		result, err := schedule.After(moment, inputOf(failure))
 		if err != nil {
 			return err
@@ -252,25 +256,32 @@ func Retry(ctx context.Context, text string, inputOf func(error) uint64, attempt
 		if result.Done {
 			return failure
 		}
-		if !sleep(ctx, result.Next-moment) {
+		planned = result.Next
+		if !sleep(ctx, start, planned) {
 			return &Ended{Last: failure, Cause: ctx.Err()}
 		}
 	}
 }
 
-// sleep sleeps for millis milliseconds, and returns whether they passed before the context ended.
-func sleep(ctx context.Context, millis uint64) bool {
+// sleep sleeps until millis milliseconds have passed since a moment, and returns whether they passed
+// before the context ended.
+func sleep(ctx context.Context, start time.Time, millis uint64) bool {
 	if millis > longest {
 		millis = longest
 	}
-	timer := time.NewTimer(time.Duration(millis) * time.Millisecond)
-	defer timer.Stop()
-	select {
-	case <-timer.C:
-		return true
-	case <-ctx.Done():
-		return false
+	for ctx.Err() == nil {
+		rest := time.Duration(millis)*time.Millisecond - time.Since(start)
+		if rest <= 0 {
+			return true
+		}
+		timer := time.NewTimer(rest)
+		select {
+		case <-timer.C:
+		case <-ctx.Done():
+			timer.Stop()
+		}
 	}
+	return false
 }
 
 // Ended is the error of a context that ended between two attempts.

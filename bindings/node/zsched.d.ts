@@ -68,8 +68,10 @@ export function check(text: string | Uint8Array): void;
  * Retries until an attempt, which may be asynchronous, doesn't throw, and sleeps between two. When
  * the schedule is done, the last error is thrown. inputOf returns the schedule's input of an error.
  * If it throws, or returns no whole number from 0 up to 2^64 - 1, the error is thrown, and what was
- * wrong is its `notTriedAgain`, if the error is an Error. An aborted signal throws its reason. Time
- * and memory don't grow with the attempts, except with collectAll.
+ * wrong is its `notTriedAgain`, if the error is an Error. An aborted signal throws its reason. No
+ * attempt begins before the moment that the schedule plans, and each counts as 1 millisecond at
+ * least, so the bounds of a schedule hold of each run. Time and memory don't grow with the attempts,
+ * except with collectAll.
  */
 export function retry<T>(
   text: string,

@@ -166,12 +166,16 @@ function begun(text) {
 }
 
 /**
- * Sleeps for `millis` milliseconds, a BigInt. Rejects with the signal's reason if it is aborted
- * before.
+ * Sleeps until `planned` milliseconds, a BigInt, have passed since `start`, in nanoseconds. A timer
+ * may end early, so the clock decides. Rejects with the signal's reason if it is aborted before.
  */
-async function sleep(millis, signal) {
+async function sleep(start, planned, signal) {
   signal?.throwIfAborted();
-  for (let rest = millis; rest > 0n; rest -= BigInt(LONGEST)) {
+  for (;;) {
+    const rest = start + planned * 1000000n - process.hrtime.bigint();
+    if (rest <= 0n) {
+      return;
+    }
     await new Promise((resolve, reject) => {
       const stop = () => {
         clearTimeout(timer);
@@ -180,7 +184,7 @@ async function sleep(millis, signal) {
       const timer = setTimeout(() => {
         signal?.removeEventListener('abort', stop);
         resolve();
-      }, rest < LONGEST ? Number(rest) : LONGEST);
+      }, Math.min(Math.ceil(Number(rest) / 1e6), LONGEST));
       signal?.addEventListener('abort', stop, { once: true });
     });
     signal?.throwIfAborted();
@@ -191,23 +195,27 @@ async function sleep(millis, signal) {
  * Retries until an attempt, which may be asynchronous, doesn't throw, and sleeps between two. When
  * the schedule is done, the last error is thrown. inputOf returns the schedule's input of an error.
  * If it throws, or returns no whole number from 0 up to 2^64 - 1, the error is thrown, and what was
- * wrong is its `notTriedAgain`, if the error is an Error. An aborted signal throws its reason. Time
- * and memory don't grow with the attempts, except with collectAll.
+ * wrong is its `notTriedAgain`, if the error is an Error. An aborted signal throws its reason. No
+ * attempt begins before the moment that the schedule plans, and each counts as 1 millisecond at
+ * least, so the bounds of a schedule hold of each run. Time and memory don't grow with the attempts,
+ * except with collectAll.
  */
 async function retry(text, attempt, { inputOf = () => 0, signal } = {}) {
   const schedule = begun(text);
   const start = process.hrtime.bigint();
+  let planned = 0n;
   for (;;) {
     signal?.throwIfAborted();
     try {
       return await attempt();
     } catch (error) {
       const now = (process.hrtime.bigint() - start) / 1000000n;
-      const result = stepAfter(schedule, now, error, inputOf);
+      const result = stepAfter(schedule, now > planned ? now : planned + 1n, error, inputOf);
       if (result.done) {
         throw error;
       }
-      await sleep(result.next - now, signal);
+      planned = result.next;
+      await sleep(start, planned, signal);
     }
   }
 }

@@ -191,12 +191,14 @@ public final class Schedule {
      * <p>The input of an error is what inputOf returns. If inputOf throws a RuntimeException, the
      * error is thrown, and what inputOf threw is suppressed by it. An InterruptedException of the
      * attempt is thrown at once. Moments are in milliseconds from the start of the first attempt.
-     * Time and memory don't grow with the number of attempts, except for a schedule with
-     * collectAll, whose output grows.
+     * No attempt begins before the moment that the schedule plans, and each counts as 1 millisecond
+     * at least, so the bounds of a schedule hold of each run. Time and memory don't grow with the
+     * number of attempts, except for a schedule with collectAll, whose output grows.
      */
     public static <T> T retry(String text, ToLongFunction<Exception> inputOf, Callable<T> attempt) throws Exception {
         Follower schedule = begun(text);
         long start = System.nanoTime();
+        long planned = 0;
         while (true) {
             try {
                 return attempt.call();
@@ -204,12 +206,22 @@ public final class Schedule {
                 throw interrupted;
             } catch (Exception error) {
                 long now = (System.nanoTime() - start) / 1_000_000;
-                Answer result = schedule.after(now, input(inputOf, error));
+                Answer result = schedule.after(Math.max(now, planned + 1), input(inputOf, error));
                 if (result.done()) {
                     throw error;
                 }
-                Thread.sleep(result.next() < 0 ? Long.MAX_VALUE : result.next() - now);
+                planned = result.next();
+                sleep(start, planned);
             }
+        }
+    }
+
+    /** Sleeps until a number of milliseconds, which is unsigned, has passed since a start. */
+    private static void sleep(long start, long millis) throws InterruptedException {
+        boolean isFar = Long.compareUnsigned(millis, Long.MAX_VALUE / 1_000_000) > 0;
+        for (long rest = 1; rest > 0; ) {
+            rest = isFar ? Long.MAX_VALUE : millis * 1_000_000 - (System.nanoTime() - start);
+            Thread.sleep(rest > 0 ? rest / 1_000_000 + 1 : 0);
         }
     }
 

@@ -38,14 +38,14 @@ class Attempt:
 class Run:
     """One run of a Retrying, which iterates over its attempts.
 
-    It holds the schedule, the start and the wait for the next attempt."""
+    It holds the schedule, the start, and the moment that is planned for the next attempt."""
 
     def __init__(self, retrying: "Retrying") -> None:
         self.retrying = retrying
         self.schedule = begun(retrying.text)
         self.start = retrying.clock()
-        self.attempts = self.last = 0
-        self.wait: float | None = None
+        self.attempts = self.planned = 0
+        self.wait = 0.0
         self.is_over = False
 
     def __iter__(self) -> "Run":
@@ -57,16 +57,27 @@ class Run:
     def __next__(self) -> Attempt:
         if self.is_over:
             raise StopIteration
-        if self.wait is not None:
-            (self.retrying.sleep or time.sleep)(self.wait)
+        if self.attempts and self.retrying.sleep is not None:
+            self.retrying.sleep(self.wait)
+        while self.attempts and self.retrying.sleep is None and (rest := self.rest()) > 0:
+            time.sleep(rest)
         return self.begin()
 
     async def __anext__(self) -> Attempt:
         if self.is_over:
             raise StopAsyncIteration
-        if self.wait is not None:
-            await (self.retrying.sleep or asyncio.sleep)(self.wait)
+        if self.attempts and self.retrying.sleep is not None:
+            await self.retrying.sleep(self.wait)
+        while self.attempts and self.retrying.sleep is None:
+            rest = self.rest()
+            await asyncio.sleep(max(0.0, rest))
+            if rest <= 0:
+                break
         return self.begin()
+
+    def rest(self) -> float:
+        """Returns the seconds until the next attempt may begin."""
+        return self.planned / 1000 - (self.retrying.clock() - self.start)
 
     def begin(self) -> Attempt:
         """Returns the next attempt."""
@@ -94,12 +105,12 @@ class Run:
         code = self.input_of(error)
         if code is None:
             return False
-        # If the clock is set back, the moments still don't fall.
-        now = max(self.last, int((self.retrying.clock() - self.start) * 1000))
-        following = self.schedule.after(now, code).next
+        # The attempt counts as 1 millisecond at least, even if the clock is set back or its sleep ended early.
+        now = int((self.retrying.clock() - self.start) * 1000)
+        following = self.schedule.after(max(now, self.planned + 1), code).next
         if following is None:
             return False
-        self.last, self.wait, self.is_over = now, (following - now) / 1000, False
+        self.wait, self.planned, self.is_over = (following - max(now, self.planned)) / 1000, following, False
         if self.retrying.sleep is None and self.wait > LONGEST:
             raise OverflowError(f"zsched: the next attempt is {self.wait:.0f} seconds away, and the longest wait is "
                                 f"{LONGEST:.0f}") from error
@@ -170,10 +181,12 @@ def retrying(schedule: str | Schedule | Stepper, *, on: type[Exception] | tuple[
         returns none or raises, the error is raised with a note that says so
     before_sleep: is called with the error, the number of the attempt and the seconds to sleep
     clock: returns seconds that don't fall
-    sleep: sleeps for a number of seconds (time.sleep; asyncio.sleep in coroutines)
+    sleep: sleeps for a number of seconds, or for fewer to spread the attempts of many clients;
+        without one no attempt begins before its planned moment by the clock
 
-    The schedule's moments are whole milliseconds from the start of the first attempt. Time and
-    memory don't grow with the number of attempts, except for a schedule with collectAll, whose
-    output grows. Raises ScheduleFault if the text is no schedule. Without `sleep`, a wait that is
+    The schedule's moments are whole milliseconds from the start of the first attempt. Each attempt
+    counts as 1 millisecond at least, so the schedule's Bounds hold of each run. Time and memory
+    don't grow with the number of attempts, except for a schedule with collectAll, whose output
+    grows. Raises ScheduleFault if the text is no schedule. Without `sleep`, a wait that is
     longer than threading.TIMEOUT_MAX seconds raises OverflowError."""
     return Retrying(schedule if isinstance(schedule, str) else schedule.text, on, input_of, before_sleep, clock, sleep)

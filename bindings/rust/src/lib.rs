@@ -418,8 +418,9 @@ impl Follower {
 /// Retries until there is a value or the schedule is done, and sleeps between two attempts.
 ///
 /// The input of an error is what `input_of` returns. Moments are in milliseconds from the start of
-/// the first attempt. Time and memory don't grow with the number of attempts, except for a schedule
-/// with `collectAll`, whose output grows.
+/// the first attempt. No attempt begins before the moment that the schedule plans, and each counts
+/// as 1 millisecond at least, so the bounds of a schedule hold of each run. Time and memory don't
+/// grow with the number of attempts, except for a schedule with `collectAll`, whose output grows.
 ///
 /// The outer fault is that of the text, or `Memory`.
 #[cfg(feature = "std")]
@@ -434,8 +435,9 @@ pub fn retry<T, E>(
 
 /// Retries as `retry` does, with the caller's clock and sleep.
 ///
-/// `now` returns milliseconds, which don't fall. If they do, the outer fault is `Earlier` or
-/// `Falls`.
+/// `now` returns milliseconds from the start of the first attempt. `sleep` may end early, for
+/// example to spread the attempts of many clients: a step's moment is still at least 1 millisecond
+/// after the one that was planned for its attempt.
 #[cfg(feature = "std")]
 pub fn retry_by<T, E>(
     text: &str,
@@ -444,17 +446,18 @@ pub fn retry_by<T, E>(
     mut now: impl FnMut() -> u64,
     mut sleep: impl FnMut(Duration),
 ) -> Result<Result<T, E>, Fault> {
-    let mut schedule = Follower::new(text)?;
+    let (mut schedule, mut planned) = (Follower::new(text)?, 0_u64);
     loop {
         let error = match attempt() {
             Ok(value) => return Ok(Ok(value)),
             Err(error) => error,
         };
-        let moment = now();
-        match schedule.next_after(moment, input_of(&error))? {
-            Some(next) => sleep(Duration::from_millis(next - moment)),
-            None => return Ok(Err(error)),
-        }
+        let passed = now().max(planned);
+        let Some(next) = schedule.next_after(passed.max(planned.saturating_add(1)), input_of(&error))? else {
+            return Ok(Err(error));
+        };
+        sleep(Duration::from_millis(next - passed));
+        planned = next;
     }
 }
 
@@ -462,12 +465,13 @@ pub fn retry_by<T, E>(
 mod tests {
     use super::*;
 
-    /// Retries an attempt that fails `failures` times, by a clock that only sleeps advance. Returns
-    /// the waits and the result.
-    fn tried(text: &str, failures: u64) -> (Vec<u64>, Result<u64, u64>) {
+    /// Retries an attempt that takes `millis` milliseconds and fails `failures` times, by a clock
+    /// that else only sleeps advance. Returns the waits and the result.
+    fn tried(text: &str, millis: u64, failures: u64) -> (Vec<u64>, Result<u64, u64>) {
         let (clock, mut waits, mut attempts) = (core::cell::Cell::new(0), Vec::new(), 0);
         let attempt = || {
             attempts += 1;
+            clock.set(clock.get() + millis);
             if attempts > failures { Ok(attempts) } else { Err(503) }
         };
         let sleep = |wait: Duration| {
@@ -480,20 +484,27 @@ mod tests {
 
     #[test]
     fn attempts_wait_as_the_schedule_says() {
-        assert_eq!(tried("(exponential(10) && recurs(5))", 3), (vec![10, 20, 40], Ok(4)));
-        assert_eq!(tried("(spaced(30) && recurs(2))", 9), (vec![30, 30], Err(503)));
-        assert_eq!(tried("spaced(30).whileInput(< 500)", 9), (vec![], Err(503)));
+        assert_eq!(tried("(exponential(10) && recurs(5))", 5, 3), (vec![10, 20, 40], Ok(4)));
+        assert_eq!(tried("(spaced(30) && recurs(2))", 5, 9), (vec![30, 30], Err(503)));
+        assert_eq!(tried("spaced(30).whileInput(< 500)", 5, 9), (vec![], Err(503)));
+    }
+
+    #[test]
+    fn an_attempt_counts_as_1_millisecond_at_least() {
+        assert_eq!(tried("(exponential(10) && recurs(5))", 0, 3), (vec![11, 21, 41], Ok(4)));
+        let (waits, ended) = tried("elapsed.whileOutput(< 200)", 0, 9999);
+        assert_eq!((waits, ended), (vec![1; 200], Err(503)));
     }
 
     #[test]
     fn a_schedule_that_collects_is_followed_by_its_list() {
-        assert_eq!(tried("(linear(5) && recurs(9)).collectAll", 3), (vec![5, 10, 15], Ok(4)));
-        assert_eq!(tried("(linear(5) && recurs(2)).collectAll", 3), (vec![5, 10], Err(503)));
+        assert_eq!(tried("(linear(5) && recurs(9)).collectAll", 5, 3), (vec![5, 10, 15], Ok(4)));
+        assert_eq!(tried("(linear(5) && recurs(2)).collectAll", 5, 3), (vec![5, 10], Err(503)));
     }
 
     #[test]
     fn the_state_after_many_attempts_is_as_long_as_before() {
-        let (waits, ended) = tried("spaced(1)", 200_000);
+        let (waits, ended) = tried("spaced(1)", 5, 200_000);
         assert_eq!((waits.len(), ended), (200_000, Ok(200_001)));
         let mut stepper = Stepper::new("(spaced(1) && recurs(9))").expect("a schedule");
         let words = stepper.state().len();

@@ -10,24 +10,25 @@ use zsched::{Fault, Stepper};
 const SCHEDULE: &str = "((exponential(20) || spaced(100)) && recurs(5))";
 const BUSY: usize = 3;
 
-/// Retries until there is a value or the schedule is done, and sleeps between two attempts. The
-/// outer fault is that of the text.
+/// Retries until there is a value or the schedule is done, and sleeps between two attempts. Each
+/// attempt counts as 1 millisecond at least. The outer fault is that of the text.
 async fn retry<T, E, A: Future<Output = Result<T, E>>>(
     text: &str,
     input_of: impl Fn(&E) -> u64,
     mut attempt: impl FnMut() -> A,
 ) -> Result<Result<T, E>, Fault> {
-    let (mut schedule, start) = (Stepper::new(text)?, Instant::now());
+    let (mut schedule, start, mut planned) = (Stepper::new(text)?, Instant::now(), 0);
     loop {
         let error = match attempt().await {
             Ok(value) => return Ok(Ok(value)),
             Err(error) => error,
         };
-        let now = start.elapsed().as_millis() as u64;
-        match schedule.next_after(now, input_of(&error))? {
-            Some(next) => tokio::time::sleep(Duration::from_millis(next - now)).await,
+        let moment = (start.elapsed().as_millis() as u64).max(planned + 1);
+        match schedule.next_after(moment, input_of(&error))? {
+            Some(next) => planned = next,
             None => return Ok(Err(error)),
         }
+        tokio::time::sleep_until((start + Duration::from_millis(planned)).into()).await;
     }
 }
 
