@@ -11,7 +11,6 @@
 docs/TESTING.md says what each part is for. tests/floors.txt has the number of cases that each must have at least.
 The last line is 'N passed, M failed'; the status is 0 if M is 0."""
 import contextlib
-import dataclasses
 import os
 import re
 import shutil
@@ -36,20 +35,10 @@ REDIRECTS = ["ZSCHED", "ZSCHED_POPULATION", "ZSCHED_BOUNDS", "ZSCHED_LIBRARY", "
 MINUTES = {"proofs": 170, "survivors": 170, "tests": 60}
 
 
-@dataclasses.dataclass
-class Ended:
-    """The result of a part: its passed and failed cases, why else it failed, its seconds and processor seconds."""
-    name: str
-    passed: int
-    failed: int
-    why: list
-    seconds: float = 0
-    processor: float = 0
-
-
 def judged(name, lines, status, is_late=False):
-    """The result of a part by its output and its status. A part whose last line doesn't count what passed has failed, and so
-    has one that passed fewer cases than its floor, or whose status differs from the one that its last line implies."""
+    """How many cases of a part passed and failed, by its output and its status, and why else it failed. A part whose last line
+    doesn't count what passed has failed, and so has one that passed fewer cases than its floor, or whose status differs from
+    the one that its last line implies."""
     counts = {word.removesuffix("s"): int(number) for number, word in COUNT.findall(lines[-1] if lines else "")}
     passed, failed = counts.get("passed", 0), counts.get("failed", 0) + counts.get("error", 0)
     why, floor = [], floors().get(name, 1)
@@ -61,7 +50,7 @@ def judged(name, lines, status, is_late=False):
         why.append(f"it ended with status {status}")
     if passed < floor:
         why.append(f"{passed} passed, and tests/floors.txt asks for {floor}")
-    return Ended(name, passed, failed or int(bool(why)), why)
+    return passed, failed or int(bool(why)), why
 
 
 class Part(threading.Thread):
@@ -69,7 +58,8 @@ class Part(threading.Thread):
 
     def __init__(self, name, words, is_shown=True):
         super().__init__(daemon=True)
-        self.name, self.is_shown, self.is_late, self.ended = name, is_shown, False, None
+        self.name, self.is_shown, self.is_late = name, is_shown, False
+        self.passed, self.failed, self.seconds, self.processor = 0, 1, 0, 0
         variables = {key: value for key, value in os.environ.items() if key not in REDIRECTS} | {"ZSCHED_GATE": "1"}
         self.process = subprocess.Popen(words, cwd=TOP, env=variables, text=True, errors="replace", start_new_session=True,
                                         stdin=subprocess.DEVNULL, stdout=subprocess.PIPE, stderr=subprocess.STDOUT)
@@ -93,12 +83,10 @@ class Part(threading.Thread):
         _, status, used = os.wait4(self.process.pid, 0)
         clock.cancel()
         self.process.returncode = os.waitstatus_to_exitcode(status)
-        ended = judged(self.name, lines, self.process.returncode, self.is_late)
-        self.ended = dataclasses.replace(ended, seconds=time.monotonic() - begun, processor=used.ru_utime + used.ru_stime)
-        if not self.is_shown:
-            print(f"check: {self.name}", *lines, sep="\n", flush=True)
-        for why in ended.why:
-            print(f"check: {self.name} has failed: {why}", flush=True)
+        self.seconds, self.processor = time.monotonic() - begun, used.ru_utime + used.ru_stime
+        self.passed, self.failed, why = judged(self.name, lines, self.process.returncode, self.is_late)
+        shown = [] if self.is_shown else [f"check: {self.name}", *lines]
+        print("\n".join([*shown, *[f"check: {self.name} has failed: {it}" for it in why]]), flush=True)
 
 
 def python(name, *words):
@@ -117,19 +105,17 @@ def run(given, files, running):
         running[-1].join()
     if is_whole or files:
         print("check: tests", flush=True)
-        words = ["-q", "-n", "auto", *["--short"] * given.short, *files]
+        words = ["-q", "-n", os.environ.get("ZSCHED_PROCESSES", "auto"), *["--short"] * given.short, *files]
         running.append(Part("tests", [sys.executable, "-m", "pytest", *words]))
     for part in running:
         part.join()
-    return [part.ended for part in running]
 
 
-def table(ended, seconds, yards):
+def table(parts, seconds, yards):
     """The table of times, with the yardsticks if they were measured."""
     lines = [f"{'part':<12}{'seconds':>9}{'processor s':>13}{'passed':>8}{'failed':>8}"]
-    for it in ended:
-        lines.append(f"{it.name:<12}{it.seconds:>9.0f}{it.processor:>13.0f}{it.passed:>8}{it.failed:>8}")
-    used = sum(it.processor for it in ended)
+    lines += [f"{it.name:<12}{it.seconds:>9.0f}{it.processor:>13.0f}{it.passed:>8}{it.failed:>8}" for it in parts]
+    used = sum(it.processor for it in parts)
     lines.append(f"{'all':<12}{seconds:>9.0f}{used:>13.0f}")
     if yards:
         mean = sum(yards) / len(yards)
@@ -147,7 +133,8 @@ def options_of(words):
     given = parser.parse_args(words)
     if "quick" in given.names and len(given.names) > 1:
         parser.error("quick goes alone")
-    files = [f"tests/test_{name.removeprefix('test_').removesuffix('.py')}.py" for name in given.names if name not in MINUTES | {"quick": 0}]
+    files = [f"tests/test_{name.removeprefix('test_').removesuffix('.py')}.py" for name in given.names
+             if name not in ["quick", "proofs", "survivors"]]
     if lacking := [name for name in files if not (TOP / name).exists()]:
         parser.error(f"there is no file {lacking[0]}")
     return given, files
@@ -169,17 +156,17 @@ def main(words):
         for old in [ZSCHED, POPULATION, REFUSALS, STAMP]:
             old.unlink(missing_ok=True)
     try:
-        ended = run(given, files, running)
+        run(given, files, running)
     finally:
         for part in running:
             if part.is_alive():
                 part.stop(is_late=False)
-    print(table(ended, time.monotonic() - begun, series.end() if series else []))
-    passed, failed = sum(it.passed for it in ended), sum(it.failed for it in ended)
+    print(table(running, time.monotonic() - begun, series.end() if series else []))
+    passed, failed = sum(it.passed for it in running), sum(it.failed for it in running)
     if is_whole and not failed:
         if before == sources_sum("zsched"):
             STAMP.write_text(f"{before}\n")
-            quick.keep_all()
+            quick.note({name: quick.total(crate) for name, crate in quick.CRATES.items()})
         else:
             failed += 1
             print("check: the sources were changed while the gate ran")

@@ -4,10 +4,8 @@
 A survivor is a file crates/NAME/survivors/BELIEF.edit with lines `word: text`. `caught-by:` names a test of a crate, as
 CRATE::TEST, or of this folder, as FILE.py::TEST. `file:` names a file of src/, and below it are pairs of `old:`, a text that
 is in that file once, and `new:`, the text in its place. Those of one file change the body of one function. A body may hold
-one lock of all threads, from `crate::chosen::zs_lock()` to `zs_unlock()`. What catches it has to pass without it.
-
-The programs are built without proofs, and a number picks a body at run time. The last line is 'N passed, M failed'."""
-import collections
+one lock of all threads, from `crate::chosen::zs_lock()` to `zs_unlock()`. The programs are built without proofs, and a
+number picks a body at run time. What catches it has to pass without it. The last line is 'N passed, M failed'."""
 import concurrent.futures
 import os
 import pathlib
@@ -42,13 +40,13 @@ class Survivor:
 
     def __init__(self, number, path):
         self.number, self.name, self.crate = number, path.stem, path.parent.parent.name
-        self.pairs, said = collections.defaultdict(list), {}
+        self.pairs, said = {}, {}
         for line in path.read_text(encoding="utf-8").splitlines():
             word, _, text = line.partition(":")
             assert word in ["caught-by", "file", "old", "new"], f"{path}: {line}"
             said[word] = text.removeprefix(" ")
             if word == "new":
-                self.pairs[said["file"]].append((said["old"], said["new"]))
+                self.pairs.setdefault(said["file"], []).append((said["old"], said["new"]))
         self.caught_by = said["caught-by"]
 
 
@@ -61,7 +59,7 @@ def body_of(text, at):
 
 def plant(crates, survivors):
     """Gives each changed function the bodies of all its survivors, among which a number picks at run time."""
-    bodies = collections.defaultdict(str)
+    bodies = {}
     for it, (file, pairs) in [(it, pair) for it in survivors for pair in it.pairs.items()]:
         path = crates / it.crate / file
         text = new = path.read_text(encoding="utf-8")
@@ -70,7 +68,8 @@ def plant(crates, survivors):
             new = new.replace(old, other)
         start, end = body_of(text, text.index(pairs[0][0]))
         assert new[:start] == text[:start] and new.endswith(text[end:]), f"{it.name} changes more than a body of {file}"
-        bodies[path, start, end] += f"        {it.number} => {{{new[start:len(new) - len(text) + end]}}}\n"
+        arm = f"        {it.number} => {{{new[start:len(new) - len(text) + end]}}}\n"
+        bodies[path, start, end] = bodies.get((path, start, end), "") + arm
     for (path, start, end), arms in sorted(bodies.items(), key=lambda it: -it[0][1]):
         text = path.read_text(encoding="utf-8")
         chosen = f"\n    match crate::chosen::zs_chosen() {{\n{arms}        _ => {{{text[start:end]}}}\n    }}\n"
@@ -88,30 +87,28 @@ def ran(words, seconds, until=lambda: False, **more):
     limit, running = time.monotonic() + seconds, subprocess.Popen(words, stdin=subprocess.DEVNULL, start_new_session=True, **more)
     while running.poll() is None and time.monotonic() < limit and not until():
         time.sleep(0.02)
-    if running.poll() is None:
-        # `rt` ends what it started in other groups.
+    is_late = running.poll() is None
+    if is_late:
         os.killpg(running.pid, signal.SIGTERM)
-        return running.wait() and None
-    return running.returncode
+    return None if running.wait() and is_late else running.returncode
 
 
 def build(room, crate):
     """Builds a crate's program, or that of its tests if it is a library."""
     kit, copy = pathlib.Path(os.path.realpath(shutil.which("rt"))).parent.parent, room / f"{crate}.kit"
     program, folder, log = room / crate, room / "crates" / crate, room / f"{crate}.log"
-    words = ["--test"] * (folder / "src" / "lib.rt").exists()
-    known = {"kit": kit, "program": program, "level": "-O0" if words else "-O2"}
+    words, level = (["--test"], "-O0") if (folder / "src" / "lib.rt").exists() else ([], "-O2")
+    linker, compiler = (text.format(kit=kit, program=program, level=level) for text in [LINKER, COMPILER])
     copy.mkdir()
     subprocess.run(["cp", "-rs", *[kit / it for it in ["bin", "c", "toolchain"]], copy], check=True)
-    for name in ["rattle", "rlibs", "logic_built"]:
-        (copy / name).symlink_to(kit / name)
-    for name, text in [("toolchain/bin/ld.lld", LINKER.format(**known)), ("toolchain/bin/clang", COMPILER.format(**known)),
-                       ("bin/rattle", "#!/bin/sh\n"), ("c/asan.a", "!<arch>\n"), *[(it, None) for it in ["bin/rt", "bin/rtlib.py"]]]:
+    subprocess.run(["ln", "-s", *[kit / it for it in ["rattle", "rlibs", "logic_built"]], copy], check=True)
+    for name, text in [("toolchain/bin/ld.lld", linker), ("toolchain/bin/clang", compiler), ("bin/rattle", "#!/bin/sh\n"),
+                       ("c/asan.a", "!<arch>\n"), ("bin/rt", None), ("bin/rtlib.py", None)]:
         (copy / name).unlink()
         (copy / name).write_text(text or (kit / name).read_text())
         (copy / name).chmod(0o755)
     with open(log, "wb") as said:
-        ran([copy / "bin/rt", "try", *words, "--steps", "1"], 900, program.exists, cwd=folder, stdout=said, stderr=said,
+        ran([copy / "bin/rt", "try", *words, "--steps", "1"], 3600, program.exists, cwd=folder, stdout=said, stderr=said,
             env={**os.environ, "RT_ALLOW_C": ",".join(it.parent.name for it in room.glob("crates/*/c"))})
     assert program.exists(), f"{crate} isn't built: {log.read_text(errors='replace')[-3000:]}"
 
@@ -133,8 +130,7 @@ def fails(room, caught_by, number, seconds):
 def judge(room, pool, survivors):
     """Plants the survivors, and returns for each whether it is caught."""
     shutil.copytree(TOP / "crates", room / "crates", ignore=shutil.ignore_patterns("out", "proofs", "must-fail", "survivors"))
-    for name in ["crates.txt", "HANDLES"]:
-        shutil.copy(TOP / name, room)
+    subprocess.run(["cp", TOP / "crates.txt", TOP / "HANDLES", room], check=True)
     gates = room / "crates/zs_tests/src/tests/gates.rt"
     gates.write_text(re.sub(r"(TURNS: u64 = )[\d_]+", r"\g<1>3_000_000", gates.read_text()))
     plant(room / "crates", survivors)

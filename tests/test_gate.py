@@ -47,14 +47,14 @@ def test_edits_that_rt_ci_does_not_reject_fail_the_proofs(lines, status, failed)
 ])
 def test_a_part_fails_by_its_last_line_its_status_its_floor_and_its_time(lines, status, is_late, failed, monkeypatch):
     monkeypatch.setattr(gate, "floors", lambda: {"tests": 30})
-    assert gate.judged("tests", lines, status, is_late).failed == failed
+    assert gate.judged("tests", lines, status, is_late)[1] == failed
 
 
 @pytest.fixture
 def tree(tmp_path):
     """A copy of what pytest reads, with one file of three tests and its floor."""
     (tmp_path / "tests").mkdir()
-    for name in ["pytest.ini", "tests/conftest.py", "tests/support.py"]:
+    for name in ["pytest.ini", "tests/conftest.py", "tests/support.py", "tests/proofs.py", "HANDLES"]:
         shutil.copy(TOP / name, tmp_path / name)
     shutil.copytree(TOP / "tools", tmp_path / "tools")
     (tmp_path / "tests/test_a.py").write_text("import pytest\n@pytest.mark.parametrize('it', range(3))\ndef test_it(it): pass\n")
@@ -66,7 +66,7 @@ def passes(tree, *words, **more):
     """Whether pytest passes in the copy."""
     variables = {key: value for key, value in os.environ.items() if not key.startswith("PYTEST")} | {"ZSCHED_GATE": "1"}
     ended = subprocess.run([sys.executable, "-m", "pytest", "-q", *words], cwd=tree, env=variables | more, capture_output=True,
-                           timeout=60, check=False)
+                           check=False)
     return ended.returncode == 0
 
 
@@ -77,26 +77,45 @@ def replaced(path, old, new):
     path.write_text(text.replace(old, new))
 
 
-@pytest.mark.parametrize("name, sabotage", [
-    ("a case is gone", lambda tests: replaced(tests / "test_a.py", "range(3)", "range(2)")),
-    ("a file is empty", lambda tests: (tests / "test_a.py").write_text("")),
-    ("a file is gone", lambda tests: (tests / "test_a.py").rename(tests / "a.py")),
-    ("a file has no floor", lambda tests: (tests / "test_b.py").write_text("def test_it(): pass\n")),
-    ("a test is skipped", lambda tests: replaced(tests / "test_a.py", ": pass", ": pytest.skip()")),
-    ("a test is expected to fail", lambda tests: replaced(tests / "test_a.py", ": pass", ": pytest.xfail()")),
-    ("a file is skipped", lambda tests: replaced(tests / "test_a.py", "import pytest\n", "import pytest\npytest.skip(allow_module_level=True)\n")),
-    ("no cases of a table", lambda tests: replaced(tests / "test_a.py", "range(3)", "[]")),
-    ("a process dies", lambda tests: replaced(tests / "test_a.py", ": pass", ": __import__('os')._exit(0)")),
-], ids=lambda it: it.replace(" ", "_") if isinstance(it, str) else "")
-def test_a_sabotage_of_the_tests_is_found(name, sabotage, tree):
-    sabotage(tree / "tests")
-    assert not passes(tree, "-n", "2"), name
+SABOTAGES = {
+    "a case is gone": lambda tests: replaced(tests / "test_a.py", "range(3)", "range(2)"),
+    "a file is empty": lambda tests: (tests / "test_a.py").write_text(""),
+    "a file is gone": lambda tests: (tests / "test_a.py").rename(tests / "a.py"),
+    "a file has no floor": lambda tests: (tests / "test_b.py").write_text("def test_it(): pass\n"),
+    "a test is skipped": lambda tests: replaced(tests / "test_a.py", ": pass", ": pytest.skip()"),
+    "a test is expected to fail": lambda tests: replaced(tests / "test_a.py", ": pass", ": pytest.xfail()"),
+    "a file is skipped": lambda tests: (tests / "test_a.py").write_text("import pytest\npytest.skip(allow_module_level=True)\n"),
+    "no cases of a table": lambda tests: replaced(tests / "test_a.py", "range(3)", "[]"),
+    "a process dies": lambda tests: replaced(tests / "test_a.py", ": pass", ": __import__('os')._exit(0)"),
+}
+
+
+@pytest.mark.parametrize("name", SABOTAGES)
+def test_a_sabotage_of_the_tests_is_found(name, tree):
+    SABOTAGES[name](tree / "tests")
+    assert not passes(tree, *["-n", "1"] * (name in ["a case is gone", "a test is skipped", "a process dies"]))
 
 
 def test_floors_hold_for_the_files_that_run(tree):
     (tree / "tests/test_b.py").write_text("import pytest\n@pytest.mark.full\ndef test_it(): pass\n")
     (tree / "tests/floors.txt").write_text("survivors 40\ntest_a.py 3\ntest_b.py 1\n")
-    assert all(passes(tree, *words) for words in [["-n", "2"], ["--short"], ["tests/test_a.py"], ["tests/test_a.py::test_it"]])
+    assert all(passes(tree, *words) for words in [["-n", "1"], ["--short"], ["tests/test_a.py"], ["tests/test_a.py::test_it"]])
     (tree / "tests/floors.txt").write_text("test_a.py 4\ntest_b.py 1\n")
     assert not passes(tree, "tests/test_a.py")
     assert passes(tree, "tests/test_b.py")
+
+
+@pytest.mark.parametrize("said, status", [
+    ("rt: must-fail zsched_c/one.edit: refused, as it must be\n2 passed, 0 failed\n", 0),
+    ("rt: must-fail zsched_c/one.edit: BAD EDIT: there is no file src/lib.rt\n1 passed, 0 failed\n", 1),
+    ("1 passed, 0 failed\n", 1)], ids=["it is rejected", "it doesn't apply", "it isn't tried"])
+def test_an_edit_that_the_toolchain_passes_over_fails_the_proofs(said, status, tree):
+    (tree / "crates/zsched_c/must-fail").mkdir(parents=True)
+    for name, text in [("crates/zsched_c/must-fail/one.edit", ""), ("crates.txt", "zsched_c staticlib:\n"), ("said", said),
+                       ("rt", "#!/bin/sh\n[ $1 != ci ] || cat said\n"), ("rtlib.py", "def crates_below(top):\n    return []\n")]:
+        (tree / name).write_text(text)
+    (tree / "rt").chmod(0o755)
+    ended = subprocess.run([sys.executable, "tests/proofs.py"], cwd=tree, env=os.environ | {"PATH": f"{tree}:{os.environ['PATH']}"},
+                           capture_output=True, text=True, check=False)
+    assert ended.returncode == status, ended
+    assert ended.stdout.splitlines()[-1] == ("2 passed, 0 failed" if status == 0 else "1 passed, 1 failed")
