@@ -102,7 +102,7 @@ def pytest_make_collect_report():
 def program(variable, crate):
     """The path of a built program: the one that a variable names, or the one of its crate."""
     path = pathlib.Path(os.environ.get(variable) or TOP / "crates" / crate / "out" / crate)
-    assert os.access(path, os.X_OK), f"{path} isn't built (./run --proved builds zsched, ./check all), and {variable} names no other"
+    assert os.access(path, os.X_OK), f"{path} isn't built (./check builds it), and {variable} names no other"
     return path
 
 

@@ -36,9 +36,9 @@ MINUTES = {"proofs": 170, "survivors": 170, "tests": 60}
 
 
 def judged(name, lines, status, is_late=False):
-    """How many cases of a part passed and failed, by its output and its status, and why else it failed. A part whose last line
-    doesn't count what passed has failed, and so has one that passed fewer cases than its floor, or whose status differs from
-    the one that its last line implies."""
+    """How many cases of a part passed and failed, by its output and its status, and why else it failed. A part whose
+    last line doesn't count what passed has failed, and so has one that passed fewer cases than its floor, or whose
+    status differs from the one that its last line implies."""
     counts = {word.removesuffix("s"): int(number) for number, word in COUNT.findall(lines[-1] if lines else "")}
     passed, failed = counts.get("passed", 0), counts.get("failed", 0) + counts.get("error", 0)
     why, floor = [], floors().get(name, 1)
@@ -61,8 +61,9 @@ class Part(threading.Thread):
         self.name, self.is_shown, self.is_late = name, is_shown, False
         self.passed, self.failed, self.seconds, self.processor = 0, 1, 0, 0
         variables = {key: value for key, value in os.environ.items() if key not in REDIRECTS} | {"ZSCHED_GATE": "1"}
-        self.process = subprocess.Popen(words, cwd=TOP, env=variables, text=True, errors="replace", start_new_session=True,
-                                        stdin=subprocess.DEVNULL, stdout=subprocess.PIPE, stderr=subprocess.STDOUT)
+        self.process = subprocess.Popen(
+            words, cwd=TOP, env=variables, text=True, errors="replace", start_new_session=True,
+            stdin=subprocess.DEVNULL, stdout=subprocess.PIPE, stderr=subprocess.STDOUT)
         self.start()
 
     def stop(self, is_late=True):
@@ -95,7 +96,7 @@ def python(name, *words):
 
 
 def run(given, files, running):
-    """Runs the parts, and adds each to a list when it begins. The survivors need no proof, so they run beside the proofs."""
+    """Runs the parts, and adds each to a list when it begins. Survivors need no proof: they run beside the proofs."""
     is_whole = not given.names
     if is_whole or "survivors" in given.names:
         running.append(Part("survivors", ["nice", *python("survivors.py")], is_shown=not is_whole))
@@ -119,8 +120,8 @@ def table(parts, seconds, yards):
     lines.append(f"{'all':<12}{seconds:>9.0f}{used:>13.0f}")
     if yards:
         mean = sum(yards) / len(yards)
-        lines.append(f"yardstick: {yardstick.NAME} of the toolchain's examples was proved {len(yards)} times, in {min(yards):.1f} "
-                     f"to {max(yards):.1f} processor seconds; the gate took {used / mean:.0f} times the mean, {mean:.1f}")
+        lines.append(f"yardstick: {len(yards)} proofs of {yardstick.NAME} took {min(yards):.1f} to {max(yards):.1f} "
+                     f"processor seconds; the gate took {used / mean:.0f} times the mean, {mean:.1f}")
     return "\n".join(lines)
 
 
@@ -145,7 +146,7 @@ def main(words):
     given, files = options_of(words)
     for command, what in [("rt", "the Rattle toolchain"), ("cc", "a C compiler")]:
         if shutil.which(command) is None:
-            print(f"check: {what} (the command '{command}') isn't on this machine, so nothing can be checked.", file=sys.stderr)
+            print(f"check: {what} (the command '{command}') isn't on this machine.", file=sys.stderr)
             return 127
     if given.names == ["quick"]:
         return quick.main()

@@ -1,11 +1,11 @@
 #!/usr/bin/env python3
-"""Runs `rt ci`: each proof, each test of the crates, each edit of crates/*/must-fail, and each program as two compilers build
-it. The toolchain may store what passed on this machine, by the checksums of everything that it read, and then skips it;
---anew repeats everything.
+"""Runs `rt ci`: each proof, each test of the crates, each edit of crates/*/must-fail, and each program as two
+compilers build it. The toolchain may store what passed on this machine, by the checksums of everything that it read,
+and then skips it; --anew repeats everything.
 
-`rt ci` passes if an edit doesn't apply or can't be read. This fails then, and also if it doesn't report one of the files in
-crates/*/must-fail as rejected, now or in a stored run. It notes the libraries that were built, for tools/make-library and
-`rt check`. The last line is 'N passed, M failed'."""
+`rt ci` passes if an edit doesn't apply or can't be read. This fails then, and also if it doesn't report one of the
+files in crates/*/must-fail as rejected, now or in a stored run. It notes the libraries that were built, for
+tools/make-library and `rt check`. The last line is 'N passed, M failed'."""
 import os
 import re
 import signal
@@ -29,21 +29,23 @@ def edits():
 
 
 def judged(lines, status, wanted):
-    """How many proofs and edits passed and failed, by the output of `rt ci`, and why it failed beside what it counts itself."""
+    """How many proofs and edits passed and failed, by the output of `rt ci`, and why it failed beside what it counts
+    itself."""
     last = LAST.match(lines[-1]) if lines else None
     passed, failed = (int(last[1]), int(last[2])) if last else (0, 1)
     missing = wanted - {found[1] for found in map(REJECTED.match, lines) if found}
     why = [f"{line[:300]}" for line in lines if line.startswith("rt: ") and BAD.search(line)]
     if not failed:
-        why += [f"rt ci reports no result of the edit {name}" for name in sorted(missing) if not any(name in it for it in why)]
+        lost = [name for name in sorted(missing) if not any(name in it for it in why)]
+        why += [f"rt ci reports no result of the edit {name}" for name in lost]
     if not last or status and not failed:
         why.append(f"rt ci ended with status {status}, and its last line is {lines[-1] if lines else ''!r}")
     return passed, max(failed, len(why)), why
 
 
 def variables():
-    """The variables for `rt ci`. It delays proofs until more memory is free than they take, so it gets the number that may run
-    at once if there are four gigabytes for each."""
+    """The variables for `rt ci`. It delays proofs until more memory is free than they take, so it gets the number that
+    may run at once if there are four gigabytes for each."""
     processors, memory = len(os.sched_getaffinity(0)), os.sysconf("SC_PAGE_SIZE") * os.sysconf("SC_PHYS_PAGES")
     return ({"RT_JOBS": str(processors)} if memory >= 4_000_000_000 * processors else {}) | os.environ
 
@@ -54,8 +56,8 @@ def main():
     words.add_argument("--anew", action="store_true", help="repeat what an earlier run passed")
     is_anew = words.parse_args().anew
     before, wanted, lines = toolchain.sources_sum(), edits(), []
-    running = subprocess.Popen(["rt", "ci", *["--anew"] * is_anew], cwd=TOP, env=variables(), text=True, errors="replace",
-                               stdout=subprocess.PIPE, stderr=subprocess.STDOUT)
+    running = subprocess.Popen(["rt", "ci", *["--anew"] * is_anew], cwd=TOP, env=variables(), text=True,
+                               errors="replace", stdout=subprocess.PIPE, stderr=subprocess.STDOUT)
     try:
         for line in running.stdout:
             lines.append(line.rstrip("\n"))

@@ -1,10 +1,11 @@
 #!/usr/bin/env python3
 """The quick gate, for the minutes between edits.
 
-It proves each crate whose files changed since it was last proved here, by `rt check`, runs the tests of the crates above
-these by `rt try --test`, and runs the plans of examples/ and tests/plans/ on the program without proofs that ./run builds.
-It checks no crate above a changed contract, no edit, and no other cut or case: ./check does. The last line is 'N passed, M
-failed'. `quick.py --proved` counts all crates of the program as proved, unchecked: ./run --proved calls it."""
+It proves each crate whose files changed since it was last proved here, by `rt check`, runs the tests of the crates
+above these by `rt try --test`, and runs the plans of examples/ and tests/plans/ on the program without proofs that
+./run builds. It checks no crate above a changed contract, no edit, and no other cut or case: ./check does. The last
+line is 'N passed, M failed'. `quick.py --proved` counts all crates of the program as proved, unchecked: ./run --proved
+calls it."""
 import concurrent.futures
 import hashlib
 import json
@@ -24,7 +25,8 @@ NOTE = ZSCHED.with_name("checked.json")
 
 def total(crate):
     """A checksum of the files that a check of a crate reads."""
-    files = sorted(path for part in ["src", "specs", "proofs"] for path in (crate.folder / part).rglob("*") if path.is_file())
+    found = sorted(path for part in ["src", "specs", "proofs"] for path in (crate.folder / part).rglob("*"))
+    files = [path for path in found if path.is_file()]
     return hashlib.sha256(b"\0".join(b"%s\0%s" % (str(path).encode(), path.read_bytes()) for path in files)).hexdigest()
 
 
@@ -41,8 +43,8 @@ def note(sums):
 
 def succeeds(name, words, folder, **more):
     """Whether a command succeeds. If it doesn't, the end of its output is printed."""
-    ended = subprocess.run(words, cwd=folder, stdin=subprocess.DEVNULL, stdout=subprocess.PIPE, stderr=subprocess.STDOUT,
-                           text=True, errors="replace", check=False, env={**os.environ, **more})
+    ended = subprocess.run(words, cwd=folder, stdin=subprocess.DEVNULL, stdout=subprocess.PIPE, text=True,
+                           stderr=subprocess.STDOUT, errors="replace", check=False, env={**os.environ, **more})
     lines = ended.stdout.splitlines()[-40:] if ended.returncode else []
     print(f"{name}: {'FAILED' if ended.returncode else 'passed'}", *lines, sep="\n", flush=True)
     return ended.returncode == 0
@@ -62,7 +64,7 @@ def runs_plans():
     if not succeeds("./run", [TOP / "run", TOP / "examples" / "checkout.json"], TOP):
         return False
     unproved = ZSCHED.with_name(f"unproved-{sources_sum('zsched')}")
-    words = [sys.executable, "-m", "pytest", "-q", "-n", "auto", "tests/test_cases.py", "-k", "report_beside and as_it_is"]
+    words = [sys.executable, "-m", "pytest", "-q", "-n", "auto", "tests/test_cases.py", "-k", "beside and as_it_is"]
     return succeeds("the plans", words, TOP, ZSCHED=str(unproved if unproved.exists() else ZSCHED))
 
 

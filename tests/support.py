@@ -103,8 +103,8 @@ def heavy_jobs(workers, grain):
 
 
 def run(program, text, environment=None, seconds=60, **more):
-    """Runs a program, or a list of words, on the text: its status (less than 0 for a signal, None past the time), output
-    and errors."""
+    """Runs a program, or a list of words, on the text: its status (less than 0 for a signal, None past the time),
+    output and errors."""
     words = program if isinstance(program, list) else [program]
     try:
         ended = subprocess.run(words, input=text, capture_output=True, timeout=seconds, env=environment, **more)

@@ -1,11 +1,12 @@
 #!/usr/bin/env python3
 """Plants each body that the prover can't reject, in one copy of the crates, and sees that a test catches it.
 
-A survivor is a file crates/NAME/survivors/BELIEF.edit with lines `word: text`. `caught-by:` names a test of a crate, as
-CRATE::TEST, or of this folder, as FILE.py::TEST. `file:` names a file of src/, and below it are pairs of `old:`, a text that
-is in that file once, and `new:`, the text in its place. Those of one file change the body of one function. A body may hold
-one lock of all threads, from `crate::chosen::zs_lock()` to `zs_unlock()`. The programs are built without proofs, and a
-number picks a body at run time. What catches it has to pass without it. The last line is 'N passed, M failed'."""
+A survivor is a file crates/NAME/survivors/BELIEF.edit with lines `word: text`. `caught-by:` names a test of a crate,
+as CRATE::TEST, or of this folder, as FILE.py::TEST. `file:` names a file of src/, and below it are pairs of `old:`, a
+text that is in that file once, and `new:`, the text in its place. Those of one file change the body of one function. A
+body may hold one lock of all threads, from `crate::chosen::zs_lock()` to `zs_unlock()`. The programs are built without
+proofs, and a number picks a body at run time. What catches it has to pass without it. The last line is 'N passed, M
+failed'."""
 import concurrent.futures
 import os
 import pathlib
@@ -84,7 +85,8 @@ def plant(crates, survivors):
 
 def ran(words, seconds, until=lambda: False, **more):
     """The status of a command, or None if it is not done after some seconds. Ends all that it started."""
-    limit, running = time.monotonic() + seconds, subprocess.Popen(words, stdin=subprocess.DEVNULL, start_new_session=True, **more)
+    limit = time.monotonic() + seconds
+    running = subprocess.Popen(words, stdin=subprocess.DEVNULL, start_new_session=True, **more)
     while running.poll() is None and time.monotonic() < limit and not until():
         time.sleep(0.02)
     is_late = running.poll() is None
@@ -102,14 +104,14 @@ def build(room, crate):
     copy.mkdir()
     subprocess.run(["cp", "-rs", *[kit / it for it in ["bin", "c", "toolchain"]], copy], check=True)
     subprocess.run(["ln", "-s", *[kit / it for it in ["rattle", "rlibs", "logic_built"]], copy], check=True)
-    for name, text in [("toolchain/bin/ld.lld", linker), ("toolchain/bin/clang", compiler), ("bin/rattle", "#!/bin/sh\n"),
-                       ("c/asan.a", "!<arch>\n"), ("bin/rt", None), ("bin/rtlib.py", None)]:
+    for name, text in [("toolchain/bin/ld.lld", linker), ("toolchain/bin/clang", compiler), ("c/asan.a", "!<arch>\n"),
+                       ("bin/rattle", "#!/bin/sh\n"), ("bin/rt", None), ("bin/rtlib.py", None)]:
         (copy / name).unlink()
         (copy / name).write_text(text or (kit / name).read_text())
         (copy / name).chmod(0o755)
     with open(log, "wb") as said:
-        ran([copy / "bin/rt", "try", *words, "--steps", "1"], 3600, program.exists, cwd=folder, stdout=said, stderr=said,
-            env={**os.environ, "RT_ALLOW_C": ",".join(it.parent.name for it in room.glob("crates/*/c"))})
+        ran([copy / "bin/rt", "try", *words, "--steps", "1"], 3600, program.exists, cwd=folder, stdout=said,
+            stderr=said, env={**os.environ, "RT_ALLOW_C": ",".join(it.parent.name for it in room.glob("crates/*/c"))})
     assert program.exists(), f"{crate} isn't built: {log.read_text(errors='replace')[-3000:]}"
 
 
@@ -129,7 +131,7 @@ def fails(room, caught_by, number, seconds):
 
 def judge(room, pool, survivors):
     """Plants the survivors, and returns for each whether it is caught."""
-    shutil.copytree(TOP / "crates", room / "crates", ignore=shutil.ignore_patterns("out", "proofs", "must-fail", "survivors"))
+    shutil.copytree(TOP / "crates", room / "crates", ignore=shutil.ignore_patterns("out", "proofs", "*.edit"))
     subprocess.run(["cp", TOP / "crates.txt", TOP / "HANDLES", room], check=True)
     gates = room / "crates/zs_tests/src/tests/gates.rt"
     gates.write_text(re.sub(r"(TURNS: u64 = )[\d_]+", r"\g<1>3_000_000", gates.read_text()))
@@ -137,7 +139,8 @@ def judge(room, pool, survivors):
     tests = sorted({it.caught_by for it in survivors})
     list(pool.map(lambda it: build(room, it), {"zsched" if ".py::" in it else it.partition("::")[0] for it in tests}))
     alone = dict(zip(tests, pool.map(lambda it: fails(room, it, 0, 300), tests)))
-    assert not any(failed for failed, _ in alone.values()), f"without a survivor too: {[it for it in tests if alone[it][0]]}"
+    failing = [it for it in tests if alone[it][0]]
+    assert not failing, f"these fail without a survivor too: {failing}"
     ends = pool.map(lambda it: fails(room, it.caught_by, it.number, 5 + 4 * alone[it.caught_by][1]), survivors)
     return [is_caught for is_caught, _ in ends]
 
@@ -146,7 +149,7 @@ def main(names):
     """Tries all survivors, or those that are named."""
     paths = [it for it in sorted(TOP.glob("crates/*/survivors/*.edit")) if it.stem in names or not names]
     survivors = [Survivor(number, path) for number, path in enumerate(paths, 1)]
-    with tempfile.TemporaryDirectory(prefix="zsched-survivors-") as room, concurrent.futures.ThreadPoolExecutor(2) as pool:
+    with tempfile.TemporaryDirectory() as room, concurrent.futures.ThreadPoolExecutor(2) as pool:
         caught = judge(pathlib.Path(room), pool, survivors)
     for it, is_caught in zip(survivors, caught):
         print(f"{it.crate}/{it.name}: {'' if is_caught else 'NOT '}caught by {it.caught_by}")

@@ -6,16 +6,16 @@ tools/ and the built programs first in PATH, and with ZSCHED, ZSCHED_BOUNDS, ZSC
 `out/` is one that the run has to write beside `cmd`, with these bytes. Each line of `needs` is a program that few machines
 have, and its Debian package: such a case is marked `full`, and skipped without it.
 
-A plan has its report beside it. It runs as it is, and under twelve cuts: 1, 2, 7 and 64 workers with a grain of 1, 3 and
-10000. Expected files are worked out by hand or by another program. `pytest tests/test_cases.py --update` prints what
-differs, and writes what you accept."""
+A plan has its report beside it. It runs as it is, and under twelve cuts: 1, 2, 7 and 64 workers with a grain of 1, 3
+and 10000. Expected files are worked out by hand or by another program. `pytest tests/test_cases.py --update` prints
+what differs, and writes what you accept."""
 import difflib
 import os
 import shutil
 
 import pytest
 
-from support import TOP, plans_with_reports, recut, report_beside, run
+from support import TOP, difference, plans_with_reports, recut, report_beside, run
 
 CASES = sorted(path.parent for path in TOP.glob("tests/cases/*/*/cmd"))
 CUTS = [None, *[(workers, grain) for workers in [1, 2, 7, 64] for grain in [1, 3, 10000]]]
@@ -49,7 +49,7 @@ def found(case, room, programs):
     return given | {name: content(room / name.removeprefix("out/")) for name in files}
 
 
-def difference(name, before, now):
+def changes(name, before, now):
     """How two texts differ, in lines."""
     old, new = ([repr(line)[1:] for line in text.splitlines(keepends=True)] for text in [before, now])
     return "\n".join(difflib.unified_diff(old, new, f"{name}, wanted", f"{name}, found", lineterm="", n=2))
@@ -59,7 +59,8 @@ def update(case, differing, capture):
     """Shows how a case differs, and writes what is accepted."""
     with capture.disabled(), open("/dev/tty", "r+", encoding="utf-8") as terminal:
         for name, (_, now) in differing.items():
-            print(f"\n{difference(f'{case.relative_to(TOP)}/{name}', *differing[name])}\nright? [y/N] ", file=terminal, end="", flush=True)
+            told = changes(f"{case.relative_to(TOP)}/{name}", *differing[name])
+            print(f"\n{told}\nright? [y/N] ", file=terminal, end="", flush=True)
             if terminal.readline().strip() == "y":
                 (case / name).write_bytes(now) if now else (case / name).unlink(missing_ok=True)
 
@@ -86,11 +87,11 @@ def test_a_case_gives_what_its_files_say(case, programs, tmp_path, request, caps
     differing = {name: (asked[name], given[name]) for name in asked if asked[name] != given[name]}
     if differing and request.config.getoption("--update"):
         update(case, differing, capsys)
-    assert not differing, "\n".join(difference(name, *texts) for name, texts in differing.items())
+    assert not differing, "\n".join(changes(name, *texts) for name, texts in differing.items())
 
 
 @pytest.mark.parametrize("cut", CUTS, ids=lambda cut: "as_it_is" if cut is None else f"workers_{cut[0]}_grain_{cut[1]}")
 @pytest.mark.parametrize("path", plans_with_reports(), ids=lambda path: path.stem)
 def test_a_plan_gives_the_report_beside_it(path, cut, zsched):
     text = path.read_bytes() if cut is None else recut(path.read_bytes(), *cut)
-    assert run(zsched, text) == (0, report_beside(path), b"")
+    assert difference(run(zsched, text), (0, report_beside(path), b"")) is None

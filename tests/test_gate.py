@@ -1,4 +1,5 @@
-"""The gate can fail: faults that are planted in copies of it and in the output of the toolchain, each of which it must find."""
+"""The gate can fail: faults that are planted in copies of it and in the output of the toolchain, each of which it must
+find."""
 import os
 import shutil
 import subprocess
@@ -12,14 +13,15 @@ from support import TOP
 
 EDITS = {"zs_term/one.edit", "zs_pool/two.edit"}
 ONE, TWO = (f"rt: must-fail {name}: refused, as it must be" for name in ["zs_term/one.edit", "zs_pool/two.edit"])
+LABEL = "rt: must-fail zs_term/one.edit"
 GOOD = [ONE, f"{TWO}: src/lib.rt:1:1: error", "4 passed, 0 failed"]
 
 
 @pytest.mark.parametrize("lines, status, failed", [
     (GOOD, 0, 0),
-    (["rt: must-fail zs_term/one.edit: BAD EDIT: an 'old:' text is in src/lib.rt 0 times, and not once", *GOOD[1:]], 0, 1),
-    (["rt: must-fail zs_term/one.edit: NOT TRIED: its check was killed", *GOOD[1:-1], "3 passed, 1 failed"], 1, 1),
-    (["rt: must-fail zs_term/one.edit: NOT REFUSED: the crate is still proved with this edit", *GOOD[1:-1], "3 passed, 1 failed"], 1, 1),
+    ([f"{LABEL}: BAD EDIT: an 'old:' text is in src/lib.rt 0 times, and not once", *GOOD[1:]], 0, 1),
+    ([f"{LABEL}: NOT TRIED: its check was killed", *GOOD[1:-1], "3 passed, 1 failed"], 1, 1),
+    ([f"{LABEL}: NOT REFUSED: the crate is still proved with this edit", *GOOD[1:-1], "3 passed, 1 failed"], 1, 1),
     ([*GOOD[:-1], "rt: crates/zs_term/must-fail/more.txt: BAD EDIT: its name ends in .edit", GOOD[-1]], 0, 1),
     ([TWO, "3 passed, 0 failed"], 0, 1),
     (["2 passed, 0 failed"], 0, 2),
@@ -28,8 +30,9 @@ GOOD = [ONE, f"{TWO}: src/lib.rt:1:1: error", "4 passed, 0 failed"]
     (GOOD, 1, 1),
     (GOOD[:-1], 0, 1),
     ([], -9, 1),
-], ids=["all are rejected", "one doesn't apply", "one isn't tried", "one is proved", "one has another name", "one isn't reported",
-        "none is reported", "one is reported twice", "two proofs failed", "another status", "no last line", "killed"])
+], ids=["all are rejected", "one doesn't apply", "one isn't tried", "one is proved", "one has another name",
+        "one isn't reported", "none is reported", "one is reported twice", "two proofs failed", "another status",
+        "no last line", "killed"])
 def test_edits_that_rt_ci_does_not_reject_fail_the_proofs(lines, status, failed):
     assert proofs.judged(lines, status, EDITS)[1] == failed
 
@@ -57,7 +60,8 @@ def tree(tmp_path):
     for name in ["pytest.ini", "tests/conftest.py", "tests/support.py", "tests/proofs.py", "HANDLES"]:
         shutil.copy(TOP / name, tmp_path / name)
     shutil.copytree(TOP / "tools", tmp_path / "tools")
-    (tmp_path / "tests/test_a.py").write_text("import pytest\n@pytest.mark.parametrize('it', range(3))\ndef test_it(it): pass\n")
+    (tmp_path / "tests/test_a.py").write_text(
+        "import pytest\n@pytest.mark.parametrize('it', range(3))\ndef test_it(it): pass\n")
     (tmp_path / "tests/floors.txt").write_text("test_a.py 3\n")
     return tmp_path
 
@@ -65,8 +69,8 @@ def tree(tmp_path):
 def passes(tree, *words, **more):
     """Whether pytest passes in the copy."""
     variables = {key: value for key, value in os.environ.items() if not key.startswith("PYTEST")} | {"ZSCHED_GATE": "1"}
-    ended = subprocess.run([sys.executable, "-m", "pytest", "-q", *words], cwd=tree, env=variables | more, capture_output=True,
-                           check=False)
+    ended = subprocess.run([sys.executable, "-m", "pytest", "-q", *words], cwd=tree, env=variables | more,
+                           capture_output=True, check=False)
     return ended.returncode == 0
 
 
@@ -84,7 +88,8 @@ SABOTAGES = {
     "a file has no floor": lambda tests: (tests / "test_b.py").write_text("def test_it(): pass\n"),
     "a test is skipped": lambda tests: replaced(tests / "test_a.py", ": pass", ": pytest.skip()"),
     "a test is expected to fail": lambda tests: replaced(tests / "test_a.py", ": pass", ": pytest.xfail()"),
-    "a file is skipped": lambda tests: (tests / "test_a.py").write_text("import pytest\npytest.skip(allow_module_level=True)\n"),
+    "a file is skipped": lambda tests: replaced(
+        tests / "test_a.py", "import pytest\n", "import pytest\npytest.skip(allow_module_level=True)\n"),
     "no cases of a table": lambda tests: replaced(tests / "test_a.py", "range(3)", "[]"),
     "a process dies": lambda tests: replaced(tests / "test_a.py", ": pass", ": __import__('os')._exit(0)"),
 }
@@ -99,7 +104,8 @@ def test_a_sabotage_of_the_tests_is_found(name, tree):
 def test_floors_hold_for_the_files_that_run(tree):
     (tree / "tests/test_b.py").write_text("import pytest\n@pytest.mark.full\ndef test_it(): pass\n")
     (tree / "tests/floors.txt").write_text("survivors 40\ntest_a.py 3\ntest_b.py 1\n")
-    assert all(passes(tree, *words) for words in [["-n", "1"], ["--short"], ["tests/test_a.py"], ["tests/test_a.py::test_it"]])
+    for words in [["-n", "1"], ["--short"], ["tests/test_a.py"], ["tests/test_a.py::test_it"]]:
+        assert passes(tree, *words)
     (tree / "tests/floors.txt").write_text("test_a.py 4\ntest_b.py 1\n")
     assert not passes(tree, "tests/test_a.py")
     assert passes(tree, "tests/test_b.py")
@@ -111,11 +117,12 @@ def test_floors_hold_for_the_files_that_run(tree):
     ("1 passed, 0 failed\n", 1)], ids=["it is rejected", "it doesn't apply", "it isn't tried"])
 def test_an_edit_that_the_toolchain_passes_over_fails_the_proofs(said, status, tree):
     (tree / "crates/zsched_c/must-fail").mkdir(parents=True)
-    for name, text in [("crates/zsched_c/must-fail/one.edit", ""), ("crates.txt", "zsched_c staticlib:\n"), ("said", said),
-                       ("rt", "#!/bin/sh\n[ $1 != ci ] || cat said\n"), ("rtlib.py", "def crates_below(top):\n    return []\n")]:
+    for name, text in [("crates/zsched_c/must-fail/one.edit", ""), ("crates.txt", "zsched_c staticlib:\n"),
+                       ("rt", "#!/bin/sh\n[ $1 != ci ] || cat said\n"), ("said", said),
+                       ("rtlib.py", "def crates_below(top):\n    return []\n")]:
         (tree / name).write_text(text)
     (tree / "rt").chmod(0o755)
-    ended = subprocess.run([sys.executable, "tests/proofs.py"], cwd=tree, env=os.environ | {"PATH": f"{tree}:{os.environ['PATH']}"},
-                           capture_output=True, text=True, check=False)
+    ended = subprocess.run([sys.executable, "tests/proofs.py"], cwd=tree, capture_output=True, text=True, check=False,
+                           env=os.environ | {"PATH": f"{tree}:{os.environ['PATH']}"})
     assert ended.returncode == status, ended
     assert ended.stdout.splitlines()[-1] == ("2 passed, 0 failed" if status == 0 else "1 passed, 1 failed")

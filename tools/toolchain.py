@@ -1,5 +1,5 @@
-"""The Rattle toolchain: which crates crates.txt lists, how one is checked, and the libraries that `rt ci` proved and left in
-the checkout. tools/make-library reads those below zsched_c and never writes them."""
+"""The Rattle toolchain: which crates crates.txt lists, how one is checked, and the libraries that `rt ci` proved and
+left in the checkout. tools/make-library reads those below zsched_c and never writes them."""
 import dataclasses
 import fcntl
 import hashlib
@@ -108,8 +108,8 @@ def sources_sum(crate=LIBRARY):
 
 
 def left(total):
-    """A checksum of the sources' checksum and of the libraries, or None if one of them is missing. A library's file `format`
-    has the checksum of its other files."""
+    """A checksum of the sources' checksum and of the libraries, or None if one of them is missing. A library's file
+    `format` has the checksum of its other files."""
     formats = [it.rlib / "format" for it in crates_of(TOP)[LIBRARY].below]
     if not all(it.exists() for it in formats):
         return None
@@ -125,13 +125,13 @@ def note(total):
 
 
 def are_left(total):
-    """Whether the libraries are those that the last noted `rt ci` left, and it was over the sources with this checksum."""
+    """Whether the libraries are those that the last noted `rt ci` left, over the sources with this checksum."""
     return NOTED.exists() and NOTED.read_text() == left(total)
 
 
 def stamp():
-    """Gives each library the stamp by which other commands know that it is up to date, which `rt ci` doesn't leave. Without
-    it the first check of a crate proves all crates below it again."""
+    """Gives each library the stamp by which other commands know that it is up to date, which `rt ci` doesn't leave.
+    Without it the first check of a crate proves all crates below it again."""
     sys.path.append(os.path.dirname(os.path.realpath(shutil.which("rt"))))
     import rtlib
     for crate in rtlib.crates_below(str(TOP / "crates")):
