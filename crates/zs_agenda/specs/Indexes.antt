@@ -1,6 +1,6 @@
--- How an agenda is stored: an ordered map from each moment to its jobs, and one from each job to its
--- moment. `IsAgenda` is the invariant: both agree, each list rises, none is empty, and each moment is
--- later than the last one taken.
+-- How an agenda is stored: an ordered map from each moment to its jobs, and one from each job to
+-- its moment. `IsAgenda` is the invariant: both agree, each list rises, none is empty, and each
+-- moment is later than the last one taken.
 -- Public clauses don't name these words. `proofs/IndexLemmas.antt` proves that each step preserves
 -- the invariant.
 use Rattle.std.specs.Prelude.{◌≡◌, ◌≢◌, ◌<◌, ◌≤◌, ◌↔◌, ◌==◌, ℕ, Bool, true, false, nat_lt, List, [], ◌∷◌, Option, Some, None, if◌then◌else◌, unwrap_or, vec_len, ⊤}
