@@ -120,27 +120,27 @@ POLICY = "((exponential(100) || spaced(5000)) && recurs({})).whileInput(>= 500)"
 ROWS = {
     "no job": Row(lambda _: plan([]), 0, Cost(250_000, 1000, 17)),
     "one job": Row(lambda _: jobs_of("recurs(0)")(1), 0, Cost(280_000, 3300, 52)),
-    "attempts": Row(attempts_of("forever"), 2500, Cost(4400, 138, 0.01)),
+    "attempts": Row(attempts_of("forever"), 2500, Cost(4400, 260, 1.01)),
     "attempts with pairs and sides": Row(
-        attempts_of("(recurs(3) andThenEither (forever && identity))"), 2500, Cost(5900, 138, 0.01)),
-    "attempts in records": Row(records(attempts_of("forever")), 2700, Cost(4800, 250, 0.01), "refusals"),
+        attempts_of("(recurs(3) andThenEither (forever && identity))"), 2500, Cost(5900, 283, 1.01)),
+    "attempts in records": Row(records(attempts_of("forever")), 2700, Cost(4800, 210, 1.01), "refusals"),
     "jobs due together": Row(jobs_of("recurs(5)"), 1000, Cost(76_000, 2220, 20.5)),
     # Most of their cost is the parsing of their schedules.
-    "jobs of 100 nodes": Row(jobs_of(f"(recurs(0) && {tree(50)})"), 100, Cost(290_000, 17_300, 422)),
-    "jobs of 100 attempts": Row(jobs_of("recurs(99)"), 100, Cost(420_000, 11_500, 28.8)),
+    "jobs of 100 nodes": Row(jobs_of(f"(recurs(0) && {tree(50)})"), 100, Cost(290_000, 9900, 388)),
+    "jobs of 100 attempts": Row(jobs_of("recurs(99)"), 100, Cost(420_000, 17_300, 44.8)),
     "jobs at moments of their own": Row(jobs_one_after_the_other, 1000, Cost(68_000, 2240, 22.6)),
     "jobs that come due in another order": Row(jobs_that_end_together, 1000, Cost(68_000, 2240, 22.6)),
-    "ticks": Row(ticks, 20_000, Cost(1200, 95, 0.01)),
-    "leaves of a schedule": Row(lambda n: one(f"({tree(n)} && recurs(99)).map(_2)"), 100, Cost(68_000, 270, 209)),
+    "ticks": Row(ticks, 20_000, Cost(1200, 83, 0.01)),
+    "leaves of a schedule": Row(lambda n: one(f"({tree(n)} && recurs(99)).map(_2)"), 100, Cost(68_000, 168, 213)),
     "collected items": Row(
-        lambda n: one(f"(identity.collectAll && recurs({n})).map(_2)"), 1000, Cost(5700, 129, 2.1)),
+        lambda n: one(f"(identity.collectAll && recurs({n})).map(_2)"), 1000, Cost(5700, 251, 3.2)),
     "counted items": Row(
-        lambda n: one(f"(identity.collectAll.map(size) && recurs({n})).map(_2)"), 1000, Cost(5900, 129, 2.1)),
+        lambda n: one(f"(identity.collectAll.map(size) && recurs({n})).map(_2)"), 1000, Cost(5900, 251, 3.2)),
     "batches": Row(jobs_of("recurs(1)", workers=2, grain=1), 500, Cost(64_000, 2230, 23.6)),
     "open parentheses": Row(lambda n: one("(" * n + "forever"), 100_000, Cost(150, 3.5, 0.01), status=2),
     "bytes of a schedule": Row(lambda n: one("recurs(" + " " * n + "0)"), 500_000, Cost(45, 3.2, 0.01)),
     # The keys of an object are stored in order, which costs a logarithm more.
-    "keys": Row(lambda n: plan([], **{f"key{number}": number for number in range(n)}), 2000, Cost(15_800, 171, 1.2),
+    "keys": Row(lambda n: plan([], **{f"key{number}": number for number in range(n)}), 2000, Cost(15_800, 159, 1.2),
                 status=2, times=5.6),
     "entries of a script": Row(
         lambda n: one("recurs(9)", [(1, number) for number in range(n)]), 250, Cost(7000, 975, 3.2)),
@@ -149,7 +149,7 @@ ROWS = {
     "bytes of an answer's text": Row(lambda n: request_of("answer", "recurs(" + " " * n + "0)", 0, 0), 20_000,
                                      Cost(500, 4.6, 0.01), "client"),
     "steps of a program": Row(lambda n: request_of("run", POLICY.format(8), *pairs(n, 503)), 2500,
-                              Cost(2200, 31, 0.01), "client"),
+                              Cost(2600, 31, 0.01), "client"),
     "leaves of a program": Row(lambda n: request_of("run", tree(n), *pairs(20)), 100, Cost(800_000, 370, 8.5), "client"),
     "steps of bounds": Row(lambda n: request_of("bounds", POLICY.format(1_000_000), n), 1000, Cost(4500, 0.01, 4.2), "client"),
     "leaves of bounds": Row(lambda n: request_of("bounds", tree(n), 10), 100, Cost(11_000, 580, 8.8), "client"),
