@@ -100,7 +100,7 @@ def python(_, place):
 def go_variables(place):
     """The variables with which Go finds the library and uses no network."""
     return {"CGO_CFLAGS": f"-I{place.include}", "CGO_LDFLAGS": f"-L{place.library}", "LD_LIBRARY_PATH": str(place.library),
-            "GOPROXY": "off"}
+            "GOPROXY": "off", "GOFLAGS": "-mod=readonly -buildvcs=false"}
 
 
 def go(room, place):

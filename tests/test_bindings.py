@@ -168,11 +168,11 @@ def test_a_million_steps_take_flat_time_and_memory(client, name):
                 memory.append(int(re.search(r"VmRSS:\s+(\d+)", status)[1]))
         # The first tenth has the start of the program.
         tenths = [after - before for before, after in zip(spent, spent[1:])]
-        assert (memory[-1] - memory[4]) * 1024 / (MANY / 2) < BYTES_A_STEP
-        # Other programs make the machine slower now and then.
-        if min(tenths[4:]) <= TIMES * min(tenths[:4]):
+        grown = (memory[-1] - memory[4]) * 1024 / (MANY / 2)
+        # Other programs make the machine slower now and then, and collectors of memory run when they like.
+        if grown < BYTES_A_STEP and min(tenths[4:]) <= TIMES * min(tenths[:4]):
             return
-    raise AssertionError(f"{name}: {tenths} s")
+    raise AssertionError(f"{name}: {tenths} s, {memory} KiB")
 
 
 # ---- The examples, which call a server of their own and really wait

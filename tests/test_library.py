@@ -145,7 +145,8 @@ def test_each_number_of_the_header_has_a_text_that_is_cut_where_its_room_ends(li
 
     def text(number, at=0):
         room = ctypes.create_string_buffer(256)
-        return room.raw[:calls.zs_fault_text(number, at, room, 256)].decode()
+        size = calls.zs_fault_text(number, at, room, 256)
+        return room.raw[:size].decode()
     numbers = re.findall(r"^    ZS_\w+ = (\d+)", (TOP / "include" / "zsched.h").read_text(), re.M)
     texts = [text(int(number), 23) for number in numbers if int(number) > 1]
     assert len(set(texts)) == len(numbers) - 2 and all(0 < len(it) <= 80 for it in texts)

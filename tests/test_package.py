@@ -134,7 +134,7 @@ def wheel(root):
     if subprocess.run([PYTHON, "-c", "import setuptools, wheel, pip"], capture_output=True, check=False).returncode:
         pytest.skip(f"pip, setuptools and wheel of {PYTHON} aren't installed")
     shutil.copytree(BINDINGS / "python", root.folder / "source", ignore=UNWANTED)
-    ran([PYTHON, "-m", "pip", "wheel", "--quiet", "--no-build-isolation", "--no-deps", "--no-index", "-w", ".", "source"],
+    ran([PYTHON, "-m", "pip", "wheel", "--quiet", "--no-build-isolation", "--no-deps", "--no-index", "-w", ".", "./source"],
         root.folder, ZSCHED_LIBRARY_DIR=root.made)
     made, = root.folder.glob("*.whl")
     assert re.fullmatch(rf"zsched-{VERSION}-py3-none-linux_\w+\.whl", made.name)
@@ -181,7 +181,7 @@ def test_a_client_of_what_is_installed_retries_and_steps(name, root):
                                              ("(spaced(30) && recurs(2))", 503, 9, "503", [30, 30])]:
         ended, moments = client.retries(text, code, times)
         assert ended == wanted and are_kept(waits, moments)
-    assert client.says([request("program", POLICY, 7, 503, 50, 404)]) == ["0,47,6,((40,40),0) 1,0,6,((80,40),1)"]
+    assert client.says([request("program", POLICY, 7, 503, 50, 404)]) == ["0,47,6,((40,0),0) 1,0,6,((80,1),1)"]
     if name != "C++":
         assert root.purge() == []
 
