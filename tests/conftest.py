@@ -79,55 +79,33 @@ def pytest_sessionfinish(session):
         print("", *[f"floor: {fault}" for fault in faults], sep="\n")
 
 
-def fail_if_skipped(report):
-    """Makes a skip a failure."""
+@pytest.hookimpl(hookwrapper=True, tryfirst=True)
+def pytest_runtest_makereport():
+    """Makes a skip a failure, of a test and of a file."""
+    report = (yield).get_result()
     if STRICT and report.skipped:
         reason = report.longrepr[2] if isinstance(report.longrepr, tuple) else report.longrepr
         report.outcome, report.longrepr = "failed", f"skipped, which is a failure under {STRICT[0]}: {reason}"
         vars(report).pop("wasxfail", None)
 
 
-@pytest.hookimpl(hookwrapper=True, tryfirst=True)
-def pytest_runtest_makereport():
-    """Tests that are skipped."""
-    fail_if_skipped((yield).get_result())
-
-
-@pytest.hookimpl(hookwrapper=True, tryfirst=True)
-def pytest_make_collect_report():
-    """Files that are skipped."""
-    fail_if_skipped((yield).get_result())
+pytest_make_collect_report = pytest_runtest_makereport
 
 
 def program(variable, crate):
-    """The path of a built program: the one that a variable names, or the one of its crate."""
-    path = pathlib.Path(os.environ.get(variable) or TOP / "crates" / crate / "out" / crate)
-    assert os.access(path, os.X_OK), f"{path} isn't built (./check builds it), and {variable} names no other"
-    return path
+    """The path of a built program, as a fixture: the one that a variable names, or the one of its crate."""
+    @pytest.fixture(scope="session")
+    def found():
+        path = pathlib.Path(os.environ.get(variable) or TOP / "crates" / crate / "out" / crate)
+        built = "./run --proved builds zsched, ./check all"
+        assert os.access(path, os.X_OK), f"{path} isn't built ({built}), and {variable} names no other"
+        return path
+    return found
 
 
-@pytest.fixture(scope="session")
-def zsched():
-    """The program zsched."""
-    return program("ZSCHED", "zsched")
-
-
-@pytest.fixture(scope="session")
-def population():
-    """The program zsched-population."""
-    return program("ZSCHED_POPULATION", "zsched_population")
-
-
-@pytest.fixture(scope="session")
-def bounds():
-    """The program zsched-bounds."""
-    return program("ZSCHED_BOUNDS", "zsched_bounds")
-
-
-@pytest.fixture(scope="session")
-def refusals():
-    """The program zs_refusals, which makes one named call."""
-    return program("ZS_REFUSALS", "zs_refusals")
+zsched, population = program("ZSCHED", "zsched"), program("ZSCHED_POPULATION", "zsched_population")
+# zs_refusals makes one named call.
+refusals, bounds = program("ZS_REFUSALS", "zs_refusals"), program("ZSCHED_BOUNDS", "zsched_bounds")
 
 
 @pytest.fixture(scope="session")

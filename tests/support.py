@@ -1,7 +1,6 @@
 """What the tests share: the built programs, runs of commands, and the plans that tests feed them."""
 import argparse
 import gc
-import hashlib
 import io
 import itertools
 import json
@@ -13,8 +12,6 @@ from unittest import mock
 
 TOP = pathlib.Path(__file__).resolve().parent.parent
 sys.path.insert(0, str(TOP / "tools"))
-
-from zsched_tools.program import NoProgram, find
 
 ZSCHED = TOP / "crates" / "zsched" / "out" / "zsched"
 POPULATION = TOP / "crates" / "zsched_population" / "out" / "zsched_population"
@@ -52,20 +49,6 @@ def plans_with_reports():
 def report_beside(path):
     """The report next to a plan."""
     return path.with_name(path.name + ".stdout").read_bytes()
-
-
-def steps_of(report):
-    """For each job of a report the moments, inputs, outputs and next moments (None if done) of its steps."""
-    jobs = []
-    for line in report.splitlines():
-        words = line.split()
-        if words[0] == "job":
-            jobs.append([])
-        elif words[0] == "attempt" and words[-1] != "running":
-            ended = int(words[2].partition("..")[2]), int(words[4])
-        elif words[0] == "step":
-            jobs[-1].append((*ended, words[3], None if words[4] == "done" else int(words[5])))
-    return jobs
 
 
 def recut(text, workers, grain):
@@ -176,53 +159,6 @@ def examples(number):
     return number * int(os.environ.get("ZSCHED_EXAMPLES", "1"))
 
 
-def found_zsched():
-    """The program that the variable ZSCHED names, or else the built one. Without one this process exits with 2."""
-    try:
-        return find()
-    except NoProgram as cause:
-        print(cause, file=sys.stderr)
-        sys.exit(2)
-
-
 def parser_of(text, **more):
     """A parser of a script's options, with the script's text as help."""
     return argparse.ArgumentParser(description=text, formatter_class=argparse.RawDescriptionHelpFormatter, **more)
-
-
-def take_no_words(text):
-    """Reads the options of a script that has none but --help."""
-    parser_of(text).parse_args()
-
-
-def write_digest(report):
-    """Writes next to a part's report what `sha256sum` prints of its plan and its report."""
-    sums = [(hashlib.sha256(path.read_bytes()).hexdigest(), path) for path in [report.with_suffix(".json"), report]]
-    report.with_suffix(".sha256").write_text("".join(f"{found}  {path}\n" for found, path in sums))
-
-
-class Count:
-    """How many tests passed and failed. A failure is printed immediately."""
-
-    def __init__(self):
-        self.passed = 0
-        self.failed = 0
-
-    def test(self, name, found, wanted):
-        """One test, which passes if both values are equal."""
-        if found == wanted:
-            self.passed += 1
-            return
-        self.failed += 1
-        print(f"{name}: wanted {shown(wanted)}, found {shown(found)}")
-
-    def close(self):
-        """Prints the last line, and returns the exit status."""
-        print(f"{self.passed} passed, {self.failed} failed")
-        return 1 if self.failed or not self.passed else 0
-
-
-def shown(value):
-    """A value's text, cut if it is long."""
-    text = repr(value)
-    return text if len(text) <= 300 else f"{text[:300]} .. ({len(text)} characters)"

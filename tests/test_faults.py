@@ -1,6 +1,5 @@
 """Plans that were changed at random, by slips of the hand and as a hostile user does: the program gives the report or
 the one fault that tests/reference.py gives. `pytest tests/test_faults.py --examples 100` tries 300,000 plans."""
-import json
 import re
 import resource
 

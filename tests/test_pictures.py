@@ -6,7 +6,7 @@ from xml.etree import ElementTree
 
 import pytest
 
-from report_samples import COARSE, GREATEST, REPORTS, RETRIED, RUNNING, WAITING, long_report, wide_report
+from report_samples import COARSE, GREATEST, REPORTS, RUNNING, WAITING, long_report, wide_report
 from support import run_here
 from zsched_tools import report_command
 from zsched_tools.axis import Scale

@@ -1,5 +1,6 @@
 """zsched-plan, and zsched-report join: pieces of any length, changes of any kind, random plans, files of other forms.
 What they print, and their faults, are the cases in tests/cases/zsched-plan and tests/cases/zsched-report-join."""
+import hashlib
 import io
 import json
 import random
@@ -13,7 +14,7 @@ import generator
 import reference
 from mistakes import MISTAKES
 from reports import jobs_of
-from support import TOP, equal_jobs, examples, job, output_of, plan, write_digest
+from support import TOP, equal_jobs, examples, job, output_of, plan
 from zsched_tools import importing, join, manifest, placed, plan_text, policy_file, policy_plan, processes
 from zsched_tools.command import Refused
 from zsched_tools.split import write_parts
@@ -118,8 +119,9 @@ def with_reports(folder, texts):
     """Writes the reports and digests of parts, by the reference. Returns the folder."""
     for number, text in enumerate(texts, 1):
         path = folder / f"part-{number:06}.report"
-        path.write_bytes(reference.answer(text.encode())[1])
-        write_digest(path)
+        path.write_bytes(report := reference.answer(text.encode())[1])
+        sums = [(text.encode(), path.with_suffix(".json")), (report, path)]
+        path.with_suffix(".sha256").write_text("".join(f"{hashlib.sha256(it).hexdigest()}  {of}\n" for it, of in sums))
     return folder
 
 
