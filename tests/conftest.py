@@ -25,7 +25,6 @@ hypothesis.settings.load_profile("zsched")
 
 
 def pytest_addoption(parser):
-    """The options."""
     parser.addoption("--short", action="store_true", help="leave out the tests that are marked `full`")
     parser.addoption("--examples", type=int, default=1, metavar="N", help="run N times as many random examples")
     parser.addoption("--update", action="store_true", help="show how cases differ, and write those that you accept")

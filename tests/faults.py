@@ -25,7 +25,6 @@ class Fault(NamedTuple):
     plans: list
 
     def form(self):
-        """The pattern of its text."""
         return form_of(self.text)
 
     def told(self, numbers):
@@ -39,7 +38,6 @@ def form_of(text):
 
 
 def script(entries):
-    """A job's script of these entries, as JSON text."""
     return '"script":[' + ",".join(entries) + "]"
 
 

@@ -91,7 +91,6 @@ class Part(threading.Thread):
 
 
 def python(name, *words):
-    """The command that runs a script of tests/."""
     return [sys.executable, str(TOP / "tests" / name), *words]
 
 

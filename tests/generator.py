@@ -34,7 +34,6 @@ class Drawn:
         self.draw = draw
 
     def choice(self, options):
-        """One of the options."""
         return options[self.draw(strategies.integers(0, len(options) - 1))]
 
 
@@ -79,7 +78,6 @@ def filled(chance, form):
 
 
 def leaf(chance):
-    """The text of a leaf."""
     return filled(chance, chance.choice(LEAVES))
 
 
@@ -162,7 +160,6 @@ def made_clock(chance, is_long):
 
 
 def made_entry(chance, how):
-    """An entry of a script."""
     return {"ms": chance.choice([1, 1, 1, 2, 3, 5, 10, 50] * 8 + [404, 1000, 2 ** 53, 2 ** 63, M]), how: whole(chance)}
 
 
@@ -411,5 +408,4 @@ def any_plan(chance):
 
 
 def plan_of(seed):
-    """The plan of a seed, as bytes."""
     return any_plan(random.Random(seed))

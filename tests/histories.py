@@ -52,7 +52,6 @@ class History:
         return bool(self.steps) and b"collectAll" not in self.text
 
     def request(self, command):
-        """The request of this command."""
         return " ".join([command, f".{self.text.hex()}", *[str(number) for pair in self.pairs for number in pair]])
 
     def differs(self, line, command):
@@ -99,7 +98,6 @@ def driven(chance, text):
 
 
 def made_history(seed):
-    """The history of a seed."""
     chance = random.Random(seed)
     text = made_text(chance)
     made = History(text, made_pairs(chance, 8 if text.count(b"collectAll") > 1 else 40))

@@ -47,7 +47,6 @@ class Place(NamedTuple):
 
 
 class Client(NamedTuple):
-    """The words and variables of a built client."""
     words: list
     variables: dict
 
@@ -67,7 +66,6 @@ class Client(NamedTuple):
 
 
 def request(command, text, *numbers):
-    """The request of a command."""
     return " ".join([command, f".{text.encode().hex()}", *map(str, numbers)])
 
 
@@ -83,7 +81,6 @@ def built_library(folder):
 
 
 def c(room, place, *more, compiler=("cc", "-std=gnu11")):
-    """The client in C."""
     need(compiler[0])
     for source in [CLIENTS / "client.c", BINDINGS / "c" / "retry.h"]:
         shutil.copy(source, room)
@@ -92,7 +89,6 @@ def c(room, place, *more, compiler=("cc", "-std=gnu11")):
 
 
 def python(_, place):
-    """The client in Python."""
     return Client([sys.executable, "-B", CLIENTS / "client.py"],
                   {"ZSCHED_LIBRARY": str(place.library / "libzsched.so"), "PYTHONPATH": str(BINDINGS / "python")})
 
@@ -116,7 +112,6 @@ def go(room, place):
 
 
 def node(room, place):
-    """The client in JavaScript, over the folder in node_modules."""
     need("node", pathlib.Path(os.environ.get("NODE_INCLUDE", "/usr/include/node"), "node_api.h"))
     package = room / "node_modules" / "zsched"
     shutil.copytree(BINDINGS / "node", package, ignore=UNWANTED)
@@ -138,7 +133,6 @@ def java(room, place, jar=None):
 
 
 def rust(room, place):
-    """The client in Rust, over the crate by its path."""
     need("cargo")
     shutil.copytree(BINDINGS / "rust", room / "zsched", ignore=UNWANTED)
     (room / "src").mkdir()

@@ -51,7 +51,6 @@ def variables():
 
 
 def main():
-    """Runs `rt ci`, and prints its output."""
     words = parser_of(__doc__)
     words.add_argument("--anew", action="store_true", help="repeat what an earlier run passed")
     is_anew = words.parse_args().anew

@@ -31,7 +31,6 @@ def total(crate):
 
 
 def noted():
-    """The checksums that were noted."""
     return json.loads(NOTE.read_text()) if NOTE.exists() else {}
 
 
@@ -51,7 +50,6 @@ def succeeds(name, words, folder, **more):
 
 
 def proves(crate):
-    """Whether a crate is proved."""
     before = total(crate)
     is_proved = succeeds(f"rt check, {crate.name}", ["rt", "check"], crate.folder)
     if is_proved and before == total(crate):

@@ -90,7 +90,6 @@ class Spelled(NamedTuple):
 
 
 def read_leaf(tokens):
-    """Reads a leaf."""
     form, numbers = tokens.take(*LEAVES), ()
     if LEAVES[form]:
         tokens.take("(")
@@ -102,7 +101,6 @@ def read_leaf(tokens):
 
 
 def read_tail(tokens, part):
-    """Reads what follows a term at a point."""
     tokens.take(".")
     form, words = tokens.take("whileInput", "whileOutput", "collectAll", "map", "resetWhen"), ()
     if form != "collectAll":
@@ -214,7 +212,6 @@ class History:
 
     @property
     def n(self):
-        """The number of steps."""
         return self.end - self.begin
 
     @property
@@ -284,7 +281,6 @@ def step(s, h):
 
 
 def next_run(s, p, m, m1, h):
-    """The next run of `fixed`."""
     if h.before is None:
         return sat(m1 + p)
     r = step(s, h.before)[1]
@@ -334,7 +330,6 @@ def mapped(function, number, out):
 
 
 def out_text(out):
-    """The text of an output."""
     if isinstance(out, int):
         return str(out)
     if isinstance(out, list):
@@ -395,7 +390,6 @@ JSON_ESCAPE = re.compile(r"\\(?:u[dD][89abAB]\w\w\\u[dD][c-fC-F]|(u[dD][89a-fA-F
 
 
 def json_number(text):
-    """A whole number as an int, and another number as a float."""
     if not math.isfinite(float(text)):
         raise ValueError
     return int(text) if text.isdigit() and len(text) <= 20 and int(text) <= M else float(text)

@@ -20,8 +20,6 @@ class Counted(NamedTuple):
 
 
 class Refuser:
-    """The library, built into a folder."""
-
     def __init__(self, folder):
         source = pathlib.Path(__file__).with_name("refuse.c")
         self.library, self.count = folder / "refuse.so", folder / "count"
@@ -47,5 +45,4 @@ class Refuser:
 
 @pytest.fixture(scope="session")
 def refuser(tmp_path_factory):
-    """The library."""
     return Refuser(tmp_path_factory.mktemp("refuser"))

@@ -47,7 +47,6 @@ def plans_with_reports():
 
 
 def report_beside(path):
-    """The report next to a plan."""
     return path.with_name(path.name + ".stdout").read_bytes()
 
 

@@ -38,18 +38,15 @@ MANY, TIMES, BYTES_A_STEP = 1_000_000, 1.5, 4
 
 
 def named(*names):
-    """These languages, or all, as parameters."""
     return [pytest.param(name, marks=[pytest.mark.full] * (name == "Java")) for name in names or LANGUAGES]
 
 
 @pytest.fixture(scope="session")
 def client(library, tmp_path_factory):
-    """Returns the client of a language."""
     return lambda name: built(name, tmp_path_factory, library)
 
 
 def ways(name):
-    """The ways in which a language's client steps."""
     return ["list", "program"] if name.startswith("C") else ["list", "program", "stored"]
 
 

@@ -18,12 +18,10 @@ each_page = pytest.mark.parametrize("page", PAGES, ids=lambda page: str(page.rel
 
 
 def anchor_of(title):
-    """The anchor of a heading."""
     return re.sub(r"[^a-z0-9_ -]", "", title.lower()).replace(" ", "-")
 
 
 def anchors_of(page):
-    """The anchors of a page's headings."""
     outside = re.sub(r"^```.*?^```$", "", page.read_text(), flags=re.MULTILINE | re.DOTALL)
     return {anchor_of(title) for title in re.findall(r"^#+ (.*)$", outside, re.MULTILINE)}
 

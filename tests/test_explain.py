@@ -51,7 +51,6 @@ VALUES = st.recursive(
 
 
 def value_of(node):
-    """The Python value of a node of a document."""
     if node.kind == "object":
         return {key.string(): value_of(value) for key, value in node.members()}
     if node.kind == "list":

@@ -67,7 +67,6 @@ def tree(tmp_path):
 
 
 def passes(tree, *words, **more):
-    """Whether pytest passes in the copy."""
     variables = {key: value for key, value in os.environ.items() if not key.startswith("PYTEST")} | {"ZSCHED_GATE": "1"}
     ended = subprocess.run([sys.executable, "-m", "pytest", "-q", *words], cwd=tree, env=variables | more,
                            capture_output=True, check=False)
@@ -75,7 +74,6 @@ def passes(tree, *words, **more):
 
 
 def replaced(path, old, new):
-    """Changes a text of a file."""
     text = path.read_text()
     assert old in text
     path.write_text(text.replace(old, new))

@@ -29,7 +29,6 @@ INSTRUCTIONS = re.compile(r'^,"te":(\d+)', re.M)
 
 
 class Cost(NamedTuple):
-    """What a run costs."""
     instructions: float
     held: float
     allocations: float
@@ -57,7 +56,6 @@ class Row(NamedTuple):
 # ---- plans
 
 def plan(jobs, **more):
-    """The bytes of a plan."""
     return json.dumps({"horizon": FAR, **more, "jobs": jobs}, separators=(",", ":")).encode()
 
 
@@ -68,12 +66,10 @@ def job(number, schedule, script=((1, 0),), **more):
 
 
 def one(schedule, script=((1, 0),)):
-    """A plan of one job."""
     return plan([job(0, schedule, script)])
 
 
 def attempts_of(schedule):
-    """A job of a number of attempts."""
     return lambda count: plan([job(0, schedule)], horizon=count)
 
 
@@ -107,7 +103,6 @@ def records(make):
 # ---- requests of tests/clients/client.c
 
 def request_of(command, text, *numbers):
-    """A line: a command, a schedule's text, and numbers."""
     return " ".join([command, f".{text.encode().hex()}", *map(str, numbers)]).encode() + b"\n"
 
 
@@ -160,7 +155,6 @@ NOTHING = {"zsched": plan([]), "refusals": b"jobs\n" + plan([]), "client": b""}
 
 @pytest.fixture(scope="session")
 def client(library, tmp_path_factory):
-    """The client of the library in C."""
     made = tmp_path_factory.mktemp("client") / "client"
     subprocess.run(["cc", "-O1", "-I", TOP / "include", "-I", TOP / "bindings" / "c", "-o", made, TOP / "tests/clients/client.c",
                     library / "libzsched.a", "-Wl,--wrap=malloc,--wrap=realloc,--wrap=free", "-lpthread"], check=True)

@@ -27,13 +27,11 @@ OPERATORS = ["(forever && identity)", "(recurs(3) || elapsed)", "(recurs(250) an
 
 
 def job(number, schedule, values=(0,), ms=1, mode="repeat", **more):
-    """A job that the schedule alone ends."""
     script = [{"ms": ms, "ok" if mode == "repeat" else "err": value} for value in values]
     return {"name": f"j{number}", "mode": mode, "schedule": schedule, "script": script, **more}
 
 
 def plan(jobs, **more):
-    """The bytes of a plan."""
     return json.dumps({**more, "jobs": jobs}, separators=(",", ":")).encode()
 
 
@@ -44,7 +42,6 @@ def attempts_over_each_leaf(mode):
 
 
 def attempts_over_each_operator():
-    """Jobs of 500 attempts, an operator each."""
     jobs = [job(number, schedule, range(9), 2) for number, schedule in enumerate(OPERATORS)]
     return plan(jobs, horizon=1100, workers=2)
 
@@ -63,7 +60,6 @@ def many_ticks():
 
 
 def many_polls(workers):
-    """A job of 12,000 attempts, and two other jobs."""
     pairs = ["forever && forever", "spaced(99) && spaced(99)", "spaced(1) && recurs(5000)"]
     jobs = [job(number, f"({pair}).map(_1)") for number, pair in enumerate(pairs)]
     return plan(jobs, horizon=12000, workers=workers)
@@ -117,7 +113,6 @@ def ended(lines, polls):
 
 
 def many_attempts(count):
-    """A job of `count` attempts."""
     return plan([job(0, f"recurs({count - 1})")], horizon=LAST_TICK), ended(lines_of("j0", range(count)), count + 1)
 
 
@@ -129,7 +124,6 @@ def long_report(items):
 
 
 def long_schedule(spaces):
-    """A schedule of a little over `spaces` bytes."""
     return plan([job(0, "recurs(" + " " * spaces + "0)")], horizon=9), ended(lines_of("j0", [0]), 2)
 
 

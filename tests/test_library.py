@@ -41,13 +41,11 @@ CODE = [14, 5, 500, 11, 8, 4, 12, 3, 2, 10, 100, 2, 5, 5000, 4, 8]
 
 @pytest.fixture(scope="session")
 def client(library, tmp_path_factory):
-    """The client in C."""
     return built("C", tmp_path_factory, library)
 
 
 @pytest.fixture(scope="session")
 def watched(library, tmp_path_factory):
-    """The client in C under sanitizers."""
     return built("C watched", tmp_path_factory, library)
 
 

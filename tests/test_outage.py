@@ -38,7 +38,6 @@ def simulated(zsched, parts, name="steady"):
 
 
 def figures_of(zsched, parts):
-    """The scenario and the figures of all its policies."""
     return read(parts), {name: simulated(zsched, parts, name)[-1] for name in parts["policies"]}
 
 
@@ -71,7 +70,6 @@ def laid(rows):
 
 
 def outcome(how, code):
-    """An outcome of a short attempt."""
     return st.integers(1, 90).map(lambda ms: {"ms": ms, how: code})
 
 

@@ -90,7 +90,6 @@ class Root:
         return Place(self.path / "usr/include", folder, flags.split())
 
     def dpkg(self, *words):
-        """Calls dpkg for the root."""
         ran(["dpkg", f"--root={self.path}", "--force-not-root", "--force-script-chrootless", "--log=/dev/null", *words], self.folder,
             PATH=f"{os.environ['PATH']}:/sbin")
 
@@ -103,7 +102,6 @@ class Root:
 
 
 def made_debs(folder, library):
-    """The Debian packages of the library, made in a new folder."""
     folder.mkdir()
     env = {**os.environ, "DEBEMAIL": "zsched@example.org"}
     return [pathlib.Path(line) for line in
@@ -111,14 +109,12 @@ def made_debs(folder, library):
 
 
 def install(root, libdir="lib"):
-    """Installs the library by tools/install-library."""
     output_of([TOP / "tools/install-library", "--library", root.made, "--destdir", root.path, "--prefix", "/usr", "--libdir", libdir])
     return root.path / "usr" / libdir
 
 
 @pytest.fixture
 def root(tmp_path, library):
-    """An empty root."""
     return Root(tmp_path, library)
 
 
@@ -130,7 +126,6 @@ def python(root):
 
 
 def wheel(root):
-    """Python by the wheel, in a new environment."""
     if subprocess.run([PYTHON, "-c", "import setuptools, wheel, pip"], capture_output=True, check=False).returncode:
         pytest.skip(f"pip, setuptools and wheel of {PYTHON} aren't installed")
     shutil.copytree(BINDINGS / "python", root.folder / "source", ignore=UNWANTED)

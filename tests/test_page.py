@@ -42,7 +42,6 @@ def functions_of(path):
 
 @pytest.fixture(scope="module")
 def page():
-    """A function that calls those of the page."""
     with functions_of(PAGE) as call:
         yield call
 
@@ -234,7 +233,6 @@ def test_letters_are_readable_on_each_ground_by_day_and_at_night():
 # ---- In a browser, without any server
 
 def shown(**fields):
-    """The page's document for some fields."""
     return opened(f"file://{PAGE}#{urllib.parse.urlencode(fields)}" if fields else f"file://{PAGE}")
 
 

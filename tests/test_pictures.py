@@ -22,7 +22,6 @@ each_picture = pytest.mark.parametrize("text", PICTURES, ids=range(len(PICTURES)
 
 
 def output(*words, text):
-    """The output of the command."""
     status, found, errors = run_here(report_command.main, ["zsched-report", *words], text.encode())
     assert (status, errors) == (0, "")
     return found
@@ -34,17 +33,14 @@ def drawn_by(*words, text):
 
 
 def classed(root, kind, style):
-    """The elements of a kind and a class."""
     return [it for it in root.iter(SVG + kind) if it.get("class") == style]
 
 
 def titles(root):
-    """The texts of the attempts of a picture."""
     return [it.text for it in root.iter(f"{SVG}title") if it.text.startswith("attempt")]
 
 
 def bars(root):
-    """The bars of a picture that have a title."""
     return [it for it in root.iter(f"{SVG}rect") if it.find(f"{SVG}title") is not None]
 
 

@@ -31,7 +31,6 @@ def question(schedule="recurs(3)", horizon=1000, script=({"ms": 1, "err": 7},), 
 
 
 def program(folder, text):
-    """The path of a program that a shell runs."""
     path = folder / "program"
     path.write_text(f"#!/bin/sh\n{text}\n")
     path.chmod(0o755)
@@ -40,7 +39,6 @@ def program(folder, text):
 
 @contextlib.contextmanager
 def served(zsched, **variables):
-    """A server's process and its address."""
     words, pipe = [TOOL, "--port", "0", "--zsched", zsched], subprocess.PIPE
     with subprocess.Popen(words, stdout=pipe, stderr=pipe, text=True, env={**os.environ, **variables}) as server:
         try:
@@ -71,7 +69,6 @@ def request(url, method, path="/", body=None, **headers):
 
 
 def asked(url, text):
-    """The response for a plan."""
     status, _, body = request(url, "POST", "/report", text)
     assert status == 200, body
     return json.loads(body)

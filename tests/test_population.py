@@ -19,12 +19,10 @@ SCRIPT = [{"ms": 1, "err": 1}]
 
 
 def job(name, **changes):
-    """The line of a small job."""
     return json.dumps({"name": name, "mode": "retry", "schedule": "recurs(1)", "script": SCRIPT, **changes}).encode()
 
 
 def jobs(begin, end):
-    """The lines of such jobs."""
     return [job(f"j{number}") for number in range(begin, end)]
 
 
@@ -36,12 +34,10 @@ def report(begin, end):
 
 
 def joined(lines):
-    """Lines as bytes, each ended by a newline."""
     return b"".join(line + b"\n" for line in lines)
 
 
 def judge(population, lines, status, output, said=""):
-    """A run on these lines ends so."""
     errors = f"zsched-population: {said}\n" if said else ""
     assert run(population, lines, seconds=100) == (status, output, errors.encode())
 

@@ -60,7 +60,6 @@ class Clock:
         return self.seconds
 
     def sleep(self, seconds):
-        """Sleeps, in no time."""
         self.slept.append(round(seconds, 6))
         self.seconds += seconds
 
@@ -80,13 +79,11 @@ class Clock:
 
 @pytest.fixture
 def clock():
-    """A clock that makes no caller wait."""
     return Clock()
 
 
 @pytest.fixture
 def retrying(zsched, clock):
-    """zsched.retrying, by that clock."""
     return lambda text, **more: zsched.retrying(text, clock=clock, **{"sleep": clock.sleep, **more})
 
 
@@ -131,7 +128,6 @@ def test_a_policy_is_within_its_bounds_and_not_within_less(zsched):
 
 
 def seen_of(schedule):
-    """What a schedule stores."""
     return schedule.seen if hasattr(schedule, "seen") else schedule.state[1:]
 
 
@@ -307,7 +303,6 @@ def test_the_example_waits_for_its_server(library, tmp_path):
 
 
 def python_of_document():
-    """The pieces of Python in docs/LIBRARY.md."""
     return re.findall(r"```python\n(.*?)```", (TOP / "docs" / "LIBRARY.md").read_text(), re.S)
 
 

@@ -26,7 +26,6 @@ BLOCK = re.compile(r"^```(\w+)\n(.*?)^```$", re.MULTILINE | re.DOTALL)
 
 
 def title_of(section):
-    """The title of a section."""
     return section.split("\n")[0]
 
 

@@ -22,7 +22,6 @@ SHOWN = re.findall(r"```console\n\$ tools/zsched-try (.*?)\n(.*?)```", README + 
 
 
 def tool(*words):
-    """Runs the command in this process."""
     return run_here(try_command.main, ["zsched-try", *words])
 
 

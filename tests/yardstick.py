@@ -34,7 +34,6 @@ class Series:
         self.beside.start()
 
     def repeat(self):
-        """Measures until the end."""
         while not self.is_done.wait(PAUSE):
             self.seconds.append(measure())
 

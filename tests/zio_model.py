@@ -9,8 +9,6 @@ milliseconds. A pair is a tuple of two, Left and Right are lists of a word and a
 
 
 class Schedule:
-    """A first state and a step."""
-
     def __init__(self, initial, step):
         self.initial, self.step = initial, step
 
@@ -85,7 +83,6 @@ class Schedule:
 
 
 def joined(left, right, choose):
-    """Both are stepped, and the output is the pair."""
     def step(now, given, state):
         first, one, here = left.step(now, given, state[0])
         second, two, there = right.step(now, given, state[1])
@@ -107,7 +104,6 @@ def either(left, right):
 
 
 def and_then_either(left, right):
-    """The left one until it is done, then the right one."""
     def step(now, given, state):
         first, second, is_left = state
         if is_left:

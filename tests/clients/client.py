@@ -19,7 +19,6 @@ def steps(command, text, numbers):
 
 
 def retry(text, code, times):
-    """Returns the words of a line of a retry."""
     begun, moments = time.monotonic_ns(), []
 
     @zsched.retrying(text, on=OSError, input_of=lambda error: error.errno)
@@ -35,7 +34,6 @@ def retry(text, code, times):
 
 
 def many(text, count):
-    """Steps a program `count` times."""
     schedule, moment = zsched.Stepper(text), 0
     for number in range(1, count + 1):
         moment = schedule.after(moment, 503).next
