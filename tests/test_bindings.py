@@ -172,8 +172,6 @@ def test_a_million_steps_take_flat_time_and_memory(client, name):
     raise AssertionError(f"{name}: {tenths} s, {memory} KiB")
 
 
-# ---- The examples, which call a server of their own and really wait
-
 READY = "ready after 4 attempts\n"
 
 

@@ -70,8 +70,6 @@ def test_formats_shows_a_plan_and_its_report_also_as_json_lines(zsched):
     assert run_tool([TOP / "tools" / "zsched-report", "lines"], whole) == (0, shown, "")
 
 
-# ---- docs/POLICIES.md
-
 HEAD, *SECTIONS = (TOP / "docs" / "POLICIES.md").read_text().split("\n## ")
 JOBS = json.loads((TOP / "examples" / "policies.json").read_text())["jobs"]
 RAN = jobs_of((TOP / "examples" / "policies.json.stdout").read_bytes())
@@ -96,8 +94,6 @@ def test_a_policy_has_its_schedule_and_the_part_of_each_setting(section, job):
     assert re.search(r"\n- Looked at: (source, \S+.* \d+\.\d+|documents, )", section)
     assert "\nNot the same:" in section
 
-
-# ---- English
 
 PROSE = tuple(page for page in PAGES if TOP / "benches" not in page.parents)
 CODE = tuple(sorted(it for end in ("rt", "antt") for it in TOP.glob(f"crates/*/[sp]*/**/*.{end}")))

@@ -53,8 +53,6 @@ class Row(NamedTuple):
     times: float = 4.4
 
 
-# ---- plans
-
 def plan(jobs, **more):
     return json.dumps({"horizon": FAR, **more, "jobs": jobs}, separators=(",", ":")).encode()
 
@@ -99,8 +97,6 @@ def records(make):
     """The same plan for zs_refusals, whose tasks store all their records."""
     return lambda count: b"jobs\n" + make(count)
 
-
-# ---- requests of tests/clients/client.c
 
 def request_of(command, text, *numbers):
     return " ".join([command, f".{text.encode().hex()}", *map(str, numbers)]).encode() + b"\n"

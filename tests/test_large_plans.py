@@ -95,8 +95,6 @@ def test_a_large_plan_has_the_report_of_the_reference(name, zsched):
     assert difference(run(zsched, text, seconds=PATIENCE), reference.answer(text)) is None
 
 
-# ---- plans whose reports are made here
-
 def lines_of(name, outs, start=0, ms=1, value=0):
     """The lines of a repeat with these outputs, whose attempts come one immediately after the other."""
     lines, at = [f"job {name} repeat"], start

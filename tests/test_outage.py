@@ -58,8 +58,6 @@ def test_help_has_an_example():
     assert (status, len(read(json.loads(example)).starts)) == (0, 10_000)
 
 
-# ---- The search
-
 def laid(rows):
     """Windows one after another, from the gap before each, its length and what else it has."""
     at, found = 0, []
@@ -164,8 +162,6 @@ def test_a_report_with_outcomes_of_another_scenario_is_no_certificate():
         certificate.certified(read(SMALL), [*endings[:2], Ending("succeeded", 200, 2600, 3)], [early.encode()])
 
 
-# ---- Draws
-
 def test_rand_is_between_its_bounds_and_takes_each_value():
     source = random.Random(1)
     assert {drawn.drawn(source, 3, 6) for _ in range(200)} == {3, 4, 5, 6}
@@ -202,8 +198,6 @@ def test_a_cause_after_a_draw_is_at_its_place_in_the_policy(within, size, marked
     assert policy.text[cause.at:cause.at + cause.size] == marked
 
 
-# ---- Files
-
 def test_a_plan_in_parts_is_what_split_makes(zsched, tmp_path):
     with mock.patch.object(outage, "MOST_JOBS", 2):
         found = simulated(zsched, SMALL)
@@ -231,8 +225,6 @@ def test_more_bytes_than_a_plan_takes_are_said_before_the_run(capsys):
         "zsched-outage: policy steady: 3 jobs with schedules of 33 bytes are more than one plan of 10,000 jobs and "
         "32 bytes: it is written as JSON lines and parts\n")
 
-
-# ---- Curves and pictures
 
 def test_running_is_what_begun_less_what_ended(zsched):
     found = simulated(zsched, SMALL)[-1].curve
@@ -302,8 +294,6 @@ onload = () => { document.getElementById("found").textContent = [...document.que
     document = opened(f"file://{tmp_path}/frames.html", 1700, ["--allow-file-access-from-files"])
     assert inside(document, "found") == "360 30 0,400 30 0,1280 30 0"
 
-
-# ---- Progress
 
 @pytest.mark.parametrize("is_terminal", [True, False])
 def test_progress_is_written_on_a_terminal_alone(is_terminal):

@@ -30,8 +30,6 @@ def lines_of(word):
     return [line for line in ABI.splitlines() if line.startswith(f"{word} ")]
 
 
-# ---- The library's interface
-
 def test_functions_and_soname_are_those_of_the_shared_library(library):
     told = output_of(["nm", "-D", "--defined-only", "--with-symbol-versions", library / "libzsched.so"])
     names = re.findall(r"^\w+ T (\w+)@@(\w+)$", told, re.M)
@@ -55,8 +53,6 @@ def test_sizes_places_and_numbers_are_those_of_the_header(tmp_path):
     ran(["cc", "-I", TOP / "include", "-o", "printer", "printer.c"], tmp_path)
     assert ran(["./printer"], tmp_path).splitlines() == lines_of("struct") + lines_of("number")
 
-
-# ---- Packages, each in an empty root
 
 class Root:
     """An empty folder with a root, in which packages are installed."""

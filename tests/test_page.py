@@ -52,8 +52,6 @@ def answer(page, text):
     return status, report.encode(), fault.encode()
 
 
-# ---- The evaluator
-
 @pytest.mark.parametrize("path", plans_with_reports(), ids=lambda path: path.stem)
 def test_the_evaluator_gives_the_report_beside_a_plan(page, path):
     assert answer(page, path.read_bytes()) == (0, report_beside(path), b"") == reference.answer(path.read_bytes())
@@ -87,8 +85,6 @@ def test_an_evaluator_that_counts_wrong_is_noticed(tmp_path):
         assert answer(call, text) != reference.answer(text)
 
 
-# ---- Bounds for every input
-
 def judge_bounds(page, text, schedule, steps=120):
     """The page's bounds by at most so many steps are those of tests/bounds.py."""
     found, wanted = page("bounding.boundsOf", text, steps), bounds.bounds(schedule, steps)
@@ -112,8 +108,6 @@ def test_bounds_of_the_schedules_of_the_plans(page):
         judge_bounds(page, text, reference.read_schedule(text.encode()))
     assert len(short) > 60
 
-
-# ---- The plan of the fields
 
 def test_the_plan_is_what_the_fields_say(page):
     fields = {"a": "spaced(7)", "b": "forever", "until": "2min", "start": "1s",
@@ -154,8 +148,6 @@ def test_the_same_seed_gives_the_same_plan(page):
     assert one == again != other and len(numbers) > 15 and all(1 <= number <= 1000000 for number in numbers)
 
 
-# ---- Pictures
-
 @pytest.mark.parametrize("width", [330, 1200])
 @pytest.mark.parametrize("is_log", [False, True])
 def test_nothing_is_outside_of_a_picture(page, width, is_log):
@@ -186,8 +178,6 @@ def test_each_attempt_that_is_shown_has_a_title(page):
         titles = re.findall(r"<title>attempt \d+ of \S+: (\d+)\.\.", svg)
         assert list(map(int, titles)) == [it.begin for it in attempts if it.end >= begin and it.begin <= end]
 
-
-# ---- The file
 
 def test_the_page_loads_nothing_from_elsewhere_and_says_what_its_evaluator_is():
     assert re.findall(r"https?:|//[a-z]|@import|url\(", TEXT.replace("// ", "")) == []
@@ -229,8 +219,6 @@ def test_letters_are_readable_on_each_ground_by_day_and_at_night():
     assert len(themes) == 2 and "::placeholder { color: var(--soft); opacity: 1; }" in TEXT
     assert min(int(size) for size in re.findall(r"font(?:-size)?: (?:600 )?(\d+)px", TEXT)) >= 11
 
-
-# ---- In a browser, without any server
 
 def shown(**fields):
     return opened(f"file://{PAGE}#{urllib.parse.urlencode(fields)}" if fields else f"file://{PAGE}")

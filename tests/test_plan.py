@@ -93,8 +93,6 @@ def test_a_large_population_is_split_in_little_memory(tmp_path):
     assert len(list((tmp_path / "parts").iterdir())) == 7 and int(said) < 40_000
 
 
-# ---- Join
-
 def joined(folder):
     """The report of a manifest's parts, or the error, in which no folder is named."""
     out = io.BytesIO()
@@ -165,8 +163,6 @@ def test_the_report_of_a_plan_is_the_reports_of_its_parts_joined(tmp_path):
         attempts += whole.count(b"\nattempt ")
     assert count >= 200 and attempts > 2000
 
-
-# ---- Files of other forms
 
 def from_yaml(text):
     """The plan of a text in YAML, and what was changed."""

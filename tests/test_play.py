@@ -85,8 +85,6 @@ def test_a_duration_is_read(text, ms):
         assert duration_text.milliseconds(text) == ms
 
 
-# ---- Responses
-
 @pytest.mark.parametrize("path", sorted(TOP.glob("examples/*.json"))[:8], ids=lambda path: path.stem)
 def test_the_report_is_that_of_the_program(url, path):
     found, report = asked(url, path.read_bytes()), path.with_name(f"{path.name}.stdout").read_text()
@@ -144,8 +142,7 @@ def test_a_long_report_is_cut(zsched):
     assert len(found["report"]) <= 500 and report.startswith(found["report"]) and found["report"].endswith("\n")
 
 
-# ---- Requests: their method, path, body and headers, and the status of the response. PORT is the server's.
-
+# Requests: their method, path, body and headers, and the status of the response. PORT is the server's.
 GET, REPORT = ("GET", "/", None), ("POST", "/report", ONE_JOB)
 METHODS = ["PUT", "DELETE", "PATCH", "OPTIONS", "TRACE"]
 REQUESTS = {
@@ -202,8 +199,6 @@ def test_it_listens_on_this_machine_alone(url):
         socket.create_connection(("127.0.0.2", urllib.parse.urlsplit(url).port), timeout=5)
 
 
-# ---- A run that takes too long or too much memory
-
 def fault_of_endless(zsched, seconds):
     """The fault of a plan without end, from a server in this process with this patience."""
     with play.Server(0, str(zsched), seconds) as server:
@@ -243,8 +238,6 @@ def test_a_program_that_maps_terabytes_limits_its_memory_itself(tmp_path, line, 
         assert (*play.run(path, b"", 10)[:2], limit.called) == (0, said, is_limited)
 
 
-# ---- The process
-
 def test_a_port_that_is_taken_is_told(zsched):
     with socket.create_server(("127.0.0.1", 0)) as taken:
         port = taken.getsockname()[1]
@@ -258,8 +251,6 @@ def test_it_ends_when_it_is_told_to(zsched, number):
         server.send_signal(number)
         assert (server.wait(timeout=20), server.stderr.read()) == (0, "")
 
-
-# ---- The page over the program, in a browser that can reach no other host
 
 @pytest.mark.full
 def test_a_browser_shows_what_the_program_gives(url):

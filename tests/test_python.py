@@ -87,8 +87,6 @@ def retrying(zsched, clock):
     return lambda text, **more: zsched.retrying(text, clock=clock, **{"sleep": clock.sleep, **more})
 
 
-# ---- Schedules
-
 def test_a_fault_has_its_text_number_and_place(zsched):
     for call in [zsched.check, zsched.Schedule, zsched.Stepper, zsched.retrying, lambda text: zsched.bounds(text, 9)]:
         with pytest.raises(zsched.ScheduleFault) as caught:
@@ -200,8 +198,6 @@ def test_a_missing_library_names_the_command_that_makes_it(tmp_path):
     assert re.match(r"/nowhere/libzsched.so: .* tools/make-library", said)
 
 
-# ---- Retries
-
 @pytest.mark.parametrize("text, more, times, error, wanted, slept", [
     ("(exponential(10) && recurs(5))", {}, 3, OSError, None, [0.01, 0.02, 0.04]),
     ("(linear(10) && recurs(5)).collectAll", {}, 3, OSError, None, [0.01, 0.02, 0.03]),
@@ -294,8 +290,6 @@ def test_one_may_serve_many_calls(retrying, clock):
     assert [by(clock.failing(1))() for _ in range(3)] == ["done"] * 3
     assert clock.slept == [0.01] * 3
 
-
-# ---- Examples
 
 def test_the_example_waits_for_its_server(library, tmp_path):
     said = ran([sys.executable, "-B", BINDINGS / "python" / "example.py"], tmp_path, ZSCHED_LIBRARY=library / "libzsched.so")

@@ -40,8 +40,6 @@ def plans_of(section):
     return [(path.read_bytes(), path.with_suffix(".json.stdout").read_bytes()) for path in paths]
 
 
-# ---- tasks
-
 def test_the_readme_says_how_many_tasks_there_are():
     assert f"has {len(SECTIONS)} tasks" in (TOP / "README.md").read_text()
 
@@ -77,8 +75,6 @@ def test_the_program_prints_the_reports(section, zsched):
         assert run(zsched, plan) == (0, report, b"")
 
 
-# ---- commands
-
 def blocks():
     """The title of each section of commands, its files by name, and each of its commands with the output that is shown."""
     for section in COMMANDS:
@@ -109,8 +105,6 @@ def test_a_command_prints_what_is_shown(files, command, shown, zsched, tmp_path)
     assert ended.returncode == 0, ended.stderr
     assert shown in [None, ended.stdout]
 
-
-# ---- the tables for those who come from ZIO
 
 # What the letters of the tables represent: d, e, k and N, several times.
 LETTERS = [(25, 40, 3, 6), (6, 9, 1, 10), (4, 70, 5, 0)]
