@@ -76,28 +76,6 @@ def jobs_of(schedule, **more):
     return lambda count: plan([job(number, schedule) for number in range(count)], **more)
 
 
-def jobs_one_after_the_other(count):
-    """Jobs that begin at different moments, the last one first."""
-    return plan([job(number, "recurs(0)", start=2 * (count - number)) for number in range(count)])
-
-
-def jobs_that_end_together(count):
-    """Jobs that begin one after the other and end at one moment, for which the last one waits before all others."""
-    jobs = [job(number, "recurs(0)", [(count - number, 0)], start=number + 1) for number in range(count - 1)]
-    return plan([*jobs, job(count - 1, "recurs(0)", [(count + 1, 0)])])
-
-
-def ticks(count):
-    """A clock of many ticks, with jobs at its end."""
-    jobs = [job(number, "spaced(3)", start=2 * count - 40) for number in range(100)]
-    return json.dumps({"ticks": list(range(0, 2 * count, 2)), "jobs": jobs}).encode()
-
-
-def records(make):
-    """The same plan for zs_refusals, whose tasks store all their records."""
-    return lambda count: b"jobs\n" + make(count)
-
-
 def request_of(command, text, *numbers):
     return " ".join([command, f".{text.encode().hex()}", *map(str, numbers)]).encode() + b"\n"
 
@@ -113,16 +91,24 @@ ROWS = {
     "one job": Row(lambda _: jobs_of("recurs(0)")(1), 0, Cost(280_000, 3300, 52)),
     "attempts": Row(attempts_of("forever"), 2500, Cost(4400, 260, 1.01)),
     "attempts with pairs and sides": Row(
-        attempts_of("(recurs(3) andThenEither (forever && identity))"), 2500, Cost(5900, 283, 1.01)),
-    "attempts in records": Row(records(attempts_of("forever")), 2700, Cost(4800, 210, 1.01), "refusals"),
+        attempts_of("(recurs(3) andThenEither (forever && identity))"), 2500, Cost(5900, 138, 0.01)),
+    "attempts in records": Row(
+        lambda n: b"jobs\n" + attempts_of("forever")(n), 2700, Cost(4800, 250, 0.01), "refusals"),
     "jobs due together": Row(jobs_of("recurs(5)"), 1000, Cost(76_000, 2220, 20.5)),
     # Most of their cost is the parsing of their schedules.
-    "jobs of 100 nodes": Row(jobs_of(f"(recurs(0) && {tree(50)})"), 100, Cost(290_000, 9900, 388)),
-    "jobs of 100 attempts": Row(jobs_of("recurs(99)"), 100, Cost(420_000, 17_300, 44.8)),
-    "jobs at moments of their own": Row(jobs_one_after_the_other, 1000, Cost(68_000, 2240, 22.6)),
-    "jobs that come due in another order": Row(jobs_that_end_together, 1000, Cost(68_000, 2240, 22.6)),
-    "ticks": Row(ticks, 20_000, Cost(1200, 83, 0.01)),
-    "leaves of a schedule": Row(lambda n: one(f"({tree(n)} && recurs(99)).map(_2)"), 100, Cost(68_000, 168, 213)),
+    "jobs of 100 nodes": Row(jobs_of(f"(recurs(0) && {tree(50)})"), 100, Cost(290_000, 17_300, 422)),
+    "jobs of 100 attempts": Row(jobs_of("recurs(99)"), 100, Cost(420_000, 11_500, 28.8)),
+    # The last one begins first.
+    "jobs at moments of their own": Row(
+        lambda n: plan([job(it, "recurs(0)", start=2 * (n - it)) for it in range(n)]), 1000, Cost(68_000, 2240, 22.6)),
+    # They begin one after the other and end at one moment, for which the last one waits before all others.
+    "jobs that come due in another order": Row(
+        lambda n: plan([*(job(it, "recurs(0)", [(n - it, 0)], start=it + 1) for it in range(n - 1)),
+                        job(n - 1, "recurs(0)", [(n + 1, 0)])]), 1000, Cost(68_000, 2240, 22.6)),
+    "ticks": Row(lambda n: json.dumps(
+        {"ticks": list(range(0, 2 * n, 2)), "jobs": [job(it, "spaced(3)", start=2 * n - 40) for it in range(100)]}
+        ).encode(), 20_000, Cost(1200, 95, 0.01)),
+    "leaves of a schedule": Row(lambda n: one(f"({tree(n)} && recurs(99)).map(_2)"), 100, Cost(68_000, 270, 209)),
     "collected items": Row(
         lambda n: one(f"(identity.collectAll && recurs({n})).map(_2)"), 1000, Cost(5700, 251, 3.2)),
     "counted items": Row(

@@ -35,28 +35,10 @@ def plan(jobs, **more):
     return json.dumps({**more, "jobs": jobs}, separators=(",", ":")).encode()
 
 
-def attempts_over_each_leaf(mode):
-    """Jobs of 500 attempts, a leaf each, on a clock that ends by itself only if delays grow."""
-    jobs = [job(number, f"({leaf} && recurs(499))", range(1000), 2, mode) for number, leaf in enumerate(LEAVES)]
-    return plan(jobs, horizon=LAST_TICK, workers=4, grain=3)
-
-
-def attempts_over_each_operator():
-    jobs = [job(number, schedule, range(9), 2) for number, schedule in enumerate(OPERATORS)]
-    return plan(jobs, horizon=1100, workers=2)
-
-
 def collected(length, value):
     """A job that collects `length` items of one value, and a short one after it."""
     return plan([job(0, f"(identity && recurs({length})).map(_1).collectAll", [value]), job(1, "recurs(1)")],
                 horizon=LAST_TICK)
-
-
-def many_ticks():
-    """A clock of a million ticks, with jobs at its begin, within it and at its end."""
-    jobs = [job(0, "(spaced(99991) && recurs(40))"), job(1, "fixed(3)", start=1999900),
-            job(2, "recurs(5)", mode="retry", start=LAST_TICK), job(3, "spaced(2000000)")]
-    return plan(jobs, ticks=[*range(0, 1999998, 2), LAST_TICK])
 
 
 def many_polls(workers):
@@ -71,27 +53,32 @@ def many_jobs(count, workers, grain):
     return plan(jobs, horizon=20, workers=workers, grain=grain)
 
 
-# A function that makes the plan, with its arguments.
 PLANS = {
-    "500 repeats over each leaf": (attempts_over_each_leaf, "repeat"),
-    "500 retries over each leaf": (attempts_over_each_leaf, "retry"),
-    "500 attempts over each operator": (attempts_over_each_operator,),
-    "1,100 collected items": (collected, 1100, 7),
-    "a report of 20 million bytes": (collected, 1400, M),
-    "a million ticks": (many_ticks,),
-    "12,000 rounds on a thread": (many_polls, 1),
-    "12,000 rounds on two threads": (many_polls, 2),
-    "9,999 jobs, each a batch": (many_jobs, 9999, 3, 1),
-    "10,000 jobs in one batch": (many_jobs, 10000, 8, 10000),
-    "a schedule with 1,000,000 spaces": (lambda: plan([job(0, "recurs(" + " " * 1000000 + "3)")], horizon=9),),
-    "a script of 1,000 entries": (lambda: plan([job(0, "identity", range(M - 999, M + 1))], horizon=1200),),
+    # On a clock that ends by itself only if delays grow.
+    **{f"500 {attempts} over each leaf": lambda mode=mode: plan(
+        [job(number, f"({leaf} && recurs(499))", range(1000), 2, mode) for number, leaf in enumerate(LEAVES)],
+        horizon=LAST_TICK, workers=4, grain=3) for attempts, mode in [("repeats", "repeat"), ("retries", "retry")]},
+    "500 attempts over each operator": lambda: plan(
+        [job(number, schedule, range(9), 2) for number, schedule in enumerate(OPERATORS)], horizon=1100, workers=2),
+    "1,100 collected items": lambda: collected(1100, 7),
+    "a report of 20 million bytes": lambda: collected(1400, M),
+    # The jobs are at the clock's begin, within it and at its end.
+    "a million ticks": lambda: plan(
+        [job(0, "(spaced(99991) && recurs(40))"), job(1, "fixed(3)", start=1999900),
+         job(2, "recurs(5)", mode="retry", start=LAST_TICK), job(3, "spaced(2000000)")],
+        ticks=[*range(0, 1999998, 2), LAST_TICK]),
+    "12,000 rounds on a thread": lambda: many_polls(1),
+    "12,000 rounds on two threads": lambda: many_polls(2),
+    "9,999 jobs, each a batch": lambda: many_jobs(9999, 3, 1),
+    "10,000 jobs in one batch": lambda: many_jobs(10000, 8, 10000),
+    "a schedule with 1,000,000 spaces": lambda: plan([job(0, "recurs(" + " " * 1000000 + "3)")], horizon=9),
+    "a script of 1,000 entries": lambda: plan([job(0, "identity", range(M - 999, M + 1))], horizon=1200),
 }
 
 
 @pytest.mark.parametrize("name", PLANS)
 def test_a_large_plan_has_the_report_of_the_reference(name, zsched):
-    make, *arguments = PLANS[name]
-    text = make(*arguments)
+    text = PLANS[name]()
     assert difference(run(zsched, text, seconds=PATIENCE), reference.answer(text)) is None
 
 
@@ -121,16 +108,6 @@ def long_report(items):
     return plan([job(0, schedule, [M])], horizon=LAST_TICK), ended(lines_of("j0", outs, value=M), items + 2)
 
 
-def long_schedule(spaces):
-    return plan([job(0, "recurs(" + " " * spaces + "0)")], horizon=9), ended(lines_of("j0", [0]), 2)
-
-
-def deep_schedule(levels):
-    """A schedule of `levels` levels: too big."""
-    text = plan([job(0, "(" * levels + "forever" + "&&forever)" * levels)], horizon=9)
-    return text, (2, b"", b"zsched: job 0: schedule: too big\n")
-
-
 def many_moments(count):
     """`count` jobs that begin one after the other: the first half from its last job to its first, the others in order."""
     starts = [*range(count, 0, -2), *range(count + 2, 2 * count + 1, 2)]
@@ -147,21 +124,23 @@ def late_moments(names):
     return plan(jobs, horizon=LAST_TICK, workers=2), ended(lines, 4 * len(names))
 
 
-# A function that makes a plan and says how its run ends. Each is past a size at which a wrong body could stop working.
+# Plans, and how their runs end. Each is past a size at which a wrong body could stop working.
 SIZES = {
-    "70,000 attempts": (many_attempts, 70000),
-    "a report of 45 million bytes": (long_report, 2100),
-    "a schedule of 4,000,000 bytes": (long_schedule, 4000000),
-    "a schedule of 1,400,000 levels": (deep_schedule, 1400000),
-    "9,000 moments": (many_moments, 9000),
-    "attempts at the last ticks, and a name of 64 bytes": (late_moments, ["n" * 64, "second"]),
+    "70,000 attempts": lambda: many_attempts(70000),
+    "a report of 45 million bytes": lambda: long_report(2100),
+    "a schedule of 4,000,000 bytes": lambda: (
+        plan([job(0, "recurs(" + " " * 4000000 + "0)")], horizon=9), ended(lines_of("j0", [0]), 2)),
+    "a schedule of 1,400,000 levels": lambda: (
+        plan([job(0, "(" * 1400000 + "forever" + "&&forever)" * 1400000)], horizon=9),
+        (2, b"", b"zsched: job 0: schedule: too big\n")),
+    "9,000 moments": lambda: many_moments(9000),
+    "attempts at the last ticks, and a name of 64 bytes": lambda: late_moments(["n" * 64, "second"]),
 }
 
 
 @pytest.mark.parametrize("name", SIZES)
 def test_a_plan_past_a_size(name, zsched):
-    make, size = SIZES[name]
-    text, wanted = make(size)
+    text, wanted = SIZES[name]()
     assert difference(run(zsched, text, seconds=PATIENCE), wanted) is None
 
 
