@@ -137,16 +137,6 @@ def run_here(main, words, given=b""):
     return status, streams["stdout"].buffer.getvalue().decode(), streams["stderr"].getvalue()
 
 
-def is_coloured(words, stream, folder=None, **variables):
-    """Whether a command's `stdout` or `stderr` has colours on a terminal, with these variables."""
-    ours, theirs = os.openpty()
-    with os.fdopen(ours, "rb", 0) as terminal:
-        subprocess.run([str(it) for it in words], **{stream: theirs}, cwd=folder, check=False,
-                       env={"PATH": os.environ["PATH"], **variables})
-        os.close(theirs)
-        return b"\x1b[" in terminal.read(4000)
-
-
 def floors():
     """The number of cases that each file of tests must have at least."""
     lines = (TOP / "tests" / "floors.txt").read_text(encoding="utf-8").splitlines()

@@ -1,5 +1,5 @@
-"""What all commands of tools/ have in common, beside tests/cases/tools/: colours on a terminal, the program that they
-run, the Python that they need, and work that processes share."""
+"""What all commands of tools/ have in common, beside tests/cases/tools/: the program that they run, the Python that
+they need, and work that processes share."""
 import ast
 import multiprocessing
 import os
@@ -9,22 +9,11 @@ import sys
 
 import pytest
 
-from support import ONE_JOB, TOP, is_coloured
+from support import TOP
 from zsched_tools import program, starting
 from zsched_tools.processes import in_order
 
 TOOLS = sorted((TOP / "tools").glob("zsched-*"))
-
-
-@pytest.mark.parametrize("variables, is_painted", [
-    ({"TERM": "xterm"}, True), ({"TERM": "xterm", "NO_COLOR": "1"}, False), ({"TERM": "dumb"}, False)])
-@pytest.mark.parametrize("words, stream", [
-    (["zsched-try", "recurs(1)"], "stdout"), (["zsched-report", "summary", "/nowhere"], "stderr"),
-    (["zsched-explain", "plan.json"], "stderr")])
-def test_colours_are_for_a_terminal(words, stream, variables, is_painted, tmp_path, zsched):
-    (tmp_path / "plan.json").write_bytes(ONE_JOB.replace(b"recurs(3)", b"recurs(3s)"))
-    words = [sys.executable, TOP / "tools" / words[0], *words[1:]]
-    assert is_coloured(words, stream, tmp_path, ZSCHED=str(zsched), **variables) == is_painted
 
 
 def test_an_unproved_program_is_named_and_not_taken(tmp_path, monkeypatch):
