@@ -1,10 +1,7 @@
 """zsched-population: the report of a population is that of its jobs as one plan, and an error has its line's number.
 Lines of any form, blocks and broken streams are the cases in tests/cases/zsched-population."""
-import json
 import random
 import re
-import signal
-import subprocess
 
 import pytest
 
@@ -14,23 +11,6 @@ import reference
 from support import examples, run
 
 BLOCK = 10000
-HEAD = b'{"horizon":10}'
-SCRIPT = [{"ms": 1, "err": 1}]
-
-
-def job(name, **changes):
-    return json.dumps({"name": name, "mode": "retry", "schedule": "recurs(1)", "script": SCRIPT, **changes}).encode()
-
-
-def jobs(begin, end):
-    return [job(f"j{number}") for number in range(begin, end)]
-
-
-def report(begin, end):
-    """What is reported of such jobs, computed by hand."""
-    lines = ["retry", "attempt 1 0..1 err 1", "step 1 out 0 next 1", "attempt 2 1..2 err 1", "step 2 out 1 done",
-             "end failed 1 at 2 polls 3", ""]
-    return "".join(f"job j{number} " + "\n".join(lines) for number in range(begin, end)).encode()
 
 
 def joined(lines):
@@ -76,36 +56,3 @@ def test_every_fault_of_a_job_has_its_line(population, said, name, plan, numbers
     # The jobs of these plans begin with their names.
     lines = [head + b"}", *re.split(rb',(?=\{"name":)', listed)]
     judge(population, joined(lines), 2, b"", f"line {numbers[0] + 2}: {said}")
-
-
-def test_what_was_sent_is_counted_over_all_blocks(population):
-    with subprocess.Popen([population], stdin=subprocess.PIPE, stdout=subprocess.PIPE, stderr=subprocess.PIPE,
-                          preexec_fn=lambda: signal.signal(signal.SIGPIPE, signal.SIG_IGN)) as running:
-        running.stdin.write(joined([HEAD, *jobs(0, BLOCK)]))
-        running.stdin.flush()
-        block = report(0, BLOCK)
-        assert running.stdout.read(len(block)) == block
-        running.stdout.close()
-        running.stdin.write(joined(jobs(BLOCK, BLOCK + 10)))
-        running.stdin.close()
-        assert running.stderr.read() == b"zsched-population: write failed after %d bytes\n" % len(block)
-    assert running.returncode == 3
-
-
-def test_a_block_goes_out_before_the_next_is_read(population):
-    with subprocess.Popen([population], stdin=subprocess.PIPE, stdout=subprocess.PIPE) as running:
-        for number in range(3):
-            lines = jobs(number * BLOCK, (number + 1) * BLOCK)
-            running.stdin.write(joined(lines if number else [HEAD, *lines]))
-            running.stdin.flush()
-            block = report(number * BLOCK, (number + 1) * BLOCK)
-            assert running.stdout.read(len(block)) == block
-        running.stdin.close()
-        assert running.stdout.read() == b"polls %d\n" % (9 * BLOCK)
-    assert running.returncode == 0
-
-
-def test_too_little_memory_is_reported(population):
-    lines = joined([HEAD, *(job(f"j{number}", script=SCRIPT * 500) for number in range(3000))])
-    status, output, errors = run(["sh", "-c", f"ulimit -v 40000; exec {population}"], lines)
-    assert (status, output) == (4, b"") and re.fullmatch(rb"zsched-population: (line \d+: )?out of memory\n", errors)
