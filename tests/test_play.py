@@ -16,7 +16,7 @@ import pytest
 
 from browser import inside, opened
 from support import ONE_JOB, TOP, run, run_tool
-from zsched_tools import duration_text, durations, play
+from zsched_tools import play
 
 TOOL = TOP / "tools" / "zsched-play"
 PAGE = (TOP / "docs" / "play.html").read_text()
@@ -72,17 +72,6 @@ def asked(url, text):
     status, _, body = request(url, "POST", "/report", text)
     assert status == 200, body
     return json.loads(body)
-
-
-@pytest.mark.parametrize("text, ms", [
-    ("40", 40), ("40ms", 40), (" 1.5s ", 1500), ("0.001 s", 1), ("2min", 120000), ("2m", 120000), ("1h", 3600000),
-    ("1d", 86400000), ("1h30m", 5400000), ("0.5d", 43200000), ("0", 0), ("007", 7), (str(2**64 - 1), 2**64 - 1),
-    *((durations.duration(ms), ms) for ms in [0, 7, 999, 1000, 1001, 61000, 123456, 3600000, 90061001]),
-    *((text, None) for text in ["", "1 week", "-5", "1.5", "9" * 5000, "5x", "-1", "s", "1 2", "1s!", "0.5ms"])],
-    ids=lambda it: str(it)[:20])
-def test_a_duration_is_read(text, ms):
-    with contextlib.nullcontext() if ms is not None else pytest.raises(ValueError):
-        assert duration_text.milliseconds(text) == ms
 
 
 @pytest.mark.parametrize("path", sorted(TOP.glob("examples/*.json"))[:8], ids=lambda path: path.stem)
