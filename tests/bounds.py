@@ -36,7 +36,6 @@ def join(a, b):
 
 
 def either(a, b):
-    """The result of one or the other."""
     return (join(a[0], b[0]), hull(a[1], b[1]), a[2] or b[2]) if a and b else a or b
 
 
@@ -88,7 +87,6 @@ def leaf(s, steps, time):
 
 
 def merge(s, a, b):
-    """The states of one or the other."""
     if a is None or b is None:
         return a or b
     match s[0]:
@@ -173,7 +171,6 @@ def bounds(s, most=STEPS):
 
 
 def policy(chance):
-    """The text of a policy."""
     nodes = chance.choice([1, 2, 3, 4, 5, 7, 10, 14])
     return generator.spelled(chance, generator.made_term(chance, nodes)[0]).strip()
 

@@ -47,7 +47,6 @@ def pytest_collection_modifyitems(config, items):
 
 @pytest.hookimpl(optionalhook=True)
 def pytest_testnodedown(node):
-    """Takes the counts that a process of xdist collected."""
     node.config.stash[COUNTS] = getattr(node, "workeroutput", {}).get("counts", {})
 
 

@@ -73,7 +73,6 @@ NUM = ("num",)
 
 
 def filled(chance, form):
-    """A form with something for each of its letters."""
     return re.sub(r"\b[NPCL]\b", lambda it: str(chance.choice(LETTERS[it[0]])), form)
 
 
@@ -285,7 +284,6 @@ def damaged(chance, tree):
 
 
 def faulty_plan(chance):
-    """The tree of a plan with one to three faults."""
     tree = made_plan(chance)
     for _ in range(chance.choice([1, 1, 2, 2, 3])):
         tree = damaged(chance, tree)

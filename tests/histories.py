@@ -25,7 +25,6 @@ class History:
             self.follow(reference.read_schedule(text))
 
     def text_fault(self):
-        """The word of the text's fault, or None."""
         try:
             self.text.decode()
             reference.read_schedule(self.text)

@@ -100,7 +100,6 @@ def go_variables(place):
 
 
 def go(room, place):
-    """The client in Go, over the module by its path."""
     need("go")
     shutil.copytree(BINDINGS / "go", room / "zsched", ignore=UNWANTED)
     (room / "client").mkdir()

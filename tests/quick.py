@@ -35,7 +35,6 @@ def noted():
 
 
 def note(sums):
-    """Notes crates as proved, by their names and checksums."""
     NOTE.parent.mkdir(exist_ok=True)
     NOTE.write_text(json.dumps(noted() | sums))
 

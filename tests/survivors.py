@@ -146,7 +146,6 @@ def judge(room, pool, survivors):
 
 
 def main(names):
-    """Tries all survivors, or those that are named."""
     paths = [it for it in sorted(TOP.glob("crates/*/survivors/*.edit")) if it.stem in names or not names]
     survivors = [Survivor(number, path) for number, path in enumerate(paths, 1)]
     with tempfile.TemporaryDirectory() as room, concurrent.futures.ThreadPoolExecutor(2) as pool:

@@ -33,7 +33,6 @@ REJECTED = [b"", b"[]", b'{"horizon":1}', b'{"horizon":1,"jobs":[7]}', b'{"ticks
 
 
 def ran(*words):
-    """The exit status of bench.py, and the lines that it printed."""
     output = io.StringIO()
     with contextlib.redirect_stdout(output), contextlib.redirect_stderr(output):
         return bench.main([str(it) for it in words]), output.getvalue().splitlines()

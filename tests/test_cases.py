@@ -24,7 +24,6 @@ PATIENCE = 600
 
 
 def content(path):
-    """The bytes of a file, or nothing if it isn't there."""
     return path.read_bytes() if path.is_file() else b""
 
 
@@ -41,7 +40,6 @@ def wanted(case):
 
 
 def found(case, room, programs):
-    """What a run of a case gives."""
     shutil.copytree(case, room, ignore=shutil.ignore_patterns("out"))
     status, output, errors = run(["bash", "cmd"], content(case / "stdin"), programs, PATIENCE, cwd=room)
     files = [name for name in wanted(case) if name.startswith("out/")]
@@ -49,8 +47,7 @@ def found(case, room, programs):
     return given | {name: content(room / name.removeprefix("out/")) for name in files}
 
 
-def changes(name, before, now):
-    """How two texts differ, in lines."""
+def difference(name, before, now):
     old, new = ([repr(line)[1:] for line in text.splitlines(keepends=True)] for text in [before, now])
     return "\n".join(difflib.unified_diff(old, new, f"{name}, wanted", f"{name}, found", lineterm="", n=2))
 

@@ -72,7 +72,6 @@ def attempts_of(schedule):
 
 
 def jobs_of(schedule, **more):
-    """Jobs that are due at the same moments."""
     return lambda count: plan([job(number, schedule) for number in range(count)], **more)
 
 

@@ -93,7 +93,6 @@ def lines_of(name, outs, start=0, ms=1, value=0):
 
 
 def ended(lines, polls):
-    """What `run` returns of a plan whose jobs have these lines."""
     return 0, "\n".join([*lines, f"polls {polls}", ""]).encode(), b""
 
 

@@ -26,7 +26,6 @@ POLICY = "((exponential(40) || spaced(100)) && recurs(5)).whileInput(>= 500)"
 
 
 def lines_of(word):
-    """The lines of the ABI's file that begin with a word."""
     return [line for line in ABI.splitlines() if line.startswith(f"{word} ")]
 
 
@@ -115,7 +114,6 @@ def root(tmp_path, library):
 
 
 def python(root):
-    """Python by the Debian packages, as Debian's Python finds them."""
     place = root.debs(DEBS[0], DEBS[2])
     return Client([PYTHON, "-B", CLIENTS / "client.py"],
                   {"PYTHONPATH": str(root.path / "usr/lib/python3/dist-packages"), "LD_LIBRARY_PATH": str(place.library)})

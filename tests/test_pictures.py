@@ -45,13 +45,11 @@ def bars(root):
 
 
 def begun(root):
-    """The attempts that begin, in each step of a load."""
     found = [re.search(r"(\d+) begun, ", it.text) for it in root.iter(f"{SVG}title")]
     return [int(it[1]) for it in found if it]
 
 
 def path_places(steps):
-    """The places that a path goes to."""
     x = y = 0.0
     for letter, rest in re.findall(r"([MHVlmhv])([^MHVlmhv]*)", steps):
         values = list(map(float, re.findall(r"-?[0-9.]+", rest)))

@@ -165,7 +165,6 @@ def test_the_report_of_a_plan_is_the_reports_of_its_parts_joined(tmp_path):
 
 
 def from_yaml(text):
-    """The plan of a text in YAML, and what was changed."""
     notes = policy_plan.Notes()
     return placed.Written(policy_plan.plan_of(policy_file.read_yaml(text), 1, notes)), list(notes.lines())
 

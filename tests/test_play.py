@@ -24,7 +24,6 @@ SERVED = PAGE.replace('data-engine="page"', 'data-engine="program"', 1)
 
 
 def question(schedule="recurs(3)", horizon=1000, script=({"ms": 1, "err": 7},), schedules=()):
-    """The bytes of a plan of a retry with each schedule."""
     jobs = [{"name": f"A{number}", "mode": "retry", "schedule": text, "script": list(script)}
             for number, text in enumerate(schedules or [schedule])]
     return json.dumps({"horizon": horizon, "jobs": jobs}).encode()
@@ -49,7 +48,6 @@ def served(zsched, **variables):
 
 @pytest.fixture(scope="module")
 def url(zsched, bounds):
-    """The address of a server that all tests share."""
     with served(zsched, ZSCHED_BOUNDS=str(bounds)) as (_, found):
         yield found
 

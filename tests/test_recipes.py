@@ -33,7 +33,6 @@ each_task = pytest.mark.parametrize("section", SECTIONS, ids=title_of)
 
 
 def plans_of(section):
-    """The plans that a section links, and their reports."""
     found = re.findall(r"\]\(\.\./examples/([a-z_0-9]+)\.json\)", section)
     assert found, "no plan"
     paths = [TOP / "examples" / f"{name}.json" for name in found]
@@ -124,7 +123,6 @@ SAME = {name: text for name, text, said in rows() if said.startswith("the same")
 
 
 def part(schedule, text):
-    """A schedule of the model, and its text."""
     return types.SimpleNamespace(model=schedule, text=text)
 
 
@@ -182,7 +180,6 @@ def definitions(d, e, k, n, s, a, b):
 
 
 def script_of(chance, key):
-    """A script at random whose outcomes never end the job."""
     times, values = [1, 1, 2, 3, 9, 60], [0, 1, 3, 5, 6, 8, 9, 10]
     return [{"ms": chance.choice(times), key: chance.choice(values)} for _ in range(chance.randrange(1, 9))]
 

@@ -41,12 +41,10 @@ def in_pieces(text):
 
 
 def by_records(text):
-    """The same, record by record."""
     return outcome(lambda write: [write(lines.json_line(*it) + "\n") for it in records(io.StringIO(text))])
 
 
 def summed_up(text, every=100, **options):
-    """The summary of a report, and the rows of its load."""
     table = outcome(lambda write: write_summary(io.BytesIO(text.encode()), write, Options(**options)))
     return table, list(load.read(io.BytesIO(text.encode()), every).rows())
 
@@ -62,7 +60,6 @@ def cut(monkeypatch):
 
 @pytest.fixture
 def slow():
-    """Counts the pieces that are read line by line."""
     with mock.patch.object(columns, "_shown_slowly") as found:
         yield found
 

@@ -91,7 +91,6 @@ def joined(left, right, choose):
 
 
 def later(here, there):
-    """The later of two moments, or None if one is done."""
     return None if None in (here, there) else max(here, there)
 
 
@@ -120,7 +119,6 @@ def and_then(left, right):
 
 
 def compose(left, right):
-    """The output of the left one is the input of the right one."""
     def step(now, given, state):
         first, out, here = left.step(now, given, state[0])
         second, out, there = right.step(now, out, state[1])
@@ -197,7 +195,6 @@ def from_durations(delay, *delays):
 
 
 def text_of(out):
-    """An output as a report has it."""
     if isinstance(out, tuple):
         return f"({text_of(out[0])},{text_of(out[1])})"
     if isinstance(out, list):
