@@ -1,14 +1,8 @@
-#!/usr/bin/env python3
 """What zsched-bounds prints for a schedule, computed a second time from docs/SEMANTICS.md, as a run over intervals.
-
-    python3 tests/bounds.py 'POLICY' ..     the bounds of each policy, by this file alone
-    python3 tests/bounds.py --tight 725     of so many small policies, how many bounds a history reaches exactly
 
 Each number of a schedule's state is an interval: its least and its greatest value. A history is driven: moments are at
 most LAST, an attempt takes 1 ms or more and begins no earlier than the schedule's next moment."""
-import json
 import random
-import sys
 
 import generator
 import reference
@@ -230,12 +224,3 @@ def tightness(seeds):
                histories[3] if b["total_wait"] is None else b["total_wait"])
         runs, met = runs + 1, [count + (x == y) for count, x, y in zip(met, had, histories)]
     return runs, met
-
-
-if __name__ == "__main__":
-    if sys.argv[1:2] == ["--tight"]:
-        number, counts = tightness(range(int(sys.argv[2])))
-        print(number, "policies; exact: the least attempts, the most, the longest wait, all waits of", *counts)
-    else:
-        for line in sys.argv[1:]:
-            print(json.dumps({"policy": line, **bounds(reference.read_schedule(line.encode()))}))
