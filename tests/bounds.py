@@ -178,8 +178,6 @@ def random_policy(seed):
         return None
 
 
-# ---- How tight bounds are
-
 def driven_steps(text):
     """The inputs and durations that make a difference to a policy, and the number of steps, at most DEEP, for which
     there are at most MOST_HISTORIES histories over them."""

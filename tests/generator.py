@@ -64,8 +64,6 @@ def whole(chance, least=0):
     return max(least, chance.choice(NUMBERS))
 
 
-# ---- Schedules: texts, and their kinds as tuples
-
 LEAVES = ["forever", "recurs(N)", "recurs(N)", "spaced(N)", "identity", "elapsed", "linear(N)", "fixed(N)",
           "windowed(P)", "fibonacci(N)", "exponential(N)", "exponential(N, P)"]
 TOKEN = re.compile(r"[A-Za-z]+|_[12]|\d+|&&|\|\||[<>!]=|[^ ]")
@@ -134,8 +132,6 @@ def spelled(chance, text):
     return "".join(" " * space + token for space, token in zip(spaces, tokens)) + " " * gaps[-1]
 
 
-# ---- Valid plans
-
 def most_attempts(text, is_long):
     """How many attempts a job with this schedule may have: lists of lists grow fast."""
     lists = min(text.count("collectAll"), 3)
@@ -201,8 +197,6 @@ def made_plan(chance):
     tree = {key: value, "jobs": jobs, "workers": chance.choice([1, 2, 2, 3, 3, 4, 4, 7, 8, 63, 64])}
     return {**tree, **chance.choice([{}] * 8 + [{"grain": grain} for grain in [1, 1, 1, 1, 2, 7, 100, 10000]])}
 
-
-# ---- Faults
 
 SIGNS = ("( ) , . : ; ' \" \\ { } [ ] [] {} && || & | andThenEither < <= = != > >= ! + - * _ _1 _2 _3 as size x $ "
          "recurs recurs( spaced( collectAll .map .collectAll. 00 01 7 -1 1.5").split() + [
@@ -290,8 +284,6 @@ def faulty_plan(chance):
     return tree
 
 
-# ---- JSON
-
 ORDERS = [dict, dict, lambda pairs: dict(pairs[::-1]), lambda pairs: dict(sorted(pairs))]
 
 
@@ -310,8 +302,6 @@ def json_text(chance, tree, is_odd=False):
         text = re.sub(r'(?<=")([a-zA-Z(])(?=[^"\\]*")', lambda it: form.format(ord(it[1])), text)
     return text
 
-
-# ---- Texts that were changed: by slips of the hand, and as a hostile user does
 
 ESCAPES = [f'"{text}"' for text in
            r"\ud800 \udc00\ud800 \ud83d\ude00 \ud83dx \ud83d\u0041 \u00 \x \/ \u0000 \b\f\n\r\t".split()]
@@ -389,8 +379,6 @@ def changed_plans(plans, count, seed):
     chance = random.Random(seed)
     return (mutated(chance, chance.choice(plans), chance.choice([1, 1, 1, 2, 3])) for _ in range(count))
 
-
-# ---- Any plan
 
 def any_plan(chance):
     """The bytes of a plan: two of three are valid, and the others have faults, or are odd JSON or none."""

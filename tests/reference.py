@@ -30,8 +30,6 @@ def sat(x):
     return min(x, M)
 
 
-# ---- Schedules: grammar
-#
 # A term is a tuple: its form, and then its parts, numbers and words in the order in which they are written. A test is
 # three of them: a pick or None, a comparison and a number.
 
@@ -139,8 +137,6 @@ def read_spelled(tokens):
             spelled = Spelled((infix, a.term, spelled.term), depth, min(a.weight + spelled.weight + 1, 1001))
 
 
-# ---- Schedules: kinds and faults
-
 def parts_of(s):
     """The schedules that a term is made of."""
     return [part for part in s if isinstance(part, tuple)]
@@ -198,8 +194,6 @@ def read_schedule(text):
     return s
 
 
-# ---- Outputs and decisions
-#
 # An output is a whole number, ("Pair", a, b), ("Left", a), ("Right", b), or a list. A decision is the moment at which
 # the schedule continues, or None for done.
 
@@ -338,8 +332,6 @@ def out_text(out):
     return f"{side.removeprefix('Pair')}({','.join(map(out_text, parts))})"
 
 
-# ---- Timelines
-
 def first_from(moment, ticks):
     """The first of the ticks, which are a list or a range, at or after a moment, or None."""
     at = bisect.bisect_left(ticks, moment)
@@ -380,8 +372,6 @@ def job_lines(job, ticks, most):
     return lines, f"unfinished at {ticks[-1]}", moments
 
 
-# ---- JSON
-#
 # A whole number becomes an int and every other number a float; an object becomes a dict, a list a list, a text a str.
 
 JSON_STRING = re.compile(r'"(?:[^"\\]|\\.)*+"')
@@ -408,8 +398,6 @@ def read_json(plan):
         raise Fault("plan is not JSON")
     return tree
 
-
-# ---- Plans
 
 # The keys of objects, with the types of their values.
 DOCUMENT = {"jobs": list, "horizon": int, "ticks": list, "workers": int, "grain": int}

@@ -43,7 +43,6 @@ class Call(NamedTuple):
         return min(self.lines.index(line), last)
 
 
-
 def plan_of(jobs, workers, grain):
     """A plan with its report: ONE_JOB, a number of equal jobs, or the heavy ones."""
     if jobs == "one":
