@@ -102,7 +102,6 @@ def program(variable, crate):
 
 
 zsched, population = program("ZSCHED", "zsched"), program("ZSCHED_POPULATION", "zsched_population")
-# zs_refusals makes one named call.
 refusals, bounds = program("ZS_REFUSALS", "zs_refusals"), program("ZSCHED_BOUNDS", "zsched_bounds")
 
 

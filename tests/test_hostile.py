@@ -42,8 +42,7 @@ def test_equal_jobs_have_one_report_under_each_cut(make, workers, grain, zsched)
 
 
 def test_input_comes_one_byte_at_a_time_to_a_program_that_is_stopped_and_continued(zsched):
-    pipe = subprocess.PIPE
-    with subprocess.Popen([zsched], stdin=pipe, stdout=pipe, stderr=pipe) as started:
+    with subprocess.Popen([zsched], stdin=subprocess.PIPE, stdout=subprocess.PIPE, stderr=subprocess.PIPE) as started:
         for place in range(len(ONE_JOB)):
             os.write(started.stdin.fileno(), ONE_JOB[place:place + 1])
             if place % 10 == 0:

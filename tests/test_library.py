@@ -1,6 +1,5 @@
 """The calls of the library from C: by tests/clients/client.c, which passes blocks of the stated lengths, changes words,
-makes allocations fail and calls from several threads; also under sanitizers and valgrind. tests/test_bindings.py has the
-steps of all schedules."""
+makes allocations fail and calls from several threads; also under sanitizers and valgrind."""
 import ctypes
 import re
 import subprocess

@@ -1,7 +1,4 @@
-"""Each allocation fails in turn, in a single call and in whole runs; and a machine on which no thread can be started.
-
-refuse.c makes the N-th allocation fail, for N = 1, 2, .. until a whole run makes fewer than N allocations. It doesn't stop
-at the first N that succeeds: the library can do without some allocations."""
+"""Each allocation fails in turn, in a single call and in whole runs; and a machine on which no thread can be started."""
 import functools
 import re
 import resource
