@@ -1,5 +1,5 @@
-"""docs/RECIPES.md: each recipe's schedule is one of its plan, the lines shown are lines of its report (test_cases.py runs
-it), the commands print what is shown, and the schedules for ZIO's return what ZIO's definitions do."""
+"""docs/RECIPES.md: each recipe's schedule is one of its plan, the lines shown are lines of its report (test_cases.py
+runs it), commands print what is shown, and the schedules for ZIO's return what ZIO's definitions do."""
 import json
 import os
 import random
