@@ -1,11 +1,8 @@
 #!/usr/bin/env python3
-"""Runs `rt ci`: each proof, each test of the crates, each edit of crates/*/must-fail, and each program as two
-compilers build it. The toolchain may store what passed on this machine, by the checksums of everything that it read,
-and then skips it; --anew repeats everything.
-
-`rt ci` passes if an edit doesn't apply or can't be read. This fails then, and also if it doesn't report one of the
-files in crates/*/must-fail as rejected, now or in a stored run. It notes the libraries that were built, for
-tools/make-library and `rt check`. The last line is 'N passed, M failed'."""
+"""Runs `rt ci`: proofs, tests and edits of the crates, and the programs. The toolchain may skip what passed on this
+machine over the same files; --anew repeats everything. `rt ci` passes if an edit doesn't apply or can't be read. This
+fails then, and if one of the files in crates/*/must-fail isn't reported as rejected. It notes the libraries that were
+built, for tools/make-library and `rt check`. The last line is 'N passed, M failed'."""
 import os
 import re
 import signal

@@ -2,10 +2,9 @@
 """The quick gate, for the minutes between edits.
 
 It proves each crate whose files changed since it was last proved here, by `rt check`, runs the tests of the crates
-above these by `rt try --test`, and runs the plans of examples/ and tests/plans/ on the program without proofs that
-./run builds. It checks no crate above a changed contract, no edit, and no other cut or case: ./check does. The last
-line is 'N passed, M failed'. `quick.py --proved` counts all crates of the program as proved, unchecked: ./run --proved
-calls it."""
+above by `rt try --test`, and the plans on the program without proofs that ./run builds: no crate above a changed
+contract, no edit, no cut. The last line is 'N passed, M failed'. ./run --proved calls `quick.py --proved`, which counts
+all crates of the program as proved."""
 import concurrent.futures
 import hashlib
 import json

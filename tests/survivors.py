@@ -1,12 +1,10 @@
 #!/usr/bin/env python3
 """Plants each body that the prover can't reject, in one copy of the crates, and sees that a test catches it.
 
-A survivor is a file crates/NAME/survivors/BELIEF.edit with lines `word: text`. `caught-by:` names a test of a crate,
-as CRATE::TEST, or of this folder, as FILE.py::TEST. `file:` names a file of src/, and below it are pairs of `old:`, a
-text that is in that file once, and `new:`, the text in its place. Those of one file change the body of one function. A
-body may hold one lock of all threads, from `crate::chosen::zs_lock()` to `zs_unlock()`. The programs are built without
-proofs, and a number picks a body at run time. What catches it has to pass without it. The last line is 'N passed, M
-failed'."""
+A survivor is a file crates/NAME/survivors/BELIEF.edit. `caught-by:` names a test of a crate, as CRATE::TEST, or of this
+folder, as FILE.py::TEST. `file:` names a file of src/, and pairs of `old:`, which is in it once, and `new:` change the
+body of one function. A body may hold one lock of all threads (`crate::chosen::zs_lock()`, `zs_unlock()`). A number picks
+a body at run time. What catches it has to pass without it. The last line is 'N passed, M failed'."""
 import concurrent.futures
 import os
 import pathlib

@@ -3,12 +3,9 @@
 A folder tests/cases/TOOL/NAME has `cmd`, a few lines for bash. They run in a copy of the folder, with the commands of
 tools/ and the built programs first in PATH, and with ZSCHED, ZSCHED_BOUNDS, ZSCHED_POPULATION and TOP set. The files
 `stdin`, `stdout`, `stderr` (none: empty) and `status` (none: 0) say what it gets and what it has to give. Each file of
-`out/` is one that the run has to write beside `cmd`, with these bytes. Each line of `needs` is a program that few machines
-have, and its Debian package: such a case is marked `full`, and skipped without it.
-
-A plan has its report beside it. It runs as it is, and under twelve cuts: 1, 2, 7 and 64 workers with a grain of 1, 3
-and 10000. Expected files are worked out by hand or by another program. `pytest tests/test_cases.py --update` prints
-what differs, and writes what you accept."""
+`out/` is one that the run has to write. Each line of `needs` is a program that few machines have, and its Debian package:
+such a case is marked `full`. A plan has its report beside it; it runs as it is, and under twelve cuts. Expected files are
+worked out by hand or by another program. `--update` prints what differs, and writes what you accept."""
 import difflib
 import os
 import shutil

@@ -1,13 +1,9 @@
 """What runs cost and how that grows: instructions, the peak memory in bytes, and allocations.
 
-A row is a plan, or another input, of n and of 4n things: attempts, jobs, ticks, parentheses and so on. What the program
-costs on no things is subtracted from both. The larger run may take at most 4.4 times the instructions and bytes of the
-smaller. Each further thing may cost at most the row's limits: so a cost that grows in proportion, but is needless, is found
-too. Bytes and allocations are exact, and their limits some twentieths above the measured figures. Instructions depend on
-the compiler; their limits have more room.
-
-valgrind's dhat counts, so nothing depends on the machine's load. `pytest tests/test_growth.py -rP` shows what each row
-costs."""
+A row is an input of n and of 4n things, such as attempts or jobs. What no things cost is subtracted from both. The larger
+run may take at most 4.4 times the instructions and bytes of the smaller, and each further thing at most the row's limits.
+Bytes and allocations are exact, and their limits a twentieth above the measured figures; instructions have more room.
+valgrind's dhat counts. `pytest tests/test_growth.py -rP` shows what each row costs."""
 import json
 import re
 import shutil
