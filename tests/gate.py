@@ -1,14 +1,12 @@
 #!/usr/bin/env python3
-"""The gate. Nothing is merged that doesn't pass it.
+"""The gate. Nothing is merged that doesn't pass it. docs/TESTING.md says what each part is for.
 
-    ./check                 all parts, over the programs that it proves and builds
-    ./check --short         the same, but for the tests that need a JDK, Slurm, a browser or the like
-    ./check --anew          the same as ./check, and repeats what earlier runs on this machine passed
-    ./check NAME ..         these parts alone, over the programs that were built last: proofs, survivors, or a file
-                            of tests (cases, or test_cases, is tests/test_cases.py)
-    ./check quick           for the minutes between edits: proves what changed, and runs the plans unproved
+    ./check            all parts, over the programs that it proves and builds
+    ./check --short    without the tests that need a JDK, Slurm, a browser or the like
+    ./check --anew     repeats what earlier runs on this machine passed
+    ./check NAME ..    over the programs built last: proofs, survivors, or a file of tests (cases is tests/test_cases.py)
+    ./check quick      for the minutes between edits: proves what changed, and runs the plans unproved
 
-docs/TESTING.md says what each part is for. tests/floors.txt has the number of cases that each must have at least.
 The last line is 'N passed, M failed'; the status is 0 if M is 0."""
 import contextlib
 import os

@@ -1,6 +1,5 @@
 """zsched on plans with many attempts, items, ticks, rounds, jobs or bytes, compared with tests/reference.py: status, output
-and standard error. The reports of the largest are made by a loop here, and not by the reference. A machine that runs this
-has the memory and the threads for them, so a status 4 fails."""
+and standard error. The reports of the largest are made by a loop here. A status 4 fails."""
 import json
 import socket
 import subprocess
