@@ -1,0 +1,1 @@
+"""The command zsched-policy: the retry policies of other programs, as schedules."""

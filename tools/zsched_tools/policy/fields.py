@@ -1,0 +1,142 @@
+"""The settings of a policy: each is taken by its name and read as a number, a duration or texts; the rest is left out."""
+import re
+from fractions import Fraction
+from typing import Callable, NamedTuple
+
+from zsched_tools.cause import shown
+from zsched_tools.policy.reading import Wrong
+
+DAY = 86_400_000
+_UNITS = {"ns": Fraction(1, 10**6), "us": Fraction(1, 1000), "µs": Fraction(1, 1000), "ms": 1, "s": 1000, "m": 60_000,
+          "min": 60_000, "h": 3_600_000, "d": DAY}
+_NUMBER = r"(?:[0-9]{1,20}(?:\.[0-9]{0,20})?|\.[0-9]{1,20})"
+_PART = re.compile(rf"({_NUMBER}) *(ns|us|µs|ms|min|s|m|h|d)(?![a-z]) *")
+_SPAN = re.compile(r"(?:([0-9]{1,8})\.)?([0-9]{1,2}):([0-9]{1,2})(?::([0-9]{1,2}(?:\.[0-9]{1,7})?))?")
+_SIGNED = re.compile(rf"[+-]?{_NUMBER}(?:[eE][+-]?[0-9]{{1,2}})?")
+
+
+class Policy(NamedTuple):
+    """A policy: its waits, the number of retries (None: without an end), what isn't carried over, the time limit of an
+    attempt in milliseconds, the errors that are retried, the range of random waits, and the time limit of all waits."""
+    waits: object
+    retries: int | None
+    left_out: list
+    attempt_timeout: Fraction | None = None
+    retries_on: tuple = ()
+    jitter: dict | None = None
+    limit: int | None = None
+
+
+class Found(NamedTuple):
+    """A policy of a file before it is read. `read` returns the Policy, or raises Wrong."""
+    form: str
+    name: str
+    line: int
+    read: Callable[[], Policy]
+
+
+def plain(name):
+    """A name without its style: maxAttempts, max_attempts and max-attempts are equal."""
+    return re.sub("[-_]", "", name).lower()
+
+
+def keys_of(node):
+    """The plain names of a table's keys."""
+    return {plain(name) for name in node.data} if node is not None and node.is_table() else set()
+
+
+def part(node, *names):
+    """The value of the first key of a table that has one of these names, or None."""
+    items = node.data.items() if node is not None and node.is_table() else ()
+    return next((found for name, found in items if plain(name) in names and found.data is not None), None)
+
+
+def text_of(node):
+    """The text of a value, or None."""
+    return node.data if node is not None and isinstance(node.data, str) else None
+
+
+class Fields:
+    """The settings of a table that aren't null. What isn't taken is left out."""
+
+    def __init__(self, node, *less):
+        """`less` are tables with the settings that this one doesn't have."""
+        self.line, self.found, self.left = node.line, {}, {}
+        for name, value in (item for table in [node, *less] if table.is_table() for item in table.data.items()):
+            if value.data is not None and plain(name) not in self.found:
+                self.found[plain(name)], self.left[plain(name)] = value, name
+
+    def take(self, *names):
+        """The value of the first of these names that is set, or None."""
+        name = next((it for it in names if it in self.found), None)
+        self.left.pop(name, None)
+        return self.found.get(name)
+
+    def get(self, read, *names, default=None, **more):
+        """The value of the first of these names that is set, as `read` reads it."""
+        node = self.take(*names)
+        return default if node is None else read(node, **more)
+
+    def left_out(self):
+        """The names of the settings that weren't taken."""
+        return list(self.left.values())
+
+
+def named(node):
+    """A value in a message."""
+    return f'"{shown(node.data)}"' if isinstance(node.data, str) else "this"
+
+
+def number(node, least=0):
+    """A value as an exact fraction."""
+    text = (text_of(node) or "").strip()
+    if not _SIGNED.fullmatch(text):
+        raise Wrong(node.line, f"{named(node)} is not a number")
+    if Fraction(text) < least:
+        raise Wrong(node.line, f"{named(node)} is less than {least}")
+    return Fraction(text)
+
+
+def whole(node, least=0):
+    """A value as a whole number."""
+    found = number(node, least)
+    if found.denominator != 1:
+        raise Wrong(node.line, f"{named(node)} is not a whole number")
+    return int(found)
+
+
+def truth(node):
+    """A value as a truth value."""
+    if str(node.data).lower() not in ("true", "false"):
+        raise Wrong(node.line, f"{named(node)} is neither true nor false")
+    return node.data.lower() == "true"
+
+
+def texts(node):
+    """A list of texts, or a text with commas, as texts."""
+    items = node.data.split(",") if isinstance(node.data, str) else [getattr(it, "data", None) for it in node.data]
+    if not all(isinstance(item, str) for item in items):
+        raise Wrong(node.line, "this is not a list of texts")
+    return [item.strip() for item in items if item.strip()]
+
+
+def duration(node, unit=None):
+    """A duration in milliseconds: 1.5s, 1m30s, PT1.5S, 00:00:01.5, a table of seconds and nanos, or a number of `unit`
+    milliseconds."""
+    if node.is_table() and keys_of(node) <= {"seconds", "nanos"}:
+        return sum((number(it) * {"seconds": 1000}.get(plain(key), Fraction(1, 10**6)) for key, it in node.data.items()),
+                   Fraction(0))
+    text = (text_of(node) or "").strip().lower()
+    if found := _SPAN.fullmatch(text):
+        return sum(Fraction(it) * size for it, size in zip(found.groups(), [DAY, 3_600_000, 60_000, 1000]) if it)
+    if _SIGNED.fullmatch(text):
+        if unit is None and number(node):
+            raise Wrong(node.line, f"{named(node)} has no unit: write it as 1.5s")
+        return number(node) * (unit or 1)
+    exact, at = Fraction(0), 0
+    text = re.sub("[pt]", "", text) if text.startswith("p") else text
+    while piece := _PART.match(text, at):
+        exact, at = exact + Fraction(piece[1]) * _UNITS[piece[2]], piece.end()
+    if at == 0 or at < len(text):
+        raise Wrong(node.line, f"{named(node)} is not a duration: write it as 1.5s")
+    return exact
