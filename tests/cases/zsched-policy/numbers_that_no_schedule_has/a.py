@@ -1,0 +1,13 @@
+import tenacity as t
+
+@t.retry(wait=t.wait_fixed(1e20), stop=t.stop_after_attempt())
+def greater_than_all(): ...
+
+@t.retry(wait=t.wait_fixed(1e20))
+def longer(): ...
+
+@t.retry(wait=t.wait_exponential(exp_base=0.5))
+def falling(): ...
+
+@t.retry(wait=t.wait_fixed(1 / 0))
+def divided(): ...

@@ -1,0 +1,4 @@
+import backoff
+
+def f(:
+    pass

@@ -1,0 +1,20 @@
+#!/usr/bin/env python3
+"""Prints the waits that the program makes of each schedule of standard input, a line each: the first N, and `end` if the
+schedule then gives up. A wait is counted once with its number of repetitions, as 250*3."""
+import itertools
+import json
+import os
+import re
+import subprocess
+import sys
+
+MOST = int(sys.argv[1]) if len(sys.argv) > 1 else 12
+for text in sys.stdin:
+    script = [{"ms": 1, "err": 1}] * (MOST + 1) + [{"ms": 1, "ok": 0}]
+    job = {"name": "it", "mode": "retry", "schedule": text.rstrip("\n"), "script": script[:1000]}
+    plan = json.dumps({"horizon": 999_999_999_999_999, "jobs": [job]})
+    report = subprocess.run(os.environ["ZSCHED"], input=plan, capture_output=True, text=True, check=True).stdout
+    moments = [(int(begin), int(end)) for begin, end in re.findall(r"attempt \d+ (\d+)\.\.(\d+)", report)][:MOST + 1]
+    waits = [later[0] - earlier[1] for earlier, later in zip(moments, moments[1:])]
+    runs = [(wait, len(list(group))) for wait, group in itertools.groupby(waits)]
+    print(*[str(wait) if count == 1 else f"{wait}*{count}" for wait, count in runs], *["end"] * ("end failed" in report))
