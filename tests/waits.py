@@ -1,6 +1,6 @@
 #!/usr/bin/env python3
-"""Prints the waits that the program makes of each schedule of standard input, a line each: the first N, and `end` if the
-schedule then gives up. A wait is counted once with its number of repetitions, as 250*3."""
+"""Prints the waits that the program makes of each schedule of standard input, a line each: the first N, and `end` if
+the schedule then gives up. A wait is counted once with its number of repetitions, as 250*3."""
 import itertools
 import json
 import os
@@ -17,4 +17,5 @@ for text in sys.stdin:
     moments = [(int(begin), int(end)) for begin, end in re.findall(r"attempt \d+ (\d+)\.\.(\d+)", report)][:MOST + 1]
     waits = [later[0] - earlier[1] for earlier, later in zip(moments, moments[1:])]
     runs = [(wait, len(list(group))) for wait, group in itertools.groupby(waits)]
-    print(*[str(wait) if count == 1 else f"{wait}*{count}" for wait, count in runs], *["end"] * ("end failed" in report))
+    shown = [str(wait) if count == 1 else f"{wait}*{count}" for wait, count in runs]
+    print(*shown, *["end"] * ("end failed" in report))

@@ -7,7 +7,6 @@ from zsched_tools import colors, command, release, starting
 from zsched_tools.cause import listed, shown
 from zsched_tools.command import Refused
 from zsched_tools.policy import libraries, python_source, reading, services
-from zsched_tools.policy.fields import plain
 from zsched_tools.policy.reading import Wrong
 from zsched_tools.policy.spelling import spelled
 
@@ -31,8 +30,8 @@ IMPORT = """Finds the retry policies in FILE, and prints a line of JSON for each
   tenacity      @retry, Retrying and AsyncRetrying (Python source, which is never run)
   backoff       @on_exception and @on_predicate (Python source)
 
-The end of the file's name says what it is (.json, .yaml, .yml, .properties, .py, .ini, .env), or else its text does. A line
-has these keys:
+The end of the file's name says what it is (.json, .yaml, .yml, .properties, .py, .ini, .env), or else its text does.
+A line has these keys:
 
   name, format        of the policy
   schedule            its waits, with the number of retries
@@ -41,11 +40,11 @@ has these keys:
   jitter              null, or the range of random waits; the schedule has the greatest value of each
   left_out            each setting that isn't carried over
 
-The jitter's kind: full, from 0 to the wait; proportional, a middle value and `percent` of it below or above; added, a least
-value and up to `up_to_ms`, or up to `percent` of it, above; decorrelated, by Polly's formula; mixed, a sum of `parts`.
-YAML needs PyYAML (Debian: python3-yaml)."""
-EPILOG = """Exit status: 0; 1 if there is no policy, or none of that name; 2 if the file or an option is wrong, with the line on
-standard error; 3 if reading or writing fails."""
+The jitter's kind: full, from 0 to the wait; proportional, a middle value and `percent` of it below or above; added, a
+least value and up to `up_to_ms`, or up to `percent` of it, above; decorrelated, by Polly's formula; mixed, a sum of
+`parts`. YAML needs PyYAML (Debian: python3-yaml)."""
+EPILOG = """Exit status: 0; 1 if there is no policy, or none of that name; 2 if the file or an option is wrong, with the
+line on standard error; 3 if reading or writing fails."""
 
 
 def _found(path):
@@ -92,9 +91,9 @@ def _import(given):
         raise Refused(f"{given.file}:{wrong.args[0]}: {wrong.args[1]}") from None
     chosen = [it for it in policies if given.name in (None, it.name)]
     if not chosen:
-        names = listed([it.name for it in policies[:20]]) if policies else ""
-        more = f"; it has {names}" if names else "; --help lists the formats"
-        print(f"{TOOL}: {given.file}: no policy{'' if given.name is None else f' {shown(given.name)}'}{more}", file=sys.stderr)
+        more = f"it has {listed([it.name for it in policies[:20]])}" if policies else "--help lists the formats"
+        name = f" {shown(given.name)}" if given.name is not None else ""
+        print(f"{TOOL}: {given.file}: no policy{name}; {more}", file=sys.stderr)
         return NOTHING
     status = 0
     for found in chosen:

@@ -1,4 +1,5 @@
-"""The settings of a policy: each is taken by its name and read as a number, a duration or texts; the rest is left out."""
+"""The settings of a policy: each is taken by its name and read as a number, a duration or texts; others are left
+out."""
 import re
 from fractions import Fraction
 from typing import Callable, NamedTuple
@@ -17,7 +18,8 @@ _SIGNED = re.compile(rf"[+-]?{_NUMBER}(?:[eE][+-]?[0-9]{{1,2}})?")
 
 class Policy(NamedTuple):
     """A policy: its waits, the number of retries (None: without an end), what isn't carried over, the time limit of an
-    attempt in milliseconds, the errors that are retried, the range of random waits, and the time limit of all waits."""
+    attempt in milliseconds, the errors that are retried, the range of random waits, and the time limit of all
+    waits."""
     waits: object
     retries: int | None
     left_out: list
@@ -124,7 +126,7 @@ def duration(node, unit=None):
     """A duration in milliseconds: 1.5s, 1m30s, PT1.5S, 00:00:01.5, a table of seconds and nanos, or a number of `unit`
     milliseconds."""
     if node.is_table() and keys_of(node) <= {"seconds", "nanos"}:
-        return sum((number(it) * {"seconds": 1000}.get(plain(key), Fraction(1, 10**6)) for key, it in node.data.items()),
+        return sum((number(it) * _UNITS["s" if plain(key) == "seconds" else "ns"] for key, it in node.data.items()),
                    Fraction(0))
     text = (text_of(node) or "").strip().lower()
     if found := _SPAN.fullmatch(text):

@@ -2,22 +2,24 @@
 
 What each one waits. No source was at hand: all this is from memory of it and of its documents.
 
-- Resilience4j 2 (IntervalFunction): waitDuration 500 ms, 3 attempts. Exponential: each wait is the one before it times the
-  multiplier (1.5), as a double, cut to whole milliseconds; then at most exponentialMaxWaitDuration. Randomized: drawn from
-  wait * (1 - f) to wait * (1 + f), f 0.5, and cut; the cap comes last. A number without a unit is in milliseconds.
-- Spring Retry 2 (ExponentialBackOffPolicy): each wait is the one before it times the multiplier, as a double, cut to whole
-  milliseconds, until one is above the cap, which all later ones are. Random: times 1 to the multiplier, at most the cap.
-  The defaults are those of @Backoff, or of Spring Boot's keys below `spring`. max-retries (Spring 7) counts retries.
+- Resilience4j 2 (IntervalFunction): waitDuration 500 ms, 3 attempts. Exponential: each wait is the one before it
+  times the multiplier (1.5), as a double, cut to whole milliseconds; then at most exponentialMaxWaitDuration.
+  Randomized: drawn from wait * (1 - f) to wait * (1 + f), f 0.5, and cut; the cap comes last. A number without a unit
+  is in milliseconds.
+- Spring Retry 2 (ExponentialBackOffPolicy): each wait is the one before it times the multiplier, as a double, cut to
+  whole milliseconds, until one is above the cap, which all later ones are. Random: times 1 to the multiplier, at most
+  the cap. The defaults are those of @Backoff, or of Spring Boot's keys below `spring`. max-retries (Spring 7) counts
+  retries.
 - Polly 8 (RetryHelper): MaxRetryAttempts 3, Delay 2 s, BackoffType Constant. UseJitter: 25 % above or below; for
-  Exponential decorrelated, by a formula whose greatest values are computed here. 2147483647 retries are no limit. In the
-  options of .NET's standard HTTP handler the defaults are Exponential and UseJitter."""
+  Exponential decorrelated, by a formula whose greatest values are computed here. 2147483647 retries are no limit. In
+  the options of .NET's standard HTTP handler the defaults are Exponential and UseJitter."""
 import functools
 import itertools
 import math
 from fractions import Fraction
 
-from zsched_tools.policy.fields import (DAY, Fields, Found, Policy, duration, keys_of, number, part, plain, text_of, texts, truth,
-                                         whole)
+from zsched_tools.policy.fields import (DAY, Fields, Found, Policy, duration, keys_of, number, part, plain, texts,
+                                         truth, whole)
 from zsched_tools.policy.reading import Node, Wrong, unfolded
 from zsched_tools.policy.services import label, tables
 from zsched_tools.policy.spelling import GREATEST, Waits, constant, exponential, growing, linear
@@ -40,14 +42,15 @@ def find(document):
     retry = part(part(root, "resilience4j"), "retry")
     for group, prefix in [(part(retry, "configs"), "configs."), (part(retry, "instances", "backends"), "")]:
         for name, node in group.data.items() if group is not None and group.is_table() else ():
-            yield Found("resilience4j", prefix + name, node.line, functools.partial(_resilience, node, part(retry, "configs")))
+            read = functools.partial(_resilience, node, part(retry, "configs"))
+            yield Found("resilience4j", prefix + name, node.line, read)
     for path in tables(root, (("", root),)):
         node, keys = path[-1][1], keys_of(path[-1][1])
         names, around = ".".join(str(key) for key, _ in path[1:]), path[-2][1] if len(path) > 1 else Node({}, 1)
         if "maxretryattempts" in keys or (keys & {"backofftype", "usejitter"} and keys & {"delay", "maxdelay"}):
             yield Found("polly", label(path, "polly"), node.line, functools.partial(_polly, node, around))
-        elif not names.startswith("resilience4j") and _is_spring(keys, keys_of(part(node, "backoff")), names.split(".")[-1]) \
-                and not (plain(names).endswith(".backoff") and keys_of(around) & {*COUNT}):
+        elif _is_spring(keys, keys_of(part(node, "backoff")), names.split(".")[-1]) and not (
+                names.startswith("resilience4j") or (plain(names).endswith(".backoff") and keys_of(around) & {*COUNT})):
             yield Found("spring", names or "spring", node.line, functools.partial(_spring, node, names))
 
 
@@ -81,7 +84,7 @@ def _short(value):
 
 
 def cut(first, factor, most, after=int):
-    """Waits that are multiplied as doubles and cut to whole milliseconds each time. `after` changes one before the cap."""
+    """Waits that are multiplied as doubles and cut to whole milliseconds. `after` changes one before the cap."""
     def following():
         wait = first
         while True:
@@ -146,7 +149,8 @@ def _polly(node, around):
     left_out, timeout = fields.left_out(), None
     if is_http:
         timeout = part(part(around, "attempttimeout"), "timeout")
-        left_out += [name for name in around.data if plain(name) in ("totalrequesttimeout", "circuitbreaker", "ratelimiter")]
+        others = ("totalrequesttimeout", "circuitbreaker", "ratelimiter")
+        left_out += [name for name in around.data if plain(name) in others]
     jitter = {"kind": "proportional", "percent": 25} if is_random else None
     greatest = first * Fraction(5, 4) if is_random else first
     if word == "exponential" and is_random and first:
@@ -155,13 +159,14 @@ def _polly(node, around):
         waits = exponential(first, 2, most)
     else:
         waits = linear(greatest, greatest if word == "linear" else 0, most)
-    return Policy(waits, None if retries == 2**31 - 1 else retries, left_out, timeout and duration(timeout, DAY), (), jitter)
+    retries, timeout = None if retries == 2**31 - 1 else retries, timeout and duration(timeout, DAY)
+    return Policy(waits, retries, left_out, timeout, (), jitter)
 
 
 def _decorrelated(first):
-    """The greatest value of each of Polly's decorrelated waits: f(n) - f(n - 2), with f(t) = 2^t * tanh(sqrt(4t)), which is 0
-    before 0, divided by 1.4."""
+    """The greatest value of each of Polly's decorrelated waits: f(n) - f(n - 2) divided by 1.4, with f(t) = 2^t *
+    tanh(sqrt(4t)), which is 0 before 0."""
     def value(at):
         return 2.0**at * math.tanh(math.sqrt(4 * at)) if at > 0 else 0.0
-    for number in itertools.count(1):
-        yield (value(number) - value(number - 2)) / 1.4 * first if number < 900 else GREATEST
+    for index in itertools.count(1):
+        yield (value(index) - value(index - 2)) / 1.4 * first if index < 900 else GREATEST

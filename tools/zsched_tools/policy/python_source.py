@@ -1,13 +1,15 @@
 """Policies in Python source: the decorators and classes of tenacity, and the decorators of backoff.
 
-What each one waits. tenacity 8 (source of `wait.py`, as pip has it): wait_exponential waits multiplier * exp_base^(n-1) s, at
-least min, at most max. backoff 2 (from memory, and docs/POLICIES.md): expo waits factor * base^(n-1) s, at most max_value,
-and the jitter is full_jitter if it isn't set; fibo 1, 1, 2, 3, 5 .. s; constant `interval`, 1 s. Both count the first attempt
-in stop_after_attempt and max_tries, and their limits of time from the begin of the first attempt.
+What each one waits. tenacity 8 (source of `wait.py`, as pip has it): wait_exponential waits multiplier *
+exp_base^(n-1) s, at least min, at most max. backoff 2 (from memory, and docs/POLICIES.md): expo waits factor *
+base^(n-1) s, at most max_value, and the jitter is full_jitter if it isn't set; fibo 1, 1, 2, 3, 5 .. s; constant
+`interval`, 1 s. Both count the first attempt in stop_after_attempt and max_tries, and their limits of time from the
+begin of the first attempt.
 
-The source is read by `ast`, and never run: a number may be written out, computed from numbers, or be a constant of the
-module."""
+The source is read by `ast`, and never run: a number may be written out, computed from numbers, or be a constant of
+the module."""
 import ast
+import itertools
 import math
 from fractions import Fraction
 
@@ -89,8 +91,8 @@ class _Source:
             one, two = self.number(node.left, depth + 1), self.number(node.right, depth + 1)
             kinds = {ast.Add: lambda: one + two, ast.Sub: lambda: one - two, ast.Mult: lambda: one * two,
                      ast.Div: lambda: one / two, ast.Pow: lambda: one**int(two)}
-            is_power = isinstance(node.op, ast.Pow)
-            if type(node.op) in kinds and (two if isinstance(node.op, ast.Div) else not is_power or 0 <= two <= 64 and two % 1 == 0):
+            is_right = two if isinstance(node.op, ast.Div) else not isinstance(node.op, ast.Pow) or two in range(65)
+            if type(node.op) in kinds and is_right:
                 return kinds[type(node.op)]()
         if isinstance(node, ast.Call) and self.called(node).split(".")[-1] == "timedelta":
             units = [*zip(("days", "seconds", "microseconds", "milliseconds", "minutes", "hours", "weeks"), node.args),
@@ -144,7 +146,7 @@ class _Tenacity:
         retries, limit = (None, None) if stop is None else self.stop(stop)
         on = self.errors(given.pop("retry")) if "retry" in given else ["Exception"]
         if limit is not None:
-            self.left_out.append("stop_after_delay: the time of the first attempt, before which the schedule doesn't count")
+            self.left_out.append("stop_after_delay: the time of the first attempt; the schedule counts from its end")
         return Policy(waits, retries, [*given, *self.left_out], None, on, self.jitter(), limit)
 
     def jitter(self):
@@ -179,8 +181,9 @@ class _Tenacity:
         if called == "tenacity.stop_never":
             return None, None
         if isinstance(node, ast.Call) and called in ("tenacity.stop_after_attempt", "tenacity.stop_after_delay"):
-            value = source.number(source.only(node, "max_attempt_number" if called.endswith("attempt") else "max_delay"))
-            return (max(0, math.ceil(value) - 1), None) if called.endswith("attempt") else (None, nearest(value * 1000))
+            is_count = called.endswith("attempt")
+            value = source.number(source.only(node, "max_attempt_number" if is_count else "max_delay"))
+            return (max(0, math.ceil(value) - 1), None) if is_count else (None, nearest(value * 1000))
         raise Wrong(node.lineno, f"stop={source.shown(node)} can't become a schedule")
 
     def each(self, node):
@@ -190,7 +193,7 @@ class _Tenacity:
         if isinstance(node, ast.BinOp) and isinstance(node.op, ast.Add):
             return self.each(node.left) + self.each(node.right)
         over = node.generators[0].iter if isinstance(node, (ast.ListComp, ast.GeneratorExp)) else None
-        if isinstance(over, ast.Call) and self.source.called(over) in ("range", "tenacity.range") and len(over.args) == 1:
+        if isinstance(over, ast.Call) and self.source.called(over).split(".")[-1] == "range" and len(over.args) == 1:
             return [node.elt] * min(1000, int(self.source.number(over.args[0])))
         raise Wrong(node.lineno, f"{self.source.shown(node)} can't be known without running the source")
 
@@ -205,8 +208,8 @@ class _Tenacity:
         if not isinstance(node, ast.Call) or name == called:
             raise Wrong(node.lineno, f"wait={source.shown(node)} can't become a schedule")
         if name in ("wait_chain", "wait_combine"):
-            items = [item for it in node.args for item in (self.each(it.value) if isinstance(it, ast.Starred) else [it])]
-            parts = [self.waits(item) for item in items] or [constant(0)]
+            items = (self.each(it.value) if isinstance(it, ast.Starred) else [it] for it in node.args)
+            parts = [self.waits(item) for item in itertools.chain.from_iterable(items)] or [constant(0)]
             return one_by_one(parts) if name == "wait_chain" else together(parts)
         if name not in ORDERS:
             raise Wrong(node.lineno, f"wait={source.shown(node)} can't become a schedule")
@@ -237,7 +240,7 @@ class _Tenacity:
 
 def _backoff(source, node):
     """A policy of backoff."""
-    given = source.arguments(node, "wait_gen", "exception" if source.called(node).endswith("exception") else "predicate")
+    given = source.arguments(node, "wait_gen", source.called(node).removeprefix("backoff.on_"))
     wait, left_out = given.pop("wait_gen", node), []
     kind = source.called(wait).removeprefix("backoff.")
     on = source.errors(given.pop("exception")) if "exception" in given else []
@@ -262,7 +265,7 @@ def _backoff(source, node):
     else:
         raise Wrong(node.lineno, f"the waits of {source.shown(wait)} can't become a schedule")
     if limit is not None:
-        left_out += ["max_time: the time of the first attempt, before which the schedule doesn't count",
+        left_out += ["max_time: the time of the first attempt; the schedule counts from its end",
                      "max_time: the last wait isn't cut to the time that remains"]
     waits = together([waits, constant(1000)]) if word == "random_jitter" else waits
     return Policy(waits, retries, [*given, *left_out], None, on, jitter, None if limit is None else nearest(limit))

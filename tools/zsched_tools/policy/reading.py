@@ -28,7 +28,7 @@ class Wrong(Exception):
 
 
 class Node(NamedTuple):
-    """A value: a dict of nodes, a list of nodes, the text of any other value, or None. `size` is its number of values."""
+    """A value: a dict of nodes, a list of nodes, the text of another value, or None. `size` is its number of values."""
     data: object
     line: int
     size: int = 1
@@ -109,7 +109,8 @@ def read_yaml(text):
             raise OSError(NO_YAML) from None
     try:
         events = yaml.parse(text, Loader=yaml.SafeLoader)
-        return [_yaml_node(next(events), events, yaml, {}, 0) for it in events if isinstance(it, yaml.DocumentStartEvent)]
+        begins = (it for it in events if isinstance(it, yaml.DocumentStartEvent))
+        return [_yaml_node(next(events), events, yaml, {}, 0) for _ in begins]
     except yaml.MarkedYAMLError as fault:
         raise Wrong((fault.problem_mark or fault.context_mark).line + 1, f"not YAML: {fault.problem}") from None
     except yaml.reader.ReaderError as fault:
@@ -117,7 +118,7 @@ def read_yaml(text):
 
 
 def _yaml_node(event, events, yaml, anchors, depth):
-    """The value that begins with an event. `anchors` has the values that aliases name, and None for those without an end."""
+    """The value that begins with an event. `anchors` has the values that aliases name, None for open ones."""
     line, table, items, merged = event.start_mark.line + 1, {}, [], []
     if depth > DEEPEST:
         raise Wrong(line, f"this is nested deeper than {DEEPEST}")
@@ -176,7 +177,7 @@ def unfolded(rows):
             whole = next((node for names, node in parts if not names and not node.is_table()), None)
             if whole is not None:
                 line = max(node.line for _, node in parts)
-                raise Wrong(line, f'"{name}" has a value on line {whole.line}, so it can have no other one, and no part')
+                raise Wrong(line, f'"{name}" has a value on line {whole.line}, so it has no other one, and no part')
             parts = [row for names, node in parts for row in ([(names, node)] if names else [
                 ([key], value) for key, value in node.data.items()])]
             groups[name] = unfolded(parts)
@@ -186,8 +187,8 @@ def unfolded(rows):
 
 
 def read_ini(text):
-    """The tree of an INI file: its sections, with their keys. Keys before the first section are those of "". An indented
-    line belongs to the key before it, and is left out."""
+    """The tree of an INI file: its sections, with their keys. Keys before the first section are those of "". Indented
+    lines belong to the key before them, and are left out."""
     sections, here = {"": Node({}, 1)}, ""
     for number, line in enumerate(text.split("\n"), 1):
         if found := _SECTION.fullmatch(line):

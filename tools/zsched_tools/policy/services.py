@@ -2,21 +2,21 @@
 
 What each one waits, by its documents unless it says otherwise:
 
-- gRPC (gRFC A6): the n-th wait is min(initialBackoff * backoffMultiplier^(n-1), maxBackoff), drawn 20 % above or below it.
-  A maxAttempts above 5 counts as 5.
-- Envoy (retry policy of a route): the n-th wait is drawn from 0 to base * (2^n - 1), at most max_interval, which is ten
-  times the base if it isn't set. num_retries is 1 if it isn't set, the base 25 ms.
+- gRPC (gRFC A6): the n-th wait is min(initialBackoff * backoffMultiplier^(n-1), maxBackoff), drawn 20 % above or
+  below it. A maxAttempts above 5 counts as 5.
+- Envoy (retry policy of a route): the n-th wait is drawn from 0 to base * (2^n - 1), at most max_interval, which is
+  ten times the base if it isn't set. num_retries is 1 if it isn't set, the base 25 ms.
 - Istio (HTTPRetry): Envoy's, and `attempts` counts retries; 2 if it isn't set (from memory).
-- Temporal (Retry Policies): initialInterval * backoffCoefficient^(n-1), at most maximumInterval, which is 100 times the
-  initial one if it isn't set. maximumAttempts counts the first attempt, and 0 is no limit.
+- Temporal (Retry Policies): initialInterval * backoffCoefficient^(n-1), at most maximumInterval, which is 100 times
+  the initial one if it isn't set. maximumAttempts counts the first attempt, and 0 is no limit.
 - Kubernetes, a Job: 10 s, doubled, at most 6 minutes. From 1.27 or so on the source has 10 minutes (from memory).
-- AWS SDKs: botocore 1.43.11 (source). standard and adaptive: drawn from 0 to min(2^(n-1) s, 20 s), 3 attempts; legacy:
-  drawn from 0 to 2^(n-1) s, 5 attempts. Without retry_mode botocore's mode is legacy."""
+- AWS SDKs: botocore 1.43.11 (source). standard and adaptive: drawn from 0 to min(2^(n-1) s, 20 s), 3 attempts;
+  legacy: drawn from 0 to 2^(n-1) s, 5 attempts. Without retry_mode botocore's mode is legacy."""
 import functools
 import itertools
 
-from zsched_tools.policy.fields import (Fields, Found, Policy, duration, keys_of, named, number, part, plain, text_of, texts,
-                                         whole)
+from zsched_tools.policy.fields import (Fields, Found, Policy, duration, keys_of, named, number, part, plain, text_of,
+                                         texts, whole)
 from zsched_tools.policy.reading import Node, Wrong
 from zsched_tools.policy.spelling import exponential, growing
 
@@ -95,7 +95,8 @@ def _grpc(policy, entry, config):
     reads = {"maxAttempts": whole, "initialBackoff": duration, "maxBackoff": duration, "backoffMultiplier": number}
     found = {name: fields.get(read, plain(name)) for name, read in reads.items()}
     codes = fields.take("retryablestatuscodes")
-    for name, value in {**found, "list of retryableStatusCodes": codes and isinstance(codes.data, list) and codes.data}.items():
+    listed = codes is not None and isinstance(codes.data, list) and codes.data
+    for name, value in {**found, "list of retryableStatusCodes": listed}.items():
         if not value:
             raise Wrong(policy.line, f"the policy has no {name}, which gRPC needs")
     count, first, most, factor = found.values()
@@ -136,7 +137,8 @@ def _envoy(policy):
     retries = part(retries, "value") if retries is not None and retries.is_table() else retries
     timeout, on = fields.get(duration, "pertrytimeout"), fields.get(texts, "retryon", default=[])
     left_out = [*fields.left_out(), *(f"retry_back_off.{name}" for name in back_off.left_out())]
-    return Policy(envoy_waits(base, most), 1 if retries is None else whole(retries), left_out, timeout or None, on, FULL)
+    count = 1 if retries is None else whole(retries)
+    return Policy(envoy_waits(base, most), count, left_out, timeout or None, on, FULL)
 
 
 def _istio(retries, route):
@@ -188,10 +190,12 @@ def _aws(node):
     asked = fields.take("retrymode", "awsretrymode")
     mode = "legacy" if asked is None else asked.data.lower()
     shared = ["the tokens that all calls of a client share"]
-    left_out = {"legacy": ["DynamoDB's own waits"], "standard": shared, "adaptive": ["the rate of a client", *shared]}.get(mode)
+    left_out = {"legacy": ["DynamoDB's own waits"], "standard": shared, "adaptive": ["the rate of a client", *shared]}
+    left_out = left_out.get(mode)
     if left_out is None:
         raise Wrong(asked.line, f"{named(asked)} is not legacy, standard or adaptive")
     attempts = fields.get(whole, "maxattempts", "awsmaxattempts", default=5 if mode == "legacy" else 3, least=1)
-    unset = ["retry_mode: it isn't set, which is legacy in botocore and standard in newer SDKs"] if asked is None else []
+    unset = ["retry_mode: not set, which is legacy in botocore and standard in newer SDKs"] if asked is None else []
     unset += [name for name in fields.left_out() if "retr" in name.lower()]
-    return Policy(exponential(1000, 2, None if mode == "legacy" else 20_000), attempts - 1, unset + left_out, jitter=FULL)
+    waits = exponential(1000, 2, None if mode == "legacy" else 20_000)
+    return Policy(waits, attempts - 1, unset + left_out, jitter=FULL)

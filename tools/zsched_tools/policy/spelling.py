@@ -15,8 +15,8 @@ GREATEST = 2**64 - 1
 
 class Waits(NamedTuple):
     """The waits of a policy. `at` returns the one with this number, from 1, in whole milliseconds. All from `steady` on
-    are equal. `closed` returns the text of an endless schedule that begins with the first n waits (None: with all), or
-    None."""
+    are equal. `closed` returns the text of an endless schedule that begins with the first n waits (None: with all),
+    or None."""
     at: Callable[[int], int]
     steady: int | None = None
     closed: Callable[[int | None], str | None] = lambda _: None
@@ -39,8 +39,8 @@ def listed(waits):
 
 
 def growing(following, most=None, least=0, base=None):
-    """Waits that don't fall: those of the iterator `following`, at least `least` and at most `most`. `base` is the text of
-    a schedule of the unlimited ones, if there is one."""
+    """Waits that don't fall: those of the iterator `following`, at least `least` and at most `most`. `base` is the text
+    of a schedule of the unlimited ones, if there is one."""
     if most is not None and least > most:
         return constant(least)
     unlimited = []
@@ -68,7 +68,7 @@ def growing(following, most=None, least=0, base=None):
 
 
 def exponential(first, factor, most=None, least=0):
-    """Waits of first, first * factor, first * factor * factor and so on. A ValueError says why they can't be spelled."""
+    """Waits of first, first * factor, first * factor * factor and so on. A ValueError says why they can't be."""
     first, factor = Fraction(first), Fraction(factor)
     if first == 0 or factor == 1:
         return constant(max(least, first if most is None else min(first, most)))
@@ -112,8 +112,8 @@ def one_by_one(parts):
 
 
 def spelled(waits, retries, limit=None):
-    """The schedule of so many retries (None: without an end) that stops when `limit` milliseconds have passed, and what of
-    the waits it leaves out."""
+    """The schedule of so many retries (None: without an end) that stops when `limit` milliseconds have passed, and what
+    of the waits it leaves out."""
     closed = waits.closed(retries) if retries != 0 else None
     texts, left_out = ["recurs(0)"] if retries == 0 else [], []
     if closed is not None:
@@ -130,8 +130,8 @@ def spelled(waits, retries, limit=None):
 
 
 def _runs(waits, retries):
-    """The waits as pairs of a wait and how often it is repeated (None: always); and the number of waits that they have, or
-    None if it is all."""
+    """The waits as pairs of a wait and how often it is repeated (None: always); and the number of waits that they have,
+    or None if it is all."""
     runs, number = [], 1
     while retries is None or number <= retries:
         wait, is_last = waits.at(number), waits.steady is not None and number >= waits.steady
