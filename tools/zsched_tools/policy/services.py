@@ -48,7 +48,7 @@ def find(root):
             if (found := part(entry, "retrypolicy")) is not None:
                 yield Found("grpc", _methods(entry), found.line, functools.partial(_grpc, found, entry, node))
         if keys_of(policy) & ENVOY:
-            yield Found("envoy", _envoy_name(path), policy.line, functools.partial(_envoy, policy))
+            yield Found("envoy", _envoy_name(path), policy.line, functools.partial(_envoy, policy, node))
         if key == "retries" and keys & {"attempts", "pertrytimeout", "retryon", "backoff"}:
             name = next(filter(None, (_name_of(it) for _, it in reversed(path[:-1]))), "istio")
             yield Found("istio", name, node.line, functools.partial(_istio, node, around))
@@ -127,7 +127,7 @@ def envoy_waits(base, most):
                    base * 10 if most is None else max(base, int(most)))
 
 
-def _envoy(policy):
+def _envoy(policy, route):
     fields = Fields(policy)
     back_off = Fields(fields.take("retrybackoff") or Node({"base_interval": Node("25ms", 1)}, 1))
     base, most = back_off.get(duration, "baseinterval"), back_off.get(duration, "maxinterval")
@@ -137,6 +137,8 @@ def _envoy(policy):
     retries = part(retries, "value") if retries is not None and retries.is_table() else retries
     timeout, on = fields.get(duration, "pertrytimeout"), fields.get(texts, "retryon", default=[])
     left_out = [*fields.left_out(), *(f"retry_back_off.{name}" for name in back_off.left_out())]
+    others = ("timeout", "idletimeout", "hedgepolicy", "maxstreamduration")
+    left_out += [name for name in route.data if plain(name) in others]
     count = 1 if retries is None else whole(retries)
     return Policy(envoy_waits(base, most), count, left_out, timeout or None, on, FULL)
 
