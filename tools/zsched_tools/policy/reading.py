@@ -162,7 +162,9 @@ def read_properties(text):
             continue
         before = line[:-1] if re.search(r"(?<!\\)(?:\\\\)*\\$", line) else ""
         if not before:
-            key, value = _PAIR.fullmatch(line).groups()
+            if not (found := _PAIR.fullmatch(line)):
+                raise Wrong(number, "not a property: write NAME = VALUE")
+            key, value = found.groups()
             rows.append((re.sub(r"\\(.)", r"\1", key).split(".")[:DEEPEST], Node(value.strip(), number)))
     return unfolded(rows)
 
