@@ -135,7 +135,7 @@ def _report(notes, path, line):
 
 def _of_log(given):
     """The plan of a log, and how many jobs it has."""
-    _check_schedule(given)
+    check_schedule(given)
     log, notes = Log(given.name, given.time, given.status, given.unit, given.errors_from), Notes()
     try:
         # Bytes that aren't UTF-8 can only be in names, which are changed, and in columns that aren't read.
@@ -148,7 +148,7 @@ def _of_log(given):
     return f'{{"horizon":{given.until},"jobs":[\n' + ",\n".join(jobs) + "\n]}\n", len(jobs)
 
 
-def _check_schedule(given):
+def check_schedule(given):
     """Runs the program to check the schedule of a log's jobs."""
     source = Source("--schedule", given.schedule)
     script = [Value({key("ms", 0): Value(1, 0), key("ok", 0): Value(0, 0)}, 0)]
@@ -188,6 +188,6 @@ def check(source, plan, zsched):
         fault = faults.explained(faults.Plan(data), line)
         at, is_letter = plan.place(fault.cause.at)
         cause = fault.cause._replace(at=at, size=fault.cause.size if is_letter else 1)
-        raise source.refused(cause, fault.name)
+        raise source.refused(cause, None if source.name == "--schedule" else fault.name)
     if status:
         raise OSError(f"{found}: {line or f'status {status}'}")

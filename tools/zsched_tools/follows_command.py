@@ -1,0 +1,102 @@
+"""The command zsched-follows: whether a service's attempts, as its log has them, follow a policy."""
+import argparse
+import pathlib
+import sys
+
+from zsched_tools import call_log, colors, command, importing, program, release, starting
+from zsched_tools.cause import WIDTH, shown
+from zsched_tools.command import Refused
+from zsched_tools.duration_text import milliseconds
+from zsched_tools.follows import compared
+from zsched_tools.policy_plan import Notes
+
+TOOL = "zsched-follows"
+DIFFERS = 1
+DESCRIPTION = """Says whether a service follows its retry policy: compares each attempt of a log with what the policy
+decides.
+
+  $ zsched-follows log.csv --schedule '(exponential(100) && recurs(5))'
+  order-17: attempt 3: 80 ms early, at 260 ms and not 340 ms
+  40 requests, 83 attempts: 1 early, in 1 request
+
+early    the attempt begins before the policy's moment, by more than --tolerance
+late     .. after it, by more than --tolerance
+extra    the policy gave up before it, or the request had ended
+missing  the attempt never comes, and the log goes on after its moment
+
+LOG is CSV, JSON lines, or the JSON of OpenTelemetry's spans; - is standard input. It has an attempt a row, in any
+order: its request, its status, and two of its begin, its end and its length. Columns are found by their names, as
+request_id, timestamp, duration_ms, status; standard error says how each is read. Moments are RFC 3339 or numbers:
+seconds, milliseconds, microseconds or nanoseconds since 1970, known by their size. Without an end and a length an
+attempt takes no time. A status of 400 or more is an error, and so are 0 (no response), error and timeout. Attempts of
+spans are those of one parent: spans of the kind client, else those without spans below them. docs/FORMATS.md has the
+names of columns and all rules.
+
+The decisions are those of the proved program. It steps the schedule S at the moments at which the log's attempts ended,
+one run for each attempt k: the job's schedule is (S || recurs(k - 1)), so its attempts follow each other at once and
+end when those of the log did, and its step k returns what S decides there. So after an early or a late attempt the
+policy goes on from that attempt's own end. All moments count from the begin of the request's first attempt, in whole
+milliseconds."""
+EPILOG = """Exit status: 0 if all attempts follow; 1 if one differs; 2 if the log, the policy or an option is wrong,
+with file, row and column on standard error, or if there is no program; 3 if reading, writing or the program fails."""
+
+
+def _tolerance(word):
+    """A duration."""
+    try:
+        return milliseconds(word)
+    except ValueError as fault:
+        raise argparse.ArgumentTypeError(str(fault)) from None
+
+
+def work(given):
+    """Runs the command with its arguments; returns the exit status."""
+    try:
+        given.zsched = program.find(given.zsched)
+    except program.NoProgram as missing:
+        raise Refused(missing) from None
+    name = "standard input" if given.log == "-" else given.log
+    data = sys.stdin.buffer.read() if given.log == "-" else pathlib.Path(given.log).read_bytes()
+    importing.check_schedule(given)
+    notes = Notes()
+    log = call_log.Reader(shown(name, WIDTH), data, call_log.log_of(given), notes)
+    if not log.has_moments:
+        raise Refused(f"{log.path}:1: --begin: no column has the moments of attempts")
+    told = log.told if log.has_lengths else f"{log.told}; no column has an end or a length: attempts take no time"
+    print(f"{TOOL}: {log.path}: {told}", file=sys.stderr)
+    for place, text in notes.lines():
+        print(f"{TOOL}: {log.path}:{log.word}{place}: {text}", file=sys.stderr)
+    found = compared(log.calls, given.schedule, given.mode, given.tolerance, given.zsched)
+    if given.json:
+        print(found.json())
+        return DIFFERS if found.differences else 0
+    paint = colors.Paint(given.color, sys.stdout)
+    for difference in found.differences:
+        print(shown(difference.line(), 10 * WIDTH))
+    print(paint("bad" if found.differences else "good", found.summary()))
+    return DIFFERS if found.differences else 0
+
+
+def arguments():
+    """The parser of the command line."""
+    form = argparse.RawDescriptionHelpFormatter
+    parser = argparse.ArgumentParser(prog=TOOL, description=DESCRIPTION, epilog=EPILOG, formatter_class=form)
+    parser.add_argument("log", metavar="LOG", help="the log's file; - for standard input")
+    parser.add_argument("--schedule", metavar="S", required=True, help="the policy: a schedule")
+    parser.add_argument("--mode", choices=["retry", "repeat"], default="retry",
+                        help="the policy runs again after each error (retry, the default) or after each success")
+    parser.add_argument("--tolerance", type=_tolerance, default=50, metavar="TIME",
+                        help="how far from its moment an attempt may begin (50ms)")
+    parser.add_argument("--json", action="store_true", help="print one object")
+    call_log.add_options(parser.add_argument_group("columns"))
+    parser.add_argument("--zsched", metavar="PATH", help="the program (ZSCHED, the built or the installed one)")
+    colors.add_color(parser)
+    release.add_version(parser)
+    return parser
+
+
+def main():
+    """The command line."""
+    given = starting.parsed(arguments())
+    command.color(given.color)
+    return starting.run(TOOL, lambda: work(given))
