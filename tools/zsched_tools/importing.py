@@ -1,4 +1,4 @@
-"""zsched-plan from: a log of calls (CSV) or a policy file (YAML, TOML) as a plan.
+"""zsched-plan from: a log of calls (CSV, JSON) or a policy file (YAML, TOML) as a plan.
 
 The program checks the plan, with the horizon 0, so that nothing is simulated. A fault that
 it finds is shown at its place in the file that was read."""
@@ -6,27 +6,41 @@ import argparse
 import pathlib
 import re
 import sys
+from fractions import Fraction
 from typing import NamedTuple
 
-from zsched_tools import faults, program
+from zsched_tools import call_log, faults, program, windows
 from zsched_tools.cause import WIDTH, line_of, shown
 from zsched_tools.command import Refused
 from zsched_tools.document_faults import MAX_JOBS, MAX_MOMENT
+from zsched_tools.durations import duration
 from zsched_tools.hints import milliseconds
-from zsched_tools.log_file import UNITS, Log, Reader, job_text
+from zsched_tools.outage import MOST_ENTRIES
 from zsched_tools.placed import Value, Written, Wrong, key, told
 from zsched_tools.policy_file import read_toml, read_yaml
-from zsched_tools.policy_plan import Notes, plan_of
+from zsched_tools.policy_plan import Names, Notes, is_allowed, plan_of, whole
+from zsched_tools.scenario import Outcome
+from zsched_tools.summary import plural
 
 READERS = {".yaml": read_yaml, ".yml": read_yaml, ".toml": read_toml}
-LOGS = (".csv", ".tsv")
+LOGS = (".csv", ".tsv", ".jsonl", ".ndjson", ".json")
+HOUR = 3_600_000
 # A horizon that is in range: fifteen digits at most.
 _HORIZON = re.compile(r'("horizon":)([0-9]{1,15})(?![0-9.eE])')
 ABOUT = """Converts FILE to a plan, and writes it to standard output.
 
-A log (.csv, .tsv) has a line for each attempt, with a name, a length of time and a status. The
-lines of one name are the script of one job, in order. The command finds the columns by their
-names, as request_id, latency_ms and status; --name, --time and --status choose others.
+A log (.csv, .tsv, .jsonl, .ndjson; .json for a list or OpenTelemetry's spans) has an attempt a row,
+in any order: its request, its begin, its length or end, and its status. Columns are found by their
+names, as request_id, timestamp, duration_ms, status; standard error says how each is read, and
+docs/FORMATS.md has all rules. Without a length an attempt lasts until the next of its request.
+
+Each request becomes a job, which starts at its first attempt. The plan says what the policy
+--schedule would have done: an attempt that begins within 50 ms of one of its request's own ends as
+that one did. Another ends as the service did at its moment, which all attempts of the log say:
+windows in which it failed, and others in which it served. Errors of 400 to 499, without 408, 425
+and 429, are those of the request. Standard error says how sure that is: the longest gap without an
+attempt. --windows makes a scenario for zsched-outage from the windows and the requests' starts.
+--by-attempt assumes that a request's k-th attempt ends as the k-th in the log, whenever it begins.
 
 A policy file (.yaml, .yml, .toml) has the keys of a plan. Durations may have units, as 1h or 40ms,
 and a script may be a text, as '40 err 503 x3, 35 ok 200'. 'mode', 'start' and 'script' next to
@@ -71,31 +85,22 @@ def _until(word):
     return int(length)
 
 
-def _code(word):
-    """A status, as a whole number."""
-    if not word.isascii() or not word.isdigit():
-        raise argparse.ArgumentTypeError(f"{word} is not a whole number")
-    return int(word)
-
-
 def add_command(forms, form):
     """Adds the command to those of zsched-plan."""
     given = forms.add_parser("from", description=ABOUT, epilog=EPILOG, formatter_class=form,
                              help="a log (CSV) or a policy file (YAML, TOML) as a plan")
     given.add_argument("file", metavar="FILE", help="the file; the end of its name says what it is")
     given.add_argument("-o", dest="out", metavar="PLAN", help="the plan's file (standard output)")
-    given.add_argument("--until", type=_until, default=3_600_000, metavar="TIME",
-                       help="the horizon, if the file has no horizon (1h)")
+    given.add_argument("--until", type=_until, metavar="TIME",
+                       help="the horizon, if the file has no horizon (1h; 1h after the end of a log)")
     log = given.add_argument_group("for a log")
     log.add_argument("--schedule", metavar="TEXT", help="the schedule of each job; a log needs it")
     log.add_argument("--mode", choices=["retry", "repeat"], default="retry", help="(retry)")
-    log.add_argument("--name", metavar="COLUMN", help="the column with the name of a job")
-    log.add_argument("--time", metavar="COLUMN", help="the column with the length of an attempt")
-    log.add_argument("--status", metavar="COLUMN", help="the column with the status")
-    log.add_argument("--unit", choices=list(UNITS),
-                     help="the unit of time (by the column's name, else ms)")
-    log.add_argument("--errors-from", type=_code, default=400, metavar="N",
-                     help="a status of N or more is an error (400)")
+    form = log.add_mutually_exclusive_group()
+    form.add_argument("--windows", action="store_true", help="a scenario for zsched-outage, not a plan")
+    form.add_argument("--by-attempt", action="store_true",
+                      help="the k-th attempt of a job ends as the k-th in the log")
+    call_log.add_options(log)
     given.add_argument("--zsched", metavar="PATH",
                        help="the program; by default that of ZSCHED, else the built or the installed one")
     given.set_defaults(work=_from)
@@ -134,18 +139,71 @@ def _report(notes, path, line):
 
 
 def _of_log(given):
-    """The plan of a log, and how many jobs it has."""
+    """The plan or the scenario of a log, and how many jobs it has."""
     check_schedule(given)
-    log, notes = Log(given.name, given.time, given.status, given.unit, given.errors_from), Notes()
+    notes, data = Notes(), pathlib.Path(given.file).read_bytes()
+    log = call_log.Reader(shown(given.file, WIDTH), data, call_log.log_of(given), notes)
+    if given.windows and not log.has_moments:
+        raise Refused(f"{log.path}:1: --begin: no column has the moments of attempts")
+    requests = _requests(log, notes)
+    if log.has_moments:
+        _say(f"{log.path}: {log.told}")
+    _report(notes, f"{given.file}:{log.word}" if log.word else given.file, int)
+    last = max((begin + outcome.ms for request in requests for begin, outcome in request.own), default=0)
+    horizon = (last if log.has_moments else 0) + HOUR if given.until is None else given.until
+    if log.has_moments and not given.by_attempt:
+        service = windows.Service(requests)
+        for line in service.lines():
+            _say(f"{log.path}: {line}")
+        if given.windows:
+            return service.scenario(requests, given.schedule, horizon), 0
+        scripts = _scripts(given, log, service, requests, horizon)
+    else:
+        _say(f"{log.path}: a request's k-th attempt is assumed to end as the k-th in the log, whenever it begins; "
+             "after the last, as the last" + ("" if log.has_moments else "; no column has the moments of attempts"))
+        scripts = [[outcome for _, outcome in request.own] for request in requests]
+    jobs = [request.job(given.schedule, given.mode, script) for request, script in zip(requests, scripts)]
+    return f'{{"horizon":{horizon},"jobs":[\n' + ",\n".join(jobs) + "\n]}\n", len(jobs)
+
+
+def _requests(log, notes):
+    """The requests of a log, with names that a plan allows and lengths of whole milliseconds."""
+    names, found, first = Names(notes), [], log.calls[0].begin if log.calls else 0
+    by_name = call_log.by_request(log.calls)
+    for name in filter(is_allowed, by_name):
+        names.take(name)
+    if log.has_moments and not log.has_lengths:
+        _say(f"{log.path}: no column has an end or a length: an attempt lasts until the next of its request")
+    for name, calls in by_name.items():
+        if len(calls) > MOST_ENTRIES:
+            raise Refused(f'{log.path}:{log.word}{calls[MOST_ENTRIES].row}: "{shown(name)}" has more than '
+                          f"{MOST_ENTRIES} attempts")
+        own = []
+        for place, call in enumerate(calls):
+            begin = call_log.in_ms(call.begin - first) if log.has_moments else 0
+            length = call.length
+            if length is None:
+                length = calls[place + 1].begin - call.begin if place + 1 < len(calls) else 1_000_000
+            ms = Fraction(length, 1_000_000)
+            own.append((begin, Outcome(whole(ms, f"{float(ms):g} ms", call.row, notes), call.is_ok, call.code)))
+        name = name if is_allowed(name) else names.clean(name, calls[0].row)
+        found.append(windows.Request(name, own[0][0], own))
+    return found
+
+
+def _scripts(given, log, service, requests, horizon):
+    """The scripts of the requests under the schedule, by the moments of their attempts."""
     try:
-        # Bytes that aren't UTF-8 can only be in names, which are changed, and in columns that aren't read.
-        with open(given.file, encoding="utf-8-sig", errors="replace", newline="") as lines:
-            jobs = [job_text(name, given.schedule, given.mode, script)
-                    for name, script in Reader(lines, log, notes).jobs()]
-    except Refused as refused:
-        raise Refused(f"{given.file}:{refused}") from None
-    _report(notes, given.file, int)
-    return f'{{"horizon":{given.until},"jobs":[\n' + ",\n".join(jobs) + "\n]}\n", len(jobs)
+        zsched = program.find(given.zsched)
+    except program.NoProgram as missing:
+        raise Refused(f"{missing}; --by-attempt and --windows need none") from None
+    scripts, too_long = windows.scripts(service, requests, given.schedule, given.mode, horizon, zsched)
+    if too_long:
+        _say(f"{plural(len(too_long), 'job')}, {requests[too_long[0]].name} the first, have more than {MOST_ENTRIES} "
+             "attempts: after these the last one repeats")
+    _say(f"{log.path}: an attempt within {windows.NEAR} ms of one of its request's own ends as that one, others as the "
+         f"service did at their moment; after {duration(service.last)}, the log's last attempt, as at that one")
+    return scripts
 
 
 def check_schedule(given):
@@ -162,7 +220,7 @@ def _of_policies(given, read):
     """The plan of a policy file, and how many jobs it has."""
     source, notes = _source(given.file), Notes()
     try:
-        root = plan_of(read(source.text), given.until, notes)
+        root = plan_of(read(source.text), HOUR if given.until is None else given.until, notes)
         plan = Written(root)
     except Wrong as wrong:
         raise source.refused(wrong.args[0]) from None

@@ -51,7 +51,7 @@ A scenario is a JSON object. A time is a whole number of milliseconds or a text,
   }
 
 clients    "number" is how many. They start all at once, evenly "within" a time, or at a rate "per_second"; the first
-           starts at "start" (0).
+           starts at "start" (0). {"starts": [0, 120, "1.5s"]} has the start of each instead.
 windows    in order, without overlap. "is" is "down", "slow" or "up" (default). "capacity" is the most attempts that the
            service serves of those that begin in one second of the window; for the others it is full. Without "to" a
            window has no end. At all other times the service is up.

@@ -12,7 +12,7 @@ DESCRIPTION = """Cuts a plan into parts, for plans of more jobs than one run tak
 
   zsched-plan split 10000 plan.json -o parts
 
-Converts a log of calls (CSV) or a policy file (YAML, TOML) to a plan.
+Converts a log of calls (CSV, JSON) or a policy file (YAML, TOML) to a plan.
 
   zsched-plan from log.csv --schedule '(exponential(100) && recurs(5))' > plan.json"""
 SPLIT = """Cuts PLAN by its jobs into plans of at most N jobs, in order: FOLDER/part-000001.json, part-000002.json and

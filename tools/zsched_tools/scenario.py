@@ -190,6 +190,14 @@ class _Reading:
 
     def _clients(self, node):
         """The number of clients, and the moment at which each starts."""
+        if node.kind == "object" and any(name.string() == "starts" for name, _ in node.members()):
+            starts = _members(node, "clients", ["starts"], [])["starts"]
+            items = list(starts.items()) if starts.kind == "list" else []
+            if not 1 <= len(items) <= MOST_CLIENTS:
+                _refuse(starts, f'"starts" must be a list of 1 to {MOST_CLIENTS} times', 'write [0, 120, "1.5s"]')
+            self.scenario.starts = [_time(item, "a start") for item in items]
+            self.scenario.coming = "at their own starts"
+            return
         parts = _members(node, "clients", ["number", "within", "per_second", "start"], ["number"])
         number = _whole(parts["number"], "the number of clients", 1, MOST_CLIENTS)
         start = _time(parts["start"], "the start") if "start" in parts else 0
