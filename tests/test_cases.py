@@ -44,7 +44,7 @@ def found(case, room, programs):
     return given | {name: content(room / name.removeprefix("out/")) for name in files}
 
 
-def difference(name, before, now):
+def changes(name, before, now):
     old, new = ([repr(line)[1:] for line in text.splitlines(keepends=True)] for text in [before, now])
     return "\n".join(difflib.unified_diff(old, new, f"{name}, wanted", f"{name}, found", lineterm="", n=2))
 
