@@ -47,20 +47,6 @@ _EPOCHS = [(10**17, "ns", "epoch nanoseconds"), (10**14, "us", "epoch microsecon
            (10**11, "ms", "epoch milliseconds"), (10**8, "s", "epoch seconds")]
 
 
-class Log(NamedTuple):
-    """How a log is read: the chosen columns and endpoint, the unit of lengths, the least status of an error, and what a
-    timestamp is: the begin or the end."""
-    name: str | None
-    begin: str | None
-    end: str | None
-    time: str | None
-    status: str | None
-    unit: str | None
-    errors_from: int
-    timestamps: str
-    endpoint: str | None
-
-
 class Call(NamedTuple):
     """An attempt. Without moments `begin` is None, and `length` is None if no column has it."""
     request: str
@@ -80,11 +66,9 @@ class Column(NamedTuple):
 
 def add_options(group):
     """Adds the options of a log to a command's."""
-    group.add_argument("--name", metavar="COLUMN", help="the column with the request of an attempt")
-    group.add_argument("--begin", metavar="COLUMN", help="the column with the begin of an attempt")
-    group.add_argument("--end", metavar="COLUMN", help="the column with the end of an attempt")
-    group.add_argument("--time", metavar="COLUMN", help="the column with the length of an attempt")
-    group.add_argument("--status", metavar="COLUMN", help="the column with the status")
+    roles = {"name": "request", "begin": "begin", "end": "end", "time": "length", "status": "status"}
+    for option, what in roles.items():
+        group.add_argument(f"--{option}", metavar="COLUMN", help=f"the column with the {what} of an attempt")
     group.add_argument("--unit", choices=list(UNITS), help="the unit of lengths (by the column's name, else ms)")
     group.add_argument("--timestamps", choices=["begin", "end"], default="begin",
                        help="what a column 'timestamp' is: the begin of an attempt (default) or its end")
@@ -98,11 +82,6 @@ def _code(word):
     if not word.isascii() or not word.isdigit():
         raise argparse.ArgumentTypeError(f"{word} is not a whole number")
     return int(word)
-
-
-def log_of(given):
-    """How a log is read, by a command's options."""
-    return Log(*(getattr(given, name) for name in Log._fields))
 
 
 def by_request(calls):
@@ -129,16 +108,15 @@ def _plain(name):
 
 
 class Reader:
-    """A log of calls. `calls` are its attempts, in the order of their begins if the log has moments; `told` says how
-    the columns were read."""
+    """A log of calls, read as the options of a command say. `calls` are its attempts, in the order of their begins if
+    the log has moments; `told` says how the columns were read."""
 
-    def __init__(self, path, data, log, notes):
-        self.path, self.log, self.notes = path, log, notes
+    def __init__(self, path, data, given, notes):
+        self.path, self.given, self.notes = path, given, notes
         text = data.decode("utf-8-sig", errors="replace")
         is_json = text.lstrip()[:1] in ("{", "[")
-        self.rows, self.word = _json_rows(path, text) if is_json else (_csv_rows(path, text), "")
-        self.head = next(self.rows)[1]
-        self.rows = list(self.rows)
+        rows, self.word = _json_rows(path, text) if is_json else (_csv_rows(path, text), "")
+        (_, self.head), *self.rows = rows
         self._find_columns()
         self.calls = self._calls()
 
@@ -164,27 +142,28 @@ class Reader:
 
     def _find_columns(self):
         """Finds the columns by their names."""
-        log = self.log
-        self.request = self._column(log.name, REQUESTS, "--name")
-        self.status = self._column(log.status, STATUSES, "--status", [self.request.number])
-        self.begin = self._column(log.begin, BEGINS, log.begin and "--begin")
-        self.end = self._column(log.end, ENDS, log.end and "--end")
-        self.length = self._column(log.time, LENGTHS, log.time and "--time")
+        given = self.given
+        self.request = self._column(given.name, REQUESTS, "--name")
+        self.status = self._column(given.status, STATUSES, "--status", [self.request.number])
+        self.begin = self._column(given.begin, BEGINS, given.begin and "--begin")
+        self.end = self._column(given.end, ENDS, given.end and "--end")
+        self.length = self._column(given.time, LENGTHS, given.time and "--time")
         stamp = self._column(None, STAMPS)
         if stamp is not None and self.length is not None and stamp.number == self.length.number:
-            other = self._column(log.time, LENGTHS, but=[stamp.number]) if log.time is None else None
+            other = self._column(None, LENGTHS, but=[stamp.number]) if given.time is None else None
             cell = self.rows[0][1][stamp.number].strip() if self.rows else ""
-            if other is None and not _is_moment(cell):
+            is_moment = _DATE.fullmatch(cell) or _NUMBER.fullmatch(cell) and Decimal(cell) >= 10**8
+            if other is None and not is_moment:
                 stamp = None
             else:
                 self.length = other
-        if stamp is not None and log.timestamps == "end" and self.end is None:
+        if stamp is not None and given.timestamps == "end" and self.end is None:
             self.end = stamp
-        elif stamp is not None and log.timestamps == "begin" and self.begin is None:
+        elif stamp is not None and given.timestamps == "begin" and self.begin is None:
             self.begin = stamp
-        if log.endpoint is not None:
+        if given.endpoint is not None:
             place = self._column(None, ENDPOINTS, "--endpoint", [self.request.number])
-            self.rows = [row for row in self.rows if row[1][place.number].strip() == log.endpoint]
+            self.rows = [row for row in self.rows if row[1][place.number].strip() == given.endpoint]
         self.has_moments = self.begin is not None or self.end is not None
 
     def _calls(self):
@@ -201,23 +180,17 @@ class Reader:
                 if length < 0:
                     raise self.refused(row, self.end, "this attempt ends before it begins")
             calls.append(Call(cells[self.request.number].strip(), begin, length, *codes[place], row))
-        self._tell(begin_form, end_form, unit)
+        forms = [("begin", self.begin, begin_form), ("end", self.end, end_form), ("length", self.length, unit)]
+        parts = [f"{word} {column.name} ({form})" for word, column, form in forms if form]
+        self.told = ", ".join([f"request {self.request.name}", *parts, f"status {self.status.name}"])
+        self.has_lengths = bool(unit) or bool(begins is not None and ends is not None)
         return sorted(calls, key=lambda call: call.begin) if self.has_moments else calls
-
-    def _tell(self, begin_form, end_form, unit):
-        """Says how the columns are read."""
-        parts = [f"request {self.request.name}"]
-        parts += [f"begin {self.begin.name} ({begin_form})"] if begin_form else []
-        parts += [f"end {self.end.name} ({end_form})"] if end_form else []
-        parts += [f"length {self.length.name} ({unit})"] if unit else []
-        self.told = ", ".join([*parts, f"status {self.status.name}"])
-        self.has_lengths = bool(unit) or (begin_form is not None and end_form is not None)
 
     def _lengths(self):
         """The lengths of the attempts, and their unit."""
         if self.length is None:
             return None, None
-        unit = self.length.unit or self.log.unit or "ms"
+        unit = self.length.unit or self.given.unit or "ms"
         found = []
         for row, cells in self.rows:
             cell = cells[self.length.number].strip()
@@ -252,7 +225,7 @@ class Reader:
             for least, unit, form in _EPOCHS:
                 if value >= least:
                     return unit, form
-        unit = column.unit or self.log.unit or "ms"
+        unit = column.unit or self.given.unit or "ms"
         return unit, unit
 
     def _date(self, row, column, cell):
@@ -273,7 +246,7 @@ class Reader:
         for row, cells in self.rows:
             cell = cells[self.status.number].strip()
             if cell not in known:
-                known[cell] = self._status(row, cell, 1 if is_grpc else self.log.errors_from)
+                known[cell] = self._status(row, cell, 1 if is_grpc else self.given.errors_from)
             found.append(known[cell])
         return found
 
@@ -304,11 +277,6 @@ class Reader:
         return False, code
 
 
-def _is_moment(cell):
-    """Whether a cell of a column named `time` is a moment, not a length."""
-    return _DATE.fullmatch(cell) is not None or (_NUMBER.fullmatch(cell) is not None and Decimal(cell) >= 10**8)
-
-
 def _csv_rows(path, text):
     """The number and the cells of each line of a CSV text, the names of the columns first."""
     first = text.partition("\n")[0]
@@ -331,23 +299,22 @@ def _json_rows(path, text):
     """The rows of JSON, as those of CSV, and the word before a row's number."""
     def read(piece):
         return json.loads(piece, parse_int=str, parse_float=str, parse_constant=str)
-    number = 1
+    number, documents = 1, []
     try:
-        try:
-            documents, lines = [read(text)], None
-        except ValueError:
-            lines = [(number, line) for number, line in enumerate(text.splitlines(), 1) if line.strip()]
-            documents = []
-            for number, line in lines:
-                documents.append(read(line))
+        documents, lines = [read(text)], []
     except RecursionError:
-        raise Refused(f"{path}:{number}: this is nested too deeply") from None
-    except ValueError as fault:
+        raise Refused(f"{path}:1: this is nested too deeply") from None
+    except ValueError:
+        lines = [(number, line) for number, line in enumerate(text.splitlines(), 1) if line.strip()]
+    try:
+        for number, line in lines:
+            documents.append(read(line))
+    except (ValueError, RecursionError) as fault:
         raise Refused(f"{path}:{number}: not JSON: {str(fault).partition(': line')[0]}") from None
     spans = spans_in(documents)
     if spans:
         items, word = list(enumerate(spans, 1)), "span "
-    elif lines is not None:
+    elif lines:
         items, word = [(number, item) for (number, _), item in zip(lines, documents)], ""
     else:
         whole = documents[0] if isinstance(documents[0], list) else documents

@@ -61,8 +61,7 @@ class Compared(NamedTuple):
 
     def json(self):
         """The result as an object of JSON."""
-        found = [{"request": it.request, "attempt": it.attempt, "kind": it.kind, "expected_ms": it.expected_ms,
-                  "found_ms": it.found_ms} for it in self.differences]
+        found = [dict(zip(Difference._fields[:-1], difference)) for difference in self.differences]
         return json.dumps({"requests": self.requests, "attempts": self.attempts, **self.counts(), "differences": found})
 
     def summary(self):
@@ -77,8 +76,8 @@ class Compared(NamedTuple):
 
 def compared(calls, schedule, mode, tolerance, zsched):
     """Compares a log's attempts with a policy."""
-    requests = {name: _attempts(name, found) for name, found in by_request(calls).items()}
-    firsts = {name: found[0].begin for name, found in by_request(calls).items()}
+    by_name = by_request(calls)
+    requests = {name: _attempts(name, found) for name, found in by_name.items()}
     latest = max((call.begin + (call.length or 0) for call in calls), default=0)
     asked = [(name, number) for name, found in requests.items() for number in range(1, _stepped(found, mode) + 1)]
     waits = dict(zip(asked, _waits([_job(at, schedule, mode, requests[name], number)
@@ -86,7 +85,7 @@ def compared(calls, schedule, mode, tolerance, zsched):
                                    [_steps(requests[name])[number - 1] for name, number in asked], zsched)))
     differences = []
     for name, found in requests.items():
-        ends = in_ms(latest - firsts[name])
+        ends = in_ms(latest - by_name[name][0].begin)
         differences += _differences(name, found, mode, lambda number, name=name: waits[name, number], tolerance, ends)
     return Compared(len(requests), len(calls), differences)
 

@@ -59,7 +59,7 @@ def work(given):
     data = sys.stdin.buffer.read() if given.log == "-" else pathlib.Path(given.log).read_bytes()
     importing.check_schedule(given)
     notes = Notes()
-    log = call_log.Reader(shown(name, WIDTH), data, call_log.log_of(given), notes)
+    log = call_log.Reader(shown(name, WIDTH), data, given, notes)
     if not log.has_moments:
         raise Refused(f"{log.path}:1: --begin: no column has the moments of attempts")
     told = log.told if log.has_lengths else f"{log.told}; no column has an end or a length: attempts take no time"

@@ -142,7 +142,7 @@ def _of_log(given):
     """The plan or the scenario of a log, and how many jobs it has."""
     check_schedule(given)
     notes, data = Notes(), pathlib.Path(given.file).read_bytes()
-    log = call_log.Reader(shown(given.file, WIDTH), data, call_log.log_of(given), notes)
+    log = call_log.Reader(shown(given.file, WIDTH), data, given, notes)
     if given.windows and not log.has_moments:
         raise Refused(f"{log.path}:1: --begin: no column has the moments of attempts")
     requests = _requests(log, notes)
