@@ -116,7 +116,8 @@ def node(room, place):
     shutil.copytree(BINDINGS / "node", package, ignore=UNWANTED)
     ran(["./build"], package, ZSCHED_LIBRARY_DIR=place.library, CPATH=place.include)
     shutil.copy(CLIENTS / "client.js", room)
-    return Client(["node", room / "client.js"], {})
+    # Little memory for what it drops.
+    return Client(["node", "--max-semi-space-size=1", room / "client.js"], {})
 
 
 def java(room, place, jar=None):

@@ -157,7 +157,7 @@ def test_a_million_steps_take_flat_time_and_memory(client, name):
         with subprocess.Popen(list(map(str, it.words)), env=CLEAN | it.variables, stdin=subprocess.PIPE, stdout=subprocess.PIPE,
                               text=True) as running:
             running.stdin.write(f"{request('many', policy, MANY)}\n")
-            running.stdin.close()
+            running.stdin.flush()
             for _ in range(10):
                 assert running.stdout.readline() == "\n"
                 status = pathlib.Path(f"/proc/{running.pid}/status").read_text()
