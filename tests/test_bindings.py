@@ -142,6 +142,12 @@ def test_an_input_that_cannot_be_had_hides_no_error(client, name, wanted):
         assert re.fullmatch(wanted, line)
 
 
+def test_a_list_in_node_has_a_moment_and_an_input_for_each_step(client):
+    tried = "try { new (require('zsched').Schedule)('recurs(3)', [1n, 2n, 3n]) } catch (error) { console.log(String(error)) }"
+    said = ran(["node", "-e", tried], pathlib.Path(client("Node").words[-1]).parent)
+    assert said == "RangeError: a step has a moment and an input\n"
+
+
 @pytest.mark.full
 def test_java_waits_for_unsigned_times(client):
     assert client("Java").says([request("wait", "spaced(18446744073709551615)", 1)]) == ["PT5124095576030H25M51.614S"]
