@@ -86,13 +86,13 @@ ROWS = {
     "one job": Row(lambda _: jobs_of("recurs(0)")(1), 0, Cost(280_000, 3300, 52)),
     "attempts": Row(attempts_of("forever"), 2500, Cost(4400, 260, 1.01)),
     "attempts with pairs and sides": Row(
-        attempts_of("(recurs(3) andThenEither (forever && identity))"), 2500, Cost(5900, 138, 0.01)),
+        attempts_of("(recurs(3) andThenEither (forever && identity))"), 2500, Cost(5900, 283, 1.01)),
     "attempts in records": Row(
-        lambda n: b"jobs\n" + attempts_of("forever")(n), 2700, Cost(4800, 250, 0.01), "refusals"),
+        lambda n: b"jobs\n" + attempts_of("forever")(n), 2700, Cost(4800, 250, 1.01), "refusals"),
     "jobs due together": Row(jobs_of("recurs(5)"), 1000, Cost(76_000, 2220, 20.5)),
     # Most of their cost is the parsing of their schedules.
     "jobs of 100 nodes": Row(jobs_of(f"(recurs(0) && {tree(50)})"), 100, Cost(290_000, 17_300, 422)),
-    "jobs of 100 attempts": Row(jobs_of("recurs(99)"), 100, Cost(420_000, 11_500, 28.8)),
+    "jobs of 100 attempts": Row(jobs_of("recurs(99)"), 100, Cost(420_000, 17_300, 44.8)),
     # The last one begins first.
     "jobs at moments of their own": Row(
         lambda n: plan([job(it, "recurs(0)", start=2 * (n - it)) for it in range(n)]), 1000, Cost(68_000, 2240, 22.6)),

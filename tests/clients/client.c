@@ -402,8 +402,10 @@ static void read_request(request *it, char *line)
     digits = strtok_r(NULL, " \n", &rest) + 1;
     it->text_len = strlen(digits) / 2;
     it->text = (uint8_t *)block(NULL, it->text_len);
-    for (size_t i = 0; i < it->text_len; i++)
-        sscanf(digits + 2 * i, "%2hhx", &it->text[i]);
+    for (size_t i = 0; i < it->text_len; i++) {
+        const char pair[] = {digits[2 * i], digits[2 * i + 1], 0};
+        it->text[i] = (uint8_t)strtoul(pair, NULL, 16);
+    }
     it->numbers = (uint64_t *)block(NULL, LENGTH(it->numbers, words - 1));
     for (it->count = 0; (word = strtok_r(NULL, " \n", &rest)); it->count++)
         it->numbers[it->count] = strtoull(word, NULL, 10);
