@@ -89,7 +89,7 @@ ROWS = {
         attempts_of("(recurs(3) andThenEither (forever && identity))"), 2500, Cost(5900, 283, 1.01)),
     "attempts in records": Row(
         lambda n: b"jobs\n" + attempts_of("forever")(n), 2700, Cost(4800, 250, 1.01), "refusals"),
-    "jobs due together": Row(jobs_of("recurs(5)"), 1000, Cost(76_000, 2220, 20.5)),
+    "jobs due together": Row(jobs_of("recurs(5)"), 1000, Cost(80_000, 2220, 20.5)),
     # Most of their cost is the parsing of their schedules.
     "jobs of 100 nodes": Row(jobs_of(f"(recurs(0) && {tree(50)})"), 100, Cost(290_000, 17_300, 422)),
     "jobs of 100 attempts": Row(jobs_of("recurs(99)"), 100, Cost(420_000, 17_300, 44.8)),
