@@ -1,4 +1,5 @@
 """Durations as people write them, read as whole milliseconds: 40, 40ms, 1.5s, 1h30m, and what `duration` prints."""
+import argparse
 import fractions
 import re
 
@@ -22,3 +23,11 @@ def milliseconds(text):
     if exact.denominator != 1:
         raise ValueError(f'"{text}" is not a whole number of milliseconds')
     return int(exact)
+
+
+def duration_argument(word):
+    """The milliseconds of a duration or a moment of the command line."""
+    try:
+        return milliseconds(word)
+    except ValueError as fault:
+        raise argparse.ArgumentTypeError(str(fault)) from None

@@ -6,7 +6,7 @@ import sys
 from zsched_tools import call_log, colors, command, importing, program, release, starting
 from zsched_tools.cause import WIDTH, shown
 from zsched_tools.command import Refused
-from zsched_tools.duration_text import milliseconds
+from zsched_tools.duration_text import duration_argument
 from zsched_tools.follows import compared
 from zsched_tools.policy_plan import Notes
 
@@ -39,14 +39,6 @@ policy goes on from that attempt's own end. All moments count from the begin of 
 milliseconds."""
 EPILOG = """Exit status: 0 if all attempts follow; 1 if one differs; 2 if the log, the policy or an option is wrong,
 with file, row and column on standard error, or if there is no program; 3 if reading, writing or the program fails."""
-
-
-def _tolerance(word):
-    """A duration."""
-    try:
-        return milliseconds(word)
-    except ValueError as fault:
-        raise argparse.ArgumentTypeError(str(fault)) from None
 
 
 def work(given):
@@ -85,7 +77,7 @@ def arguments():
     parser.add_argument("--schedule", metavar="S", required=True, help="the policy: a schedule")
     parser.add_argument("--mode", choices=["retry", "repeat"], default="retry",
                         help="the policy runs again after each error (retry, the default) or after each success")
-    parser.add_argument("--tolerance", type=_tolerance, default=50, metavar="TIME",
+    parser.add_argument("--tolerance", type=duration_argument, default=50, metavar="TIME",
                         help="how far from its moment an attempt may begin (50ms)")
     parser.add_argument("--json", action="store_true", help="print one object")
     call_log.add_options(parser.add_argument_group("columns"))

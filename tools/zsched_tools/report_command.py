@@ -7,7 +7,7 @@ import sys
 from zsched_tools import colors, command, load, release, starting
 from zsched_tools.axis import View
 from zsched_tools.command import Refused
-from zsched_tools.duration_text import milliseconds
+from zsched_tools.duration_text import duration_argument
 from zsched_tools.join import write_joined, write_known
 from zsched_tools.lines import write_lines, write_report
 from zsched_tools.page import load_page, page
@@ -160,17 +160,9 @@ def _join(given):
         write_joined(given.parts, sys.stdout.buffer.write)
 
 
-def _time(word):
-    """A moment or a duration of the command line, in milliseconds."""
-    try:
-        return milliseconds(word)
-    except ValueError as wrong:
-        raise argparse.ArgumentTypeError(str(wrong)) from None
-
-
 def _step(word):
     """A duration of at least 1 ms."""
-    found = _time(word)
+    found = duration_argument(word)
     if found == 0:
         raise argparse.ArgumentTypeError("a step of time takes at least 1 ms")
     return found
@@ -181,7 +173,7 @@ def _add_summary(one):
     one.add_argument("--sort", choices=list(SORTS), help="the table's order: by the moment of the end, by name, or the "
                      "most attempts first; else that of the report")
     one.add_argument("--one-line", action="store_true", help="only the figures below the table, in one line")
-    one.add_argument("--within", metavar="TIME", type=_time,
+    one.add_argument("--within", metavar="TIME", type=duration_argument,
                      help="say how many jobs succeeded or finished within this time, such as 5s, from their first attempt")
 
 
@@ -200,8 +192,9 @@ _ADDED = {"summary": _add_summary, "load": _add_load}
 
 def _add_view(one):
     """Adds the arguments of a picture's axis."""
-    one.add_argument("--from", dest="first", metavar="TIME", type=_time, help="the first moment drawn, as 1.5s")
-    one.add_argument("--to", dest="last", metavar="TIME", type=_time, help="the last moment drawn, as 2min")
+    one.add_argument("--from", dest="first", metavar="TIME", type=duration_argument,
+                     help="the first moment drawn, as 1.5s")
+    one.add_argument("--to", dest="last", metavar="TIME", type=duration_argument, help="the last moment drawn, as 2min")
     one.add_argument("--log", action="store_true", help="a logarithmic axis, if some times are much longer than others")
 
 

@@ -8,7 +8,7 @@ from zsched_tools import bounding, command, program, schedule_rules, schedule_te
 from zsched_tools.cause import Cause
 from zsched_tools.colors import Paint, add_color
 from zsched_tools.command import REFUSED, Refused
-from zsched_tools.duration_text import milliseconds
+from zsched_tools.duration_text import duration_argument
 from zsched_tools.durations import duration
 from zsched_tools.picture import draw, rows_of
 from zsched_tools.place import place_lines
@@ -47,10 +47,7 @@ program or writing fails."""
 def _time(least):
     """A parser of durations of at least `least` milliseconds."""
     def read(word):
-        try:
-            found = milliseconds(word)
-        except ValueError as fault:
-            raise argparse.ArgumentTypeError(str(fault)) from None
+        found = duration_argument(word)
         if not least <= found <= LAST_MOMENT:
             raise argparse.ArgumentTypeError(f'"{word}" is not from {least} to {LAST_MOMENT} ms')
         return found
