@@ -5,7 +5,7 @@ ghost use Rattle.std.specs.FinMap as map;
 ghost use Rattle.zs_agenda.specs.declared.fault.AgendaFault.TheVariants.{Memory};
 
 use crate::fault::AgendaFault;
-use crate::index::{add, forget, put, remove};
+use crate::index::{add, forget, put};
 use std::alloc::Global;
 use std::collections::BTreeMap;
 use std::marker::Model;
@@ -66,7 +66,7 @@ impl Agenda {
         match add(self.alloc, &mut self.by_moment, moment, job) {
             Ok(()) => Ok(()),
             Err(_) => {
-                remove(&mut self.by_job, job);
+                forget(&mut self.by_job, &[job]);
                 Err(AgendaFault::Memory)
             }
         }

@@ -122,14 +122,7 @@ fn is_tick_list(ticks: &[u64]) -> bool
     if ticks.is_empty() || ticks.len() > MAX_TICKS {
         return false;
     }
-    last_of(ticks) <= MAX_HORIZON && rises(ticks)
-}
-
-// Whether each tick is later than the one before it.
-fn rises(ticks: &[u64]) -> bool
-    ensures value { IsTrue result ↔ IsStrictlyIncreasing ticks.now }
-{
-    ticks.windows(2).all(|pair| pair[0] < pair[1])
+    last_of(ticks) <= MAX_HORIZON && ticks.windows(2).all(|pair| pair[0] < pair[1])
 }
 
 // Returns the last of some ticks.

@@ -32,15 +32,6 @@ fn put_in_order(jobs: &mut Vec<u64>, job: u64) -> Result<(), AllocError>
     Ok(())
 }
 
-// Makes a list of one job.
-fn list_of(alloc: Global, job: u64) -> Result<Vec<u64>, AllocError>
-    ensures jobs { IfOk result (λ jobs. jobs.items ≡ job ∷ []) }
-{
-    let mut jobs = Vec::new(alloc);
-    jobs.push(job)?;
-    Ok(jobs)
-}
-
 // Adds a job at a moment, whose jobs are rising. It fails only if the moment has no list, or a full
 // one.
 pub(crate) fn add(
@@ -57,7 +48,7 @@ pub(crate) fn add(
     match by_moment.entry(moment)? {
         Entry::Occupied(entry) => put_in_order(entry.into_mut(), job),
         Entry::Vacant(entry) => {
-            entry.insert(list_of(alloc, job)?);
+            entry.insert(Vec::from_array(alloc, [job])?);
             Ok(())
         }
     }
@@ -70,13 +61,6 @@ pub(crate) fn put(by_job: &mut BTreeMap<u64, u64>, job: u64, moment: u64) -> Res
 {
     by_job.insert(job, moment)?;
     Ok(())
-}
-
-// Removes the moment of a job, if it has one. It takes no memory.
-pub(crate) fn remove(by_job: &mut BTreeMap<u64, u64>, job: u64)
-    ensures forgets { Forgets by_job.old by_job.new (job ∷ []) }
-{
-    by_job.remove(&job);
 }
 
 // Removes the moments of these jobs. It takes no memory.

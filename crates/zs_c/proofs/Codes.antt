@@ -2,20 +2,20 @@
 use Rattle.std.proofs.Common.{◌≡◌, ℕ, suc, ◌-◌, Option, Some, None, List, [], ◌++◌, length, take, drop, refl, ap, ◌∙◌, arith}
 use Rattle.std.proofs.lemmas.List.{length-append}
 use Rattle.std.proofs.Math.Seq.{take-append_seam, drop-append_seam}
-use Rattle.zs_term.specs.Schedule.{Schedule, Pairing, Modifier, leaf, two, over, plain, counted, exponential, both, either, and_then, while_input, while_output, collect_all, mapped, reset_when}
-use Rattle.zs_term.specs.declared.forms.Plain.TheVariants.{Forever, Identity, Elapsed}
-use Rattle.zs_term.specs.declared.forms.Counted.TheVariants.{Recurs, Spaced, Fixed, Fibonacci, Linear, Windowed}
+use Rattle.zs_term.specs.Schedule.{Schedule, Pairing, Modifier, leaf, two, over, both, either, and_then, while_input, while_output, collect_all, mapped, reset_when}
 use Rattle.zs_step.specs.History.{History}
 use Rattle.zs_c.specs.Words.{sequel_words}
 use Rattle.zs_step.specs.Answer.{answer_of, from_done, since_reset}
 use Rattle.zs_c.specs.Code.{code_of, modifier_code, held_of, IsCode}
+use Rattle.zs_c.proofs.Leaves.{leaf-length}
+use Rattle.zs_c.proofs.Listless.{two-flat, over-flat}
 
 -- the code of an operator's first part
 pub first-code : (p : Pairing) (a b : Schedule) (code : List ℕ) (levels size : ℕ) → IsCode (two p a b) code levels → size ≡ length (code_of a) →
     IsCode a (take size (drop 3 code)) (levels - 1)
 first-code p a b code levels size whole sized = record {
   is = ap (λ n. take n (drop 3 code)) sized ∙ ap (λ c. take (length (code_of a)) (drop 3 c)) whole.is ∙ take-append_seam (code_of a) (code_of b);
-  flat = whole.flat.0;
+  flat = (two-flat p a b whole.flat).0;
   deep = omega (arith, whole.deep);
 }
 
@@ -24,7 +24,7 @@ pub second-code : (p : Pairing) (a b : Schedule) (code : List ℕ) (levels size 
     IsCode b (drop size (drop 3 code)) (levels - 1)
 second-code p a b code levels size whole sized = record {
   is = ap (λ n. drop n (drop 3 code)) sized ∙ ap (λ c. drop (length (code_of a)) (drop 3 c)) whole.is ∙ drop-append_seam (code_of a) (code_of b);
-  flat = whole.flat.1;
+  flat = (two-flat p a b whole.flat).1;
   deep = omega (arith, whole.deep);
 }
 
@@ -33,7 +33,7 @@ pub part-code : (m : Modifier) (s : Schedule) (code : List ℕ) (levels k : ℕ)
     IsCode s (drop k code) (levels - 1)
 part-code m s code levels k whole sized = record {
   is = ap (λ n. drop n code) sized ∙ ap (drop (length (modifier_code m))) whole.is ∙ drop-append_seam (modifier_code m) (code_of s);
-  flat = whole.flat.1;
+  flat = over-flat m s whole.flat;
   deep = omega (arith, whole.deep);
 }
 
@@ -51,16 +51,7 @@ sequel-lengths (Some k) (Some l) x y h g first second = ap (λ n. suc n) (both-l
 
 -- a state has the same number of words after any steps
 pub held-length : (t : Schedule) (h g : History) → length (held_of t h) ≡ length (held_of t g)
-held-length (leaf (plain Forever)) h g = refl
-held-length (leaf (counted Recurs k)) h g = refl
-held-length (leaf (counted Spaced d)) h g = refl
-held-length (leaf (counted Fixed p)) h g = refl
-held-length (leaf (exponential b f)) h g = refl
-held-length (leaf (counted Fibonacci o)) h g = refl
-held-length (leaf (plain Identity)) h g = refl
-held-length (leaf (plain Elapsed)) h g = refl
-held-length (leaf (counted Linear n)) h g = refl
-held-length (leaf (counted Windowed n)) h g = refl
+held-length (leaf l) h g = leaf-length l h g
 held-length (two both a b) h g = both-lengths (held_of a h) (held_of b h) (held_of a g) (held_of b g) (held-length a h g) (held-length b h g)
 held-length (two either a b) h g = both-lengths (held_of a h) (held_of b h) (held_of a g) (held_of b g) (held-length a h g) (held-length b h g)
 held-length (two and_then a b) h g =

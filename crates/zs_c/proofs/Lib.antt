@@ -1,5 +1,6 @@
 pub mod SeenPairs
 pub mod Rooms
+pub mod Leaves
 pub mod Nodes
 pub mod Codes
 pub mod OutputRooms
@@ -8,8 +9,6 @@ pub mod ViewLemmas
 pub mod Uniqueness
 pub mod Listless
 pub mod TextBounds
-pub mod LeafSteps
-pub mod Cleared
 pub mod Pieces
 pub mod Views
 pub mod NodeSteps

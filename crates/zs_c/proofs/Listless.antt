@@ -1,14 +1,25 @@
 -- A schedule that stores no list returns none: no output has a list in it.
-use Rattle.std.proofs.Common.{◌≡◌, Option, Some, None, refl}
+use Rattle.std.proofs.Common.{◌≡◌, true, Option, Some, None, refl, sym, subst}
+use Rattle.std.proofs.lemmas.Bool.{and_parts}
 use Rattle.zs_term.specs.Output.{Output, number, pair, left, right, listed, size_in, applied}
-use Rattle.zs_term.specs.Schedule.{Schedule, leaf, two, over, plain, counted, exponential, both, either, and_then, while_input, while_output, collect_all, mapped, reset_when}
-use Rattle.zs_term.specs.declared.forms.Plain.TheVariants.{Forever, Identity, Elapsed}
-use Rattle.zs_term.specs.declared.forms.Counted.TheVariants.{Recurs, Spaced, Fixed, Fibonacci, Linear, Windowed}
+use Rattle.zs_term.specs.Schedule.{Schedule, Pairing, Modifier, leaf, two, over, both, either, and_then, while_input, while_output, collect_all, mapped, reset_when}
 use Rattle.zs_term.specs.declared.term.Func.{Func}
 use Rattle.zs_term.specs.declared.term.Func.TheVariants.{First, Second, Size, Merge, Const, Add, Mul}
 use Rattle.zs_step.specs.History.{History}
-use Rattle.zs_c.specs.Words.{KeepsNoList}
+use Rattle.zs_step.specs.Memory.{keeps_no_list}
 use Rattle.zs_step.specs.Answer.{Answer, answer_of, from_done, sequel_of, since_reset}
+use Rattle.zs_c.proofs.Leaves.{leaf-number}
+
+-- the parts of a schedule that stores no list
+pub two-flat : (p : Pairing) (a b : Schedule) → keeps_no_list (two p a b) ≡ true → (keeps_no_list a ≡ true) × (keeps_no_list b ≡ true)
+two-flat p a b flat = and_parts (keeps_no_list a) (keeps_no_list b) flat
+
+pub over-flat : (m : Modifier) (s : Schedule) → keeps_no_list (over s m) ≡ true → keeps_no_list s ≡ true
+over-flat (while_input t) s flat = flat
+over-flat (while_output k t) s flat = flat
+over-flat collect_all s flat = cc
+over-flat (mapped f) s flat = flat
+over-flat (reset_when k t) s flat = flat
 
 -- there is no list in an output
 abbrev pub Listless : Output → Type 0
@@ -63,23 +74,15 @@ sequel-free None x y first second = first
 sequel-free (Some g) x y first second = second g
 
 -- a result of a schedule that stores no list
-pub answer-free : (t : Schedule) (h : History) → KeepsNoList t → Listless (answer_of t h).output
-answer-free (leaf (plain Forever)) h flat = tt
-answer-free (leaf (plain Identity)) h flat = tt
-answer-free (leaf (plain Elapsed)) h flat = tt
-answer-free (leaf (counted Recurs n)) h flat = tt
-answer-free (leaf (counted Spaced n)) h flat = tt
-answer-free (leaf (counted Fixed n)) h flat = tt
-answer-free (leaf (counted Fibonacci n)) h flat = tt
-answer-free (leaf (counted Linear n)) h flat = tt
-answer-free (leaf (counted Windowed n)) h flat = tt
-answer-free (leaf (exponential b f)) h flat = tt
-answer-free (two both a b) h flat = (answer-free a h flat.0, answer-free b h flat.1)
-answer-free (two either a b) h flat = (answer-free a h flat.0, answer-free b h flat.1)
+pub answer-free : (t : Schedule) (h : History) → keeps_no_list t ≡ true → Listless (answer_of t h).output
+answer-free (leaf l) h flat = subst Listless (sym (leaf-number l h)) tt
+answer-free (two both a b) h flat = let parts = two-flat both a b flat in (answer-free a h parts.0, answer-free b h parts.1)
+answer-free (two either a b) h flat = let parts = two-flat either a b flat in (answer-free a h parts.0, answer-free b h parts.1)
 answer-free (two and_then a b) h flat =
-    sequel-free (from_done (answer_of a) h) (answer_of a h) (answer_of b) (answer-free a h flat.0) (λ g. answer-free b g flat.1)
-answer-free (over s (while_input t)) h flat = answer-free s h flat.1
-answer-free (over s (while_output k t)) h flat = answer-free s h flat.1
-answer-free (over s (mapped f)) h flat = applied-free f (answer_of s h).output (answer-free s h flat.1)
-answer-free (over s (reset_when k t)) h flat = answer-free s (since_reset (answer_of s) k t h) flat.1
-answer-free (over s collect_all) h flat = absurd flat.0
+    let parts = two-flat and_then a b flat in
+    sequel-free (from_done (answer_of a) h) (answer_of a h) (answer_of b) (answer-free a h parts.0) (λ g. answer-free b g parts.1)
+answer-free (over s (while_input t)) h flat = answer-free s h flat
+answer-free (over s (while_output k t)) h flat = answer-free s h flat
+answer-free (over s (mapped f)) h flat = applied-free f (answer_of s h).output (answer-free s h flat)
+answer-free (over s (reset_when k t)) h flat = answer-free s (since_reset (answer_of s) k t h) flat
+answer-free (over s collect_all) h flat = cc

@@ -9,13 +9,15 @@ use Rattle.zs_term.specs.declared.term.Func.{Func}
 use Rattle.zs_term.proofs.Sizes.{depth-positive, weight-positive}
 use Rattle.zs_step.specs.declared.decision.Decision.{Decision}
 use Rattle.zs_step.specs.History.{History}
+use Rattle.zs_step.specs.declared.leaf.Leaf.{Leaf as LeafState}
+use Rattle.zs_step.specs.LeafState.{state_leaf}
 use Rattle.zs_step.specs.Answer.{answer_of, leaf_answer, since_reset, later_of, earlier_of, only_if}
 use Rattle.zs_c.specs.declared.program.node.Sizes.{Sizes}
-use Rattle.zs_c.specs.declared.program.node.Rule.{Rule}
 use Rattle.zs_c.specs.declared.program.node.Node.{Node}
 use Rattle.zs_c.specs.declared.program.node.Node.TheVariants.{Leaf, Both, Either, AndThen, WhileInput, WhileOutput, Map, ResetWhen}
 use Rattle.zs_c.specs.Code.{IsCode, held_of, held_size, leaf_held}
-use Rattle.zs_c.specs.Node.{node_at, rule_leaf, sizes_of, IsNode, IsParts}
+use Rattle.zs_c.specs.Node.{node_at, sizes_of, IsNode, IsParts}
+use Rattle.zs_c.specs.Leaves.{new_leaf}
 use Rattle.zs_c.specs.Steps.{StepsCode, StepsBoth, StepsThen}
 use Rattle.zs_c.specs.View.{Tells}
 use Rattle.zs_c.proofs.Codes.{first-code, second-code, part-code, held-length}
@@ -110,9 +112,10 @@ four-clears t code other old new levels n coded read at is part =
     ]
 
 -- the effect of clearing a leaf
-pub leaf-clears : (t : Schedule) (code old new : List ℕ) (levels : ℕ) (n : Node) (r : Rule) → IsCode t code levels → n ≡ node_at code → n ≡ Leaf r →
-    (length old ≡ length (leaf_held (rule_leaf r) []) → new ≡ leaf_held (rule_leaf r) []) → Clears t old new
-leaf-clears t code old new levels n r coded read is clears = clears-as t (leaf (rule_leaf r)) old new (coded-node t code levels n (Leaf r) coded read is) clears
+pub leaf-clears : (t : Schedule) (code old new : List ℕ) (levels : ℕ) (n : Node) (l : LeafState) → IsCode t code levels → n ≡ node_at code → n ≡ Leaf l →
+    (l ≡ new_leaf (state_leaf l) → length old ≡ length (leaf_held (state_leaf l) []) → new ≡ leaf_held (state_leaf l) []) → Clears t old new
+leaf-clears t code old new levels n l coded read is clears =
+    let m = coded-node t code levels n (Leaf l) coded read is in clears-as t (leaf (state_leaf l)) old new m.0 (clears m.1)
 
 -- a step of an equal schedule
 steps-as : (t u : Schedule) (h : History) (words : List ℕ) (now input : ℕ) (d : Decision) (before after : ℕ) → t ≡ u →
@@ -124,15 +127,15 @@ pub code-heavy : (t : Schedule) (before most : ℕ) → before + weight t ≤ mo
 code-heavy t before most room full = omega (arith, room, full, weight-positive t)
 
 -- a step of a leaf
-pub leaf-node : (t : Schedule) (h : History) (code old new : List ℕ) (levels now input : ℕ) (d : Decision) (before after : ℕ) (n : Node) (r : Rule) →
-    IsCode t code levels → n ≡ node_at code → n ≡ Leaf r → old ≡ held_of t h →
-    ((g : History) → old ≡ leaf_held (rule_leaf r) g → new ≡ leaf_held (rule_leaf r) ((now, input) ∷ g)) →
-    ((g : History) → old ≡ leaf_held (rule_leaf r) g → d ≡ (leaf_answer (rule_leaf r) ((now, input) ∷ g)).decision) →
+pub leaf-node : (t : Schedule) (h : History) (code old new : List ℕ) (levels now input : ℕ) (d : Decision) (before after : ℕ) (n : Node) (l : LeafState) →
+    IsCode t code levels → n ≡ node_at code → n ≡ Leaf l → old ≡ held_of t h →
+    ((g : History) → old ≡ leaf_held (state_leaf l) g → new ≡ leaf_held (state_leaf l) ((now, input) ∷ g)) →
+    ((g : History) → old ≡ leaf_held (state_leaf l) g → d ≡ (leaf_answer (state_leaf l) ((now, input) ∷ g)).decision) →
     after ≡ before + 1 → StepsCode t h new now input d before after
-leaf-node t h code old new levels now input d before after n r coded read is held steps decides counted =
-    let m = coded-node t code levels n (Leaf r) coded read is in
-    let first : old ≡ leaf_held (rule_leaf r) h = held ∙ ap (λ x. held_of x h) m in
-    steps-as t (leaf (rule_leaf r)) h new now input d before after m (record { held = steps h first; decides = decides h first; visited = counted })
+leaf-node t h code old new levels now input d before after n l coded read is held steps decides counted =
+    let m = (coded-node t code levels n (Leaf l) coded read is).0 in
+    let first : old ≡ leaf_held (state_leaf l) h = held ∙ ap (λ x. held_of x h) m in
+    steps-as t (leaf (state_leaf l)) h new now input d before after m (record { held = steps h first; decides = decides h first; visited = counted })
 
 -- the step of both parts, by their code
 abbrev pub PartsStep : Sizes → List ℕ → ℕ → ℕ → List ℕ → List ℕ → ℕ → ℕ → Decision → Decision → ℕ → ℕ → Type 0

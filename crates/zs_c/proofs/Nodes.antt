@@ -1,8 +1,6 @@
 -- The code of a schedule is read as its node.
-use Rattle.std.proofs.Common.{◌≡◌, ℕ, List, refl, sym, ap, ◌∙◌, subst}
-use Rattle.zs_term.specs.Schedule.{Schedule, leaf, two, over, plain, counted, exponential, both, either, and_then, while_input, while_output, collect_all, mapped, reset_when}
-use Rattle.zs_term.specs.declared.forms.Plain.TheVariants.{Forever as PlainForever, Identity as PlainIdentity, Elapsed as PlainElapsed}
-use Rattle.zs_term.specs.declared.forms.Counted.TheVariants.{Recurs as CountedRecurs, Spaced as CountedSpaced, Fixed as CountedFixed, Fibonacci as CountedFibonacci, Linear as CountedLinear, Windowed as CountedWindowed}
+use Rattle.std.proofs.Common.{◌≡◌, ℕ, true, List, refl, sym, ap, ◌∙◌, subst}
+use Rattle.zs_term.specs.Schedule.{Schedule, leaf, two, over, both, either, and_then, while_input, while_output, collect_all, mapped, reset_when}
 use Rattle.zs_term.specs.declared.term.Cmp.{Cmp}
 use Rattle.zs_term.specs.declared.term.Cmp.TheVariants.{Lt, Le, Eq, Ne, Gt, Ge}
 use Rattle.zs_term.specs.declared.term.Test.{Test}
@@ -10,10 +8,11 @@ use Rattle.zs_term.specs.declared.term.Pick.{Pick}
 use Rattle.zs_term.specs.declared.term.Pick.TheVariants.{Whole, First as PickFirst, Second as PickSecond, Size as PickSize}
 use Rattle.zs_term.specs.declared.term.Func.{Func}
 use Rattle.zs_term.specs.declared.term.Func.TheVariants.{First, Second, Size, Merge, Const, Add, Mul}
-use Rattle.zs_c.specs.Words.{KeepsNoList}
+use Rattle.zs_step.specs.Memory.{keeps_no_list}
 use Rattle.zs_c.specs.declared.program.node.Node.{Node}
 use Rattle.zs_c.specs.Code.{cmp_word, pick_word, func_word, func_number, code_of}
-use Rattle.zs_c.specs.Node.{cmp_of, test_of, pick_of, func_of, rule_at, node_at, IsNode}
+use Rattle.zs_c.specs.Node.{cmp_of, test_of, pick_of, func_of, node_at, IsNode}
+use Rattle.zs_c.proofs.Leaves.{leaf-node}
 
 -- a comparison
 pub cmp-word : (c : Cmp) → cmp_of (cmp_word c) ≡ c
@@ -50,18 +49,9 @@ pub pick-test-over : (f : Pick → Test → Schedule) (k : Pick) (t : Test) → 
 pick-test-over f k t = ap (λ x. f x (test_of (cmp_word t.cmp) t.than)) (pick-word k) ∙ ap (f k) (test-word t)
 
 -- the code of a schedule is read as the node at the schedule's root
-pub code-node : (t : Schedule) → KeepsNoList t → IsNode (node_at (code_of t)) t
-unfolding node_at rule_at
-code-node (leaf (plain PlainForever)) flat = refl
-code-node (leaf (plain PlainIdentity)) flat = refl
-code-node (leaf (plain PlainElapsed)) flat = refl
-code-node (leaf (counted CountedRecurs n)) flat = refl
-code-node (leaf (counted CountedSpaced n)) flat = refl
-code-node (leaf (counted CountedFixed n)) flat = refl
-code-node (leaf (counted CountedFibonacci n)) flat = refl
-code-node (leaf (counted CountedLinear n)) flat = refl
-code-node (leaf (counted CountedWindowed n)) flat = refl
-code-node (leaf (exponential b f)) flat = refl
+pub code-node : (t : Schedule) → keeps_no_list t ≡ true → IsNode (node_at (code_of t)) t
+unfolding node_at
+code-node (leaf l) flat = leaf-node l
 code-node (two both a b) flat = (a, b, refl, refl)
 code-node (two either a b) flat = (a, b, refl, refl)
 code-node (two and_then a b) flat = (a, b, refl, refl)
@@ -69,8 +59,8 @@ code-node (over s (while_input t)) flat = (s, ap (λ x. over s (while_input x)) 
 code-node (over s (while_output k t)) flat = (s, sym (pick-test-over (λ x y. over s (while_output x y)) k t))
 code-node (over s (mapped f)) flat = (s, ap (λ x. over s (mapped x)) (sym (func-word f)))
 code-node (over s (reset_when k t)) flat = (s, sym (pick-test-over (λ x y. over s (reset_when x y)) k t))
-code-node (over s collect_all) flat = absurd flat.0
+code-node (over s collect_all) flat = cc
 
 -- the same for words that are a schedule's code
-pub read-node : (t : Schedule) (code : List ℕ) (n : Node) → n ≡ node_at code → code ≡ code_of t → KeepsNoList t → IsNode n t
+pub read-node : (t : Schedule) (code : List ℕ) (n : Node) → n ≡ node_at code → code ≡ code_of t → keeps_no_list t ≡ true → IsNode n t
 read-node t code n is coded flat = subst (λ x. IsNode x t) (sym (is ∙ ap node_at coded)) (code-node t flat)

@@ -10,7 +10,7 @@ use Rattle.zs_step.specs.History.{History}
 use Rattle.zs_step.specs.Answer.{answer_of, from_done, is_next}
 use Rattle.zs_step.proofs.VisitBounds.{visits-le}
 use Rattle.zs_c.specs.Code.{held_of, held_size}
-use Rattle.zs_c.specs.Node.{word_at}
+use Rattle.zs_c.specs.Leaves.{word_at}
 use Rattle.zs_c.specs.Steps.{StepsCode, StepsBoth, StepsThen}
 use Rattle.zs_c.proofs.Codes.{held-length}
 use Rattle.zs_c.proofs.Pieces.{parts-second-all, parts-new, then-first-arg, then-first-new, then-second-arg, then-second-new}

@@ -13,7 +13,7 @@ use Rattle.zs_step.specs.Visits.{visits, sequel_visits, reset_visits_if}
 use Rattle.zs_c.specs.Words.{sequel_words}
 use Rattle.zs_step.proofs.VisitBounds.{visits-le}
 use Rattle.zs_c.specs.Code.{held_of, held_size}
-use Rattle.zs_c.specs.Node.{word_at}
+use Rattle.zs_c.specs.Leaves.{word_at}
 use Rattle.zs_c.specs.Steps.{StepsCode, StepsBoth, StepsThen}
 use Rattle.zs_c.proofs.Codes.{held-length}
 

@@ -1,22 +1,22 @@
 -- The text of an output is short: its length fits 64 bits.
-use Rattle.std.proofs.Common.{◌≡◌, ℕ, ◌+◌, ◌*◌, ◌^◌, ◌<◌, ◌≤◌, Option, Some, None, List, [], ◌∷◌, ◌++◌, length, refl, subst, arith}
+use Rattle.std.proofs.Common.{◌≡◌, ℕ, ◌+◌, ◌*◌, ◌^◌, ◌<◌, ◌≤◌, Option, Some, None, List, [], ◌∷◌, ◌++◌, length, refl, sym, true, subst, arith}
 use Rattle.std.specs.Fmt.{decimal}
 use Rattle.std.proofs.lemmas.Fmt.{length-decimal-le}
 use Rattle.std.proofs.lemmas.List.{length-append}
 use Rattle.zs_term.specs.Saturating.{saturated}
 use Rattle.zs_term.specs.Output.{Output, number, pair, left, right, listed, first_in, second_in, merge_in}
 use Rattle.zs_term.specs.OutputText.{output_text}
-use Rattle.zs_term.specs.Schedule.{Schedule, Leaf, weight, leaf, two, over, plain, counted, exponential, both, either, and_then, while_input, while_output, collect_all, mapped, reset_when}
-use Rattle.zs_term.specs.declared.forms.Plain.TheVariants.{Forever, Identity, Elapsed}
-use Rattle.zs_term.specs.declared.forms.Counted.TheVariants.{Recurs, Spaced, Fixed, Fibonacci, Linear, Windowed}
+use Rattle.zs_term.specs.Schedule.{Schedule, Leaf, weight, leaf, two, over, both, either, and_then, while_input, while_output, collect_all, mapped, reset_when}
 use Rattle.zs_term.specs.declared.term.Func.{Func}
 use Rattle.zs_term.specs.declared.term.Func.TheVariants.{First, Second, Size, Merge, Const, Add, Mul}
 use Rattle.zs_term.specs.Output.{applied, size_in, number_in}
 use Rattle.zs_step.specs.History.{History}
-use Rattle.zs_c.specs.Words.{KeepsNoList, sequel_words}
+use Rattle.zs_c.specs.Words.{sequel_words}
+use Rattle.zs_step.specs.Memory.{keeps_no_list}
 use Rattle.zs_step.specs.Answer.{Answer, answer_of, leaf_answer, from_done, sequel_of, since_reset}
 use Rattle.zs_c.specs.Code.{code_of, func_number, held_of, leaf_held}
-use Rattle.zs_c.proofs.Listless.{Listless, answer-free, no-items}
+use Rattle.zs_c.proofs.Leaves.{leaf-number}
+use Rattle.zs_c.proofs.Listless.{Listless, two-flat, answer-free, no-items}
 
 -- each word fits 64 bits
 abbrev pub AllFit : List ℕ → Type 0
@@ -67,16 +67,7 @@ merged-text (listed xs) = omega arith
 
 -- a leaf's output is the number that its words begin with
 leaf-text : (l : Leaf) (h : History) → AllFit (leaf_held l h) → length (output_text (leaf_answer l h).output) ≤ 20
-leaf-text (plain Forever) h all = digits-few _ all.0
-leaf-text (plain Identity) h all = digits-few _ all.0
-leaf-text (plain Elapsed) h all = digits-few _ all.0
-leaf-text (counted Recurs n) h all = digits-few _ all.0
-leaf-text (counted Spaced n) h all = digits-few _ all.0
-leaf-text (counted Fixed n) h all = digits-few _ all.0
-leaf-text (counted Fibonacci n) h all = digits-few _ all.0
-leaf-text (counted Linear n) h all = digits-few _ all.0
-leaf-text (counted Windowed n) h all = digits-few _ all.0
-leaf-text (exponential b f) h all = digits-few _ all.0
+leaf-text l h all = subst (λ o. length (output_text o) ≤ 20) (sym (leaf-number l h)) (digits-few _ all.0)
 
 -- the result of a function is no longer than its argument, or a number
 applied-text : (f : Func) (o : Output) (x : ℕ) → Listless o → func_number f < 2 ^ 64 → length (output_text o) ≤ x → 20 ≤ x → length (output_text (applied f o)) ≤ x
@@ -96,32 +87,35 @@ sequel-text None a b x y first second = let short = first refl in simp length-ap
 sequel-text (Some g) a b x y first second = let short = second g refl in simp length-append (omega (arith, short))
 
 -- the text of an output of a schedule whose words of code and of state fit 64 bits
-pub text-bound : (t : Schedule) (h : History) → KeepsNoList t → AllFit (code_of t) → AllFit (held_of t h) → length (output_text (answer_of t h).output) ≤ 32 * weight t
+pub text-bound : (t : Schedule) (h : History) → keeps_no_list t ≡ true → AllFit (code_of t) → AllFit (held_of t h) → length (output_text (answer_of t h).output) ≤ 32 * weight t
 text-bound (leaf l) h flat coded held = omega (arith, leaf-text l h held)
 text-bound (two both a b) h flat coded held =
+    let parts = two-flat both a b flat in
     let codes = coded.1.1.1 in
-    let first = text-bound a h flat.0 (fit-first (code_of a) (code_of b) codes) (fit-first (held_of a h) (held_of b h) held) in
-    let second = text-bound b h flat.1 (fit-second (code_of a) (code_of b) codes) (fit-second (held_of a h) (held_of b h) held) in
+    let first = text-bound a h parts.0 (fit-first (code_of a) (code_of b) codes) (fit-first (held_of a h) (held_of b h) held) in
+    let second = text-bound b h parts.1 (fit-second (code_of a) (code_of b) codes) (fit-second (held_of a h) (held_of b h) held) in
     omega (arith, pair-text (answer_of a h).output (answer_of b h).output (32 * weight a) (32 * weight b) first second)
 text-bound (two either a b) h flat coded held =
+    let parts = two-flat either a b flat in
     let codes = coded.1.1.1 in
-    let first = text-bound a h flat.0 (fit-first (code_of a) (code_of b) codes) (fit-first (held_of a h) (held_of b h) held) in
-    let second = text-bound b h flat.1 (fit-second (code_of a) (code_of b) codes) (fit-second (held_of a h) (held_of b h) held) in
+    let first = text-bound a h parts.0 (fit-first (code_of a) (code_of b) codes) (fit-first (held_of a h) (held_of b h) held) in
+    let second = text-bound b h parts.1 (fit-second (code_of a) (code_of b) codes) (fit-second (held_of a h) (held_of b h) held) in
     omega (arith, pair-text (answer_of a h).output (answer_of b h).output (32 * weight a) (32 * weight b) first second)
 text-bound (two and_then a b) h flat coded held =
+    let parts = two-flat and_then a b flat in
     let codes = coded.1.1.1 in
     omega (
       arith,
       sequel-text (from_done (answer_of a) h) (answer_of a h) (answer_of b) (32 * weight a) (32 * weight b)
-          (λ none. text-bound a h flat.0 (fit-first (code_of a) (code_of b) codes)
+          (λ none. text-bound a h parts.0 (fit-first (code_of a) (code_of b) codes)
           (fit-first (held_of a h) (held_of b []) (subst (λ o. AllFit (sequel_words o (held_of a) (held_of b) h)) none held).1))
-          (λ g some. text-bound b g flat.1 (fit-second (code_of a) (code_of b) codes)
+          (λ g some. text-bound b g parts.1 (fit-second (code_of a) (code_of b) codes)
           (fit-second (held_of a []) (held_of b g) (subst (λ o. AllFit (sequel_words o (held_of a) (held_of b) h)) some held).1)),
     )
-text-bound (over s (while_input t)) h flat coded held = omega (arith, text-bound s h flat.1 coded.1.1.1 held)
-text-bound (over s (while_output k t)) h flat coded held = omega (arith, text-bound s h flat.1 coded.1.1.1.1 held)
+text-bound (over s (while_input t)) h flat coded held = omega (arith, text-bound s h flat coded.1.1.1 held)
+text-bound (over s (while_output k t)) h flat coded held = omega (arith, text-bound s h flat coded.1.1.1.1 held)
 text-bound (over s (mapped f)) h flat coded held =
-    let short = text-bound s h flat.1 coded.1.1.1 held in
-    applied-text f (answer_of s h).output (32 * weight (over s (mapped f))) (answer-free s h flat.1) coded.1.1.0 (omega (arith, short)) (omega arith)
-text-bound (over s (reset_when k t)) h flat coded held = omega (arith, text-bound s (since_reset (answer_of s) k t h) flat.1 coded.1.1.1.1 held)
-text-bound (over s collect_all) h flat coded held = absurd flat.0
+    let short = text-bound s h flat coded.1.1.1 held in
+    applied-text f (answer_of s h).output (32 * weight (over s (mapped f))) (answer-free s h flat) coded.1.1.0 (omega (arith, short)) (omega arith)
+text-bound (over s (reset_when k t)) h flat coded held = omega (arith, text-bound s (since_reset (answer_of s) k t h) flat coded.1.1.1.1 held)
+text-bound (over s collect_all) h flat coded held = cc

@@ -1,24 +1,24 @@
 -- A view shows the output that the words of a place represent, by the node of its code.
-use Rattle.std.proofs.Common.{◌≡◌, ◌⊎◌, ℕ, ◌-◌, List, take, drop, inl, inr, refl, sym, ap, ◌∙◌, subst, arith}
+use Rattle.std.proofs.Common.{◌≡◌, ◌⊎◌, ℕ, ◌-◌, List, take, drop, inl, inr, sym, ap, ◌∙◌, subst, arith}
 use Rattle.zs_term.specs.Output.{Output, number, number_in, applied, size_in}
-use Rattle.zs_term.specs.Schedule.{Schedule, Leaf, leaf, two, over, plain, counted, exponential, both, either, and_then, while_input, while_output, mapped, reset_when}
-use Rattle.zs_term.specs.declared.forms.Plain.TheVariants.{Forever as PlainForever, Identity as PlainIdentity, Elapsed as PlainElapsed}
-use Rattle.zs_term.specs.declared.forms.Counted.TheVariants.{Recurs as CountedRecurs, Spaced as CountedSpaced, Fixed as CountedFixed, Fibonacci as CountedFibonacci, Linear as CountedLinear, Windowed as CountedWindowed}
+use Rattle.zs_term.specs.Schedule.{Schedule, leaf, two, over, both, either, and_then, while_input, while_output, mapped, reset_when}
 use Rattle.zs_term.specs.declared.term.Test.{Test}
 use Rattle.zs_term.specs.declared.term.Pick.{Pick}
 use Rattle.zs_term.specs.declared.term.Func.{Func}
 use Rattle.zs_term.proofs.Sizes.{depth-positive}
-use Rattle.zs_step.specs.History.{History}
+use Rattle.zs_step.specs.declared.leaf.Leaf.{Leaf}
+use Rattle.zs_step.specs.LeafState.{state_leaf}
 use Rattle.zs_step.specs.Answer.{answer_of, leaf_answer}
 use Rattle.zs_c.specs.declared.program.node.Sizes.{Sizes}
-use Rattle.zs_c.specs.declared.program.node.Rule.{Rule}
 use Rattle.zs_c.specs.declared.program.node.Node.{Node}
 use Rattle.zs_c.specs.declared.program.node.Node.TheVariants.{Leaf as NodeLeaf, Both, Either, AndThen, WhileInput, WhileOutput, Map, ResetWhen}
 use Rattle.zs_c.specs.declared.program.outputs.Place.{Place}
 use Rattle.zs_c.specs.declared.program.outputs.View.TheVariants.{Pair, Left, Right}
 use Rattle.zs_c.specs.Code.{IsCode, held_of}
-use Rattle.zs_c.specs.Node.{word_at, node_at, rule_leaf, IsNode}
+use Rattle.zs_c.specs.Node.{node_at, IsNode}
+use Rattle.zs_c.specs.Leaves.{word_at}
 use Rattle.zs_c.specs.View.{Tells, PlaceTells, Shows}
+use Rattle.zs_c.proofs.Leaves.{leaf-number}
 use Rattle.zs_c.proofs.Nodes.{read-node}
 use Rattle.zs_c.proofs.Listless.{answer-free, no-items}
 use Rattle.zs_c.proofs.ViewLemmas.{TellsParts, both-tells, either-tells, left-tells, right-tells, while_input-tells, while_output-tells, reset_when-tells, mapped-tells}
@@ -47,27 +47,14 @@ pub told-as : (code words : List ℕ) (levels : ℕ) (o : Output) (t : Tells cod
 told-as code words levels o t u is =
     (subst (λ x. IsCode x code levels) is t.coded, t.held ∙ ap (λ x. held_of x t.history) is, t.output ∙ ap (λ x. (answer_of x t.history).output) is)
 
--- a leaf's output is a number
-leaf-number : (l : Leaf) (h : History) → (leaf_answer l h).output ≡ number (number_in (leaf_answer l h).output)
-leaf-number (plain PlainForever) h = refl
-leaf-number (plain PlainIdentity) h = refl
-leaf-number (plain PlainElapsed) h = refl
-leaf-number (counted CountedRecurs n) h = refl
-leaf-number (counted CountedSpaced n) h = refl
-leaf-number (counted CountedFixed n) h = refl
-leaf-number (counted CountedFibonacci n) h = refl
-leaf-number (counted CountedLinear n) h = refl
-leaf-number (counted CountedWindowed n) h = refl
-leaf-number (exponential b f) h = refl
-
 -- a leaf's output is its first word
-pub leaf-shows : (r : Rule) (code words : List ℕ) (levels w : ℕ) (o : Output) (n : Node) → n ≡ node_at code → n ≡ NodeLeaf r → w ≡ word_at words 0 →
+pub leaf-shows : (l : Leaf) (code words : List ℕ) (levels w : ℕ) (o : Output) (n : Node) → n ≡ node_at code → n ≡ NodeLeaf l → w ≡ word_at words 0 →
     Tells code words levels o → o ≡ number w
-leaf-shows r code words levels w o n read is first t =
-    let u = told-as code words levels o t (leaf (rule_leaf r)) (told-node code words levels o n (NodeLeaf r) read is t) in
+leaf-shows l code words levels w o n read is first t =
+    let u = told-as code words levels o t (leaf (state_leaf l)) (told-node code words levels o n (NodeLeaf l) read is t).0 in
     let h = t.history in
-    let same : word_at words 0 ≡ number_in (leaf_answer (rule_leaf r) h).output = ap (λ x. word_at x 0) u.1 in
-    u.2 ∙ leaf-number (rule_leaf r) h ∙ ap number (sym (first ∙ same))
+    let same : word_at words 0 ≡ number_in (leaf_answer (state_leaf l) h).output = ap (λ x. word_at x 0) u.1 in
+    u.2 ∙ leaf-number (state_leaf l) h ∙ ap number (sym (first ∙ same))
 
 -- two places that are the parts of one, and whose words begin at an index
 pub record ArePartsOf (s : Sizes) (p a b : Place) (at : ℕ) : Type 0 where

@@ -2,11 +2,9 @@
 -- two schedules has the sizes of the first after its tag: the number of words of its code, and of
 -- its state. `one_schedule` of `src/program/laws.rt` states that words are the program of at most
 -- one schedule.
-use Rattle.std.specs.Prelude.{◌≡◌, ℕ, ◌≤◌, List, [], ◌∷◌, ◌++◌, length}
+use Rattle.std.specs.Prelude.{◌≡◌, ℕ, ◌≤◌, true, List, [], ◌∷◌, ◌++◌, length}
 use Rattle.zs_term.specs.Output.{number_in}
-use Rattle.zs_term.specs.Schedule.{Schedule, leaf, two, over, Leaf, plain, counted, exponential, Pairing, both, either, and_then, Modifier, while_input, while_output, collect_all, mapped, reset_when, depth}
-use Rattle.zs_term.specs.declared.forms.Plain.TheVariants.{Forever, Identity, Elapsed}
-use Rattle.zs_term.specs.declared.forms.Counted.TheVariants.{Recurs, Spaced, Fixed, Fibonacci, Linear, Windowed}
+use Rattle.zs_term.specs.Schedule.{Schedule, leaf, two, over, Leaf, Pairing, both, either, and_then, Modifier, while_input, while_output, collect_all, mapped, reset_when, depth}
 use Rattle.zs_term.specs.declared.term.Cmp.{Cmp}
 use Rattle.zs_term.specs.declared.term.Cmp.TheVariants.{Lt, Le, Eq, Ne, Gt, Ge}
 use Rattle.zs_term.specs.declared.term.Pick.{Pick}
@@ -14,8 +12,9 @@ use Rattle.zs_term.specs.declared.term.Pick.TheVariants.{Whole, First as PickFir
 use Rattle.zs_term.specs.declared.term.Func.{Func}
 use Rattle.zs_term.specs.declared.term.Func.TheVariants.{First, Second, Size, Merge, Const, Add, Mul}
 use Rattle.zs_step.specs.History.{History}
+use Rattle.zs_step.specs.Memory.{keeps_no_list}
 use Rattle.zs_step.specs.Answer.{answer_of, leaf_answer, from_done, since_reset}
-use Rattle.zs_c.specs.Words.{leaf_words, sequel_words, KeepsNoList}
+use Rattle.zs_c.specs.Words.{leaf_code, leaf_words, sequel_words}
 
 -- the words of a leaf's state: its last output, and what the next step needs to know
 abbrev pub leaf_held : Leaf → History → List ℕ
@@ -73,19 +72,6 @@ func_number (Const n) = n
 func_number (Add n) = n
 func_number (Mul n) = n
 
--- the words of a leaf
-abbrev pub leaf_code : Leaf → List ℕ
-leaf_code (plain Forever) = 1 ∷ []
-leaf_code (plain Identity) = 2 ∷ []
-leaf_code (plain Elapsed) = 3 ∷ []
-leaf_code (counted Recurs k) = 4 ∷ (k ∷ [])
-leaf_code (counted Spaced d) = 5 ∷ (d ∷ [])
-leaf_code (counted Fixed p) = 6 ∷ (p ∷ [])
-leaf_code (counted Fibonacci o) = 7 ∷ (o ∷ [])
-leaf_code (counted Linear n) = 8 ∷ (n ∷ [])
-leaf_code (counted Windowed n) = 9 ∷ (n ∷ [])
-leaf_code (exponential b f) = 10 ∷ (b ∷ (f ∷ []))
-
 -- the tag of an operator between two schedules
 abbrev pub pairing_tag : Pairing → ℕ
 pairing_tag both = 11
@@ -109,5 +95,5 @@ code_of (over s m) = modifier_code m ++ code_of s
 -- words are the code of a schedule that stores no list and is at most `levels` deep
 pub record IsCode (t : Schedule) (code : List ℕ) (levels : ℕ) : Type 0 where
   pub is : code ≡ code_of t
-  pub flat : KeepsNoList t
+  pub flat : keeps_no_list t ≡ true
   pub deep : depth t ≤ levels

@@ -10,6 +10,7 @@ pub mod Code
 pub mod Program
 pub mod Programs
 -- Named by private contracts only.
+pub mod Leaves
 pub mod Node
 pub mod Opened
 pub mod Rooms

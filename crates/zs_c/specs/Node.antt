@@ -1,7 +1,7 @@
 -- How words are read as a node: by their tag, whatever follows it. `proofs/Nodes.antt` proves that
 -- the code of a schedule is read as its node.
-use Rattle.std.specs.Prelude.{◌≡◌, ℕ, ◌==◌, if◌then◌else◌, List, length, take, drop, slice_index_or}
-use Rattle.zs_term.specs.Schedule.{Schedule, leaf, two, over, Leaf as LeafRule, exponential, forever, identity, elapsed, recurs, spaced, fixed, fibonacci, linear, windowed, both, either, and_then, while_input, while_output, mapped, reset_when}
+use Rattle.std.specs.Prelude.{◌≡◌, ℕ, ◌==◌, if◌then◌else◌, List, length, take, drop}
+use Rattle.zs_term.specs.Schedule.{Schedule, leaf, two, over, both, either, and_then, while_input, while_output, mapped, reset_when}
 use Rattle.zs_term.specs.declared.term.Cmp.{Cmp}
 use Rattle.zs_term.specs.declared.term.Cmp.TheVariants.{Lt, Le, Eq, Ne, Gt, Ge}
 use Rattle.zs_term.specs.declared.term.Test.{Test}
@@ -10,15 +10,11 @@ use Rattle.zs_term.specs.declared.term.Pick.TheVariants.{Whole, First as PickFir
 use Rattle.zs_term.specs.declared.term.Func.{Func}
 use Rattle.zs_term.specs.declared.term.Func.TheVariants.{First, Second, Size, Merge, Const, Add, Mul}
 use Rattle.zs_c.specs.declared.program.node.Sizes.{Sizes}
-use Rattle.zs_c.specs.declared.program.node.Rule.{Rule}
-use Rattle.zs_c.specs.declared.program.node.Rule.TheVariants.{Forever, Identity, Elapsed, Recurs, Spaced, Fixed, Fibonacci, Linear, Windowed, Exponential}
 use Rattle.zs_c.specs.declared.program.node.Node.{Node}
 use Rattle.zs_c.specs.declared.program.node.Node.TheVariants.{Leaf, Both, Either, AndThen, WhileInput, WhileOutput, Map, ResetWhen}
+use Rattle.zs_step.specs.LeafState.{state_leaf}
+use Rattle.zs_c.specs.Leaves.{word_at, rule_at, new_leaf}
 use Rattle.zs_c.specs.Code.{code_of, held_size, IsCode}
-
--- a word, or 0 past the end
-abbrev pub word_at : List ℕ → ℕ → ℕ
-word_at words at = slice_index_or words at 0
 
 -- the comparison of a word
 abbrev pub cmp_of : ℕ → Cmp
@@ -42,15 +38,6 @@ func_of w n =
 abbrev pub sizes_at : List ℕ → Sizes
 sizes_at code = record { code = word_at code 1; state = word_at code 2 }
 
--- the leaf of a tag and the words after it
-unfoldable pub rule_at : List ℕ → Rule
-rule_at code =
-    let w = word_at code 0 in
-    if w == 2 then Identity else (if w == 3 then Elapsed else (if w == 4 then Recurs (word_at code 1) else
-    (if w == 5 then Spaced (word_at code 1) else (if w == 6 then Fixed (word_at code 1) else
-    (if w == 7 then Fibonacci (word_at code 1) else (if w == 8 then Linear (word_at code 1) else
-    (if w == 9 then Windowed (word_at code 1) else (if w == 10 then Exponential (word_at code 1) (word_at code 2) else Forever))))))))
-
 -- the node of a tag and the words after it
 unfoldable pub node_at : List ℕ → Node
 node_at code =
@@ -59,28 +46,15 @@ node_at code =
     (if w == 13 then AndThen (sizes_at code) else (if w == 14 then WhileInput (test_of (word_at code 1) (word_at code 2)) else
     (if w == 15 then WhileOutput (pick_of (word_at code 1)) (test_of (word_at code 2) (word_at code 3)) else
     (if w == 16 then Map (func_of (word_at code 1) (word_at code 2)) else
-    (if w == 17 then ResetWhen (pick_of (word_at code 1)) (test_of (word_at code 2) (word_at code 3)) else Leaf (rule_at code)))))))
+    (if w == 17 then ResetWhen (pick_of (word_at code 1)) (test_of (word_at code 2) (word_at code 3)) else Leaf (new_leaf (rule_at code))))))))
 
 -- the sizes of an operator's first part
 abbrev pub sizes_of : Schedule → Sizes
 sizes_of a = record { code = length (code_of a); state = held_size a }
 
--- the leaf that a rule represents
-abbrev pub rule_leaf : Rule → LeafRule
-rule_leaf Forever = forever
-rule_leaf Identity = identity
-rule_leaf Elapsed = elapsed
-rule_leaf (Recurs n) = recurs n
-rule_leaf (Spaced n) = spaced n
-rule_leaf (Fixed n) = fixed n
-rule_leaf (Fibonacci n) = fibonacci n
-rule_leaf (Linear n) = linear n
-rule_leaf (Windowed n) = windowed n
-rule_leaf (Exponential b f) = exponential b f
-
 -- a schedule with this node at its root
 abbrev pub IsNode : Node → Schedule → Type 0
-IsNode (Leaf r) t = t ≡ leaf (rule_leaf r)
+IsNode (Leaf l) t = (t ≡ leaf (state_leaf l)) × (l ≡ new_leaf (state_leaf l))
 IsNode (Both n) t = (a : Schedule) × (b : Schedule) × (t ≡ two both a b) × (n ≡ sizes_of a)
 IsNode (Either n) t = (a : Schedule) × (b : Schedule) × (t ≡ two either a b) × (n ≡ sizes_of a)
 IsNode (AndThen n) t = (a : Schedule) × (b : Schedule) × (t ≡ two and_then a b) × (n ≡ sizes_of a)

@@ -3,7 +3,7 @@
 use Rattle.std.specs.Prelude.{◌≡◌, ℕ, ◌+◌, ◌*◌, ◌%◌, ◌^◌, true, List, ◌∷◌, ◌++◌, length, fold}
 use Rattle.zs_term.specs.Schedule.{Schedule, is_within_limits}
 use Rattle.zs_step.specs.History.{History, last_moment}
-use Rattle.zs_c.specs.Words.{KeepsNoList}
+use Rattle.zs_step.specs.Memory.{keeps_no_list}
 use Rattle.zs_c.specs.declared.program.opening.TheConstants.{PROGRAM_VERSION, CHECK_FACTOR}
 use Rattle.zs_c.specs.Code.{code_of, held_of, held_size}
 
@@ -32,7 +32,7 @@ program_of t = PROGRAM_VERSION ∷ (program_check t ∷ body_of t)
 pub record IsProgram (program : List ℕ) (t : Schedule) : Type 0 where
   pub more : List ℕ
   pub is : program ≡ program_of t ++ more
-  pub flat : KeepsNoList t
+  pub flat : keeps_no_list t ≡ true
   pub within : is_within_limits t ≡ true
 
 -- the state of a program after a history: its check word, the last moment, and the words of the

@@ -1,6 +1,6 @@
 -- Why a text is rejected, why its schedule has no result for a list of pairs, and why it has no
 -- program.
-use Rattle.std.specs.Prelude.{◌≡◌, ℕ, List, [], Err}
+use Rattle.std.specs.Prelude.{◌≡◌, ℕ, true, false, List, [], Err}
 use Rattle.std.specs.Str.{IsUtf8}
 use Rattle.std.specs.Str.Lossy.{utf8_valid_len}
 use Rattle.zs_term.specs.Schedule.{Schedule}
@@ -9,7 +9,7 @@ use Rattle.zs_term.specs.Verdict.{verdict_of}
 use Rattle.zs_c.specs.declared.refusal.Refusal.{Refusal}
 use Rattle.zs_c.specs.declared.refusal.Refusal.TheVariants.{NoPair, Falls, NotUtf8, Memory, KeepsList, NoRoom, Text}
 use Rattle.zs_c.specs.Pairs.{FallsFirstAt}
-use Rattle.zs_c.specs.Words.{KeepsNoList}
+use Rattle.zs_step.specs.Memory.{keeps_no_list}
 
 -- the text spells a schedule
 abbrev pub SpellsSome : List ℕ → Type 0
@@ -40,13 +40,13 @@ IsRefusal text pairs NoRoom = ⊥
 -- the text spells a schedule that stores no list
 pub record SpellsFlat (text : List ℕ) (t : Schedule) : Type 0 where
   pub spelled : SpellsSchedule text t
-  pub flat : KeepsNoList t
+  pub flat : keeps_no_list t ≡ true
 
 -- the text spells a schedule that stores a list
 pub record SpellsListed (text : List ℕ) : Type 0 where
   pub term : Schedule
   pub spelled : SpellsSchedule text term
-  pub listed : KeepsNoList term → ⊥
+  pub listed : keeps_no_list term ≡ false
 
 -- Why there is no program: the text is rejected; or it spells a schedule that stores a list.
 abbrev pub IsSizeRefusal : List ℕ → Refusal → Type 0

@@ -1,14 +1,26 @@
--- The words in which a program's state stores a leaf and an `andThenEither`, and the schedules that
--- have a program: those that store no list.
+-- The words of a leaf in a program and in its state, and those of an `andThenEither` in a state.
 use Rattle.std.specs.Prelude.{ℕ, suc, ◌*◌, ◌^◌, Option, Some, None, List, [], ◌∷◌, ◌++◌, length}
 use Rattle.zs_term.specs.Saturating.{saturated}
-use Rattle.zs_term.specs.Schedule.{Schedule, leaf, two, over, Leaf, plain, counted, exponential, Modifier, while_input, while_output, collect_all, mapped, reset_when}
+use Rattle.zs_term.specs.Schedule.{Leaf, plain, counted, exponential}
 use Rattle.zs_term.specs.declared.forms.Plain.TheVariants.{Forever, Identity, Elapsed}
 use Rattle.zs_term.specs.declared.forms.Counted.TheVariants.{Recurs, Spaced, Fixed, Fibonacci, Linear, Windowed}
 use Rattle.zs_step.specs.History.{History, first_moment}
 use Rattle.zs_step.specs.Answer.{fibonacci_number, next_run}
 
--- the words of a leaf
+-- the words of a leaf in a program: its tag and its numbers
+abbrev pub leaf_code : Leaf → List ℕ
+leaf_code (plain Forever) = 1 ∷ []
+leaf_code (plain Identity) = 2 ∷ []
+leaf_code (plain Elapsed) = 3 ∷ []
+leaf_code (counted Recurs k) = 4 ∷ (k ∷ [])
+leaf_code (counted Spaced d) = 5 ∷ (d ∷ [])
+leaf_code (counted Fixed p) = 6 ∷ (p ∷ [])
+leaf_code (counted Fibonacci o) = 7 ∷ (o ∷ [])
+leaf_code (counted Linear n) = 8 ∷ (n ∷ [])
+leaf_code (counted Windowed n) = 9 ∷ (n ∷ [])
+leaf_code (exponential b f) = 10 ∷ (b ∷ (f ∷ []))
+
+-- the words of a leaf in a state
 abbrev pub leaf_words : Leaf → History → List ℕ
 leaf_words (plain Forever) h = saturated (length h) ∷ []
 leaf_words (counted Recurs k) h = saturated (length h) ∷ []
@@ -26,17 +38,3 @@ leaf_words (counted Windowed n) h = saturated (length h) ∷ (first_moment h ∷
 abbrev pub sequel_words : Option History → (History → List ℕ) → (History → List ℕ) → History → List ℕ
 sequel_words None a b h = 0 ∷ (a h ++ b [])
 sequel_words (Some g) a b h = 1 ∷ (a [] ++ b g)
-
--- a modifier that stores no list
-abbrev pub CollectsNothing : Modifier → Type 0
-CollectsNothing (while_input t) = Unit {0}
-CollectsNothing (while_output k t) = Unit {0}
-CollectsNothing collect_all = ⊥
-CollectsNothing (mapped f) = Unit {0}
-CollectsNothing (reset_when k t) = Unit {0}
-
--- a schedule that stores no list
-abbrev pub KeepsNoList : Schedule → Type 0
-KeepsNoList (leaf l) = Unit {0}
-KeepsNoList (two p a b) = KeepsNoList a × KeepsNoList b
-KeepsNoList (over s m) = CollectsNothing m × KeepsNoList s

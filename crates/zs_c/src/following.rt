@@ -10,8 +10,8 @@ ghost use Rattle.zs_c.specs.declared.refusal.Refusal.TheVariants.{Memory};
 use crate::refusal::Refusal;
 use crate::seen::Seen;
 use std::alloc::Global;
-use zs_step::{Stepped, Stepper};
-use zs_term::{Checked, Out};
+use zs_step::{Compiled, Stepped};
+use zs_term::Checked;
 
 // Returns the index of the first pair whose moment is below that of the pair before it.
 pub(crate) fn first_fall(seen: &[Seen]) -> Option<u64>
@@ -28,8 +28,8 @@ pub(crate) fn first_fall(seen: &[Seen]) -> Option<u64>
     None
 }
 
-// Returns the result at the last pair: steps a new `Stepper` once for each pair. Fails only with
-// `Memory`.
+// Returns the result at the last pair: steps a new `Compiled` once for each pair, and makes the
+// last output alone. Fails only with `Memory`.
 pub(crate) fn last_answer(
     alloc: Global,
     checked: Checked,
@@ -40,11 +40,11 @@ pub(crate) fn last_answer(
     ensures ok { IfOk result (IsAnswer (schedule_of checked) (history_of (pairs_of seen.now))) }
     ensures err { IfErr result (λ why. why ≡ Memory) }
 {
-    let mut stepper = Stepper::new(alloc, &checked)?;
+    let mut compiled = Compiled::new(alloc, checked)?;
     let before = seen.len() - 1;
     for i in 0..before {
-        let _stepped = stepper.step_over(seen[i].moment, seen[i].input, Out::Num(0))?;
+        let _step = compiled.advance(seen[i].moment, seen[i].input)?;
     }
-    let stepped = stepper.step_over(seen[before].moment, seen[before].input, Out::Num(0))?;
+    let stepped = compiled.step(seen[before].moment, seen[before].input)?;
     Ok(stepped)
 }

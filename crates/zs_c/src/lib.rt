@@ -12,7 +12,6 @@
 mod answering;
 mod bounding;
 mod exports;
-mod flat;
 mod following;
 mod program;
 mod refusal;

@@ -20,10 +20,13 @@ pub(crate) fn put_behind(room: &mut [u8], first: usize, text: &[u8])
     }
 }
 
-// Writes words to the front of a buffer that has at least their length.
+// Writes words to the front of a buffer, if it has at least their length.
+#[inline(always)]
 pub(crate) fn put_words(room: &mut [u64], words: &[u64])
-    requires fits { length words.now ≤ length room.old }
-    ensures front { room.new ≡ words.now ++ drop (length words.now) room.old }
+    ensures front { length words.now ≤ length room.old
+        → room.new ≡ words.now ++ drop (length words.now) room.old }
 {
-    room[..words.len()].copy_from_slice(words);
+    if words.len() <= room.len() {
+        room[..words.len()].copy_from_slice(words);
+    }
 }

@@ -6,7 +6,7 @@ use Rattle.zs_drive.specs.Clocks.{RisesFrom, AllBefore}
 use Rattle.zs_drive.specs.Values.{JobRecord}
 use Rattle.zs_drive.specs.declared.progress.Phase.TheVariants.{Waiting}
 use Rattle.zs_drive.specs.Timeline.{Timeline, waiting, timeline_of, from, poll_moments}
-use Rattle.zs_drive.specs.Recorded.{AllEnded, IsOnTimeline}
+use Rattle.zs_drive.specs.Recorded.{AllContinued, IsOnTimeline}
 use Rattle.zs_drive.specs.declared.progress.Progress.{Progress}
 use Rattle.zs_drive.specs.Progress.{IsProgress, HasState, job_in, moments_in, attempts_of}
 use Rattle.zs_effect.specs.Scripts.{IsScript}
@@ -32,8 +32,8 @@ unfolding timeline_of from
 timeline-none p is = ap (timeline_of (job_in p)) (moments-none p.log is)
 
 pub IsTask-new : (t : Inside) (p : Progress) → t.progress.value ≡ p → p.phase ≡ Waiting p.start → p.polls ≡ 0 → p.seen ≡ 0
-    → IsLog p.log [] → StandsFor p.stepper [] → IsScript p.script → t.broken ≡ false → IsTask t
-unfolding AllEnded
+    → IsLog p.log [] → StandsFor p.schedule [] → IsScript p.script → t.broken ≡ false → IsTask t
+unfolding AllContinued
 IsTask-new t p is phase polls seen log stands script whole =
     let at = timeline-none p log in
     let none : attempts_of p ≡ [] = ap (λ (t : Timeline). t.attempts) at in

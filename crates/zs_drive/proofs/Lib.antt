@@ -16,4 +16,3 @@ pub mod Follows
 pub mod Polling
 pub mod Rising
 pub mod Standing
-pub mod Placing

@@ -1,6 +1,6 @@
 -- A job's timeline, before and after one more due poll.
 use Rattle.std.proofs.Common.{◌≡◌, ℕ, ◌+◌, ◌-◌, ◌^◌, ◌≤◌, max, List, [], ◌∷◌, ◌++◌, length, length-append, Option, ◌⊎◌, inl, inr, refl, sym, ◌∙◌, ap, subst, arith}
-use Rattle.std.specs.Prelude.{Some, None, IsSome, IfSome, is_some, not, flat_map}
+use Rattle.std.specs.Prelude.{true, Some, None, IfSome, is_some, not, flat_map}
 use Rattle.std.proofs.lemmas.Grind.{fold-append}
 use Rattle.zs_effect.specs.Scripts.{IsScript}
 use Rattle.zs_effect.specs.declared.script.Outcome.{Outcome}
@@ -13,7 +13,8 @@ use Rattle.zs_drive.specs.declared.record.Ending.{Ending}
 use Rattle.zs_drive.specs.Clocks.{first_tick_from, AllBefore, max_tick}
 use Rattle.zs_drive.specs.Values.{JobRecord, AttemptedValue}
 use Rattle.zs_drive.specs.Timeline.{Timeline, before, number_of, ending_by_outcome, beat_after, by_answer, by_outcome, timeline_of, moments_of, poll_moments}
-use Rattle.zs_drive.specs.Recorded.{AllEnded, IsOnTimeline}
+use Rattle.zs_drive.specs.Told.{end_continued}
+use Rattle.zs_drive.specs.Recorded.{AllContinued, IsOnTimeline}
 use Rattle.zs_drive.specs.DriverRules.{pair_of, longer_by, history_from, history_after}
 use Rattle.zs_drive.proofs.Ticks.{lt_cases, AllBefore-none}
 use Rattle.zs_drive.proofs.Moments.{AllBefore-later, AreTicks-append, moments-one, moments-two}
@@ -25,17 +26,17 @@ use Rattle.zs_drive.proofs.Following.{Keeps, timeline_of-keeps}
 abbrev pub after : List AttemptedValue → Timeline → Timeline
 after attempts timeline = record { attempts = attempts ++ timeline.attempts; due = timeline.due; ending = timeline.ending }
 
--- one more tick doesn't change attempts that ended
-pub extend-ended : (job : JobRecord) (c : ℕ) (h : History) (first rest : List AttemptedValue) (due : Option ℕ) (ending : Option Ending) → AllEnded first
+-- one more tick doesn't change attempts after which the schedule continued
+pub extend-continued : (job : JobRecord) (c : ℕ) (h : History) (first rest : List AttemptedValue) (due : Option ℕ) (ending : Option Ending) → AllContinued first
     → extend job c h (first ++ rest) due ending ≡ after first (extend job c (history_from h first) rest due ending)
-unfolding extend AllEnded
-extend-ended job c h [] rest due ending all = refl
-extend-ended job c h (attempt ∷ first) rest due ending all =
-    elim attempt.ended as (λ o. IsSome o
+unfolding extend AllContinued
+extend-continued job c h [] rest due ending all = refl
+extend-continued job c h (attempt ∷ first) rest due ending all =
+    elim attempt.ended as (λ o. end_continued o ≡ true
     → elim o [ None ↦ extend_last job c h attempt.begun due ending | Some end ↦ before attempt (extend job c ((end.at, number_of end.outcome) ∷ h) (first ++ rest) due ending) ]
     ≡ after (attempt ∷ first) (extend job c (history_from (longer_by h o) first) rest due ending)) [
-      | None ↦ λ some. cc
-      | Some end ↦ λ some. ap (before attempt) (extend-ended job c (pair_of end ∷ h) first rest due ending all.1)
+      | None ↦ λ on. cc
+      | Some end ↦ λ on. ap (before attempt) (extend-continued job c (pair_of end ∷ h) first rest due ending all.1)
     ] all.0
 
 pub history_after-running : (attempts : List AttemptedValue) (s : ℕ) → history_after (attempts ++ record { begun = s; ended = None } ∷ []) ≡ history_after attempts

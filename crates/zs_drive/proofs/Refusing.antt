@@ -22,7 +22,7 @@ use Rattle.zs_drive.specs.declared.progress.Progress.{Progress}
 use Rattle.zs_drive.specs.declared.task.Task.TheInside.{Inside}
 use Rattle.zs_drive.specs.Values.{JobRecord}
 use Rattle.zs_drive.specs.Timeline.{number_of, ending_by_outcome, ending_by_schedule, by_answer, by_outcome, timeline_of}
-use Rattle.zs_drive.specs.Recorded.{AllEnded}
+use Rattle.zs_drive.specs.Recorded.{AllContinued}
 use Rattle.zs_drive.specs.DriverRules.{history_after}
 use Rattle.zs_drive.specs.Progress.{IsProgress, HasState, job_in, attempts_of, moments_in, timeline_in, due_of}
 use Rattle.zs_drive.specs.Turns.{Advances, StandsStill, IsSame, IsOver, IsEarly, IsDuePhase, TakesMemory}
@@ -73,7 +73,7 @@ polled-at p x progress script waits due =
 asked-unlike : (p : Progress) (phase : Phase) → p.phase ≡ phase → IsProgress p → IsScript p.script → IsDuePhase p.seen p.phase → TakesMemory p.mode p.phase
     → IsUnlike p.mode (timeline_of (job_in p) (moments_in p ++ p.seen ∷ [])).ending
 asked-unlike p (Waiting x) is progress script due takes =
-    let all : AllEnded (attempts_of p) = rw is at progress.phase in
+    let all : AllContinued (attempts_of p) = rw is at progress.phase in
     let soon : x ≤ p.seen = rw is at due in
     let made = (rw is at (polled-at p x progress script (ap due_of is) soon)) ∙ sym (begins (job_in p) p.seen (attempts_of p) x all soon) in
     rw made (λ outcome ending gives ends. cc)

@@ -11,11 +11,11 @@ use Rattle.zs_step.specs.declared.decision.Decision.TheVariants.{Stop, Next}
 use Rattle.zs_drive.specs.declared.record.Ending.{Ending}
 use Rattle.zs_drive.specs.Values.{JobRecord, AttemptedValue}
 use Rattle.zs_drive.specs.Timeline.{Timeline, before, number_of, ended_attempt, ending_by_outcome, ending_by_schedule, beat_after, by_answer, by_outcome}
-use Rattle.zs_drive.specs.Recorded.{AllEnded}
+use Rattle.zs_drive.specs.Recorded.{AllContinued}
 use Rattle.zs_drive.specs.DriverRules.{history_after}
 use Rattle.zs_drive.proofs.Extending.{resume, extend, extend_none, extend_last, extended, resume-soon, resume-late, close-soon}
 use Rattle.zs_drive.proofs.Timing.{length-history_after}
-use Rattle.zs_drive.proofs.Records.{after, extend-ended}
+use Rattle.zs_drive.proofs.Records.{after, extend-continued}
 
 -- an attempt that began at s and is running
 abbrev pub runs : ℕ → AttemptedValue
@@ -23,24 +23,24 @@ runs s = record { begun = s; ended = None }
 
 module _ (job : JobRecord) (seen : ℕ) where
   -- the due attempt begins
-  pub begins : (attempts : List AttemptedValue) (x : ℕ) → AllEnded attempts → x ≤ seen
+  pub begins : (attempts : List AttemptedValue) (x : ℕ) → AllContinued attempts → x ≤ seen
       → record { attempts = attempts ++ runs seen ∷ []; due = Some (saturated (seen + (entry_at job.script (length attempts + 1)).ms)); ending = None }
       ≡ extended job seen [] (record { attempts = attempts; due = Some x; ending = None })
   unfolding extend extend_none
   begins attempts x all due =
       let same : length (history_after attempts) ≡ length attempts = length-history_after attempts all in
-      let whole = rw (append-nil attempts) at (extend-ended job seen [] attempts [] (Some x) None all) in
+      let whole = rw (append-nil attempts) at (extend-continued job seen [] attempts [] (Some x) None all) in
       let soon = rw same at (resume-soon job seen (history_after attempts) x due) in
       sym (whole ∙ ap (after attempts) soon)
 
   -- the attempt that runs ends
-  pub closes : (others : List AttemptedValue) (s w : ℕ) → AllEnded others → w ≤ seen
+  pub closes : (others : List AttemptedValue) (s w : ℕ) → AllContinued others → w ≤ seen
       → extended job seen [] (record { attempts = others ++ runs s ∷ []; due = Some w; ending = None })
       ≡ after others (let outcome = (beat_after job (history_after others)).outcome in by_outcome job (resume job seen) (history_after others) s seen outcome (ending_by_outcome job.mode outcome))
   unfolding extend extend_last
-  closes others s w all due = extend-ended job seen [] others (runs s ∷ []) (Some w) None all ∙ ap (after others) (close-soon job seen (history_after others) s w due)
+  closes others s w all due = extend-continued job seen [] others (runs s ∷ []) (Some w) None all ∙ ap (after others) (close-soon job seen (history_after others) s w due)
 
-  module _ (others : List AttemptedValue) (s w : ℕ) (outcome : Outcome) (all : AllEnded others) (due : w ≤ seen) (is : outcome ≡ (beat_after job (history_after others)).outcome) where
+  module _ (others : List AttemptedValue) (s w : ℕ) (outcome : Outcome) (all : AllContinued others) (due : w ≤ seen) (is : outcome ≡ (beat_after job (history_after others)).outcome) where
     -- the outcome itself ends the job
     pub ends-by_outcome : (ending : Ending) → ending_by_outcome job.mode outcome ≡ Some ending
         → record { attempts = others ++ ended_attempt s seen outcome None ∷ []; due = None; ending = Some ending }

@@ -1,6 +1,6 @@
 -- A timeline that follows from the start on satisfies the rules of the drivers at each place.
 use Rattle.std.proofs.Common.{◌≡◌, ℕ, suc, ◌+◌, max, List, [], ◌∷◌, ◌++◌, length, length-append, append_assoc, append-nil, Option, refl, sym, ◌∙◌, ap, subst, arith}
-use Rattle.std.specs.Prelude.{Some, None, IsSome}
+use Rattle.std.specs.Prelude.{true, Some, None}
 use Rattle.std.proofs.lemmas.Grind.{fold-append}
 use Rattle.zs_effect.specs.declared.script.Outcome.{Outcome}
 use Rattle.zs_term.specs.Saturating.{saturated}
@@ -11,26 +11,27 @@ use Rattle.zs_step.specs.Answer.{Answer, answer, answer_of}
 use Rattle.zs_drive.specs.Clocks.{first_tick_from}
 use Rattle.zs_drive.specs.Values.{JobRecord, AttemptedValue, EndedValue}
 use Rattle.zs_drive.specs.Timeline.{Timeline, number_of, ending_by_outcome, ended_attempt, beat_after}
-use Rattle.zs_drive.specs.Recorded.{AllEnded}
+use Rattle.zs_drive.specs.Told.{continued, end_continued, step_continued}
+use Rattle.zs_drive.specs.Recorded.{AllContinued}
 use Rattle.zs_drive.specs.DriverRules.{pair_of, longer_by, history_from, history_after, IsTimeline, IsEnd, IsLast, StopsBy, StopsOn, BeginsAfter, asked_unless}
 use Rattle.zs_drive.proofs.Follows.{GoesOn, IsAsked, EndsAt, Follows}
 use Rattle.zs_drive.proofs.Ticks.{lt_cases, first_tick_from-again}
 
-length-history_from : (h : History) (attempts : List AttemptedValue) → AllEnded attempts → length (history_from h attempts) ≡ length h + length attempts
-unfolding AllEnded
+length-history_from : (h : History) (attempts : List AttemptedValue) → AllContinued attempts → length (history_from h attempts) ≡ length h + length attempts
+unfolding AllContinued
 length-history_from h [] all = omega arith
 length-history_from h (attempt ∷ attempts) all =
-    elim attempt.ended as (λ o. IsSome o → length (history_from (longer_by h o) attempts) ≡ length h + suc (length attempts))
-    [ None ↦ λ some. cc | Some end ↦ λ some. let rest = length-history_from (pair_of end ∷ h) attempts all.1 in omega arith ] all.0
+    elim attempt.ended as (λ o. end_continued o ≡ true → length (history_from (longer_by h o) attempts) ≡ length h + suc (length attempts))
+    [ None ↦ λ on. cc | Some end ↦ λ on. let rest = length-history_from (pair_of end ∷ h) attempts all.1 in omega arith ] all.0
 
-pub length-history_after : (attempts : List AttemptedValue) → AllEnded attempts → length (history_after attempts) ≡ length attempts
+pub length-history_after : (attempts : List AttemptedValue) → AllContinued attempts → length (history_after attempts) ≡ length attempts
 length-history_after attempts all = length-history_from [] attempts all ∙ omega arith
 
-pub AllEnded-append : (attempts : List AttemptedValue) (s e : ℕ) (outcome : Outcome) (step : Option Answer) → AllEnded attempts
-    → AllEnded (attempts ++ ended_attempt s e outcome step ∷ [])
-unfolding AllEnded
-AllEnded-append [] s e outcome step all = (refl, tt)
-AllEnded-append (attempt ∷ attempts) s e outcome step all = (all.0, AllEnded-append attempts s e outcome step all.1)
+pub AllContinued-append : (attempts : List AttemptedValue) (last : AttemptedValue) → AllContinued attempts → continued last ≡ true
+    → AllContinued (attempts ++ last ∷ [])
+unfolding AllContinued
+AllContinued-append [] last all on = (on, tt)
+AllContinued-append (attempt ∷ attempts) last all on = (all.0, AllContinued-append attempts last all.1 on)
 
 pub history_after-ended : (attempts : List AttemptedValue) (s e : ℕ) (outcome : Outcome) (step : Option Answer)
     → history_after (attempts ++ ended_attempt s e outcome step ∷ []) ≡ (e, number_of outcome) ∷ history_after attempts
@@ -70,22 +71,22 @@ module _ (job : JobRecord) (ticks : List ℕ) (timeline : Timeline) where
   -- the rules from an attempt on, which follows others that ended
   record Reaches (p later : List AttemptedValue) (a : AttemptedValue) : Type 0 where
     pub x : ℕ
-    pub all : AllEnded p
+    pub all : AllContinued p
     pub follows : Rest (a ∷ later) (history_after p) x
 
-  reaches : (earlier later : List AttemptedValue) (a : AttemptedValue) (p : List AttemptedValue) (x : ℕ) → AllEnded p
+  reaches : (earlier later : List AttemptedValue) (a : AttemptedValue) (p : List AttemptedValue) (x : ℕ) → AllContinued p
       → Rest (earlier ++ a ∷ later) (history_after p) x → Reaches (p ++ earlier) later a
   unfolding Follows
   reaches [] later a p x all follows = rw (append-nil p) (record { x = x; all = all; follows = follows })
   reaches (b ∷ earlier) later a p x all follows =
       let g = goes (earlier ++ a ∷ later) (history_after p) b.begun b.ended (λ none. omega (arith, ap (λ (xs : List AttemptedValue). length xs) none, length-append earlier (a ∷ later))) follows.1 in
       let q : AttemptedValue = record { begun = b.begun; ended = Some g.end } in
-      let rest = reaches earlier later a (p ++ q ∷ []) (max g.y g.end.at) (AllEnded-append p b.begun g.end.at g.end.outcome g.end.step all)
+      let rest = reaches earlier later a (p ++ q ∷ []) (max g.y g.end.at) (AllContinued-append p q all (ap step_continued g.step))
       (rw (history_after-ended p b.begun g.end.at g.end.outcome g.end.step) g.follows) in
       subst (λ (ps : List AttemptedValue). Reaches ps later a) (append_assoc p (q ∷ []) earlier ∙ ap (λ (o : Option EndedValue). p ++ record { begun = b.begun; ended = o } ∷ earlier) (sym g.is)) rest
 
   -- how an attempt ended
-  end-keeps : (p later : List AttemptedValue) (s : ℕ) (ended : Option EndedValue) → AllEnded p → Ends later (history_after p) s ended → IsEnd job ticks p s ended
+  end-keeps : (p later : List AttemptedValue) (s : ℕ) (ended : Option EndedValue) → AllContinued p → Ends later (history_after p) s ended → IsEnd job ticks p s ended
   end-keeps p later s None all ends = let own = rw (length-history_after p all) at ends in own.0
   end-keeps p later s (Some end) all ends =
       let own = rw (length-history_after p all) at ends in
@@ -108,7 +109,7 @@ module _ (job : JobRecord) (ticks : List ℕ) (timeline : Timeline) where
       )
 
   -- how the list ends
-  last-keeps : (p : List AttemptedValue) (s : ℕ) (ended : Option EndedValue) → AllEnded p → Ends [] (history_after p) s ended → IsLast job ticks p s timeline.due timeline.ending ended
+  last-keeps : (p : List AttemptedValue) (s : ℕ) (ended : Option EndedValue) → AllContinued p → Ends [] (history_after p) s ended → IsLast job ticks p s timeline.due timeline.ending ended
   unfolding Follows
   last-keeps p s None all ends = let own = rw (length-history_after p all) at ends in (own.2, own.3)
   last-keeps p s (Some end) all ends =
@@ -126,7 +127,7 @@ module _ (job : JobRecord) (ticks : List ℕ) (timeline : Timeline) where
 
   -- a timeline that follows from the start on satisfies the rules at each place
   pub timeline-follows : Follows job ticks timeline.attempts timeline.due timeline.ending [] job.start → IsTimeline job ticks timeline
-  unfolding Follows AllEnded
+  unfolding Follows AllContinued
   timeline-follows follows =
       let from : (attempts : List AttemptedValue) → timeline.attempts ≡ attempts → Rest attempts [] job.start = λ attempts is. rw is at follows in
       let at : (earlier later : List AttemptedValue) (a : AttemptedValue) → timeline.attempts ≡ earlier ++ a ∷ later → Reaches earlier later a =

@@ -12,7 +12,6 @@ pub mod DriverLaws
 pub mod Told
 -- What the code stores and writes. Only private contracts, views and invariants name these.
 pub mod ScheduleCode
-pub mod Pieces
 pub mod Recorded
 pub mod Log
 pub mod Progress

@@ -1,5 +1,5 @@
 -- What a log stores: some attempts as lines with their moments, and the others as records.
-use Rattle.std.specs.Prelude.{◌≡◌, ℕ, ◌+◌, ◌≤◌, ⊤, List, [], ◌++◌, length, map, flat_map, fold, option_to_list, string_bytes, Some, vec_len}
+use Rattle.std.specs.Prelude.{◌≡◌, ℕ, ◌+◌, ◌≤◌, List, [], ◌++◌, length, map, flat_map, fold, option_to_list, string_bytes, None, vec_len}
 use Rattle.std.specs.Vec.{vec_capacity}
 use Rattle.zs_drive.specs.declared.record.Attempted.{Attempted}
 use Rattle.zs_drive.specs.declared.record.Keeping.{Keeping}
@@ -9,7 +9,7 @@ use Rattle.zs_drive.specs.declared.log.Log.{Log}
 use Rattle.zs_drive.specs.declared.log.Log.TheVariants.{Recorded, Written}
 use Rattle.zs_drive.specs.Values.{AttemptedValue, attempted_of}
 use Rattle.zs_drive.specs.PollMoments.{moments_of, with_moment}
-use Rattle.zs_drive.specs.Lines.{attempts_lines}
+use Rattle.zs_drive.specs.Lines.{attempt_lines, attempts_lines}
 use Rattle.zs_drive.specs.Told.{told_of, recorded_of}
 
 -- how it stores attempts
@@ -60,14 +60,14 @@ pub record IsSameLog (old new : Log) : Type 0 where
   pub moments : moments_told new ≡ moments_told old
   pub records : map attempted_of (records_in new) ≡ map attempted_of (records_in old)
 
--- an attempt begins, and the one before it, if any, is appended to the lines
-pub record BeginsNext (old new : Told) (next : Attempted) : Type 0 where
-  pub lines : string_bytes new.lines ≡ string_bytes old.lines ++ attempts_lines (old.count + 1) (map attempted_of (option_to_list old.last))
-  pub count : new.count ≡ old.count + length (option_to_list old.last)
-  pub moments : new.moments.items ≡ old.moments.items ++ flat_map moments_of (map attempted_of (option_to_list old.last))
-  pub last : new.last ≡ Some next
+-- one more attempt is stored as lines, and none as a record
+pub record Tells (old new : Told) (attempt : AttemptedValue) : Type 0 where
+  pub lines : string_bytes new.lines ≡ string_bytes old.lines ++ attempt_lines (old.count + 1) attempt
+  pub count : new.count ≡ old.count + 1
+  pub moments : new.moments.items ≡ old.moments.items ++ moments_of attempt
+  pub last : new.last ≡ None
 
--- if it stores records, their list has no spare capacity
+-- it stores records, and their list has no spare capacity
 abbrev pub IsFull : Log → Type 0
 IsFull (Recorded records) = vec_capacity records ≤ vec_len records
-IsFull (Written told) = ⊤
+IsFull (Written told) = ⊥

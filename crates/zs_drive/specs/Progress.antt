@@ -1,7 +1,7 @@
 -- What the fields of a task represent, and their invariant.
 use Rattle.std.specs.Prelude.{◌≡◌, ℕ, ◌≤◌, List, Option, Some, None, ⊤, string_bytes}
-use Rattle.zs_step.specs.declared.stepper.Stepper.{Stepper}
-use Rattle.zs_step.specs.Compiled.{stepper_schedule}
+use Rattle.zs_step.specs.declared.compiled.Compiled.{Compiled}
+use Rattle.zs_step.specs.Compiled.{compiled_schedule}
 use Rattle.zs_drive.specs.declared.record.Ending.{Ending}
 use Rattle.zs_drive.specs.declared.progress.Phase.{Phase}
 use Rattle.zs_drive.specs.declared.progress.Phase.TheVariants.{Waiting, Running, Over}
@@ -10,7 +10,7 @@ use Rattle.zs_drive.specs.Clocks.{max_tick}
 use Rattle.zs_drive.specs.Values.{JobRecord, AttemptedValue}
 use Rattle.zs_drive.specs.Timeline.{Timeline, timeline_of}
 use Rattle.zs_drive.specs.Log.{IsLog, log_moments}
-use Rattle.zs_drive.specs.Recorded.{AllEnded, IsOnTimeline, IsStepped, IsRunning}
+use Rattle.zs_drive.specs.Recorded.{AllContinued, IsOnTimeline, IsStepped, IsRunning}
 
 -- the due moment
 abbrev pub due_of : Phase → Option ℕ
@@ -26,7 +26,7 @@ ending_of (Over ending) = Some ending
 
 -- the job that the fields represent
 abbrev pub job_in : Progress → JobRecord
-job_in p = record { name = string_bytes p.name; mode = p.mode; schedule = stepper_schedule p.stepper; start = p.start; script = p.script }
+job_in p = record { name = string_bytes p.name; mode = p.mode; schedule = compiled_schedule p.schedule; start = p.start; script = p.script }
 
 -- the moments at which it was polled while it was due
 abbrev pub moments_in : Progress → List ℕ
@@ -40,17 +40,17 @@ attempts_of p = (timeline_of (job_in p) (moments_in p)).attempts
 abbrev pub timeline_in : Progress → Timeline
 timeline_in p = record { attempts = attempts_of p; due = due_of p.phase; ending = ending_of p.phase }
 
--- All attempts have ended while it waits; all but the last while one runs.
+-- The schedule continued after all attempts while it waits, after all but the last while one runs.
 abbrev pub IsPhase : JobRecord → List AttemptedValue → ℕ → Phase → Type 0
-IsPhase job attempts seen (Waiting due) = AllEnded attempts
+IsPhase job attempts seen (Waiting due) = AllContinued attempts
 IsPhase job attempts seen (Running attempt) = (others : List AttemptedValue) × (s : ℕ) × IsRunning job attempts attempt seen others s
 IsPhase job attempts seen (Over ending) = ⊤
 
 -- Until the job is over, the schedule's state represents its attempts.
-abbrev pub IsSteppedIn : List AttemptedValue → Stepper → ℕ → Phase → Type 0
-IsSteppedIn attempts stepper seen (Waiting due) = IsStepped attempts stepper seen
-IsSteppedIn attempts stepper seen (Running attempt) = IsStepped attempts stepper seen
-IsSteppedIn attempts stepper seen (Over ending) = ⊤
+abbrev pub IsSteppedIn : List AttemptedValue → Compiled → ℕ → Phase → Type 0
+IsSteppedIn attempts schedule seen (Waiting due) = IsStepped attempts schedule seen
+IsSteppedIn attempts schedule seen (Running attempt) = IsStepped attempts schedule seen
+IsSteppedIn attempts schedule seen (Over ending) = ⊤
 
 -- the log stores the attempts of the job on the clock of the log's moments
 pub record IsProgress (p : Progress) : Type 0 where
@@ -63,4 +63,4 @@ pub record IsProgress (p : Progress) : Type 0 where
 
 -- the schedule's state is the one that the phase needs
 abbrev pub HasState : Progress → Type 0
-HasState p = IsSteppedIn (attempts_of p) p.stepper p.seen p.phase
+HasState p = IsSteppedIn (attempts_of p) p.schedule p.seen p.phase

@@ -1,17 +1,18 @@
 -- The invariant of a task's attempts, over plain values.
-use Rattle.std.specs.Prelude.{◌≡◌, ℕ, ◌≤◌, List, [], ◌∷◌, ◌++◌, length, None, IsSome}
+use Rattle.std.specs.Prelude.{◌≡◌, ℕ, ◌≤◌, List, [], ◌∷◌, ◌++◌, length, true, None}
 use Rattle.zs_effect.specs.Attempts.{AttemptValue}
-use Rattle.zs_step.specs.declared.stepper.Stepper.{Stepper}
+use Rattle.zs_step.specs.declared.compiled.Compiled.{Compiled}
 use Rattle.zs_step.specs.Compiled.{StandsFor, last_seen}
 use Rattle.zs_drive.specs.Clocks.{AreTicks}
 use Rattle.zs_drive.specs.Values.{JobRecord, AttemptedValue}
 use Rattle.zs_drive.specs.Timeline.{Timeline, timeline_of, poll_moments, beat_after}
 use Rattle.zs_drive.specs.DriverRules.{history_after}
+use Rattle.zs_drive.specs.Told.{continued}
 
--- no attempt runs
-unfoldable pub AllEnded : List AttemptedValue → Type 0
-AllEnded [] = Unit {0}
-AllEnded (attempt ∷ attempts) = IsSome attempt.ended × AllEnded attempts
+-- the schedule continued after each attempt
+unfoldable pub AllContinued : List AttemptedValue → Type 0
+AllContinued [] = Unit {0}
+AllContinued (attempt ∷ attempts) = (continued attempt ≡ true) × AllContinued attempts
 
 -- the timeline is that of the job on the clock of its poll moments; `polls` is their number
 pub record IsOnTimeline (job : JobRecord) (timeline : Timeline) (polls : ℕ) : Type 0 where
@@ -20,14 +21,14 @@ pub record IsOnTimeline (job : JobRecord) (timeline : Timeline) (polls : ℕ) : 
   pub counted : polls ≡ length (poll_moments timeline.attempts)
   pub few : length timeline.attempts ≤ polls
 
--- the schedule's state represents the ended attempts, and was stepped at `seen` at the latest
-pub record IsStepped (attempts : List AttemptedValue) (stepper : Stepper) (seen : ℕ) : Type 0 where
-  pub stands : StandsFor stepper (history_after attempts)
-  pub past : last_seen stepper ≤ seen
+-- the schedule's state represents the attempts, and was stepped at `seen` at the latest
+pub record IsStepped (attempts : List AttemptedValue) (schedule : Compiled) (seen : ℕ) : Type 0 where
+  pub stands : StandsFor schedule (history_after attempts)
+  pub past : last_seen schedule ≤ seen
 
--- the last attempt runs: it began at s, after others that ended
+-- the last attempt runs: it began at s, after others after which the schedule continued
 pub record IsRunning (job : JobRecord) (attempts : List AttemptedValue) (attempt : AttemptValue) (seen : ℕ) (others : List AttemptedValue) (s : ℕ) : Type 0 where
   pub last : attempts ≡ others ++ record { begun = s; ended = None } ∷ []
-  pub ended : AllEnded others
+  pub continued : AllContinued others
   pub outcome : attempt.outcome ≡ (beat_after job (history_after others)).outcome
   pub saw : attempt.seen ≤ seen

@@ -1,5 +1,5 @@
 -- What contracts know about a task, and what a poll does to it.
-use Rattle.std.specs.Prelude.{◌≡◌, ℕ, ◌≤◌, Bool, List, [], ◌∷◌, ◌++◌, Option, Some, None, Result, Ok, Err, IsSomeAnd, nat_lt, if◌then◌else◌}
+use Rattle.std.specs.Prelude.{◌≡◌, ℕ, ◌≤◌, Bool, false, List, [], ◌∷◌, ◌++◌, Option, Some, None, Result, Ok, Err, IsSomeAnd, nat_lt, if◌then◌else◌}
 use Rattle.futures.specs.declared.task.Poll.{Poll}
 use Rattle.futures.specs.declared.task.Poll.TheVariants.{Ready, Pending}
 use Rattle.zs_effect.specs.declared.script.Outcome.{Outcome}
@@ -17,6 +17,10 @@ pub record TaskValue : Type 0 where
   pub moments : List ℕ
   pub seen : ℕ
   pub broken : Bool
+
+-- a task that was not polled and is unbroken, at moment 0
+abbrev pub new_task : ℕ → JobRecord → Keeping → TaskValue
+new_task number job keeps = record { number = number; job = job; keeps = keeps; moments = []; seen = 0; broken = false }
 
 -- the timeline of a job after polls at these moments: that on the clock that ticks at them
 abbrev pub timeline_at : JobRecord → List ℕ → Timeline

@@ -17,7 +17,6 @@
 mod fault;
 mod job;
 mod laws;
-mod line;
 mod lines;
 mod log;
 mod progress;

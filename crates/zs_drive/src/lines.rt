@@ -1,125 +1,136 @@
-//! Attempts as lines of text. Lines are written from their end, so that they are appended by one
-//! push.
-ghost use Rattle.std.specs.Prelude.{◌≡◌, ◌++◌, ◌+◌, ◌≤◌, [], length, true, false, Some, codes, OnOk, OnErr, string_bytes};
-ghost use Rattle.std.specs.Fmt.{decimal};
-ghost use Rattle.zs_term.specs.Output.{output_of};
-ghost use Rattle.zs_term.specs.OutputText.{IsBeginning, output_text};
-ghost use Rattle.zs_drive.specs.Values.{attempted_of};
-ghost use Rattle.zs_step.specs.Answer.{answer};
-ghost use Rattle.zs_drive.specs.Timeline.{ended_attempt};
-ghost use Rattle.zs_drive.specs.Lines.{attempt_lines, decision_text, outcome_text};
-ghost use Rattle.zs_drive.specs.Pieces.{begun_text, ended_text, stepped_text};
+//! Attempts as lines of text.
+#![tactic(auto, using(zs_term::proofs::Texts::begins_with_itself, zs_term::proofs::Texts::begins_pushed, zs_term::proofs::Texts::begins_both))]
 
-use crate::line::{Line, ROOM};
-use crate::record::{Attempted, Ended};
+ghost use Rattle.std.specs.Prelude.{◌≡◌, ◌++◌, Some, codes, OnOk, OnErr, string_bytes};
+ghost use Rattle.std.specs.Fmt.{decimal};
+ghost use Rattle.zs_term.specs.OutputText.{IsBeginning};
+ghost use Rattle.zs_step.specs.Answer.{answer};
+ghost use Rattle.zs_step.specs.Compiled.{compiled_output};
+ghost use Rattle.zs_drive.specs.Values.{attempted_of, step_of};
+ghost use Rattle.zs_drive.specs.Timeline.{ended_attempt};
+ghost use Rattle.zs_drive.specs.Lines.{attempt_lines, decision_text, outcome_text, step_lines};
+
+use crate::record::Attempted;
 use std::alloc::AllocError;
 use zs_effect::Outcome;
-use zs_step::Decision;
-use zs_term::{Out, append_out};
+use zs_step::{Compiled, Decision};
+use zs_term::{Out, append_number, append_out};
 
-// Puts a space and how an attempt ended before the rest.
-#[inline(always)]
-fn put_outcome(line: &mut Line, outcome: Outcome)
-    requires room { 25 + length line.old ≤ ROOM }
-    ensures text { line.new ≡ codes " " ++ outcome_text outcome ++ line.old }
-    ensures len { length line.new ≤ 25 + length line.old }
+// If a function fails, the text may end with some of what it appends, unless it says otherwise.
+
+// Appends the line of an attempt up to the moment at which it began.
+fn push_begun(text: &mut String, number: u64, begun: u64) -> Result<(), AllocError>
+    ensures text { OnOk result
+        (string_bytes text.new
+        ≡ string_bytes text.old
+        ++ (codes "attempt " ++ decimal number ++ codes " " ++ decimal begun ++ codes "..")) }
+    ensures kept { IsBeginning (string_bytes text.old) (string_bytes text.new) }
+{
+    text.push_str("attempt ")?;
+    append_number(text, number)?;
+    text.push_str(" ")?;
+    append_number(text, begun)?;
+    text.push_str("..")
+}
+
+// Appends an outcome.
+fn push_outcome(text: &mut String, outcome: Outcome) -> Result<(), AllocError>
+    ensures text { OnOk result
+        (string_bytes text.new ≡ string_bytes text.old ++ outcome_text outcome) }
+    ensures kept { IsBeginning (string_bytes text.old) (string_bytes text.new) }
 {
     match outcome {
         Outcome::Good(value) => {
-            line.put_number(value);
-            line.put(" ok ");
+            text.push_str("ok ")?;
+            append_number(text, value)
         }
         Outcome::Bad(code) => {
-            line.put_number(code);
-            line.put(" err ");
+            text.push_str("err ")?;
+            append_number(text, code)
         }
     }
 }
 
-// Puts a space and what a schedule decided before the rest.
-#[inline(always)]
-fn put_decision(line: &mut Line, decision: Decision)
-    requires room { 26 + length line.old ≤ ROOM }
-    ensures text { line.new ≡ codes " " ++ decision_text decision ++ line.old }
-    ensures len { length line.new ≤ 26 + length line.old }
+// Appends the rest of the line of an attempt that has ended.
+fn push_end(text: &mut String, at: u64, outcome: Outcome) -> Result<(), AllocError>
+    ensures text { OnOk result
+        (string_bytes text.new
+        ≡ string_bytes text.old
+        ++ (decimal at ++ codes " " ++ outcome_text outcome ++ codes "\n")) }
+    ensures kept { IsBeginning (string_bytes text.old) (string_bytes text.new) }
+{
+    append_number(text, at)?;
+    text.push_str(" ")?;
+    push_outcome(text, outcome)?;
+    text.push_str("\n")
+}
+
+// Appends the line of a step up to the schedule's output.
+fn push_step_number(text: &mut String, number: u64) -> Result<(), AllocError>
+    ensures text { OnOk result
+        (string_bytes text.new
+        ≡ string_bytes text.old ++ (codes "step " ++ decimal number ++ codes " out ")) }
+    ensures kept { IsBeginning (string_bytes text.old) (string_bytes text.new) }
+{
+    text.push_str("step ")?;
+    append_number(text, number)?;
+    text.push_str(" out ")
+}
+
+// Appends the rest of that line.
+fn push_decision(text: &mut String, decision: Decision) -> Result<(), AllocError>
+    ensures text { OnOk result
+        (string_bytes text.new
+        ≡ string_bytes text.old ++ (codes " " ++ decision_text decision ++ codes "\n")) }
+    ensures kept { IsBeginning (string_bytes text.old) (string_bytes text.new) }
 {
     match decision {
-        Decision::Stop => line.put(" done"),
+        Decision::Stop => text.push_str(" done\n"),
         Decision::Next(next) => {
-            line.put_number(next);
-            line.put(" next ");
+            text.push_str(" next ")?;
+            append_number(text, next)?;
+            text.push_str("\n")
         }
     }
 }
 
-// Puts an output before the rest if it is a number or a pair of numbers, and returns whether it is.
-#[inline(always)]
-fn put_numbers(line: &mut Line, out: &Out) -> bool
-    requires room { 43 + length line.old ≤ ROOM }
-    ensures text { result ≡ true → line.new ≡ output_text (output_of out.now) ++ line.old }
-    ensures same { result ≡ false → line.new ≡ line.old }
-    ensures len { length line.new ≤ 43 + length line.old }
+// Appends the line of a step, if the schedule was stepped.
+fn push_step(
+    text: &mut String,
+    number: u64,
+    step: &Option<(Out, Decision)>,
+) -> Result<(), AllocError>
+    ensures text { OnOk result
+        (string_bytes text.new ≡ string_bytes text.old ++ step_lines number (step_of step.now)) }
+    ensures kept { IsBeginning (string_bytes text.old) (string_bytes text.new) }
 {
-    match out {
-        Out::Num(n) => {
-            line.put_number(*n);
-            true
+    match step {
+        None => Ok(()),
+        Some((out, decision)) => {
+            push_step_number(text, number)?;
+            append_out(text, out)?;
+            push_decision(text, *decision)
         }
-        Out::Pair(a, b) => match (a.as_ref(), b.as_ref()) {
-            (Out::Num(a), Out::Num(b)) => {
-                line.put(")");
-                line.put_number(*b);
-                line.put(",");
-                line.put_number(*a);
-                line.put("(");
-                true
-            }
-            (_, _) => false,
-        },
-        Out::Left(_) | Out::Right(_) | Out::Items(_) => false,
     }
 }
 
-// Puts the beginning of an attempt before the rest.
-#[inline(always)]
-fn put_begun(line: &mut Line, number: u64, begun: u64)
-    requires room { 51 + length line.old ≤ ROOM }
-    ensures text { line.new ≡ begun_text number begun ++ line.old }
-    ensures len { length line.new ≤ 51 + length line.old }
+// Appends the lines of a record.
+fn push_attempt(text: &mut String, number: u64, attempt: &Attempted) -> Result<(), AllocError>
+    ensures text { OnOk result (string_bytes text.new
+        ≡ string_bytes text.old ++ attempt_lines number (attempted_of attempt.now)) }
+    ensures kept { IsBeginning (string_bytes text.old) (string_bytes text.new) }
 {
-    line.put("..");
-    line.put_number(begun);
-    line.put(" ");
-    line.put_number(number);
-    line.put("attempt ");
+    push_begun(text, number, attempt.begun)?;
+    match &attempt.ended {
+        None => text.push_str(" running\n"),
+        Some(ended) => {
+            push_end(text, ended.at, ended.outcome)?;
+            push_step(text, number, &ended.step)
+        }
+    }
 }
 
-// Puts the line of an attempt that has ended, without the end of the line, before the rest.
-#[inline(always)]
-fn put_ended(line: &mut Line, number: u64, begun: u64, at: u64, outcome: Outcome)
-    requires room { 96 + length line.old ≤ ROOM }
-    ensures text { line.new ≡ ended_text number begun at outcome ++ line.old }
-    ensures len { length line.new ≤ 96 + length line.old }
-{
-    put_outcome(line, outcome);
-    line.put_number(at);
-    put_begun(line, number, begun);
-}
-
-// Puts what is before the output of a step before the rest.
-#[inline(always)]
-fn put_stepped(line: &mut Line, number: u64, begun: u64, at: u64, outcome: Outcome)
-    requires room { 127 + length line.old ≤ ROOM }
-    ensures text { line.new ≡ stepped_text number begun at outcome ++ line.old }
-    ensures len { length line.new ≤ 127 + length line.old }
-{
-    line.put(" out ");
-    line.put_number(number);
-    line.put("\nstep ");
-    put_ended(line, number, begun, at, outcome);
-}
-
-/// Adds the lines of the attempt with this number, counted from 1. If that fails, the text is
+/// Appends the lines of the attempt with this number, counted from 1. If that fails, the text is
 /// unchanged.
 pub fn append_attempt(text: &mut String, number: u64, attempt: &Attempted) -> Result<(), AllocError>
     ensures text { OnOk result (string_bytes text.new
@@ -135,61 +146,27 @@ pub fn append_attempt(text: &mut String, number: u64, attempt: &Attempted) -> Re
     added
 }
 
-// Adds the lines of an attempt after which the schedule was stepped.
-#[tactic(auto, using(zs_term::proofs::Texts::begins_with_itself, zs_term::proofs::Texts::begins_pushed, zs_term::proofs::Texts::begins_both))]
-fn push_stepped(
+// Appends the lines of an attempt that has ended. The output is that of the schedule's last step.
+pub(crate) fn push_stepped(
     text: &mut String,
     number: u64,
     begun: u64,
-    ended: &Ended,
-    out: &Out,
+    at: u64,
+    outcome: Outcome,
     decision: Decision,
+    schedule: &Compiled,
 ) -> Result<(), AllocError>
-    ensures text { OnOk result (string_bytes text.new
+    ensures text { OnOk result
+        (string_bytes text.new
         ≡ string_bytes text.old
         ++ attempt_lines number
-        (ended_attempt begun ended.now.at ended.now.outcome
-        (Some (answer (output_of out.now) decision)))) }
+        (ended_attempt begun at outcome
+        (Some (answer (compiled_output schedule.now) decision)))) }
     ensures kept { IsBeginning (string_bytes text.old) (string_bytes text.new) }
 {
-    let at = ended.at;
-    let outcome = ended.outcome;
-    let mut line = Line::new();
-    line.put("\n");
-    put_decision(&mut line, decision);
-    if put_numbers(&mut line, out) {
-        put_stepped(&mut line, number, begun, at, outcome);
-        return line.append_to(text);
-    }
-    let mut head = Line::new();
-    put_stepped(&mut head, number, begun, at, outcome);
-    head.append_to(text)?;
-    append_out(text, out)?;
-    line.append_to(text)
-}
-
-// Adds the lines of an attempt. If that fails, the text may end with some of them.
-#[tactic(auto, using(zs_term::proofs::Texts::begins_with_itself, zs_term::proofs::Texts::begins_pushed, zs_term::proofs::Texts::begins_both))]
-fn push_attempt(text: &mut String, number: u64, attempt: &Attempted) -> Result<(), AllocError>
-    ensures text { OnOk result (string_bytes text.new
-        ≡ string_bytes text.old ++ attempt_lines number (attempted_of attempt.now)) }
-    ensures kept { IsBeginning (string_bytes text.old) (string_bytes text.new) }
-{
-    let begun = attempt.begun;
-    let mut line = Line::new();
-    match &attempt.ended {
-        None => {
-            line.put(" running\n");
-            put_begun(&mut line, number, begun);
-            line.append_to(text)
-        }
-        Some(ended) => match &ended.step {
-            None => {
-                line.put("\n");
-                put_ended(&mut line, number, begun, ended.at, ended.outcome);
-                line.append_to(text)
-            }
-            Some((out, decision)) => push_stepped(text, number, begun, ended, out, *decision),
-        },
-    }
+    push_begun(text, number, begun)?;
+    push_end(text, at, outcome)?;
+    push_step_number(text, number)?;
+    schedule.append_output(text)?;
+    push_decision(text, decision)
 }

@@ -1,17 +1,21 @@
 //! What a task stores of its attempts.
-ghost use Rattle.std.specs.Prelude.{◌≡◌, ℕ, ◌+◌, ◌≤◌, ◌<◌, ◌^◌, List, [], ◌∷◌, ◌++◌, map, string_bytes, Some, None, OnOk, OnErr, vec_len};
+ghost use Rattle.std.specs.Prelude.{◌≡◌, ℕ, ◌+◌, ◌≤◌, ◌<◌, ◌^◌, List, [], ◌∷◌, ◌++◌, length, map, string_bytes, false, Some, None, OnOk, OnErr, vec_len};
 ghost use Rattle.std.specs.Vec.{vec_capacity};
-ghost use Rattle.zs_drive.specs.Values.{AttemptedValue, attempted_of, ended_of};
-ghost use Rattle.zs_drive.specs.PollMoments.{moments_of};
-ghost use Rattle.zs_drive.specs.Lines.{attempt_lines};
-ghost use Rattle.zs_drive.specs.Log.{BeginsNext, IsFull, IsLog, IsSameLog, keeping_of, lines_in, log_count, records_in, told_in};
+ghost use Rattle.zs_step.specs.Answer.{answer};
+ghost use Rattle.zs_step.specs.Compiled.{compiled_output};
+ghost use Rattle.zs_drive.specs.Values.{AttemptedValue, attempted_of, ended_of, step_of};
+ghost use Rattle.zs_drive.specs.Timeline.{ended_attempt};
+ghost use Rattle.zs_drive.specs.Told.{step_continued};
+ghost use Rattle.zs_drive.specs.Recorded.{AllContinued};
+ghost use Rattle.zs_drive.specs.Turns.{EndsLast};
+ghost use Rattle.zs_drive.specs.Log.{IsFull, IsLog, IsSameLog, Tells, keeping_of, lines_in, log_count, records_in, told_in};
 
-use crate::fault::DriveFault;
-use crate::lines::append_attempt;
+use crate::lines::push_stepped;
 use crate::record::{Attempted, Ended, Keeping};
 use std::alloc::{AllocError, Global};
-use std::mem::{drop, swap};
-use zs_term::Out;
+use std::mem::drop;
+use zs_effect::Outcome;
+use zs_step::{Compiled, Decision};
 
 // The records that a full list gets room for next, at least.
 const LEAST_ROOM: usize = 4;
@@ -21,64 +25,26 @@ const FIRST_LINES: usize = 512;
 
 const FIRST_MOMENTS: usize = 16;
 
-/// Attempts as lines of text, and the last one as a record.
+/// The attempts after which the schedule continued, as lines of text, and the one after them.
 #[derive(Drop)]
-pub struct Told {
-    /// The last attempt.
-    pub last: Option<Attempted>,
-    /// The number of the attempts before it.
-    pub count: u64,
-    /// The moments at which these began and ended, in order, in milliseconds.
-    pub moments: Vec<u64>,
+pub(crate) struct Told {
+    /// The last attempt, if it is running or ended the job.
+    pub(crate) last: Option<Attempted>,
+    /// The number of the others.
+    pub(crate) count: u64,
+    /// The moments at which those began and ended, in order, in milliseconds.
+    pub(crate) moments: Vec<u64>,
     /// Their lines.
-    pub lines: String,
+    pub(crate) lines: String,
 }
 
 /// The attempts so far.
 #[derive(Drop)]
-pub enum Log {
+pub(crate) enum Log {
     /// The record of each.
     Recorded(Vec<Attempted>),
-    /// Lines of text, and the record of the last.
+    /// Lines of text, and at most one record.
     Written(Told),
-}
-
-// Makes room for one more item. A full list grows by a quarter, since many tasks have one at once.
-fn make_room<T: Drop>(list: &mut Vec<T>, least: usize) -> Result<(), AllocError>
-    requires least { 0 < least }
-    ensures items { list.new.items ≡ list.old.items }
-    ensures room { OnOk result (vec_len list.new < vec_capacity list.new) }
-    ensures full { OnErr result (vec_capacity list.old ≤ vec_len list.old) }
-{
-    if list.len() < list.capacity() {
-        return Ok(());
-    }
-    list.reserve_exact(least.max(list.len() / 4))
-}
-
-// Adds an item at the end. If that fails, the list is unchanged and was full.
-fn add<T: Drop>(list: &mut Vec<T>, item: T, least: usize) -> Result<(), AllocError>
-    requires least { 0 < least }
-    ensures ok { OnOk result (list.new.items ≡ list.old.items ++ item ∷ []) }
-    ensures err { OnErr result (list.new.items ≡ list.old.items) }
-    ensures full { OnErr result (vec_capacity list.old ≤ vec_len list.old) }
-{
-    make_room(list, least)?;
-    list.push(item)?;
-    Ok(())
-}
-
-// Takes an end away. The caller gets its output, if it has one, in place of another.
-#[inline(never)]
-fn take_end(ended: &mut Option<Ended>, spare: &mut Out)
-    ensures none { ended.new ≡ None }
-{
-    if let Some(ended) = ended {
-        if let Some((out, _)) = &mut ended.step {
-            swap(out, spare);
-        }
-    }
-    *ended = None;
 }
 
 // Makes room for the first lines and moments, if no attempt is a line. A task of one attempt needs
@@ -94,60 +60,68 @@ fn make_first_room(lines: &mut String, moments: &mut Vec<u64>, count: u64) -> Re
     Ok(())
 }
 
-// Adds an attempt to the lines and to the moments. If that fails, both are unchanged.
-fn tell(
-    lines: &mut String,
-    moments: &mut Vec<u64>,
-    number: u64,
-    attempt: &Attempted,
-) -> Result<(), AllocError>
-    ensures lines { OnOk result (string_bytes lines.new
-        ≡ string_bytes lines.old ++ attempt_lines number (attempted_of attempt.now)) }
-    ensures moments { OnOk result
-        (moments.new.items ≡ moments.old.items ++ moments_of (attempted_of attempt.now)) }
-    ensures err { OnErr result (string_bytes lines.new ≡ string_bytes lines.old) }
-    ensures kept { OnErr result (moments.new.items ≡ moments.old.items) }
+// Sets the end of the last record.
+fn set_end(records: &mut Vec<Attempted>, ended: Ended)
+    requires last { 0 < length records.old.items }
+    ensures ended { (others : List AttemptedValue) (s : ℕ)
+        → map attempted_of records.old.items ≡ others ++ record { begun = s; ended = None } ∷ []
+        → map attempted_of records.new.items
+        ≡ others ++ record { begun = s; ended = ended_of (Some ended) } ∷ [] }
+    ensures full { IsFull (Log.Recorded records.new) → IsFull (Log.Recorded records.old) }
 {
-    let count = moments.len();
-    match &attempt.ended {
-        Some(ended) => moments.extend_from_slice(&[attempt.begun, ended.at])?,
-        None => moments.push(attempt.begun)?,
-    }
-    let told = append_attempt(lines, number, attempt);
-    if told.is_err() {
-        moments.truncate(count);
-    }
-    told
+    let index = records.len() - 1;
+    let last = &mut records[index];
+    last.ended = Some(ended);
 }
 
 impl Told {
-    // Another attempt begins. The caller gets the output of the one before it.
-    fn begin(&mut self, begun: u64, spare: &mut Out) -> Result<(), AllocError>
+    // The last attempt has ended, and becomes lines.
+    fn pass(
+        &mut self,
+        at: u64,
+        outcome: Outcome,
+        next: u64,
+        schedule: &Compiled,
+    ) -> Result<(), AllocError>
         requires few { self.old.count + 1 < 2 ^ 64 }
         ensures ok { OnOk result
-            (BeginsNext self.old self.new (record { begun = begun; ended = None })) }
-        ensures lines { OnErr result (string_bytes self.new.lines ≡ string_bytes self.old.lines) }
-        ensures count { OnErr result (self.new.count ≡ self.old.count) }
-        ensures moments { OnErr result (self.new.moments.items ≡ self.old.moments.items) }
-        ensures last { OnErr result (self.new.last ≡ self.old.last) }
+            ((s : ℕ) → self.old.last ≡ Some (record { begun = s; ended = None })
+            → Tells self.old self.new
+            (ended_attempt s at outcome
+            (Some (answer (compiled_output schedule.now) (Decision.Next next))))) }
+        ensures same { OnErr result (IsSameLog (Log.Written self.old) (Log.Written self.new)) }
     {
-        match &mut self.last {
-            None => self.last = Some(Attempted { begun, ended: None }),
-            Some(last) => {
-                make_first_room(&mut self.lines, &mut self.moments, self.count)?;
-                tell(&mut self.lines, &mut self.moments, self.count + 1, last)?;
-                take_end(&mut last.ended, spare);
-                last.begun = begun;
-                self.count += 1;
-            }
+        let Some(Attempted { begun, .. }) = self.last else {
+            return Ok(());
+        };
+        make_first_room(&mut self.lines, &mut self.moments, self.count)?;
+        let (len, moments) = (self.lines.len(), self.moments.len());
+        self.moments.extend_from_slice(&[begun, at])?;
+        let number = self.count + 1;
+        let decision = Decision::Next(next);
+        let told = push_stepped(
+            &mut self.lines,
+            number,
+            begun,
+            at,
+            outcome,
+            decision,
+            schedule,
+        );
+        if told.is_err() {
+            self.lines.truncate(len);
+            self.moments.truncate(moments);
+            return told;
         }
+        self.last = None;
+        self.count = number;
         Ok(())
     }
 }
 
 impl Log {
     /// No attempt yet.
-    pub fn new(alloc: Global, keeps: Keeping) -> Log
+    pub(crate) fn new(alloc: Global, keeps: Keeping) -> Log
         ensures none { IsLog result [] }
         ensures keeps { keeping_of result ≡ keeps }
     {
@@ -162,18 +136,8 @@ impl Log {
         }
     }
 
-    /// How it stores attempts.
-    pub fn keeps(&self) -> Keeping
-        ensures value { result ≡ keeping_of self.now }
-    {
-        match self {
-            Log::Recorded(_) => Keeping::Records,
-            Log::Written(_) => Keeping::Lines,
-        }
-    }
-
     /// The records of the attempts that are not lines, in order.
-    pub fn records(&self) -> &[Attempted]
+    pub(crate) fn records(&self) -> &[Attempted]
         ensures value { result.now ≡ records_in self.now }
     {
         match self {
@@ -183,7 +147,7 @@ impl Log {
     }
 
     /// The lines.
-    pub fn lines(&self) -> &str
+    pub(crate) fn lines(&self) -> &str
         ensures value { result.now ≡ lines_in self.now }
     {
         match self {
@@ -193,7 +157,7 @@ impl Log {
     }
 
     /// The number of attempts that are lines.
-    pub fn told_count(&self) -> u64
+    pub(crate) fn told_count(&self) -> u64
         ensures value { result ≡ told_in self.now }
     {
         match self {
@@ -203,92 +167,113 @@ impl Log {
     }
 
     /// The number of attempts.
-    pub fn count(&self) -> u64
+    pub(crate) fn count(&self) -> u64
         requires few { log_count self.now < 2 ^ 64 }
         ensures value { result ≡ log_count self.now }
     {
         self.told_count() + self.records().len() as u64
     }
 
-    /// Begins another attempt. If the one before it becomes lines, the caller gets its output.
-    pub fn begin(&mut self, begun: u64, spare: &mut Out) -> Result<(), DriveFault>
-        requires few { log_count self.old + 1 < 2 ^ 64 }
-        ensures begun { OnOk result ((attempts : List AttemptedValue) → IsLog self.old attempts
+    // Makes room for another attempt. A full list of records grows by a quarter, since many tasks
+    // have one at once.
+    fn make_room(&mut self) -> Result<(), AllocError>
+        ensures room { OnOk result (IsFull self.new → ⊥) }
+        ensures same { IsSameLog self.old self.new }
+        ensures full { OnErr result (IsFull self.old) }
+    {
+        match self {
+            Log::Recorded(records) if records.len() == records.capacity() => {
+                records.reserve_exact(LEAST_ROOM.max(records.len() / 4))
+            }
+            Log::Recorded(_) | Log::Written(_) => Ok(()),
+        }
+    }
+
+    /// Begins another attempt. That fails only if a full list of records can't grow.
+    pub(crate) fn begin(&mut self, begun: u64) -> Result<(), AllocError>
+        ensures begun { OnOk result ((attempts : List AttemptedValue) → AllContinued attempts
+            → IsLog self.old attempts
             → IsLog self.new (attempts ++ record { begun = begun; ended = None } ∷ [])) }
         ensures same { OnErr result (IsSameLog self.old self.new) }
         ensures full { OnErr result (IsFull self.old) }
         ensures keeps { keeping_of self.new ≡ keeping_of self.old }
     {
+        self.make_room()?;
+        let attempt = Attempted { begun, ended: None };
         match self {
-            Log::Recorded(records) => add(records, Attempted { begun, ended: None }, LEAST_ROOM)?,
-            Log::Written(told) => told.begin(begun, spare)?,
+            Log::Recorded(records) => records.push(attempt)?,
+            Log::Written(told) => told.last = Some(attempt),
         }
         Ok(())
     }
 
-    // The last attempt has this end, or none.
-    fn set_end(&mut self, ended: Option<Ended>)
+    /// Ends the last attempt, with which the job ends.
+    pub(crate) fn end(&mut self, ended: Ended)
         requires last { 0 < log_count self.old }
-        ensures ended { (others : List AttemptedValue) (last : AttemptedValue)
-            → IsLog self.old (others ++ last ∷ [])
+        requires last_one { step_continued (step_of ended.step) ≡ false }
+        ensures ended { (others : List AttemptedValue) (s : ℕ) → AllContinued others
+            → IsLog self.old (others ++ record { begun = s; ended = None } ∷ [])
             → IsLog self.new
-            (others ++ record { begun = last.begun; ended = ended_of ended } ∷ []) }
+            (others ++ record { begun = s; ended = ended_of (Some ended) } ∷ []) }
         ensures keeps { keeping_of self.new ≡ keeping_of self.old }
-        ensures count { log_count self.new ≡ log_count self.old }
-        ensures full { IsFull self.new → IsFull self.old }
     {
         match self {
-            Log::Recorded(records) => {
-                let index = records.len() - 1;
-                let last = &mut records[index];
-                last.ended = ended;
-            }
+            Log::Recorded(records) => set_end(records, ended),
             Log::Written(told) => match &mut told.last {
-                Some(last) => last.ended = ended,
+                Some(last) => last.ended = Some(ended),
                 None => drop(ended),
             },
         }
     }
 
-    /// Ends the last attempt.
-    pub fn end(&mut self, ended: Ended)
+    /// Ends the last attempt, after which the schedule was stepped: the next one is due at `next`.
+    /// If that fails, nothing has changed.
+    pub(crate) fn pass(
+        &mut self,
+        at: u64,
+        outcome: Outcome,
+        next: u64,
+        schedule: &Compiled,
+    ) -> Result<(), AllocError>
         requires last { 0 < log_count self.old }
-        ensures ended { (others : List AttemptedValue) (last : AttemptedValue)
-            → IsLog self.old (others ++ last ∷ [])
-            → IsLog self.new
-            (others ++ record { begun = last.begun; ended = ended_of (Some ended) } ∷ []) }
+        requires few { log_count self.old + 1 < 2 ^ 64 }
+        ensures passed { OnOk result
+            (EndsLast self.old self.new at outcome
+            (Some (answer (compiled_output schedule.now) (Decision.Next next))) []) }
+        ensures same { OnErr result (IsSameLog self.old self.new) }
+        ensures full { IsFull self.new → IsFull self.old }
         ensures keeps { keeping_of self.new ≡ keeping_of self.old }
     {
-        self.set_end(Some(ended));
+        match self {
+            Log::Recorded(records) => {
+                let step = Some((schedule.output()?, Decision::Next(next)));
+                set_end(records, Ended { at, outcome, step });
+                Ok(())
+            }
+            Log::Written(told) => told.pass(at, outcome, next, schedule),
+        }
     }
 
-    /// Ends the last attempt, and begins another at that moment. If the former becomes lines, the
-    /// caller gets its output.
-    pub fn restart(&mut self, ended: Ended, spare: &mut Out) -> Result<(), DriveFault>
+    /// Ends the last attempt as `pass` does, and begins another at that moment. If that fails,
+    /// nothing has changed.
+    pub(crate) fn restart(
+        &mut self,
+        at: u64,
+        outcome: Outcome,
+        next: u64,
+        schedule: &Compiled,
+    ) -> Result<(), AllocError>
         requires last { 0 < log_count self.old }
         requires few { log_count self.old + 1 < 2 ^ 64 }
         ensures restarted { OnOk result
-            ((others : List AttemptedValue) (s : ℕ)
-            → IsLog self.old (others ++ record { begun = s; ended = None } ∷ [])
-            → IsLog self.new
-            (others ++ record { begun = s; ended = ended_of (Some ended) }
-            ∷ record { begun = ended.at; ended = None }
-            ∷ [])) }
-        ensures same { OnErr result
-            ((others : List AttemptedValue) (s : ℕ)
-            → IsLog self.old (others ++ record { begun = s; ended = None } ∷ [])
-            → IsLog self.new (others ++ record { begun = s; ended = None } ∷ [])) }
-        ensures full { OnErr result (IsFull self.old) }
+            (EndsLast self.old self.new at outcome
+            (Some (answer (compiled_output schedule.now) (Decision.Next next)))
+            (record { begun = at; ended = None } ∷ [])) }
+        ensures same { OnErr result (IsSameLog self.old self.new) }
         ensures keeps { keeping_of self.new ≡ keeping_of self.old }
     {
-        let at = ended.at;
-        self.set_end(Some(ended));
-        match self.begin(at, spare) {
-            Ok(()) => Ok(()),
-            Err(refused) => {
-                self.set_end(None);
-                Err(refused)
-            }
-        }
+        self.make_room()?;
+        self.pass(at, outcome, next, schedule)?;
+        self.begin(at)
     }
 }

@@ -1,19 +1,18 @@
 //! The steps of a task, over its fields.
-ghost use Rattle.std.specs.Prelude.{◌≡◌, ℕ, ◌+◌, ◌≤◌, List, [], ◌∷◌, ◌++◌, None, OnOk, OnErr, IfOk};
+ghost use Rattle.std.specs.Prelude.{◌≡◌, ◌+◌, ◌≤◌, [], ◌∷◌, false, None, Some, OnOk, OnErr, IfOk};
 ghost use Rattle.futures.specs.Poll.{IfReady, OnPending};
 ghost use Rattle.futures.specs.Task.{IsArmed, Keeps};
-ghost use Rattle.zs_term.specs.Saturating.{saturated};
 ghost use Rattle.zs_effect.specs.Scripts.{IsScript, entry_at};
-ghost use Rattle.zs_drive.specs.Timeline.{ended_attempt, ending_by_outcome, ending_by_schedule, number_of};
-ghost use Rattle.zs_term.specs.Output.{output_of};
+ghost use Rattle.zs_drive.specs.Timeline.{ending_by_outcome, ending_by_schedule, number_of};
 ghost use Rattle.zs_step.specs.History.{History};
 ghost use Rattle.zs_step.specs.Answer.{answer, answer_of};
-ghost use Rattle.zs_step.specs.Compiled.{StandsFor, last_seen, stepper_schedule};
-ghost use Rattle.zs_drive.specs.Log.{IsFull, IsLog, keeping_of, log_count};
-ghost use Rattle.zs_drive.specs.Values.{AttemptedValue, step_of};
+ghost use Rattle.zs_step.specs.Compiled.{StandsFor, compiled_output, compiled_schedule, compiled_term, last_seen};
+ghost use Rattle.zs_drive.specs.Log.{IsFull, keeping_of, log_count};
+ghost use Rattle.zs_drive.specs.Values.{step_of};
 ghost use Rattle.zs_drive.specs.DriverRules.{history_after};
+ghost use Rattle.zs_drive.specs.Told.{step_continued};
 ghost use Rattle.zs_drive.specs.Progress.{IsProgress, HasState, attempts_of, due_of, ending_of};
-ghost use Rattle.zs_drive.specs.Turns.{Advances, IsWaitingTo, HasRunTo, WasAsked, IsOver, IsEarly, IsDuePhase, StandsStill, IsSame, TakesMemory};
+ghost use Rattle.zs_drive.specs.Turns.{Advances, EndsLast, started, turned, IsWaitingTo, HasRunTo, WasAsked, IsOver, IsEarly, IsDuePhase, StandsStill, IsSame, TakesMemory};
 
 use crate::fault::DriveFault;
 use crate::job::Mode;
@@ -21,14 +20,13 @@ use crate::log::Log;
 use crate::record::{Ended, Ending};
 use futures::task::{Context, Poll};
 use futures::{Future, ready};
-use std::mem::replace;
 use zs_effect::{Attempt, Beat, Outcome, Script};
-use zs_step::{Decision, Stepper};
+use zs_step::{Compiled, Decision};
 use zs_term::Out;
 
 /// What a task waits for.
 #[derive(Drop)]
-pub enum Phase {
+pub(crate) enum Phase {
     /// An attempt begins at this moment.
     Waiting(u64),
     /// The last attempt ends.
@@ -37,35 +35,32 @@ pub enum Phase {
     Over(Ending),
 }
 
-/// How far a job is. It has the state of its schedule, and no history. What each poll reads comes
-/// first, so that it is in few cache lines.
+/// How far a job is. What each poll reads comes first, so that it is in few cache lines.
 #[derive(Drop)]
-pub struct Progress {
+pub(crate) struct Progress {
     /// What is waited for.
-    pub phase: Phase,
+    pub(crate) phase: Phase,
     /// The last moment seen, in milliseconds.
-    pub seen: u64,
+    pub(crate) seen: u64,
     /// The number of polls that were due.
-    pub polls: u64,
+    pub(crate) polls: u64,
     /// The job's mode.
-    pub mode: Mode,
+    pub(crate) mode: Mode,
     /// The job's script.
-    pub script: Script,
+    pub(crate) script: Script,
     /// The attempts so far.
-    pub log: Log,
-    /// An output that was written as text, whose memory is used for the next one.
-    pub spare: Out,
-    /// The state of its schedule.
-    pub stepper: Stepper,
+    pub(crate) log: Log,
+    /// Its schedule.
+    pub(crate) schedule: Compiled,
     /// The job's name.
-    pub name: String,
+    pub(crate) name: String,
     /// The job's start, in milliseconds.
-    pub start: u64,
+    pub(crate) start: u64,
 }
 
 impl Phase {
     /// The moment waited for.
-    pub fn due(&self) -> Option<u64>
+    pub(crate) fn due(&self) -> Option<u64>
         ensures value { result ≡ due_of self.now }
     {
         match self {
@@ -76,7 +71,7 @@ impl Phase {
     }
 
     /// How the job ended, if it has.
-    pub fn ending(&self) -> Option<Ending>
+    pub(crate) fn ending(&self) -> Option<Ending>
         ensures value { result ≡ ending_of self.now }
     {
         match self {
@@ -140,30 +135,28 @@ impl Progress {
     {
         let begun = self.seen;
         let beat = self.next_beat();
-        self.log.begin(begun, &mut self.spare)?;
+        self.log.begin(begun)?;
         self.phase = Phase::Running(Attempt::start(beat, begun));
         self.polls += 1;
         Ok(())
     }
 
     // Steps the schedule after an outcome. If that fails, only the schedule's state may be lost.
-    fn ask(&mut self, outcome: Outcome) -> Result<(Out, Decision), DriveFault>
-        requires past { last_seen self.old.stepper ≤ self.old.seen }
-        ensures rest { self.new
-            ≡ record self.old { stepper = self.new.stepper; spare = self.new.spare } }
-        ensures schedule { stepper_schedule self.new.stepper ≡ stepper_schedule self.old.stepper }
+    fn step(&mut self, outcome: Outcome) -> Result<Decision, DriveFault>
+        requires past { last_seen self.old.schedule ≤ self.old.seen }
+        ensures rest { self.new ≡ record self.old { schedule = self.new.schedule } }
+        ensures term { compiled_term self.new.schedule ≡ compiled_term self.old.schedule }
         ensures stands { OnOk result
-            ((h : History) → StandsFor self.old.stepper h
-            → StandsFor self.new.stepper ((self.old.seen, number_of outcome) ∷ h)) }
-        ensures answered { IfOk result (λ step.
-            (h : History) → StandsFor self.old.stepper h
-            → answer (output_of step.0) step.1
-            ≡ answer_of (stepper_schedule self.old.stepper)
+            ((h : History) → StandsFor self.old.schedule h
+            → StandsFor self.new.schedule ((self.old.seen, number_of outcome) ∷ h)) }
+        ensures answered { IfOk result (λ decision.
+            (h : History) → StandsFor self.old.schedule h
+            → answer (compiled_output self.new.schedule) decision
+            ≡ answer_of (compiled_schedule self.old.schedule)
             ((self.old.seen, number_of outcome) ∷ h)) }
     {
-        let spare = replace(&mut self.spare, Out::Num(0));
-        let stepped = self.stepper.step_over(self.seen, number(outcome), spare)?;
-        Ok((stepped.out, stepped.decision))
+        let (decision, _) = self.schedule.advance(self.seen, number(outcome))?;
+        Ok(decision)
     }
 
     // The attempt that ran has ended, with this outcome.
@@ -178,122 +171,103 @@ impl Progress {
     {
         match end_by_outcome(self.mode, outcome) {
             Some(ending) => {
-                self.stop(outcome, ending);
+                self.end(outcome, None, ending);
                 Ok(())
             }
             None => {
-                let (out, decision) = self.ask(outcome)?;
-                self.follow(outcome, out, decision)
+                let decision = self.step(outcome)?;
+                self.follow(outcome, decision)
             }
         }
     }
 
-    // The outcome itself ends the job.
-    fn stop(&mut self, outcome: Outcome, ending: Ending)
-        requires progress { IsProgress self.old }
-        requires running { HasRunTo self.old.seen outcome self.old.phase }
-        requires ending { ending_by_outcome self.old.mode outcome ≡ Some ending }
-        requires script { IsScript self.old.script }
-        ensures value { Advances self.old self.new }
-    {
-        self.end_attempt(outcome, None, Phase::Over(ending));
-    }
-
     // The schedule has decided this.
-    fn follow(&mut self, outcome: Outcome, out: Out, decision: Decision) -> Result<(), DriveFault>
+    fn follow(&mut self, outcome: Outcome, decision: Decision) -> Result<(), DriveFault>
         requires progress { IsProgress self.old }
         requires state { WasAsked self.old outcome }
         requires running { HasRunTo self.old.seen outcome self.old.phase }
         requires goes_on { ending_by_outcome self.old.mode outcome ≡ None }
-        requires answer { answer (output_of out) decision
-            ≡ answer_of (stepper_schedule self.old.stepper)
+        requires answer { answer (compiled_output self.old.schedule) decision
+            ≡ answer_of (compiled_schedule self.old.schedule)
             ((self.old.seen, number_of outcome) ∷ history_after (attempts_of self.old)) }
         requires script { IsScript self.old.script }
         ensures ok { OnOk result (Advances self.old self.new) }
         ensures err { OnErr result (StandsStill self.old self.new) }
-        ensures full { OnErr result (IsFull self.old.log) }
     {
         match decision {
             Decision::Stop => {
+                let out = self.schedule.output()?;
                 let ending = end_by_schedule(self.mode, outcome);
-                self.end_attempt(outcome, Some((out, decision)), Phase::Over(ending));
+                self.end(outcome, Some((out, decision)), ending);
                 Ok(())
             }
-            Decision::Next(due) if due > self.seen => {
-                self.end_attempt(outcome, Some((out, decision)), Phase::Waiting(due));
-                Ok(())
-            }
-            Decision::Next(_) => {
+            Decision::Next(due) if due > self.seen => self.wait(outcome, due),
+            Decision::Next(due) => {
                 let next = self.next_beat();
-                self.restart(outcome, (out, decision), next)
+                self.restart(outcome, due, next)
             }
         }
     }
 
-    // The last attempt ends, and none begins.
+    // The last attempt ends, and with it the job.
     #[tactic(auto, using(crate::proofs::Advancing::counts))]
-    fn end_attempt(&mut self, outcome: Outcome, step: Option<(Out, Decision)>, phase: Phase)
+    fn end(&mut self, outcome: Outcome, step: Option<(Out, Decision)>, ending: Ending)
         requires progress { IsProgress self.old }
         requires running { HasRunTo self.old.seen outcome self.old.phase }
-        ensures rest { self.new
-            ≡ record self.old { log = self.new.log; phase = phase; polls = self.old.polls + 1 } }
+        requires last { step_continued (step_of step) ≡ false }
+        ensures rest { self.new ≡ turned self.old self.new.log (Phase.Over ending) }
         ensures keeps { keeping_of self.new.log ≡ keeping_of self.old.log }
-        ensures ended { (others : List AttemptedValue) (s : ℕ)
-            → IsLog self.old.log (others ++ record { begun = s; ended = None } ∷ [])
-            → IsLog self.new.log
-            (others ++ ended_attempt s self.old.seen outcome (step_of step) ∷ []) }
+        ensures ended { EndsLast self.old.log self.new.log self.old.seen outcome (step_of step) [] }
     {
         let at = self.seen;
         self.log.end(Ended { at, outcome, step });
-        self.phase = phase;
+        self.phase = Phase::Over(ending);
         self.polls += 1;
     }
 
-    // The last attempt ends, and the next begins.
+    // The last attempt ends, and the next one begins at a later moment.
     #[tactic(auto, using(crate::proofs::Advancing::counts))]
-    fn restart(
-        &mut self,
-        outcome: Outcome,
-        step: (Out, Decision),
-        next: Beat,
-    ) -> Result<(), DriveFault>
+    fn wait(&mut self, outcome: Outcome, due: u64) -> Result<(), DriveFault>
+        requires progress { IsProgress self.old }
+        requires running { HasRunTo self.old.seen outcome self.old.phase }
+        ensures rest { OnOk result
+            (self.new ≡ turned self.old self.new.log (Phase.Waiting due)) }
+        ensures keeps { keeping_of self.new.log ≡ keeping_of self.old.log }
+        ensures ended { OnOk result
+            (EndsLast self.old.log self.new.log self.old.seen outcome
+            (Some (answer (compiled_output self.old.schedule) (Decision.Next due))) []) }
+        ensures err { OnErr result (StandsStill self.old self.new) }
+    {
+        self.log.pass(self.seen, outcome, due, &self.schedule)?;
+        self.phase = Phase::Waiting(due);
+        self.polls += 1;
+        Ok(())
+    }
+
+    // The last attempt ends, and the next one begins.
+    #[tactic(auto, using(crate::proofs::Advancing::counts))]
+    fn restart(&mut self, outcome: Outcome, due: u64, next: Beat) -> Result<(), DriveFault>
         requires progress { IsProgress self.old }
         requires running { HasRunTo self.old.seen outcome self.old.phase }
         ensures rest { OnOk result
             (self.new
-            ≡ record self.old {
-              log = self.new.log;
-              spare = self.new.spare;
-              phase = Phase.Running
-                  (record {
-                    outcome = next.outcome;
-                    end = saturated (self.old.seen + next.ms);
-                    seen = self.old.seen;
-                  });
-              polls = self.old.polls + 1;
-            }) }
+            ≡ turned self.old self.new.log (Phase.Running (started next self.old.seen))) }
         ensures keeps { keeping_of self.new.log ≡ keeping_of self.old.log }
         ensures ended { OnOk result
-            ((others : List AttemptedValue) (s : ℕ)
-            → IsLog self.old.log (others ++ record { begun = s; ended = None } ∷ [])
-            → IsLog self.new.log
-            (others ++ ended_attempt s self.old.seen outcome (step_of (Some step))
-            ∷ record { begun = self.old.seen; ended = None }
-            ∷ [])) }
+            (EndsLast self.old.log self.new.log self.old.seen outcome
+            (Some (answer (compiled_output self.old.schedule) (Decision.Next due)))
+            (record { begun = self.old.seen; ended = None } ∷ [])) }
         ensures err { OnErr result (StandsStill self.old self.new) }
-        ensures full { OnErr result (IsFull self.old.log) }
     {
         let at = self.seen;
-        let step = Some(step);
-        self.log
-            .restart(Ended { at, outcome, step }, &mut self.spare)?;
+        self.log.restart(at, outcome, due, &self.schedule)?;
         self.phase = Phase::Running(Attempt::start(next, at));
         self.polls += 1;
         Ok(())
     }
 
     /// Does the due poll, if there is one. It is ready if that was done, or if the job has ended.
-    pub fn advance(&mut self, cx: &mut Context<'_>) -> Poll<Result<(), DriveFault>>
+    pub(crate) fn advance(&mut self, cx: &mut Context<'_>) -> Poll<Result<(), DriveFault>>
         requires progress { IsProgress self.old }
         requires state { HasState self.old }
         requires script { IsScript self.old.script }

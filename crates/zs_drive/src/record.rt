@@ -8,7 +8,7 @@ use zs_term::Out;
 pub enum Keeping {
     /// A record of each attempt.
     Records,
-    /// A record of the last attempt, and lines of text for the others.
+    /// Lines of text for those after which the schedule continued, and a record of any other.
     Lines,
 }
 

@@ -1,5 +1,5 @@
 //! A job as a future that its caller polls at moments that the caller chooses.
-ghost use Rattle.std.specs.Prelude.{◌≡◌, ◌+◌, ◌≤◌, ◌<◌, [], ◌∷◌, map, length, false, true, Ok, IfOk, IfErr, IfSome, IsSomeAnd, ◌⊎◌, ⊤};
+ghost use Rattle.std.specs.Prelude.{◌≡◌, ◌+◌, ◌≤◌, ◌<◌, map, length, false, true, Ok, IfOk, IfErr, IfSome, IsSomeAnd, ◌⊎◌, ⊤};
 ghost use Rattle.futures.specs.Poll.{OnPending};
 ghost use Rattle.futures.specs.Task.{IsArmed, Keeps};
 ghost use Rattle.zs_effect.specs.Scripts.{IsScript};
@@ -8,7 +8,7 @@ ghost use Rattle.zs_drive.specs.Lines.{attempts_lines};
 ghost use Rattle.zs_drive.specs.Told.{told_of, recorded_of};
 ghost use Rattle.zs_drive.specs.Values.{job_record, attempted_of};
 ghost use Rattle.zs_drive.specs.Timeline.{poll_moments};
-ghost use Rattle.zs_drive.specs.Tasks.{current_timeline, timeline_at, polled, reply_of, MatchMemory, IsDue, EndsByOutcome};
+ghost use Rattle.zs_drive.specs.Tasks.{current_timeline, new_task, polled, reply_of, MatchMemory, IsDue, EndsByOutcome};
 
 use crate::fault::DriveFault;
 use crate::job::{Job, Mode};
@@ -19,8 +19,10 @@ use futures::task::{Context, Poll};
 use futures::{Future, ready};
 use std::alloc::Global;
 use std::marker::Model;
-use zs_step::Stepper;
-use zs_term::Out;
+use zs_step::Compiled;
+
+// The greatest moment that a task may see, in milliseconds. A clock has no later tick.
+const MAX_TICK: u64 = 999_999_999_999_999;
 
 /// A numbered job with the attempts so far. A poll that runs out of memory breaks it.
 #[derive(Drop)]
@@ -51,16 +53,7 @@ impl Task {
     /// Makes the task of a job, which has seen moment 0 and stores the record of each attempt. If
     /// memory runs out, it returns `Memory`, and the job is dropped.
     pub fn new(alloc: Global, number: u64, job: Job) -> Result<Task, DriveFault>
-        ensures made { IfOk result (λ task.
-            task
-            ≡ record {
-              number = number;
-              job = job_record job;
-              keeps = Keeping.Records;
-              moments = [];
-              seen = 0;
-              broken = false;
-            }) }
+        ensures made { IfOk result (λ task. task ≡ new_task number (job_record job) Keeping.Records) }
         ensures script { IfOk result (λ task. IsScript task.job.script) }
         ensures memory { IfErr result (λ fault. fault ≡ DriveFault.Memory) }
     {
@@ -69,16 +62,7 @@ impl Task {
 
     /// Makes a task that stores its attempts in this way.
     pub fn keeping(alloc: Global, number: u64, job: Job, keeps: Keeping) -> Result<Task, DriveFault>
-        ensures made { IfOk result (λ task.
-            task
-            ≡ record {
-              number = number;
-              job = job_record job;
-              keeps = keeps;
-              moments = [];
-              seen = 0;
-              broken = false;
-            }) }
+        ensures made { IfOk result (λ task. task ≡ new_task number (job_record job) keeps) }
         ensures script { IfOk result (λ task. IsScript task.job.script) }
         ensures memory { IfErr result (λ fault. fault ≡ DriveFault.Memory) }
     {
@@ -89,15 +73,14 @@ impl Task {
             start,
             script,
         } = job;
-        let stepper = Stepper::new(alloc, &schedule)?;
+        let schedule = Compiled::new(alloc, schedule)?;
         let progress = Progress {
             name,
             mode,
             start,
             script,
-            stepper,
+            schedule,
             log: Log::new(alloc, keeps),
-            spare: Out::Num(0),
             phase: Phase::Waiting(start),
             polls: 0,
             seen: 0,
@@ -140,14 +123,8 @@ impl Task {
         self.progress.polls
     }
 
-    /// How it stores its attempts: `Records` if it was made by `new`.
-    pub fn keeps(&self) -> Keeping
-        ensures value { result ≡ self.now.keeps }
-    {
-        self.progress.log.keeps()
-    }
-
-    /// The records of its attempts so far, in order: of all if it stores records, else of the last.
+    /// The records of its attempts so far, in order: of all if it stores records, else of the one
+    /// that is running or ended the job.
     #[tactic(auto, using(crate::proofs::Standing::standing))]
     pub fn records(&self) -> &[Attempted]
         ensures attempts { map attempted_of result.now

@@ -22,7 +22,7 @@ use zs_pool::{Cut, Gate, Poller, Polling, Tally, TallySeat, poll_one, round};
 // A run of jobs: a slot with the task of each job, a timer for each task that waits for a tick, and
 // the tally of the polls.
 #[derive(Drop)]
-pub struct Engine {
+pub(crate) struct Engine {
     alloc: Global,
     clock: Clock,
     horizon: u64,
@@ -47,7 +47,7 @@ impl Engine {
     ghost use Rattle.zs_engine.specs.Engine.{IsNew, IsResting, IsDueAt, IsSameRun, HasRunRound};
 
     // An engine of no jobs.
-    pub fn new(alloc: Global, clock: Clock) -> Result<Engine, EngineFault>
+    pub(crate) fn new(alloc: Global, clock: Clock) -> Result<Engine, EngineFault>
         ensures new { IfOk result IsNew }
         ensures empty { IfOk result (λ engine. (engine.clock ≡ clock) × (engine.slots.items ≡ [])) }
     {
@@ -214,7 +214,7 @@ impl Engine {
     }
 
     // Adds the jobs, in order, and runs them until no task waits for a tick.
-    pub fn run<G: Gate, R: Threads + Wait + Sync>(
+    pub(crate) fn run<G: Gate, R: Threads + Wait + Sync>(
         &mut self,
         rt: &R,
         cut: Cut,
@@ -243,7 +243,7 @@ impl Engine {
     }
 
     // The tasks in job order, with the closed tally.
-    pub fn finish(self) -> Result<Answer, EngineFault>
+    pub(crate) fn finish(self) -> Result<Answer, EngineFault>
         requires rests { IsResting self }
         requires over { self.agenda.moments ≡ empty }
         ensures answer { IfOk result
@@ -251,20 +251,11 @@ impl Engine {
         ensures jobs { IfOk result (λ answer.
             map kept_of answer.tasks.items ≡ jobs_in self.slots.items) }
     {
-        let Engine {
-            alloc,
-            clock: _,
-            horizon,
-            slots,
-            agenda: _,
-            tally,
-            seat,
-        } = self;
-        let tasks = into_tasks(alloc, slots)?;
+        let tasks = into_tasks(self.alloc, self.slots)?;
         Ok(Answer {
             tasks,
-            polls: tally.close(seat),
-            horizon,
+            polls: self.tally.close(self.seat),
+            horizon: self.horizon,
         })
     }
 }

@@ -15,8 +15,8 @@ use zs_agenda::Clock;
 use zs_drive::{Job, Keeping};
 use zs_pool::{Cut, Gate};
 
-// Runs the jobs, whose tasks store their attempts as `keeps` says.
-fn run_keeping<G: Gate, R: Threads + Wait + Sync>(
+/// Like `run_jobs`, with tasks that store their attempts as `keeps` says. Lines take less memory.
+pub fn run_keeping<G: Gate, R: Threads + Wait + Sync>(
     rt: &R,
     alloc: Global,
     cut: Cut,
@@ -26,6 +26,7 @@ fn run_keeping<G: Gate, R: Threads + Wait + Sync>(
     keeps: Keeping,
 ) -> Result<Answer, EngineFault>
     requires few { length jobs.items ≤ max_tasks }
+    // The clauses of `run_jobs`.
     ensures answer { IfOk result (IsAnswer clock (map job_record jobs.items)) }
     ensures keeps { IfOk result (AllKeep keeps) }
 {
@@ -50,22 +51,4 @@ pub fn run_jobs<G: Gate, R: Threads + Wait + Sync>(
     ensures keeps { IfOk result (AllKeep Keeping.Records) }
 {
     run_keeping(rt, alloc, cut, gate, clock, jobs, Keeping::Records)
-}
-
-/// Like `run_jobs`, with tasks that store lines instead of all records but the last. This takes
-/// less memory.
-pub fn run_to_lines<G: Gate, R: Threads + Wait + Sync>(
-    rt: &R,
-    alloc: Global,
-    cut: Cut,
-    gate: &G,
-    clock: Clock,
-    jobs: Vec<Job>,
-) -> Result<Answer, EngineFault>
-    requires few { length jobs.items ≤ max_tasks }
-    // The clauses of `run_jobs`.
-    ensures answer { IfOk result (IsAnswer clock (map job_record jobs.items)) }
-    ensures keeps { IfOk result (AllKeep Keeping.Lines) }
-{
-    run_keeping(rt, alloc, cut, gate, clock, jobs, Keeping::Lines)
 }

@@ -22,5 +22,5 @@ mod timers;
 
 pub use answer::Answer;
 pub use fault::EngineFault;
-pub use jobs::{run_jobs, run_to_lines};
+pub use jobs::{run_jobs, run_keeping};
 pub use laws::listed_ticks;

@@ -22,7 +22,7 @@ fn take_task(slots: &mut Vec<Option<Task>>, number: u64) -> Task
 }
 
 // Takes the tasks out of these slots, in order.
-pub fn take_tasks(
+pub(crate) fn take_tasks(
     alloc: Global,
     slots: &mut Vec<Option<Task>>,
     numbers: &[u64],
@@ -40,7 +40,7 @@ pub fn take_tasks(
 }
 
 // Returns the tasks of slots, none of which is empty.
-pub fn into_tasks(alloc: Global, slots: Vec<Option<Task>>) -> Result<Vec<Task>, EngineFault>
+pub(crate) fn into_tasks(alloc: Global, slots: Vec<Option<Task>>) -> Result<Vec<Task>, EngineFault>
     requires filled { (tasks : List TaskValue) × (slots.items ≡ map (λ t. Some t) tasks) }
     ensures same { IfOk result (λ tasks. slots.items ≡ map (λ t. Some t) tasks.items) }
 {

@@ -16,7 +16,7 @@ fn next_tick(clock: &Clock, task: &Task) -> Option<u64>
 }
 
 // Arms the timer of a task that has none, if there is a tick for it.
-pub fn set_timer(clock: &Clock, agenda: &mut Agenda, task: &Task) -> Result<(), EngineFault>
+pub(crate) fn set_timer(clock: &Clock, agenda: &mut Agenda, task: &Task) -> Result<(), EngineFault>
     requires unset { get agenda.old.moments task.now.number ≡ None }
     requires later { IsLater agenda.old.last_taken (next_tick_of clock.now task.now) }
     ensures ok { OnOk result

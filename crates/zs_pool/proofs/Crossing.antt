@@ -22,9 +22,9 @@ use Rattle.std.specs.contracts.alloc.Global as global
 use Rattle.crossbeam_queue.specs.contracts.array_queue as queue
 use Rattle.zs_pool.specs.contracts as pool
 use Rattle.zs_term.proofs.outputs.Out.TheLaws.TheKnot as out_knot
-use Rattle.zs_step.proofs.leaf_state.LeafState.TheSendSync as leaf_state
-use Rattle.zs_step.proofs.leaf_state.FixedState.TheSendSync as fixed_state
-use Rattle.zs_step.proofs.modifier.Modifier.TheSendSync as modifier
+use Rattle.zs_term.proofs.term.Term.TheLaws.TheKnot as term_knot
+use Rattle.zs_term.proofs.kind.Kind.TheLaws.TheKnot as kind_knot
+use Rattle.zs_step.proofs.leaf.Leaf.TheSendSync as leaf
 use Rattle.zs_step.proofs.state.State.TheLaws.TheKnot as state_knot
 use Rattle.zs_term.specs.contracts as terms
 use Rattle.zs_step.specs.contracts as steps
@@ -42,7 +42,7 @@ outs_send : IsSend terms.outputs.Outs.the_row
 outs_send = as_row_send terms.outputs.Outs.the_field (search (crosses, out_knot.crosses_both, sendable) depth 60 fits 20000)
 
 collected_send : IsSend steps.collected.Collected.the_row
-collected_send = declared_send steps.collected.Collected.the_type (outs_send, (option.the_send terms.outputs.Out.the_row out_send, tt))
+collected_send = declared_send steps.collected.Collected.the_type (outs_send, (search sendable, tt))
 
 parts_send : (Ts : List RattleType) → AllSend Ts → FieldsHave IsSend (parts Ts)
 parts_send [] s = tt
@@ -52,10 +52,19 @@ tuple_send : (Ts : List RattleType) → AllSend Ts → IsSend (Tuple Ts)
 tuple_send Ts s = declared_send (tuple_type Ts) (parts_send Ts s)
 
 state_send : IsSend steps.state.State.the_row
-state_send = as_row_send steps.state.State.the_field (state_knot.send-State leaf_state.the_field_send fixed_state.the_field_send (λ h s. Box-send (Tuple (h ∷ h ∷ [])) (tuple_send (h ∷ h ∷ []) (s, (s, tt)))) (search (rules, sendable)) (λ h s. Box-send (Tuple (steps.modifier.Modifier.the_row ∷ h ∷ [])) (tuple_send (steps.modifier.Modifier.the_row ∷ h ∷ []) (modifier.the_send, (s, tt)))) (Vec-send steps.modifier.Modifier.the_row modifier.the_send) Box-send (search (rules, sendable)) (Box-send steps.collected.Collected.the_row collected_send) (search (rules, sendable)) (search (rules, sendable)))
+state_send = as_row_send steps.state.State.the_field (state_knot.send-State leaf.the_field_send (λ h s. Box-send (Tuple (h ∷ h ∷ [])) (tuple_send (h ∷ h ∷ []) (s, (s, tt)))) (search (rules, sendable)) Box-send (search (rules, sendable)) (search (rules, sendable)) (Box-send steps.collected.Collected.the_row collected_send) (search (rules, sendable)))
 
-stepper_send : IsSend steps.stepper.Stepper.the_row
-stepper_send = declared_send steps.stepper.Stepper.the_type (state_send, (search sendable, (search sendable, (heap_send, tt))))
+term_send : IsSend terms.term.Term.the_row
+term_send = as_row_send terms.term.Term.the_field (search (crosses, term_knot.crosses_both, sendable) depth 60 fits 20000)
+
+kind_send : IsSend terms.kind.Kind.the_row
+kind_send = as_row_send terms.kind.Kind.the_field (search (crosses, kind_knot.crosses_both, sendable) depth 60 fits 20000)
+
+checked_send : IsSend terms.checked.Checked.the_row
+checked_send = view_send terms.checked.Checked.TheInside.the_row _ _ _ _ (declared_send terms.checked.Checked.TheInside.the_type (term_send, (kind_send, tt)))
+
+compiled_send : IsSend steps.compiled.Compiled.the_row
+compiled_send = declared_send steps.compiled.Compiled.the_type (state_send, (search sendable, (search sendable, (heap_send, (checked_send, tt)))))
 
 ended_send : IsSend drive.record.Ended.the_row
 ended_send = declared_send drive.record.Ended.the_type (search sendable, (search (rules, sendable), (option.the_send _ (search (rules, sendable, out_send, decision.the_send) depth 20), tt)))
@@ -70,7 +79,7 @@ log_send : IsSend drive.log.Log.the_row
 log_send = variants_send drive.log.Log.enum ((Vec-send drive.record.Attempted.the_row attempted_send, tt), ((told_send, tt), tt))
 
 progress_send : IsSend drive.progress.Progress.the_row
-progress_send = declared_send drive.progress.Progress.the_type (search (rules, sendable), (search sendable, (search sendable, (search (rules, sendable), (search (rules, sendable, crosses) depth 20, (log_send, (out_send, (stepper_send, (search (rules, sendable, crosses) depth 20, (search sendable, tt))))))))))
+progress_send = declared_send drive.progress.Progress.the_type (search (rules, sendable), (search sendable, (search sendable, (search (rules, sendable), (search (rules, sendable, crosses) depth 20, (log_send, (compiled_send, (search (rules, sendable, crosses) depth 20, (search sendable, tt)))))))))
 
 task_send : IsSend drive.task.Task.the_row
 task_send = view_send drive.task.Task.TheInside.the_row _ _ _ _ (declared_send drive.task.Task.TheInside.the_type (search sendable, (Box-send drive.progress.Progress.the_row progress_send, (search sendable, tt))))

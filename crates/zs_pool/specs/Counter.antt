@@ -40,3 +40,7 @@ pub record Counting : Type 0 where
   pub share : ℕ
   pub count : ℕ
   pub seen : ℕ
+
+-- the seat with these parts
+abbrev pub counting : TableId → ℕ → ℕ → ℕ → Counting
+counting counter share count seen = record { counter = counter; share = share; count = count; seen = seen }

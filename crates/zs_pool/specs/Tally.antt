@@ -45,3 +45,7 @@ pub record Seating : Type 0 where
   pub count : ℕ
   pub allowance : ℕ
   pub seen : ℕ
+
+-- the seat with these parts
+abbrev pub seating : TableId → ℕ → ℕ → ℕ → Seating
+seating tally count allowance seen = record { tally = tally; count = count; allowance = allowance; seen = seen }

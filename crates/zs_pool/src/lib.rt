@@ -32,7 +32,7 @@ pub use gate::{Gate, OpenGate};
 pub use polled::Polled;
 pub use poller::{Poller, Polling};
 pub use polling::{poll_batch, poll_one};
-pub use rounds::cut::{Cut, MAX_TASKS, MAX_WORKERS};
+pub use rounds::cut::{Cut, MAX_TASKS};
 pub use rounds::round;
 pub use shelf::{Shelf, ShelfPass};
 pub use tally::{Tally, TallySeat};

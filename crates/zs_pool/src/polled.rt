@@ -58,11 +58,6 @@ impl Polled {
         if self.broken() {
             return Err(PoolFault::Memory);
         }
-        let Polled {
-            number: _,
-            now: _,
-            tasks,
-        } = self;
-        Ok(tasks)
+        Ok(self.tasks)
     }
 }

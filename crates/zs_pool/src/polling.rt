@@ -13,18 +13,8 @@ use crate::polled::Polled;
 use crate::poller::{Poller, Polling};
 use crate::tally::{Tally, TallySeat};
 use futures::Future;
-use futures::task::Context;
 use std::alloc::Global;
 use zs_drive::Task;
-
-// A due poll. If it runs out of memory, the task is broken.
-fn poll_at(task: &mut Task, now: u64, cx: &mut Context<'_>)
-    requires pollable { IsPollable now task.old }
-    ensures polled { IsPolled now task.old task.new }
-{
-    task.see(now);
-    let _answer = task.poll(cx);
-}
 
 /// Polls one task at `now`, and counts it. If the poll runs out of memory, the task is broken.
 pub fn poll_one<G: Gate>(
@@ -42,7 +32,8 @@ pub fn poll_one<G: Gate>(
 {
     let done = tally.seen(seat);
     polling.gate.pass(task.number(), now, done);
-    poll_at(task, now, &mut polling.cx);
+    task.see(now);
+    let _answer = task.poll(&mut polling.cx);
     tally.count(seat);
 }
 
@@ -67,7 +58,7 @@ fn poll_each<G: Gate>(
 }
 
 // Polls each task of the batch in order.
-pub fn poll_in<G: Gate>(
+pub(crate) fn poll_in<G: Gate>(
     polling: &mut Polling<'_, G>,
     tally: &Tally,
     seat: &mut TallySeat,

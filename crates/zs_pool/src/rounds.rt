@@ -6,7 +6,7 @@ ghost use Rattle.zs_pool.specs.Rounds.{polled_at, IsPollable};
 ghost use Rattle.zs_pool.specs.declared.fault.PoolFault.TheVariants.{Full};
 
 mod batches;
-pub mod cut;
+pub(crate) mod cut;
 mod shared;
 mod sharing;
 mod workers;

@@ -8,6 +8,7 @@
 
 ghost use Rattle.std.specs.Prelude.{◌≡◌, ◌+◌, ◌-◌, ◌≤◌, ◌<◌, max, IfOk, IfErr};
 ghost use Rattle.zs_term.specs.Saturating.{max_moment};
+ghost use Rattle.zs_pool.specs.Tally.{seating};
 ghost use Rattle.zs_pool.specs.declared.fault.PoolFault.TheVariants.{Memory};
 
 mod rule;
@@ -45,17 +46,12 @@ pub struct TallySeat {
 
 impl Model for TallySeat {
     ghost use Rattle.std.specs.Prelude.{◌≡◌, []};
-    ghost use Rattle.zs_pool.specs.Tally.{Seating};
+    ghost use Rattle.zs_pool.specs.Tally.{Seating, seating};
 
     ghost Value = { Seating };
 
     ghost view = { λ s.
-        record {
-          tally = s.seat.table_id;
-          count = s.seat.me.0.count;
-          allowance = s.seat.me.0.allowance;
-          seen = s.seat.me.0.seen;
-        } };
+        let v = s.seat.me.0 in seating s.seat.table_id v.count v.allowance v.seen };
 
     ghost invariant = { λ s. (s.seat.me.1 ≡ []) × (s.left ≡ s.seat.me.0.allowance) };
 }
@@ -65,7 +61,7 @@ impl Tally {
     /// Fails only with `Memory`.
     pub fn new(alloc: Global) -> Result<(Tally, TallySeat), PoolFault>
         ensures ok { IfOk result (λ t.
-            t.1 ≡ record { tally = t.0; count = 0; allowance = max_moment; seen = 0 }) }
+            t.1 ≡ seating t.0 0 max_moment 0) }
         ensures memory { IfErr result (λ e. e ≡ Memory) }
     {
         let (table, seat) = Table::of_words(alloc, &[0], &())?;
@@ -81,12 +77,7 @@ impl Tally {
         requires tally { seat.old.tally ≡ self.now }
         requires left { 1 ≤ seat.old.allowance }
         ensures counted { seat.new
-            ≡ record {
-              tally = self.now;
-              count = seat.old.count + 1;
-              allowance = seat.old.allowance - 1;
-              seen = seat.old.seen;
-            } }
+            ≡ seating self.now (seat.old.count + 1) (seat.old.allowance - 1) seat.old.seen }
     {
         self.table.shared.fetch_add::<Counts>(&mut seat.seat, 0, 1);
         seat.left -= 1;
@@ -101,12 +92,7 @@ impl Tally {
         // There is room for all counts that the seat may still make.
         ensures within { result + seat.old.allowance ≤ max_moment }
         ensures kept { seat.new
-            ≡ record {
-              tally = self.now;
-              count = seat.old.count;
-              allowance = seat.old.allowance;
-              seen = result;
-            } }
+            ≡ seating self.now seat.old.count seat.old.allowance result }
     {
         self.table.shared.load::<Sees>(&mut seat.seat, 0)
     }
@@ -123,14 +109,9 @@ impl Tally {
         requires tally { seat.old.tally ≡ self.now }
         requires left { n ≤ seat.old.allowance }
         ensures first { seat.new
-            ≡ record {
-              tally = self.now;
-              count = seat.old.count;
-              allowance = seat.old.allowance - n;
-              seen = seat.old.seen;
-            } }
+            ≡ seating self.now seat.old.count (seat.old.allowance - n) seat.old.seen }
         ensures second { result
-            ≡ record { tally = self.now; count = 0; allowance = n; seen = seat.old.seen } }
+            ≡ seating self.now 0 n seat.old.seen }
     {
         let words = &self.table.shared;
         // The split takes no argument, so the amount is noted in the seat's view: a word that is
@@ -149,12 +130,7 @@ impl Tally {
         requires seat { seat.old.tally ≡ self.now }
         requires other { other.tally ≡ self.now }
         ensures joined { seat.new
-            ≡ record {
-              tally = self.now;
-              count = seat.old.count + other.count;
-              allowance = seat.old.allowance + other.allowance;
-              seen = max seat.old.seen other.seen;
-            } }
+            ≡ seating self.now (seat.old.count + other.count) (seat.old.allowance + other.allowance) (max seat.old.seen other.seen) }
     {
         let TallySeat { seat: theirs, left } = other;
         let words = &self.table.shared;
@@ -169,14 +145,9 @@ impl Tally {
         requires tally { seat.tally ≡ self.now }
         requires left { n ≤ seat.allowance }
         ensures first { result.0
-            ≡ record {
-              tally = self.now;
-              count = seat.count;
-              allowance = seat.allowance - n;
-              seen = seat.seen;
-            } }
+            ≡ seating self.now seat.count (seat.allowance - n) seat.seen }
         ensures second { result.1
-            ≡ record { tally = self.now; count = 0; allowance = n; seen = seat.seen } }
+            ≡ seating self.now 0 n seat.seen }
     {
         let other = self.split_off(&mut seat, n);
         (seat, other)
@@ -187,12 +158,7 @@ impl Tally {
         requires seat { seat.tally ≡ self.now }
         requires other { other.tally ≡ self.now }
         ensures joined { result
-            ≡ record {
-              tally = self.now;
-              count = seat.count + other.count;
-              allowance = seat.allowance + other.allowance;
-              seen = max seat.seen other.seen;
-            } }
+            ≡ seating self.now (seat.count + other.count) (seat.allowance + other.allowance) (max seat.seen other.seen) }
     {
         self.absorb(&mut seat, other);
         seat

@@ -18,8 +18,8 @@ use std::alloc::Global;
 use std::collections::BTreeSet;
 use std::sync::Wait;
 use std::thread::Threads;
-use zs_drive::Job;
-use zs_engine::{EngineFault, run_to_lines};
+use zs_drive::{Job, Keeping};
+use zs_engine::{EngineFault, run_keeping};
 use zs_pool::{Gate, MAX_TASKS};
 use zs_run::{
     Drain, Head, Plan, PlanFault, Source, add_job, append_jobs, append_total, read_head, read_job,
@@ -172,7 +172,7 @@ fn lines_of<T: Threads + Wait + Sync, G: Gate>(
         ≡ polls_of (plan_record plan).clock (plan_record plan).jobs) }
 {
     let Plan { clock, cut, jobs } = plan;
-    let answer = run_to_lines(rt, alloc, cut, gate, clock, jobs)?;
+    let answer = run_keeping(rt, alloc, cut, gate, clock, jobs, Keeping::Lines)?;
     let mut text = String::new(alloc);
     append_jobs(&mut text, &answer)?;
     Ok((text, answer.polls))

@@ -5,7 +5,8 @@ ghost use Rattle.zs_population.specs.Status.{exit_status_of, status_of};
 
 use std::process::ExitCode;
 use thiserror::Error;
-use zs_run::{EngineFault, PlanFault, RunFault};
+use zs_engine::EngineFault;
+use zs_run::{PlanFault, RunFault};
 
 /// Why the run of a population stopped. Only whole blocks were written, unless the writer failed.
 #[derive(Clone, Copy, Debug, PartialEq, Eq, Error)]

@@ -1,6 +1,6 @@
 //! Decisions: from a whole history, and step by step. Each case returns the third output as text.
 ghost use Rattle.std.specs.Prelude.{◌≤◌};
-ghost use Rattle.zs_step.specs.Compiled.{last_seen, stepper_of};
+ghost use Rattle.zs_step.specs.Compiled.{last_seen};
 
 use crate::ended::{Answer, Case, Ended, SET_UP, right_if};
 use std::alloc::Global;
@@ -59,7 +59,7 @@ pub fn step_in_turn(case: &mut Case<'_>) -> Answer {
 }
 
 fn three_steps(compiled: &mut Compiled) -> Result<Stepped, Ended>
-    requires order { last_seen (stepper_of compiled.old) ≤ 0 }
+    requires order { last_seen compiled.old ≤ 0 }
 {
     step_at(compiled, 1, 7)?;
     step_at(compiled, 3, 8)?;
@@ -68,8 +68,8 @@ fn three_steps(compiled: &mut Compiled) -> Result<Stepped, Ended>
 
 // Makes one step. If it fails, the state stays broken.
 fn step_at(compiled: &mut Compiled, now: u64, input: u64) -> Result<Stepped, Ended>
-    requires order { last_seen (stepper_of compiled.old) ≤ now }
-    ensures seen { last_seen (stepper_of compiled.new) ≤ now }
+    requires order { last_seen compiled.old ≤ now }
+    ensures seen { last_seen compiled.new ≤ now }
 {
     match compiled.step(now, input) {
         Ok(stepped) => Ok(stepped),

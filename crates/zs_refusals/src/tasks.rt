@@ -10,10 +10,12 @@ use std::random::RandomSource;
 use zs_drive::{Attempted, DriveFault, Job, Keeping, Task};
 use zs_run::read_plan;
 
-// The lines of the first two attempts of the job, if they are stored as lines.
+// The lines of the attempts of the job, if they are stored as lines.
 const FIRST: &str = "attempt 1 0..5 ok 7\nstep 1 out ([],Left(0)) next 5\n";
 
 const SECOND: &str = "attempt 2 5..10 ok 8\nstep 2 out ([7],Right(0)) next 15\n";
+
+const THIRD: &str = "attempt 3 15..20 ok 9\nstep 3 out ([7,8],Right(1)) next 25\n";
 
 /// Returns the last job of a plan.
 pub fn job_of(alloc: Global, plan: &str) -> Result<Job, Ended> {
@@ -36,7 +38,7 @@ pub fn tell_in_turn<R: Alloc<A = Global> + RandomSource>(rt: &R, case: &mut Case
     let job = job_of(case.alloc, case.input)?;
     case.call = "Task::keeping";
     let task = Task::keeping(case.alloc, 4, job, Keeping::Lines)?;
-    poll_new(&solo, case, task, 2)
+    poll_new(&solo, case, task, 3)
 }
 
 // Polls a new task, which stores `told` attempts as lines in the end.
@@ -112,10 +114,16 @@ fn has_first(task: &Task) -> bool {
     let (lines, records) = (task.lines(), task.records());
     match task.told_count() {
         0 => lines.is_empty() && are_first(records, &[0, 5, 15]),
-        1 => lines == FIRST && are_first(records, &[5, 15]),
+        1 => lines == FIRST && are_first(records, &[5]),
         2 => lines.strip_prefix(FIRST) == Some(SECOND) && are_first(records, &[15]),
+        3 => after_second(lines) == Some(THIRD) && records.is_empty(),
         _ => false,
     }
+}
+
+// The lines after those of the first two attempts.
+fn after_second(lines: &str) -> Option<&str> {
+    lines.strip_prefix(FIRST)?.strip_prefix(SECOND)
 }
 
 // Whether attempts begin at the first of these moments.

@@ -13,7 +13,7 @@ ghost use Rattle.zs_run.specs.Names.{KnowsNames};
 ghost use Rattle.zs_run.specs.Jobs.{job_of, jobs_of, mode_of, script_of};
 
 use crate::entry::{beats_of, have_known_keys};
-use crate::names::{add_name, is_name, is_used};
+use crate::names::{add_name, is_name};
 use crate::plan_fault::PlanFault;
 use crate::shapes::JobParts;
 use crate::tree::has_only_keys;
@@ -66,10 +66,7 @@ fn script_of(number: u64, beats: Vec<Beat>) -> Result<Script, PlanFault>
     ensures value { Gives (λ s. s) result
         (passed_on (faults.Script number) (script_of beats.items)) }
 {
-    match Script::new(beats) {
-        Ok(script) => Ok(script),
-        Err(fault) => Err(PlanFault::Script { job: number, fault }),
-    }
+    Script::new(beats).map_err(|fault| PlanFault::Script { job: number, fault })
 }
 
 /// The job with this number, after those whose names are given.
@@ -92,7 +89,7 @@ pub(crate) fn job_of(
     if !is_name(parts.name) {
         return Err(PlanFault::Name { job: number });
     }
-    if is_used(names, parts.name) {
+    if names.contains(parts.name) {
         return Err(PlanFault::SameName { job: number });
     }
     let schedule = schedule_of(alloc, number, parts.schedule)?;

@@ -44,4 +44,3 @@ pub use run_fault::{RunFault, exit_code, status};
 pub use running::run;
 pub use streams::{Drain, Failed, Source};
 pub use transfer::write_all;
-pub use zs_engine::EngineFault;

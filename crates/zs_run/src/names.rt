@@ -1,7 +1,6 @@
 //! The names of jobs: which texts are valid, and which were used before.
 ghost use Rattle.std.specs.Prelude.{◌≡◌, ◌++◌, ◌∷◌, [], ℕ, List, OnOk, string_bytes};
 ghost use Rattle.std.specs.List.{list_all};
-ghost use Rattle.std.specs.BTreeSet.{contains_text};
 ghost use Rattle.zs_run.specs.Jobs.{is_name, is_name_byte};
 ghost use Rattle.zs_run.specs.Names.{KnowsNames};
 
@@ -33,13 +32,6 @@ pub(crate) fn is_name(text: &str) -> bool
 {
     let bytes = text.as_bytes();
     0 < bytes.len() && bytes.len() <= MAX_NAME && all_are_name_bytes(bytes)
-}
-
-/// Whether the name is in the set.
-pub(crate) fn is_used(names: &BTreeSet<String>, name: &str) -> bool
-    ensures value { result ≡ contains_text names.now name.now }
-{
-    names.contains(name)
 }
 
 /// Adds a name to the set.

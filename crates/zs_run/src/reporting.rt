@@ -1,5 +1,5 @@
 //! Reports.
-ghost use Rattle.std.specs.Prelude.{◌≡◌, ◌++◌, ◌+◌, ◌≤◌, ◌<◌, ◌^◌, ℕ, length, codes, [], OnOk, IfOk, None, Some, map, option_copied, string_bytes};
+ghost use Rattle.std.specs.Prelude.{◌≡◌, ◌++◌, ◌+◌, ◌≤◌, ◌<◌, ◌^◌, ℕ, length, codes, [], OnOk, IfOk, IsSome, None, Some, map, option_copied, string_bytes};
 ghost use Rattle.std.specs.Fmt.{decimal};
 ghost use Rattle.std.specs.List.{flat_map};
 ghost use Rattle.zs_drive.specs.Values.{attempted_of, ended_of, step_of};
@@ -40,8 +40,9 @@ fn push_task(text: &mut String, task: &Task) -> Result<(), AllocError>
     push_attempts(text, task.told_count() + 1, task.records())
 }
 
-// How the last attempt of a task ended, if it has.
+// How the last attempt of a task ended, whose job has ended: that attempt is a record.
 fn last_end(task: &Task) -> Option<&Ended>
+    requires over { IsSome (current_timeline task.now).ending }
     ensures value { ended_of (option_copied result)
         ≡ last_ended (current_timeline task.now).attempts }
 {
@@ -53,6 +54,7 @@ fn last_end(task: &Task) -> Option<&Ended>
 
 // The moment at which the last attempt ended.
 fn last_moment(task: &Task) -> u64
+    requires over { IsSome (current_timeline task.now).ending }
     ensures value { result ≡ last_moment (current_timeline task.now).attempts }
 {
     match last_end(task) {
@@ -74,6 +76,7 @@ fn push_output(text: &mut String, step: &Option<(Out, Decision)>) -> Result<(), 
 
 // Adds the output of the last step.
 fn push_last_output(text: &mut String, task: &Task) -> Result<(), AllocError>
+    requires over { IsSome (current_timeline task.now).ending }
     ensures text { OnOk result
         (string_bytes text.new
         ≡ string_bytes text.old ++ last_output (current_timeline task.now).attempts) }
@@ -86,6 +89,7 @@ fn push_last_output(text: &mut String, task: &Task) -> Result<(), AllocError>
 
 // Adds how a job ended.
 fn push_ending(text: &mut String, task: &Task, ending: Ending) -> Result<(), AllocError>
+    requires over { IsSome (current_timeline task.now).ending }
     ensures text { OnOk result
         (string_bytes text.new
         ≡ string_bytes text.old ++ ending_text (current_timeline task.now).attempts ending) }

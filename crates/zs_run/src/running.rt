@@ -16,7 +16,8 @@ use crate::transfer::{InputFault, read_up_to, write_all};
 use std::alloc::Global;
 use std::sync::Wait;
 use std::thread::Threads;
-use zs_engine::{EngineFault, run_to_lines};
+use zs_drive::Keeping;
+use zs_engine::{EngineFault, run_keeping};
 use zs_pool::Gate;
 
 // One byte more than a plan may have: enough to know that there are too many.
@@ -57,7 +58,7 @@ fn report_plan<T: Threads + Wait + Sync, G: Gate>(
     ensures text { IfOk result (λ text. string_bytes text ≡ report_of (plan_record plan)) }
 {
     let Plan { clock, cut, jobs } = plan;
-    let answer = run_to_lines(rt, alloc, cut, gate, clock, jobs)?;
+    let answer = run_keeping(rt, alloc, cut, gate, clock, jobs, Keeping::Lines)?;
     Ok(report(alloc, &answer)?)
 }
 

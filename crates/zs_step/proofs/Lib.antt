@@ -3,7 +3,6 @@ pub mod Histories
 pub mod Sats
 pub mod Sequels
 pub mod Resets
-pub mod Modifiers
 pub mod Steps
 pub mod AnswersInTurn
 pub mod OutputKinds

@@ -1,14 +1,12 @@
 -- What a `collectAll` has collected.
-use Rattle.std.specs.Prelude.{Option, Some, None}
-use Rattle.zs_term.specs.declared.outputs.Out.{Out}
-use Rattle.zs_term.specs.Output.{Outputs, output_of, outputs_of, outs_list, with_last}
+use Rattle.zs_term.specs.Output.{Output, Outputs, outputs_of, outs_list}
 use Rattle.zs_step.specs.declared.collected.Collected.{Collected}
+use Rattle.zs_step.specs.Answer.{collect_if}
 
--- outputs, with one more appended if there is one
-abbrev pub with_any : Outputs → Option Out → Outputs
-with_any xs (Some x) = with_last xs (output_of x)
-with_any xs None = xs
+-- the outputs of the list: those of the steps before the last one at which the part continued
+abbrev pub earlier_outputs : Collected → Outputs
+earlier_outputs c = outputs_of (outs_list c.list)
 
--- the outputs of the list, and the last one, which joins it at the next step
-abbrev pub collected_outputs : Collected → Outputs
-collected_outputs c = with_any (outputs_of (outs_list c.list)) c.last
+-- the same, and the output of the part's last step if it continued there
+abbrev pub collected_outputs : Collected → Output → Outputs
+collected_outputs c last = collect_if c.due (earlier_outputs c) last

@@ -1,42 +1,84 @@
--- What the state of a leaf represents: what the rule of its next step needs to know of the history.
-use Rattle.std.specs.Prelude.{◌≡◌, suc, ◌*◌, ◌^◌, length}
+-- The output of a leaf's last step, and which histories it represents: what its next step needs to
+-- know of them. `a_leaf_counts_its_steps` of `src/laws.rt` reads the number of steps from it.
+use Rattle.std.specs.Prelude.{◌≡◌, ℕ, suc, ◌+◌, ◌*◌, ◌^◌, Option, Some, None, [], ◌∷◌, length}
 use Rattle.zs_term.specs.Saturating.{saturated}
-use Rattle.zs_term.specs.Schedule.{Leaf, forever, recurs, spaced, exponential, fibonacci, identity, elapsed, linear, windowed}
-use Rattle.zs_step.specs.declared.leaf_state.Past.{Past}
-use Rattle.zs_step.specs.declared.leaf_state.LeafState.{LeafState}
-use Rattle.zs_step.specs.declared.leaf_state.FixedState.{FixedState}
-use Rattle.zs_step.specs.declared.leaf_state.LeafState.TheVariants.{Forever, Recurs, Spaced, Exponential, Fibonacci, Identity, Elapsed, Linear, Windowed}
+use Rattle.zs_term.specs.Schedule.{Leaf as LeafRule, forever, recurs, spaced, fixed, exponential, fibonacci, identity, elapsed, linear, windowed}
+use Rattle.zs_step.specs.declared.leaf.Past.{Past}
+use Rattle.zs_step.specs.declared.leaf.Leaf.{Leaf}
+use Rattle.zs_step.specs.declared.leaf.Leaf.TheVariants.{Forever, Recurs, Spaced, Fixed, Exponential, Fibonacci, Identity, Elapsed, Linear, Windowed}
 use Rattle.zs_step.specs.History.{History, first_moment}
 use Rattle.zs_step.specs.Answer.{fibonacci_number, next_run}
 
--- the leaf of a state; `fixed` has another type
-abbrev pub state_leaf : LeafState → Leaf
-state_leaf (Forever n) = forever
-state_leaf (Recurs k n) = recurs k
-state_leaf (Spaced d n) = spaced d
-state_leaf (Exponential b f x) = exponential b f
+-- the rule of a leaf
+abbrev pub state_leaf : Leaf → LeafRule
+state_leaf (Forever b) = forever
+state_leaf (Recurs k b) = recurs k
+state_leaf (Spaced d b) = spaced d
+state_leaf (Fixed p past run) = fixed p
+state_leaf (Exponential b f x y) = exponential b f
 state_leaf (Fibonacci o x y) = fibonacci o
-state_leaf Identity = identity
-state_leaf (Elapsed past) = elapsed
+state_leaf (Identity x) = identity
+state_leaf (Elapsed m x) = elapsed
 state_leaf (Linear n x) = linear n
 state_leaf (Windowed p past) = windowed p
 
--- the number of steps and the moment of the first, or 0
-abbrev pub StandsForSteps : Past → History → Type 0
-StandsForSteps past h = (past.steps ≡ saturated (length h)) × (past.first ≡ first_moment h)
+-- a number, or 0
+abbrev pub or_zero : Option ℕ → ℕ
+or_zero None = 0
+or_zero (Some n) = n
 
--- a leaf's state represents a history
-abbrev pub LeafRepresents : LeafState → History → Type 0
-LeafRepresents (Forever n) h = n ≡ saturated (length h)
-LeafRepresents (Recurs k n) h = n ≡ saturated (length h)
-LeafRepresents (Spaced d n) h = n ≡ saturated (length h)
-LeafRepresents (Exponential b f x) h = x ≡ saturated (b * f ^ length h)
+-- the number of steps before the last one, or 0
+abbrev pub before_in : Option Past → ℕ
+before_in None = 0
+before_in (Some past) = past.before
+
+-- the output of the last step
+abbrev pub leaf_output : Leaf → ℕ
+leaf_output (Forever b) = or_zero b
+leaf_output (Recurs k b) = or_zero b
+leaf_output (Spaced d b) = or_zero b
+leaf_output (Fixed p past run) = before_in past
+leaf_output (Exponential b f x y) = x
+leaf_output (Fibonacci o x y) = x
+leaf_output (Identity x) = x
+leaf_output (Elapsed m x) = x
+leaf_output (Linear n x) = x
+leaf_output (Windowed p past) = before_in past
+
+-- the number of steps, given that before the last one
+abbrev pub next_count : Option ℕ → ℕ
+next_count None = 0
+next_count (Some n) = saturated (n + 1)
+
+-- the past after one more step
+abbrev pub next_past : Option Past → ℕ → Past
+next_past None now = record { first = now; before = 0 }
+next_past (Some past) now = record { first = past.first; before = saturated (past.before + 1) }
+
+-- the number of steps before the last one, if there is one
+abbrev pub before_of : History → Option ℕ
+before_of [] = None
+before_of (p ∷ h) = Some (saturated (length h))
+
+-- the moment of the first step, if there is one
+abbrev pub start_of : History → Option ℕ
+start_of [] = None
+start_of (p ∷ h) = Some (first_moment (p ∷ h))
+
+-- both, if there is a step
+abbrev pub past_of : History → Option Past
+past_of [] = None
+past_of (p ∷ h) = Some (record { first = first_moment (p ∷ h); before = saturated (length h) })
+
+-- a leaf represents a history
+abbrev pub LeafRepresents : Leaf → History → Type 0
+LeafRepresents (Forever b) h = b ≡ before_of h
+LeafRepresents (Recurs k b) h = b ≡ before_of h
+LeafRepresents (Spaced d b) h = b ≡ before_of h
+LeafRepresents (Fixed p past run) h = (past ≡ past_of h) × (run ≡ next_run p h)
+LeafRepresents (Exponential b f x y) h = y ≡ saturated (b * f ^ length h)
 LeafRepresents (Fibonacci o x y) h = (x ≡ saturated (o * fibonacci_number (length h))) × (y ≡ saturated (o * fibonacci_number (suc (length h))))
-LeafRepresents Identity h = Unit {0}
-LeafRepresents (Elapsed past) h = StandsForSteps past h
+LeafRepresents (Identity x) h = Unit {0}
+LeafRepresents (Elapsed m x) h = m ≡ start_of h
 LeafRepresents (Linear n x) h = x ≡ saturated (n * length h)
-LeafRepresents (Windowed p past) h = StandsForSteps past h
-
--- the state of `fixed` represents a history
-abbrev pub FixedRepresents : FixedState → History → Type 0
-FixedRepresents s h = StandsForSteps s.past h × (s.run ≡ next_run s.period h)
+LeafRepresents (Windowed p past) h = past ≡ past_of h

@@ -10,4 +10,4 @@ pub mod Compiled
 pub mod Memory
 pub mod Laws
 -- What the code stores. Only private contracts name these.
-pub mod Turn
+pub mod Numbers

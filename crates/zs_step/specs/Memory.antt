@@ -1,5 +1,5 @@
 -- Which schedules are stepped without memory allocation.
-use Rattle.std.specs.Prelude.{Bool, true, false}
+use Rattle.std.specs.Prelude.{Bool, true, false, ◌&&◌}
 use Rattle.zs_term.specs.Schedule.{Schedule, leaf, two, over, Modifier, while_input, while_output, collect_all, mapped, reset_when}
 
 -- a schedule without parts
@@ -16,8 +16,14 @@ is_bare_over collect_all bare = false
 is_bare_over (mapped f) bare = bare
 is_bare_over (reset_when k t) bare = bare
 
--- a schedule whose steps make no pair, no side of a choice and no list
+-- a schedule whose outputs are numbers: it makes no pair, no side of a choice and no list
 abbrev pub is_bare : Schedule → Bool
 is_bare (leaf l) = true
 is_bare (two p a b) = false
 is_bare (over s m) = is_bare_over m (is_bare s)
+
+-- a schedule that collects no outputs
+abbrev pub keeps_no_list : Schedule → Bool
+keeps_no_list (leaf l) = true
+keeps_no_list (two p a b) = keeps_no_list a && keeps_no_list b
+keeps_no_list (over s m) = is_bare_over m (keeps_no_list s)

@@ -1,64 +1,75 @@
 //! The outputs that a `collectAll` has collected.
 
-ghost use Rattle.std.specs.Prelude.{◌≡◌, None, IfOk, OnOk};
-ghost use Rattle.zs_term.specs.Output.{output_of, outputs_of, outs_list, listed, none};
-ghost use Rattle.zs_step.specs.Answer.{is_next, collect_if};
+ghost use Rattle.std.specs.Prelude.{◌≡◌, false, OnOk};
+ghost use Rattle.zs_term.specs.Output.{output_of, none, count, with_last};
 
 use crate::decision::Decision;
 use std::alloc::{AllocError, Global};
+use std::mem::drop;
 use zs_term::{Out, Outs};
 
-// A list that outputs share, and the output of the last step, which joins the list at the next
-// step. So the list grows in place if the output before is dropped by then.
+// The outputs of the steps before the last one at which the part continued. If the part continued
+// at the last step, its output there is due: it joins the list before the next step.
 #[derive(Drop)]
 pub(crate) struct Collected {
     list: Outs,
-    last: Option<Out>,
+    due: bool,
 }
 
 impl Collected {
-    ghost use Rattle.zs_step.specs.Collected.{collected_outputs};
+    ghost use Rattle.zs_step.specs.Answer.{is_next};
+    ghost use Rattle.zs_step.specs.Collected.{earlier_outputs};
 
     // Starts with nothing collected.
     pub(crate) fn nothing(alloc: Global) -> Collected
-        ensures value { collected_outputs result ≡ none }
+        ensures value { earlier_outputs result ≡ none }
+        ensures joined { result.due ≡ false }
     {
         Collected {
             list: Outs::new(Vec::new(alloc)),
-            last: None,
+            due: false,
         }
     }
 
-    // Takes one more step: returns what was collected before it, and collects its output if the
-    // schedule continues.
-    pub(crate) fn step(
-        &mut self,
-        alloc: Global,
-        out: Out,
-        decision: Decision,
-    ) -> Result<Out, AllocError>
-        ensures before { IfOk result (λ r. output_of r ≡ listed (collected_outputs self.old)) }
-        ensures kept { OnOk result
-            (collected_outputs self.new
-            ≡ collect_if (is_next decision) (collected_outputs self.old) (output_of out)) }
+    // Returns the outputs of the steps before the last one.
+    pub(crate) fn list(&self) -> &Outs
+        ensures value { result.now ≡ self.now.list }
     {
-        self.join(alloc)?;
-        let before = self.list.share(alloc)?;
-        if decision.is_next() {
-            self.last = Some(out);
-        }
-        Ok(Out::Items(before))
+        &self.list
     }
 
-    // Appends the last output to the list.
-    fn join(&mut self, alloc: Global) -> Result<(), AllocError>
+    // Whether the output of the part's last step is still to join.
+    pub(crate) fn due(&self) -> bool
+        ensures value { result ≡ self.now.due }
+    {
+        self.due
+    }
+
+    // Returns the number of outputs of the steps before the last one.
+    #[tactic(auto, using(crate::proofs::Steps::count_items))]
+    pub(crate) fn len(&self) -> u64
+        ensures value { result ≡ count (earlier_outputs self.now) }
+    {
+        self.list.items().len() as u64
+    }
+
+    // Appends the output that is due. The list then shares its memory with copies of it.
+    pub(crate) fn join(&mut self, alloc: Global, last: Out) -> Result<(), AllocError>
         ensures joined { OnOk result
-            (outputs_of (outs_list self.new.list) ≡ collected_outputs self.old) }
-        ensures none { OnOk result (self.new.last ≡ None) }
+            (earlier_outputs self.new ≡ with_last (earlier_outputs self.old) (output_of last)) }
+        ensures due { OnOk result (self.new.due ≡ false) }
     {
-        match self.last.take() {
-            Some(last) => self.list.push(alloc, last),
-            None => Ok(()),
-        }
+        self.list.push(alloc, last)?;
+        self.due = false;
+        drop(self.list.share(alloc)?);
+        Ok(())
+    }
+
+    // The output of the part's last step is due if the part continued.
+    pub(crate) fn follow(&mut self, decision: Decision)
+        ensures due { self.new.due ≡ is_next decision }
+        ensures same { self.new.list ≡ self.old.list }
+    {
+        self.due = decision.is_next();
     }
 }

@@ -1,36 +1,59 @@
 //! A schedule that is stepped in place, with its term.
 
+ghost use Rattle.std.specs.Prelude.{◌≤◌};
+ghost use Rattle.zs_term.specs.Schedule.{weight};
+ghost use Rattle.zs_term.specs.declared.limits.TheConstants.{MAX_WEIGHT};
+ghost use Rattle.zs_step.specs.State.{state_schedule};
+
+use crate::decision::Decision;
 use crate::fault::StepFault;
+use crate::numbers::Numbers;
+use crate::state::{State, state_of};
 use crate::stepped::Stepped;
-use crate::stepper::Stepper;
-use std::alloc::Global;
+use crate::stepping::{Step, Trace, join_lists, step_node};
+use crate::view::{append, make_out};
+use std::alloc::{AllocError, Global};
 use zs_term::{Checked, Out};
 
-/// A schedule with a state in place of its history: a `Stepper`, and the schedule that it steps.
+/// A schedule with a state in place of its history.
+///
+/// The schedule's size bounds the nodes that a step visits and the memory of the state, however
+/// long the history is. Only the lists of `collectAll` grow with each step.
 #[derive(Drop)]
 pub struct Compiled {
-    stepper: Stepper,
+    state: State,
+    last: u64,
+    broken: bool,
+    alloc: Global,
     checked: Checked,
+    ghost small: { weight (state_schedule state) ≤ MAX_WEIGHT },
 }
 
 impl Compiled {
-    ghost use Rattle.std.specs.Prelude.{◌≡◌, ◌≤◌, [], IfOk, IsOk, true};
+    ghost use Rattle.std.specs.Prelude.{◌≡◌, ◌≤◌, ◌++◌, [], IfOk, OnOk, IsOk, true, string_bytes};
+    ghost use Rattle.zs_term.specs.Output.{output_of};
+    ghost use Rattle.zs_term.specs.OutputText.{output_text, IsBeginning};
     ghost use Rattle.zs_term.specs.Schedule.{schedule_of};
-    ghost use Rattle.zs_step.specs.Memory.{is_leaf};
-    ghost use Rattle.zs_step.specs.Compiled.{compiled_term, stepper_of, stepper_schedule, is_broken, last_seen, StandsFor, Steps};
+    ghost use Rattle.zs_step.specs.History.{History};
+    ghost use Rattle.zs_step.specs.Memory.{is_bare, is_leaf};
+    ghost use Rattle.zs_step.specs.Compiled.{compiled_term, compiled_schedule, compiled_output, is_broken, last_seen, StandsFor, Advances, Steps};
 
     /// Compiles a schedule, before its first step. Fails only with `Memory`, and then drops the
     /// schedule.
     pub fn new(alloc: Global, checked: Checked) -> Result<Compiled, StepFault>
         ensures term { IfOk result (λ c. compiled_term c ≡ checked) }
-        ensures schedule { IfOk result (λ c.
-            stepper_schedule (stepper_of c) ≡ schedule_of checked) }
         // It represents the empty history.
-        ensures stands { IfOk result (λ c. StandsFor (stepper_of c) []) }
+        ensures stands { IfOk result (λ c. StandsFor c []) }
         ensures succeeds { is_leaf (schedule_of checked) ≡ true → IsOk result }
     {
-        let stepper = Stepper::new(alloc, &checked)?;
-        Ok(Compiled { stepper, checked })
+        let state = state_of(alloc, checked.term())?;
+        Ok(Compiled {
+            state,
+            last: 0,
+            broken: false,
+            alloc,
+            checked,
+        })
     }
 
     /// Returns the schedule that was compiled.
@@ -42,28 +65,82 @@ impl Compiled {
 
     /// Whether a step ran out of memory. The schedule then stays broken.
     pub fn broken(&self) -> bool
-        ensures value { result ≡ is_broken (stepper_of self.now) }
+        ensures value { result ≡ is_broken self.now }
     {
-        self.stepper.broken()
+        self.broken
     }
 
     /// Steps the schedule with a moment in milliseconds and an input. If the step runs out of
     /// memory, the schedule is broken: each later step fails with `Memory` and changes nothing.
     pub fn step(&mut self, now: u64, input: u64) -> Result<Stepped, StepFault>
-        requires order { last_seen (stepper_of self.old) ≤ now }
+        requires order { last_seen self.old ≤ now }
         ensures term { compiled_term self.new ≡ compiled_term self.old }
-        ensures steps { Steps (stepper_of self.old) (stepper_of self.new) now input result }
+        ensures steps { Steps self.old self.new now input result }
     {
-        self.step_over(now, input, Out::Num(0))
+        let (decision, visits) = self.advance(now, input)?;
+        match self.output() {
+            Ok(out) => Ok(Stepped {
+                out,
+                decision,
+                visits,
+            }),
+            Err(_) => Err(self.give_up()),
+        }
     }
 
-    /// Like `step`, and reuses the memory of a spare output if it fits: the boxes of a pair become
-    /// those of the new pair.
-    pub fn step_over(&mut self, now: u64, input: u64, spare: Out) -> Result<Stepped, StepFault>
-        requires order { last_seen (stepper_of self.old) ≤ now }
+    /// Like `step`, but makes no output. Returns the decision and the number of nodes that were
+    /// stepped. Only a `collectAll` takes memory.
+    pub fn advance(&mut self, now: u64, input: u64) -> Result<(Decision, u64), StepFault>
+        requires order { last_seen self.old ≤ now }
         ensures term { compiled_term self.new ≡ compiled_term self.old }
-        ensures steps { Steps (stepper_of self.old) (stepper_of self.new) now input result }
+        ensures steps { Advances self.old self.new now input result }
     {
-        self.stepper.step_over(now, input, spare)
+        if self.broken {
+            return Err(StepFault::Memory);
+        }
+        if join_lists(&mut self.state, self.alloc).is_err() {
+            return Err(self.give_up());
+        }
+        let step = Step {
+            alloc: self.alloc,
+            moment: now,
+            input,
+        };
+        let mut trace = Trace {
+            visits: 0,
+            numbers: Numbers::Side,
+        };
+        let decision = step_node(&mut self.state, &step, &mut trace);
+        self.last = now;
+        Ok((decision, trace.visits))
+    }
+
+    /// Makes the output of the last step. Only its lists share memory with the state.
+    pub fn output(&self) -> Result<Out, AllocError>
+        ensures value { IfOk result (λ o. output_of o ≡ compiled_output self.now) }
+        ensures succeeds { (h : History) → StandsFor self.now h
+            → is_bare (compiled_schedule self.now) ≡ true
+            → IsOk result }
+    {
+        make_out(self.alloc, &self.state)
+    }
+
+    /// Appends the text of the output of the last step. If that fails, the text may end with a part
+    /// of it.
+    pub fn append_output(&self, text: &mut String) -> Result<(), AllocError>
+        ensures ok { OnOk result
+            (string_bytes text.new
+            ≡ string_bytes text.old ++ output_text (compiled_output self.now)) }
+        ensures kept { IsBeginning (string_bytes text.old) (string_bytes text.new) }
+    {
+        append(text, &self.state)
+    }
+    // Breaks the schedule.
+    fn give_up(&mut self) -> StepFault
+        ensures broken { self.new ≡ record self.old { broken = true } }
+        ensures memory { result ≡ StepFault.Memory }
+    {
+        self.broken = true;
+        StepFault::Memory
     }
 }

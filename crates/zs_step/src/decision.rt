@@ -16,8 +16,8 @@ pub enum Decision {
 }
 
 impl Decision {
-    // Continues if both do, at the later moment.
-    pub(crate) fn later(self, other: Decision) -> Decision
+    /// Continues if both do, at the later moment.
+    pub fn later(self, other: Decision) -> Decision
         ensures value { result ≡ later_of self other }
     {
         match self {
@@ -31,8 +31,8 @@ impl Decision {
         }
     }
 
-    // Continues if at least one does, at the earlier moment.
-    pub(crate) fn earlier(self, other: Decision) -> Decision
+    /// Continues if at least one does, at the earlier moment.
+    pub fn earlier(self, other: Decision) -> Decision
         ensures value { result ≡ earlier_of self other }
     {
         match self {
@@ -46,8 +46,8 @@ impl Decision {
         }
     }
 
-    // Stops unless a test passed.
-    pub(crate) fn only_if(self, passed: bool) -> Decision
+    /// Stops unless a test passed.
+    pub fn only_if(self, passed: bool) -> Decision
         ensures value { result ≡ only_if passed self }
     {
         if passed { self } else { Decision::Stop }

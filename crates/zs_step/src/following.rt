@@ -6,13 +6,13 @@ ghost use Rattle.zs_step.specs.History.{history_of, IsInOrder};
 ghost use Rattle.zs_step.specs.Compiled.{IsAnswer};
 ghost use Rattle.zs_step.specs.declared.stepped.Stepped.{Stepped};
 
+use crate::compiled::Compiled;
 use crate::fault::StepFault;
 use crate::stepped::Stepped;
-use crate::stepper::Stepper;
 use std::alloc::Global;
-use zs_term::{Checked, Out};
+use zs_term::Checked;
 
-/// Steps a new `Stepper` once for each pair (moment, input), oldest first, and returns all
+/// Steps a new `Compiled` once for each pair (moment, input), oldest first, and returns all
 /// results. Fails only with `Memory`.
 pub fn follow(
     alloc: Global,
@@ -26,10 +26,10 @@ pub fn follow(
         → IsAnswer (schedule_of checked) (history_of (take (j + 1) pairs.now))
         (slice_index_or v.items j d)) }
 {
-    let mut stepper = Stepper::new(alloc, &checked)?;
+    let mut compiled = Compiled::new(alloc, checked)?;
     let mut answers = Vec::new(alloc);
     for i in 0..pairs.len() {
-        let stepped = stepper.step_over(pairs[i].0, pairs[i].1, Out::Num(0))?;
+        let stepped = compiled.step(pairs[i].0, pairs[i].1)?;
         keep(&mut answers, stepped)?;
     }
     Ok(answers)

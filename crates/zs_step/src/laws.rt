@@ -13,6 +13,7 @@ ghost use Rattle.zs_term.specs.declared.term.Cmp.TheVariants.{Lt};
 ghost use Rattle.zs_step.specs.declared.decision.Decision.TheVariants.{Next};
 ghost use Rattle.zs_step.specs.History.{History, first_moment, last_moment, IsInOrder};
 ghost use Rattle.zs_step.specs.Answer.{answer, answer_of, from_done, since_reset, next_run};
+ghost use Rattle.zs_step.specs.LeafState.{before_of, next_count, past_of};
 ghost use Rattle.zs_step.specs.Visits.{visits};
 ghost use Rattle.zs_step.specs.Laws.{GoesOnThroughout, IsFromFirstDone, IsNextBoundary, IsNotBefore, IsWithoutReset, resets_at};
 
@@ -89,4 +90,13 @@ pub fn a_fixed_run_is_at_the_next_boundary()
         → (answer_of (leaf (fixed n)) (p ∷ (q ∷ h))).decision ≡ Next (saturated x) }
     ensures behind { (n : ℕ) (p q : ℕ × ℕ) (h : History) → next_run n (q ∷ h) + n < p.0
         → (answer_of (leaf (fixed n)) (p ∷ (q ∷ h))).decision ≡ Next p.0 }
+{}
+
+/// A leaf stores the number of steps before the last one. With one more, which saturates, that is
+/// the number of steps.
+pub fn a_leaf_counts_its_steps()
+    ensures value { (h : History) → next_count (before_of h) ≡ saturated (length h) }
+    ensures past { (p : ℕ × ℕ) (h : History)
+        → past_of (p ∷ h)
+        ≡ Some (record { first = first_moment (p ∷ h); before = saturated (length h) }) }
 {}

@@ -1,22 +1,20 @@
-//! The state of a schedule: what its next step needs to know in place of the history.
+//! The state of a schedule: what its output and its next step need to know in place of the history.
 
-ghost use Rattle.std.specs.Prelude.{◌≡◌, [], true, IfOk, OnOk, IsOk};
-ghost use Rattle.zs_term.specs.Schedule.{schedule_of, over};
+ghost use Rattle.std.specs.Prelude.{◌≡◌, [], true, IfOk, IsOk};
+ghost use Rattle.zs_term.specs.Schedule.{schedule_of, leaf};
+ghost use Rattle.zs_step.specs.LeafState.{state_leaf, LeafRepresents};
 ghost use Rattle.zs_step.specs.Memory.{is_leaf};
-ghost use Rattle.zs_step.specs.State.{state_schedule, modifier_of, Represents};
+ghost use Rattle.zs_step.specs.State.{state_schedule, IsJoined, Represents};
 
 use crate::collected::Collected;
-use crate::leaf_state::{FixedState, LeafState, Past};
-use crate::modifier::Modifier;
+use crate::leaf::Leaf;
 use std::alloc::{AllocError, Global};
-use std::mem::replace;
 use zs_term::{Func, Pick, Term, Test};
 
-// A node with the states of its parts.
+// A node with the states of its parts. The tree has the shape of the term.
 #[derive(Drop)]
 pub(crate) enum State {
-    Leaf(LeafState),
-    Fixed(FixedState),
+    Leaf(Leaf),
     Both {
         parts: Box<(State, State)>,
     },
@@ -28,24 +26,23 @@ pub(crate) enum State {
         done: bool,
         parts: Box<(State, State)>,
     },
-    // A part under a modifier, and under those outside of it, the innermost first.
-    Over {
-        inner: Box<(Modifier, State)>,
-        outer: Vec<Modifier>,
-    },
-    // A part of whose output the first part is returned.
-    First {
+    WhileInput {
         part: Box<State>,
+        test: Test,
     },
-    // A part whose output isn't read, under a constant.
-    Const {
+    WhileOutput {
         part: Box<State>,
-        value: u64,
+        pick: Pick,
+        test: Test,
     },
     // `kept` has the outputs of the part at the steps at which it continued.
     CollectAll {
         part: Box<State>,
         kept: Box<Collected>,
+    },
+    Map {
+        part: Box<State>,
+        func: Func,
     },
     // `part` counts from its last reset.
     ResetWhen {
@@ -55,120 +52,111 @@ pub(crate) enum State {
     },
 }
 
-// Returns the state of a term without parts before its first step.
-fn leaf_of(term: &Term) -> State
+// Returns a term without parts before its first step.
+fn leaf_of(term: &Term) -> Leaf
     requires leaf { is_leaf (schedule_of term.now) ≡ true }
-    ensures made_of { state_schedule result ≡ schedule_of term.now }
-    ensures represents { Represents result [] }
+    ensures made_of { leaf (state_leaf result) ≡ schedule_of term.now }
+    ensures represents { LeafRepresents result [] }
 {
-    let past = Past::none();
-    let leaf = match term {
-        Term::Fixed(period) => return State::Fixed(FixedState::new(*period)),
-        Term::Forever => LeafState::Forever { steps: 0 },
-        Term::Recurs(k) => LeafState::Recurs {
-            limit: *k,
-            steps: 0,
+    let (before, past, last) = (None, None, 0);
+    match term {
+        Term::Forever => Leaf::Forever { before },
+        Term::Recurs(limit) => Leaf::Recurs {
+            limit: *limit,
+            before,
         },
-        Term::Spaced(delay) => LeafState::Spaced {
+        Term::Spaced(delay) => Leaf::Spaced {
             delay: *delay,
-            steps: 0,
+            before,
         },
-        Term::Exponential(base, factor) => LeafState::Exponential {
+        Term::Fixed(period) => Leaf::Fixed {
+            period: *period,
+            past,
+            run: 0,
+        },
+        Term::Exponential(base, factor) => Leaf::Exponential {
             base: *base,
             factor: *factor,
-            wait: *base,
+            last,
+            next: *base,
         },
-        Term::Fibonacci(one) => LeafState::Fibonacci {
+        Term::Fibonacci(one) => Leaf::Fibonacci {
             one: *one,
-            last: 0,
+            last,
             next: *one,
         },
-        Term::Identity => LeafState::Identity,
-        Term::Elapsed => LeafState::Elapsed { past },
-        Term::Linear(n) => LeafState::Linear { unit: *n, last: 0 },
-        Term::Windowed(period) => LeafState::Windowed {
+        Term::Identity => Leaf::Identity { last },
+        Term::Elapsed => Leaf::Elapsed {
+            first: None,
+            time: 0,
+        },
+        Term::Linear(unit) => Leaf::Linear { unit: *unit, last },
+        Term::Windowed(period) => Leaf::Windowed {
             period: *period,
             past,
         },
-        _ => unreachable!(),
-    };
-    State::Leaf(leaf)
+        Term::Both(_, _)
+        | Term::Either(_, _)
+        | Term::AndThen(_, _)
+        | Term::WhileInput(_, _)
+        | Term::WhileOutput(_, _, _)
+        | Term::CollectAll(_)
+        | Term::Map(_, _)
+        | Term::ResetWhen(_, _, _) => unreachable!(),
+    }
 }
 
 // Returns the state of a term before its first step.
+#[cycle(making)]
 pub(crate) fn state_of(alloc: Global, term: &Term) -> Result<State, AllocError>
     ensures made_of { IfOk result (λ s. state_schedule s ≡ schedule_of term.now) }
     ensures represents { IfOk result (λ s. Represents s []) }
     ensures succeeds { is_leaf (schedule_of term.now) ≡ true → IsOk result }
 {
-    let mut state = State::Leaf(LeafState::Identity);
-    make(alloc, term, &mut state)?;
-    Ok(state)
-}
-
-// Makes the state of a term before its first step, in its place in memory.
-#[cycle(making)]
-fn make(alloc: Global, term: &Term, place: &mut State) -> Result<(), AllocError>
-    ensures made_of { OnOk result (state_schedule place.new ≡ schedule_of term.now) }
-    ensures represents { OnOk result (Represents place.new []) }
-    ensures succeeds { is_leaf (schedule_of term.now) ≡ true → IsOk result }
-{
-    match term {
-        Term::Both(a, b) => {
-            *place = State::Both {
-                parts: parts(alloc, a, b)?,
-            };
-        }
-        Term::Either(a, b) => {
-            *place = State::Either {
-                parts: parts(alloc, a, b)?,
-            };
-        }
-        Term::AndThen(a, b) => {
-            *place = State::AndThen {
-                done: false,
-                parts: parts(alloc, a, b)?,
-            };
-        }
-        Term::WhileInput(s, test) => {
-            make(alloc, s, place)?;
-            put_over(alloc, place, Modifier::WhileInput(*test))?;
-        }
-        Term::WhileOutput(s, pick, test) => {
-            make(alloc, s, place)?;
-            put_over(alloc, place, Modifier::WhileOutput(*pick, *test))?;
-        }
-        Term::CollectAll(s) => {
-            *place = State::CollectAll {
-                part: part(alloc, s)?,
-                kept: Box::new(alloc, Collected::nothing(alloc))?,
-            };
-        }
-        Term::Map(s, Func::First) => {
-            *place = State::First {
-                part: part(alloc, s)?,
-            };
-        }
-        Term::Map(s, Func::Const(n)) => {
-            *place = State::Const {
-                part: part(alloc, s)?,
-                value: *n,
-            };
-        }
-        Term::Map(s, func) => {
-            make(alloc, s, place)?;
-            put_over(alloc, place, Modifier::Map(*func))?;
-        }
-        Term::ResetWhen(s, pick, test) => {
-            *place = State::ResetWhen {
-                part: part(alloc, s)?,
-                pick: *pick,
-                test: *test,
-            };
-        }
-        _ => *place = leaf_of(term),
-    }
-    Ok(())
+    Ok(match term {
+        Term::Forever
+        | Term::Recurs(_)
+        | Term::Spaced(_)
+        | Term::Fixed(_)
+        | Term::Exponential(_, _)
+        | Term::Fibonacci(_)
+        | Term::Identity
+        | Term::Elapsed
+        | Term::Linear(_)
+        | Term::Windowed(_) => State::Leaf(leaf_of(term)),
+        Term::Both(a, b) => State::Both {
+            parts: parts(alloc, a, b)?,
+        },
+        Term::Either(a, b) => State::Either {
+            parts: parts(alloc, a, b)?,
+        },
+        Term::AndThen(a, b) => State::AndThen {
+            done: false,
+            parts: parts(alloc, a, b)?,
+        },
+        Term::WhileInput(s, test) => State::WhileInput {
+            part: part(alloc, s)?,
+            test: *test,
+        },
+        Term::WhileOutput(s, pick, test) => State::WhileOutput {
+            part: part(alloc, s)?,
+            pick: *pick,
+            test: *test,
+        },
+        Term::CollectAll(s) => State::CollectAll {
+            part: part(alloc, s)?,
+            kept: Box::new(alloc, Collected::nothing(alloc))?,
+        },
+        Term::Map(s, func) => State::Map {
+            part: part(alloc, s)?,
+            func: *func,
+        },
+        Term::ResetWhen(s, pick, test) => State::ResetWhen {
+            part: part(alloc, s)?,
+            pick: *pick,
+            test: *test,
+        },
+    })
 }
 
 // Returns the state of a part before its first step, in a box.
@@ -177,9 +165,7 @@ fn part(alloc: Global, term: &Term) -> Result<Box<State>, AllocError>
     ensures made_of { IfOk result (λ s. state_schedule s.value ≡ schedule_of term.now) }
     ensures represents { IfOk result (λ s. Represents s.value []) }
 {
-    let mut part = Box::new(alloc, State::Leaf(LeafState::Identity))?;
-    make(alloc, term, &mut part)?;
-    Ok(part)
+    Ok(Box::new(alloc, state_of(alloc, term)?)?)
 }
 
 // Returns the states of two parts before their first step, in one box.
@@ -190,66 +176,38 @@ fn parts(alloc: Global, first: &Term, second: &Term) -> Result<Box<(State, State
         × (state_schedule s.value.1 ≡ schedule_of second.now)) }
     ensures represents { IfOk result (λ s. Represents s.value.0 [] × Represents s.value.1 []) }
 {
-    let none = (
-        State::Leaf(LeafState::Identity),
-        State::Leaf(LeafState::Identity),
-    );
-    let mut parts = Box::new(alloc, none)?;
-    make(alloc, first, &mut parts.0)?;
-    make(alloc, second, &mut parts.1)?;
-    Ok(parts)
-}
-
-// Puts a modifier over a state. A state that is under modifiers gets one more.
-#[tactic(auto, using(crate::proofs::Modifiers::over_push))]
-fn put_over(alloc: Global, state: &mut State, modifier: Modifier) -> Result<(), AllocError>
-    ensures made_of { OnOk result
-        (state_schedule state.new ≡ over (state_schedule state.old) (modifier_of modifier)) }
-    ensures represents { OnOk result (Represents state.old [] → Represents state.new []) }
-{
-    if let State::Over { outer, .. } = state {
-        outer.push(modifier)?;
-        return Ok(());
-    }
-    let part = replace(state, State::Leaf(LeafState::Identity));
-    *state = State::Over {
-        inner: Box::new(alloc, (modifier, part))?,
-        outer: Vec::new(alloc),
-    };
-    Ok(())
+    let parts = (state_of(alloc, first)?, state_of(alloc, second)?);
+    Ok(Box::new(alloc, parts)?)
 }
 
 // Resets a state, so that it represents the empty history.
 pub(crate) fn clear(state: &mut State, alloc: Global)
     ensures same { state_schedule state.new ≡ state_schedule state.old }
     ensures represents { Represents state.new [] }
+    ensures joined { IsJoined state.new }
 {
     match state {
         State::Leaf(leaf) => leaf.clear(),
-        State::Fixed(fixed) => fixed.clear(),
         State::Both { parts } => {
-            let (first, second) = &mut **parts;
-            clear(first, alloc);
-            clear(second, alloc);
+            clear(&mut parts.0, alloc);
+            clear(&mut parts.1, alloc);
         }
         State::Either { parts } => {
-            let (first, second) = &mut **parts;
-            clear(first, alloc);
-            clear(second, alloc);
+            clear(&mut parts.0, alloc);
+            clear(&mut parts.1, alloc);
         }
         State::AndThen { done, parts } => {
-            let (first, second) = &mut **parts;
             *done = false;
-            clear(first, alloc);
-            clear(second, alloc);
+            clear(&mut parts.0, alloc);
+            clear(&mut parts.1, alloc);
         }
         State::CollectAll { part, kept } => {
             clear(part, alloc);
             **kept = Collected::nothing(alloc);
         }
-        State::Over { inner, .. } => clear(&mut inner.1, alloc),
-        State::First { part } => clear(part, alloc),
-        State::Const { part, .. } => clear(part, alloc),
+        State::WhileInput { part, .. } => clear(part, alloc),
+        State::WhileOutput { part, .. } => clear(part, alloc),
+        State::Map { part, .. } => clear(part, alloc),
         State::ResetWhen { part, .. } => clear(part, alloc),
     }
 }

@@ -12,6 +12,7 @@ use Rattle.zs_term.specs.declared.forms.Plain.{Plain}
 use Rattle.zs_term.specs.declared.forms.Plain.TheVariants.{Forever as PlainForever, Identity as PlainIdentity, Elapsed as PlainElapsed}
 use Rattle.zs_term.specs.declared.forms.Counted.{Counted}
 use Rattle.zs_term.specs.declared.forms.Counted.TheVariants.{Recurs as CountedRecurs, Spaced as CountedSpaced, Fixed as CountedFixed, Fibonacci as CountedFibonacci, Linear as CountedLinear, Windowed as CountedWindowed}
+use Rattle.zs_term.specs.declared.limits.TheConstants.{MAX_DEPTH, MAX_WEIGHT}
 
 -- a schedule without parts: a word, a word with a number, or `exponential(base, factor)`
 pub data Leaf : Type 0 where
@@ -140,6 +141,6 @@ has_factors s = all_leaves has_factor s
 abbrev pub has_windows : Schedule → Bool
 has_windows s = all_leaves has_window s
 
--- whether a schedule is within the greatest depth, 64, and weight, 1,000
+-- whether a schedule is within the greatest depth and weight
 abbrev pub is_within_limits : Schedule → Bool
-is_within_limits t = nat_le (depth t) 64 && nat_le (weight t) 1000
+is_within_limits t = nat_le (depth t) MAX_DEPTH && nat_le (weight t) MAX_WEIGHT

@@ -34,7 +34,8 @@ pub use laws::{
     canonical_spells, one_fault, one_term, one_verdict, round_trip, tokens_of_text,
     verdict_is_the_one,
 };
-pub use out_text::{NoMemory, append_number, append_out, write_out};
+pub use limits::{MAX_DEPTH, MAX_WEIGHT};
+pub use out_text::{NoMemory, append_number, append_out, append_outs, write_out};
 pub use outputs::{Out, Outs, make_left, make_list, make_pair, make_right};
 pub use printer::write;
 pub use reader::read;

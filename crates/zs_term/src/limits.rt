@@ -7,10 +7,10 @@ use crate::forms::{Action, Counted, Shape, Subject};
 use crate::term::Term;
 
 /// The greatest depth of a schedule.
-pub(crate) const MAX_DEPTH: u64 = 64;
+pub const MAX_DEPTH: u64 = 64;
 
 /// The greatest weight of a schedule.
-pub(crate) const MAX_WEIGHT: u64 = 1000;
+pub const MAX_WEIGHT: u64 = 1000;
 
 // Whether a term is within the greatest depth and weight. Looks no deeper than that depth.
 pub(crate) fn is_within_limits(term: &Term) -> bool

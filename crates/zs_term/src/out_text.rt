@@ -2,7 +2,7 @@
 
 ghost use Rattle.std.specs.Prelude.{◌≡◌, ◌++◌, IfOk, OnOk, OnErr, string_bytes};
 ghost use Rattle.std.specs.Fmt.{decimal};
-ghost use Rattle.zs_term.specs.Output.{output_of, outputs_of, outs_list};
+ghost use Rattle.zs_term.specs.Output.{output_of, outputs_of, outs_list, listed};
 ghost use Rattle.zs_term.specs.OutputText.{output_text, outputs_text, comma_before, IsBeginning};
 
 use crate::outputs::{Out, Outs, Storage};
@@ -64,11 +64,7 @@ fn push_out(text: &mut String, out: &Out) -> Result<(), NoMemory>
             push_out(text, a)?;
             text.push_str(")")
         }
-        Out::Items(outs) => {
-            text.push_str("[")?;
-            append_list(text, outs)?;
-            text.push_str("]")
-        }
+        Out::Items(outs) => append_outs(text, outs),
     }
 }
 
@@ -80,6 +76,20 @@ pub fn append_number(text: &mut String, n: u64) -> Result<(), NoMemory>
 {
     let mut buffer = Buffer::new();
     text.push_str(buffer.format(n))
+}
+
+/// Appends the text of a list of outputs. If that fails, the text may end with a part of it.
+#[tactic(auto, using(crate::proofs::Texts::begins_with_itself, crate::proofs::Texts::begins_pushed, crate::proofs::Texts::begins_both))]
+#[cycle(texts)]
+pub fn append_outs(text: &mut String, outs: &Outs) -> Result<(), NoMemory>
+    ensures ok { OnOk result
+        (string_bytes text.new
+        ≡ string_bytes text.old ++ output_text (listed (outputs_of (outs_list outs.now)))) }
+    ensures kept { IsBeginning (string_bytes text.old) (string_bytes text.new) }
+{
+    text.push_str("[")?;
+    append_list(text, outs)?;
+    text.push_str("]")
 }
 
 // Appends the texts of a list's outputs.

@@ -144,26 +144,6 @@ impl Out {
         }
     }
 
-    /// Replaces the output. The old one is dropped here, so that the caller's stack frame doesn't
-    /// grow.
-    #[inline(never)]
-    pub fn put(&mut self, value: Out)
-        ensures value { self.new ≡ value }
-    {
-        *self = value;
-    }
-
-    /// Replaces the output by a number.
-    #[inline(always)]
-    pub fn put_number(&mut self, n: u64)
-        ensures value { output_of self.new ≡ number n }
-    {
-        match self {
-            Out::Num(old) => *old = n,
-            Out::Pair(_, _) | Out::Left(_) | Out::Right(_) | Out::Items(_) => self.put(Out::Num(n)),
-        }
-    }
-
     /// Returns the number, or 0 for any other output.
     pub(crate) fn number(&self) -> u64
         ensures value { result ≡ number_in (output_of self.now) }
@@ -225,9 +205,9 @@ impl Out {
 }
 
 impl Outs {
-    // Returns a list of the same values.
+    /// Returns a list of the same values. It shares the memory of a list that shares its own.
     #[cycle(copy)]
-    fn copy(&self, alloc: Global) -> Result<Outs, AllocError>
+    pub fn copy(&self, alloc: Global) -> Result<Outs, AllocError>
         ensures ok { IfOk result (λ r. outputs_of (outs_list r) ≡ outputs_of (outs_list self.now)) }
     {
         match &self.storage {
@@ -322,53 +302,17 @@ impl Func {
     /// Returns the function's result. If the function doesn't fit, `_1`, `_2` and `merge` return
     /// the output itself, `size` returns 0, and `+` and `*` read an output that isn't a number as
     /// 0.
-    pub fn apply(self, mut out: Out) -> Out
+    pub fn apply(self, out: Out) -> Out
         ensures value { output_of result ≡ applied self (output_of out) }
     {
-        self.apply_in(&mut out);
-        out
-    }
-
-    /// Like `apply`, in place of the output.
-    #[inline(always)]
-    pub fn apply_in(self, out: &mut Out)
-        ensures value { output_of out.new ≡ applied self (output_of out.old) }
-    {
         match self {
-            Func::First => keep_first(out),
-            Func::Second => keep_second(out),
-            Func::Merge => keep_merged(out),
-            Func::Size => out.put_number(out.size()),
-            Func::Const(n) => out.put_number(n),
-            Func::Add(n) => out.put_number(out.number().saturating_add(n)),
-            Func::Mul(n) => out.put_number(out.number().saturating_mul(n)),
+            Func::First => out.into_first(),
+            Func::Second => out.into_second(),
+            Func::Merge => out.into_merged(),
+            Func::Size => Out::Num(out.size()),
+            Func::Const(n) => Out::Num(n),
+            Func::Add(n) => Out::Num(out.number().saturating_add(n)),
+            Func::Mul(n) => Out::Num(out.number().saturating_mul(n)),
         }
     }
-}
-
-// Replaces a pair by its first part.
-#[inline(never)]
-fn keep_first(out: &mut Out)
-    ensures value { output_of out.new ≡ first_in (output_of out.old) }
-{
-    let whole = replace(out, Out::Num(0));
-    *out = whole.into_first();
-}
-
-// Replaces a pair by its second part.
-#[inline(never)]
-fn keep_second(out: &mut Out)
-    ensures value { output_of out.new ≡ second_in (output_of out.old) }
-{
-    let whole = replace(out, Out::Num(0));
-    *out = whole.into_second();
-}
-
-// Replaces a `Left` or `Right` by its content.
-#[inline(never)]
-fn keep_merged(out: &mut Out)
-    ensures value { output_of out.new ≡ merge_in (output_of out.old) }
-{
-    let whole = replace(out, Out::Num(0));
-    *out = whole.into_merged();
 }

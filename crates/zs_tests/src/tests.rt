@@ -1,7 +1,6 @@
 //! Rounds, runs of jobs, plans that are read or rejected, reports, and the texts of faults.
 
 mod engine;
-mod faults;
 mod gates;
 mod marks;
 mod names;
@@ -13,3 +12,4 @@ mod runs;
 mod runs_under_gates;
 mod streams;
 mod support;
+mod surface;

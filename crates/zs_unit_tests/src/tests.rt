@@ -28,6 +28,7 @@ mod attempts;
 mod limits;
 mod steps;
 mod support;
+mod surface;
 mod tasks;
 mod terms;
 mod timers;

@@ -1,137 +1,129 @@
 //! Writes a term as a program.
 
-ghost use Rattle.std.specs.Prelude.{◌≡◌, ◌+◌, ◌*◌, ◌≤◌, [], ◌∷◌, ◌++◌, length, IfOk, OnOk};
+ghost use Rattle.std.specs.Prelude.{◌≡◌, ◌⊎◌, ◌+◌, ◌*◌, ◌≤◌, true, false, [], ◌∷◌, ◌++◌, length, IfOk, IfErr};
 ghost use Rattle.zs_term.specs.Schedule.{schedule_of, weight};
+ghost use Rattle.zs_term.specs.declared.limits.TheConstants.{MAX_WEIGHT};
+ghost use Rattle.zs_step.specs.Memory.{keeps_no_list};
 ghost use Rattle.zs_c.specs.Code.{code_of, held_of, held_size, cmp_word, pick_word, func_word, func_number};
-ghost use Rattle.zs_c.specs.Program.{program_of};
+ghost use Rattle.zs_c.specs.Program.{program_of, program_state};
+ghost use Rattle.zs_c.specs.declared.refusal.Refusal.TheVariants.{Memory, KeepsList};
 
 use crate::program::opening::{PROGRAM_VERSION, check_word};
-use std::alloc::{AllocError, Global};
+use crate::refusal::Refusal;
+use std::alloc::Global;
 use zs_term::{Checked, Cmp, Func, Pick, Term};
 
-// Returns the program of a schedule.
-pub(crate) fn new_program(alloc: Global, checked: &Checked) -> Result<Vec<u64>, AllocError>
-    ensures ok { IfOk result (λ v. v.items ≡ program_of (schedule_of checked.now)) }
+// Returns the program of a schedule, and the number of words of its state. Fails if the schedule
+// stores a list.
+pub(crate) fn new_program(alloc: Global, checked: &Checked) -> Result<(Vec<u64>, u64), Refusal>
+    ensures program { IfOk result (λ r. r.0.items ≡ program_of (schedule_of checked.now)) }
+    ensures state { IfOk result (λ r. r.1 ≡ length (program_state (schedule_of checked.now) [])) }
+    ensures flat { IfOk result (λ _. keeps_no_list (schedule_of checked.now) ≡ true) }
+    ensures err { IfErr result (λ why. (why ≡ Memory) ⊎ (why ≡ KeepsList)) }
+    ensures listed { IfErr result (λ why. why ≡ KeepsList
+        → keeps_no_list (schedule_of checked.now) ≡ false) }
 {
-    let term = checked.term();
+    let mut code = Vec::new(alloc);
+    let state = write_code(alloc, checked.term(), &mut code)?;
     let mut body = Vec::new(alloc);
-    body.extend_from_slice(&[code_size(term), state_size(term)])?;
-    write_code(term, &mut body)?;
+    body.extend_from_slice(&[code.len() as u64, state])?;
+    body.extend_from_slice(&code)?;
     let mut program = Vec::new(alloc);
     program.extend_from_slice(&[PROGRAM_VERSION, check_word(&body)])?;
     program.extend_from_slice(&body)?;
-    Ok(program)
+    Ok((program, state + 2))
 }
 
-// Returns the number of words of the state of a term.
-pub(crate) fn state_size(term: &Term) -> u64
-    requires small { weight (schedule_of term.now) ≤ 1000 }
-    ensures value { result ≡ held_size (schedule_of term.now) }
-    ensures bound { result ≤ 4 * weight (schedule_of term.now) }
-{
-    match term {
-        Term::Identity => 1,
-        Term::Forever
-        | Term::Recurs(_)
-        | Term::Spaced(_)
-        | Term::Linear(_)
-        | Term::Exponential(_, _) => 2,
-        Term::Elapsed | Term::Windowed(_) | Term::Fibonacci(_) => 3,
-        Term::Fixed(_) => 4,
-        Term::Both(a, b) | Term::Either(a, b) => state_size(a) + state_size(b),
-        Term::AndThen(a, b) => 1 + state_size(a) + state_size(b),
-        Term::WhileInput(s, _) => state_size(s),
-        Term::WhileOutput(s, _, _) => state_size(s),
-        Term::CollectAll(s) => state_size(s),
-        Term::Map(s, _) => state_size(s),
-        Term::ResetWhen(s, _, _) => state_size(s),
-    }
-}
-
-// Returns the number of words of a term's code.
-fn code_size(term: &Term) -> u64
-    requires small { weight (schedule_of term.now) ≤ 1000 }
-    ensures value { result ≡ length (code_of (schedule_of term.now)) }
-    ensures bound { result ≤ 4 * weight (schedule_of term.now) }
-{
-    match term {
-        Term::Identity | Term::Forever | Term::Elapsed => 1,
-        Term::Recurs(_)
-        | Term::Spaced(_)
-        | Term::Linear(_)
-        | Term::Windowed(_)
-        | Term::Fibonacci(_)
-        | Term::Fixed(_) => 2,
-        Term::Exponential(_, _) => 3,
-        Term::Both(a, b) | Term::Either(a, b) | Term::AndThen(a, b) => {
-            3 + code_size(a) + code_size(b)
-        }
-        Term::WhileInput(s, _) => 3 + code_size(s),
-        Term::WhileOutput(s, _, _) => 4 + code_size(s),
-        Term::CollectAll(s) => 1 + code_size(s),
-        Term::Map(s, _) => 3 + code_size(s),
-        Term::ResetWhen(s, _, _) => 4 + code_size(s),
-    }
-}
-
-// Appends the code of a term.
+// Appends the code of a term. Returns the number of words of the term's state.
 #[cycle(coding)]
-fn write_code(term: &Term, code: &mut Vec<u64>) -> Result<(), AllocError>
-    requires small { weight (schedule_of term.now) ≤ 1000 }
-    ensures ok { OnOk result (code.new.items ≡ code.old.items ++ code_of (schedule_of term.now)) }
+fn write_code(alloc: Global, term: &Term, code: &mut Vec<u64>) -> Result<u64, Refusal>
+    requires small { weight (schedule_of term.now) ≤ MAX_WEIGHT }
+    ensures code { IfOk result (λ _. code.new.items
+        ≡ code.old.items ++ code_of (schedule_of term.now)) }
+    ensures state { IfOk result (λ n. n ≡ held_size (schedule_of term.now)) }
+    ensures bound { IfOk result (λ n. n ≤ 4 * weight (schedule_of term.now)) }
+    ensures flat { IfOk result (λ _. keeps_no_list (schedule_of term.now) ≡ true) }
+    ensures err { IfErr result (λ why. (why ≡ Memory) ⊎ (why ≡ KeepsList)) }
+    ensures listed { IfErr result (λ why. why ≡ KeepsList
+        → keeps_no_list (schedule_of term.now) ≡ false) }
 {
     match term {
-        Term::Forever => Ok(code.push(1)?),
-        Term::Identity => Ok(code.push(2)?),
-        Term::Elapsed => Ok(code.push(3)?),
-        Term::Recurs(n) => code.extend_from_slice(&[4, *n]),
-        Term::Spaced(n) => code.extend_from_slice(&[5, *n]),
-        Term::Fixed(n) => code.extend_from_slice(&[6, *n]),
-        Term::Fibonacci(n) => code.extend_from_slice(&[7, *n]),
-        Term::Linear(n) => code.extend_from_slice(&[8, *n]),
-        Term::Windowed(n) => code.extend_from_slice(&[9, *n]),
-        Term::Exponential(base, factor) => code.extend_from_slice(&[10, *base, *factor]),
-        Term::Both(a, b) => write_parts(11, a, b, code),
-        Term::Either(a, b) => write_parts(12, a, b, code),
-        Term::AndThen(a, b) => write_parts(13, a, b, code),
+        Term::Forever => write_leaf(&[1], 2, code),
+        Term::Identity => write_leaf(&[2], 1, code),
+        Term::Elapsed => write_leaf(&[3], 3, code),
+        Term::Recurs(n) => write_leaf(&[4, *n], 2, code),
+        Term::Spaced(n) => write_leaf(&[5, *n], 2, code),
+        Term::Fixed(n) => write_leaf(&[6, *n], 4, code),
+        Term::Fibonacci(n) => write_leaf(&[7, *n], 3, code),
+        Term::Linear(n) => write_leaf(&[8, *n], 2, code),
+        Term::Windowed(n) => write_leaf(&[9, *n], 3, code),
+        Term::Exponential(base, factor) => write_leaf(&[10, *base, *factor], 2, code),
+        Term::Both(a, b) => write_parts(alloc, 11, a, b, code),
+        Term::Either(a, b) => write_parts(alloc, 12, a, b, code),
+        Term::AndThen(a, b) => Ok(1 + write_parts(alloc, 13, a, b, code)?),
         Term::WhileInput(s, test) => {
             code.extend_from_slice(&[14, cmp_word(test.cmp), test.than])?;
-            write_code(s, code)
+            write_code(alloc, s, code)
         }
         Term::WhileOutput(s, pick, test) => {
             code.extend_from_slice(&[15, pick_word(*pick), cmp_word(test.cmp), test.than])?;
-            write_code(s, code)
+            write_code(alloc, s, code)
         }
         Term::Map(s, func) => {
             code.extend_from_slice(&[16, func_word(*func), func_number(*func)])?;
-            write_code(s, code)
+            write_code(alloc, s, code)
         }
         Term::ResetWhen(s, pick, test) => {
             code.extend_from_slice(&[17, pick_word(*pick), cmp_word(test.cmp), test.than])?;
-            write_code(s, code)
+            write_code(alloc, s, code)
         }
-        Term::CollectAll(s) => {
-            code.push(18)?;
-            write_code(s, code)
-        }
+        Term::CollectAll(_) => Err(Refusal::KeepsList),
     }
 }
 
+// Appends the words of a leaf. Returns the number of words of its state.
+fn write_leaf(words: &[u64], state: u64, code: &mut Vec<u64>) -> Result<u64, Refusal>
+    ensures code { IfOk result (λ _. code.new.items ≡ code.old.items ++ words.now) }
+    ensures state { IfOk result (λ n. n ≡ state) }
+    ensures err { IfErr result (λ why. why ≡ Memory) }
+{
+    code.extend_from_slice(words)?;
+    Ok(state)
+}
+
 // Appends the tag of an operator between two terms, the sizes of the first, and the code of both.
+// Returns the number of words of the states of both.
 #[cycle(coding)]
-fn write_parts(tag: u64, a: &Term, b: &Term, code: &mut Vec<u64>) -> Result<(), AllocError>
-    requires small { weight (schedule_of a.now) + weight (schedule_of b.now) ≤ 1000 }
-    ensures ok { OnOk result
-        (code.new.items
+fn write_parts(
+    alloc: Global,
+    tag: u64,
+    a: &Term,
+    b: &Term,
+    code: &mut Vec<u64>,
+) -> Result<u64, Refusal>
+    requires small { weight (schedule_of a.now) + weight (schedule_of b.now) ≤ MAX_WEIGHT }
+    ensures code { IfOk result (λ _. code.new.items
         ≡ code.old.items
         ++ (tag
         ∷ (length (code_of (schedule_of a.now))
         ∷ (held_size (schedule_of a.now)
         ∷ (code_of (schedule_of a.now) ++ code_of (schedule_of b.now)))))) }
+    ensures state { IfOk result (λ n. n
+        ≡ held_size (schedule_of a.now) + held_size (schedule_of b.now)) }
+    ensures bound { IfOk result (λ n. n
+        ≤ 4 * (weight (schedule_of a.now) + weight (schedule_of b.now))) }
+    ensures flat { IfOk result (λ _. (keeps_no_list (schedule_of a.now) ≡ true)
+        × (keeps_no_list (schedule_of b.now) ≡ true)) }
+    ensures err { IfErr result (λ why. (why ≡ Memory) ⊎ (why ≡ KeepsList)) }
+    ensures listed { IfErr result (λ why. why ≡ KeepsList
+        → (keeps_no_list (schedule_of a.now) ≡ false)
+        ⊎ (keeps_no_list (schedule_of b.now) ≡ false)) }
 {
-    code.extend_from_slice(&[tag, code_size(a), state_size(a)])?;
-    write_code(a, code)?;
-    write_code(b, code)
+    let mut first = Vec::new(alloc);
+    let state = write_code(alloc, a, &mut first)?;
+    code.extend_from_slice(&[tag, first.len() as u64, state])?;
+    code.extend_from_slice(&first)?;
+    Ok(state + write_code(alloc, b, code)?)
 }
 
 // Returns the word of a comparison.

@@ -4,8 +4,8 @@ ghost use Rattle.std.specs.Prelude.{◌≡◌, ◌≤◌, length, IfOk, IfErr};
 ghost use Rattle.zs_c.specs.Refusals.{IsSizeRefusal};
 ghost use Rattle.zs_c.specs.Programs.{IsNewProgram, IsProgramSized, IsCompileRefusal};
 
-use crate::flat::flat_schedule_in;
-use crate::program::coding::{new_program, state_size};
+use crate::answering::schedule_in;
+use crate::program::coding::new_program;
 use crate::refusal::Refusal;
 use std::alloc::Global;
 
@@ -14,9 +14,9 @@ pub(crate) fn sizes_in(alloc: Global, text: &[u8]) -> Result<(u64, u64), Refusal
     ensures ok { IfOk result (λ r. IsProgramSized text.now r.0 r.1) }
     ensures err { IfErr result (IsSizeRefusal text.now) }
 {
-    let checked = flat_schedule_in(alloc, text)?;
-    let program = new_program(alloc, &checked)?;
-    Ok((program.len() as u64, state_size(checked.term()) + 2))
+    let checked = schedule_in(alloc, text)?;
+    let (program, state) = new_program(alloc, &checked)?;
+    Ok((program.len() as u64, state))
 }
 
 // Returns the program of a text's schedule, if it fits in `room`.
@@ -25,8 +25,8 @@ pub(crate) fn fitting_program(alloc: Global, text: &[u8], room: &[u64]) -> Resul
     ensures fits { IfOk result (λ v. length v.items ≤ length room.now) }
     ensures err { IfErr result (IsCompileRefusal text.now (length room.now)) }
 {
-    let checked = flat_schedule_in(alloc, text)?;
-    let program = new_program(alloc, &checked)?;
+    let checked = schedule_in(alloc, text)?;
+    let (program, _state) = new_program(alloc, &checked)?;
     if room.len() < program.len() {
         return Err(Refusal::NoRoom);
     }

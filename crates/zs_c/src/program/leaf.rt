@@ -1,17 +1,16 @@
-//! One step of a leaf, in the words of its state: the output of its last step, and what the next
-//! step needs to know.
+//! A leaf of a program: read from its code, loaded from the words of its state, stepped, and stored
+//! back.
 
-ghost use Rattle.std.specs.Prelude.{◌≡◌, ℕ, ◌+◌, List, [], ◌∷◌, length, nat_eq, if◌then◌else◌, slice_set};
-ghost use Rattle.zs_term.specs.Saturating.{saturated};
-ghost use Rattle.zs_term.specs.Schedule.{fixed};
+ghost use Rattle.std.specs.Prelude.{◌≡◌, ◌≤◌, [], ◌∷◌, ◌++◌, length, drop};
 ghost use Rattle.zs_step.specs.History.{History};
-ghost use Rattle.zs_step.specs.Answer.{leaf_answer, next_run, run_after, window_end};
-ghost use Rattle.zs_step.specs.declared.decision.Decision.TheVariants.{Next};
+ghost use Rattle.zs_step.specs.Answer.{leaf_answer};
+ghost use Rattle.zs_step.specs.LeafState.{state_leaf};
 ghost use Rattle.zs_c.specs.Code.{leaf_held};
-ghost use Rattle.zs_c.specs.Node.{rule_leaf};
+ghost use Rattle.zs_c.specs.Leaves.{new_leaf, rule_at, loaded, stored, if_begun, past_in, first_in};
 
-use crate::program::node::{Rule, word};
-use zs_step::Decision;
+use crate::program::node::word;
+use crate::room::put_words;
+use zs_step::{Decision, Leaf, Past};
 
 // The moment and the input of a step.
 #[derive(Drop)]
@@ -20,146 +19,160 @@ pub(crate) struct Step {
     pub(crate) input: u64,
 }
 
-// Steps a leaf once.
-pub(crate) fn step_leaf(rule: Rule, words: &mut [u64], step: &Step) -> Decision
-    ensures held { (h : History) → words.old ≡ leaf_held (rule_leaf rule) h
-        → words.new ≡ leaf_held (rule_leaf rule) ((step.now.moment, step.now.input) ∷ h) }
-    ensures decides { (h : History) → words.old ≡ leaf_held (rule_leaf rule) h
-        → result ≡ (leaf_answer (rule_leaf rule) ((step.now.moment, step.now.input) ∷ h)).decision }
-{
-    let now = step.moment;
-    match rule {
-        Rule::Forever => {
-            let _before = count(words);
-            Decision::Next(now)
-        }
-        Rule::Identity => {
-            set_word(words, 0, step.input);
-            Decision::Next(now)
-        }
-        Rule::Elapsed => {
-            let (_before, first) = count_from(words, now);
-            set_word(words, 0, now.saturating_sub(first));
-            Decision::Next(now)
-        }
-        Rule::Recurs(limit) => {
-            if count(words) < limit {
-                Decision::Next(now)
-            } else {
-                Decision::Stop
-            }
-        }
-        Rule::Spaced(delay) => {
-            let _before = count(words);
-            Decision::Next(now.saturating_add(delay))
-        }
-        Rule::Fixed(period) => step_fixed(period, words, now),
-        Rule::Fibonacci(_) => {
-            let (last, next) = (word(words, 1), word(words, 2));
-            set_word(words, 2, next.saturating_add(last));
-            wait(words, next, next, now)
-        }
-        Rule::Linear(unit) => {
-            let delay = word(words, 1).saturating_add(unit);
-            wait(words, delay, delay, now)
-        }
-        Rule::Windowed(period) => {
-            let (_before, first) = count_from(words, now);
-            Decision::Next(window_end(period, first, now))
-        }
-        Rule::Exponential(_, factor) => {
-            let delay = word(words, 1);
-            wait(words, delay, delay.saturating_mul(factor), now)
-        }
-    }
-}
-
-// Steps a `fixed` once, with any input.
-fn step_fixed(period: u64, words: &mut [u64], now: u64) -> Decision
-    ensures held { (h : History) (input : ℕ) → words.old ≡ leaf_held (fixed period) h
-        → words.new ≡ leaf_held (fixed period) ((now, input) ∷ h) }
-    ensures decides { (h : History) (input : ℕ) → words.old ≡ leaf_held (fixed period) h
-        → result ≡ Next (next_run period ((now, input) ∷ h)) }
-{
-    let (before, first) = count_from(words, now);
-    let run = if before == 0 {
-        now.saturating_add(period)
-    } else {
-        run_after(period, first, word(words, 3), now)
-    };
-    set_word(words, 3, run);
-    Decision::Next(run)
-}
-
-// Writes a word, if there is one at this index.
+// Reads the leaf at the front of a code, before any step.
 #[inline(always)]
-pub(crate) fn set_word(words: &mut [u64], at: usize, word: u64)
-    ensures value { words.new ≡ slice_set words.old at word }
+#[tactic(auto, unfolding(crate::specs::Leaves::rule_at))]
+pub(crate) fn read_leaf(code: &[u64]) -> Leaf
+    ensures value { result ≡ new_leaf (rule_at code.now) }
 {
-    if at < words.len() {
-        words[at] = word;
+    let number = word(code, 1);
+    match word(code, 0) {
+        2 => Leaf::Identity { last: 0 },
+        3 => Leaf::Elapsed {
+            first: None,
+            time: 0,
+        },
+        4 => Leaf::Recurs {
+            limit: number,
+            before: None,
+        },
+        5 => Leaf::Spaced {
+            delay: number,
+            before: None,
+        },
+        6 => Leaf::Fixed {
+            period: number,
+            past: None,
+            run: 0,
+        },
+        7 => Leaf::Fibonacci {
+            one: number,
+            last: 0,
+            next: number,
+        },
+        8 => Leaf::Linear {
+            unit: number,
+            last: 0,
+        },
+        9 => Leaf::Windowed {
+            period: number,
+            past: None,
+        },
+        10 => Leaf::Exponential {
+            base: number,
+            factor: word(code, 2),
+            last: number,
+            next: number,
+        },
+        _ => Leaf::Forever { before: None },
     }
 }
 
-// Counts a step in the second word. Writes the number of steps before it to the first word, as the
-// output, and returns that number.
+// Resets the words of a leaf that is as before any step.
+pub(crate) fn clear_leaf(leaf: Leaf, words: &mut [u64])
+    ensures clears { leaf ≡ new_leaf (state_leaf leaf)
+        → length words.old ≡ length (leaf_held (state_leaf leaf) [])
+        → words.new ≡ leaf_held (state_leaf leaf) [] }
+{
+    store(&leaf, 0, words);
+}
+
+// Steps a leaf once, in the words of its state.
+pub(crate) fn step_leaf(leaf: Leaf, words: &mut [u64], step: &Step) -> Decision
+    ensures held { (h : History) → words.old ≡ leaf_held (state_leaf leaf) h
+        → words.new ≡ leaf_held (state_leaf leaf) ((step.now.moment, step.now.input) ∷ h) }
+    ensures decides { (h : History) → words.old ≡ leaf_held (state_leaf leaf) h
+        → result
+        ≡ (leaf_answer (state_leaf leaf) ((step.now.moment, step.now.input) ∷ h)).decision }
+{
+    let mut stepped = leaf;
+    load(&mut stepped, words);
+    let decision = stepped.step(step.moment, step.input);
+    store(&stepped, word(words, 1).saturating_add(1), words);
+    decision
+}
+
+// Loads what the next step of a leaf needs to know.
 #[inline(always)]
-fn count(words: &mut [u64]) -> u64
-    ensures counted { (o n : ℕ) (rest : List ℕ) → words.old ≡ o ∷ (n ∷ rest)
-        → words.new ≡ n ∷ (saturated (n + 1) ∷ rest) }
-    ensures before { (o n : ℕ) (rest : List ℕ) → words.old ≡ o ∷ (n ∷ rest) → result ≡ n }
+fn load(leaf: &mut Leaf, words: &[u64])
+    ensures value { leaf.new ≡ loaded leaf.old words.now }
 {
-    let before = word(words, 1);
-    set_word(words, 0, before);
-    set_word(words, 1, before.saturating_add(1));
-    before
-}
-
-// The same, with the moment of the first step in the third word. Returns that moment too.
-fn count_from(words: &mut [u64], now: u64) -> (u64, u64)
-    ensures counted { (o n m : ℕ) (rest : List ℕ) → words.old ≡ o ∷ (n ∷ (m ∷ rest))
-        → words.new ≡ n ∷ (saturated (n + 1) ∷ ((if nat_eq n 0 then now else m) ∷ rest)) }
-    ensures before { (o n m : ℕ) (rest : List ℕ) → words.old ≡ o ∷ (n ∷ (m ∷ rest)) → result.0 ≡ n }
-    ensures first { (o n m : ℕ) (rest : List ℕ) → words.old ≡ o ∷ (n ∷ (m ∷ rest))
-        → result.1 ≡ (if nat_eq n 0 then now else m) }
-{
-    let before = count(words);
-    if before == 0 {
-        set_word(words, 2, now);
+    match leaf {
+        Leaf::Forever { before } => *before = if_begun(words, 0),
+        Leaf::Recurs { before, .. } => *before = if_begun(words, 0),
+        Leaf::Spaced { before, .. } => *before = if_begun(words, 0),
+        Leaf::Fixed { past, run, .. } => {
+            *past = load_past(words);
+            *run = word(words, 3);
+        }
+        Leaf::Exponential { next, .. } => *next = word(words, 1),
+        Leaf::Fibonacci { last, next, .. } => {
+            *last = word(words, 1);
+            *next = word(words, 2);
+        }
+        Leaf::Identity { .. } => {}
+        Leaf::Elapsed { first, .. } => *first = if_begun(words, 2),
+        Leaf::Linear { last, .. } => *last = word(words, 1),
+        Leaf::Windowed { past, .. } => *past = load_past(words),
     }
-    (before, word(words, 2))
 }
 
-// Writes a delay as the output and `next` as the second word. Continues after the delay.
+// Returns the word at an index, or `None` if no step was counted.
 #[inline(always)]
-fn wait(words: &mut [u64], delay: u64, next: u64, now: u64) -> Decision
-    ensures put { (o x : ℕ) (rest : List ℕ) → words.old ≡ o ∷ (x ∷ rest)
-        → words.new ≡ delay ∷ (next ∷ rest) }
-    ensures waits { result ≡ Next (saturated (now + delay)) }
+fn if_begun(words: &[u64], at: usize) -> Option<u64>
+    ensures value { result ≡ if_begun words.now at }
 {
-    set_word(words, 0, delay);
-    set_word(words, 1, next);
-    Decision::Next(now.saturating_add(delay))
+    if word(words, 1) == 0 {
+        return None;
+    }
+    Some(word(words, at))
 }
 
-// Returns the end of the window that contains a moment. A window of 0 ends at once.
-fn window_end(period: u64, first: u64, now: u64) -> u64
-    ensures value { result ≡ window_end period first now }
+// Returns the past of a leaf that counts from its first step.
+#[inline(always)]
+fn load_past(words: &[u64]) -> Option<Past>
+    ensures value { result ≡ past_in words.now }
 {
-    if period == 0 {
-        return now;
+    if word(words, 1) == 0 {
+        return None;
     }
-    let late = now.saturating_sub(first) % period;
-    now.saturating_add(period - late)
+    Some(Past {
+        first: word(words, 2),
+        before: word(words, 0),
+    })
 }
 
-// Returns the next run of a fixed period, at a step after the first.
-fn run_after(period: u64, first: u64, run: u64, now: u64) -> u64
-    ensures value { result ≡ run_after period first run now }
+// Stores a leaf: its output, and what its next step needs to know. `steps` is the number of steps,
+// which some leaves store.
+#[inline(always)]
+fn store(leaf: &Leaf, steps: u64, words: &mut [u64])
+    ensures stored { length (stored leaf.now steps) ≤ length words.old
+        → words.new
+        ≡ stored leaf.now steps ++ drop (length (stored leaf.now steps)) words.old }
 {
-    if period == 0 || now.saturating_sub(run) > period {
-        return now;
+    let output = leaf.output();
+    match leaf {
+        Leaf::Forever { .. } => put_words(words, &[output, steps]),
+        Leaf::Recurs { .. } => put_words(words, &[output, steps]),
+        Leaf::Spaced { .. } => put_words(words, &[output, steps]),
+        Leaf::Fixed { past, run, .. } => {
+            put_words(words, &[output, steps, first_in(*past), *run]);
+        }
+        Leaf::Exponential { next, .. } => put_words(words, &[output, *next]),
+        Leaf::Fibonacci { next, .. } => put_words(words, &[output, output, *next]),
+        Leaf::Identity { .. } => put_words(words, &[output]),
+        Leaf::Elapsed { first, .. } => put_words(words, &[output, steps, first.unwrap_or(0)]),
+        Leaf::Linear { .. } => put_words(words, &[output, output]),
+        Leaf::Windowed { past, .. } => put_words(words, &[output, steps, first_in(*past)]),
     }
-    let late = now.saturating_sub(first) % period;
-    now.saturating_add(period - late)
+}
+
+// Returns the moment of the first step, or 0.
+fn first_in(past: Option<Past>) -> u64
+    ensures value { result ≡ first_in past }
+{
+    match past {
+        None => 0,
+        Some(Past { first, .. }) => first,
+    }
 }

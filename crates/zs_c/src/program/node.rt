@@ -1,8 +1,11 @@
 //! The nodes of a program, read from the front of a code.
 
 ghost use Rattle.std.specs.Prelude.{◌≡◌, take, drop};
-ghost use Rattle.zs_c.specs.Node.{word_at, sizes_at, cmp_of, test_of, pick_of, func_of, rule_at, node_at};
+ghost use Rattle.zs_c.specs.Leaves.{word_at};
+ghost use Rattle.zs_c.specs.Node.{sizes_at, cmp_of, test_of, pick_of, func_of, node_at};
 
+use crate::program::leaf::read_leaf;
+use zs_step::Leaf;
 use zs_term::{Cmp, Func, Pick, Test};
 
 // The sizes of an operator's first part: the number of words of its code, and of its state.
@@ -12,25 +15,10 @@ pub(crate) struct Sizes {
     pub(crate) state: u64,
 }
 
-// A leaf with its numbers.
-#[derive(Clone, Copy)]
-pub(crate) enum Rule {
-    Forever,
-    Identity,
-    Elapsed,
-    Recurs(u64),
-    Spaced(u64),
-    Fixed(u64),
-    Fibonacci(u64),
-    Linear(u64),
-    Windowed(u64),
-    Exponential(u64, u64),
-}
-
 // A leaf, or an operator without its parts.
 #[derive(Clone, Copy)]
 pub(crate) enum Node {
-    Leaf(Rule),
+    Leaf(Leaf),
     Both(Sizes),
     Either(Sizes),
     AndThen(Sizes),
@@ -60,27 +48,7 @@ pub(crate) fn read_node(code: &[u64]) -> Node
             read_pick(word(code, 1)),
             read_test(word(code, 2), word(code, 3)),
         ),
-        _ => Node::Leaf(read_rule(code)),
-    }
-}
-
-// Reads the leaf at the front of a code.
-#[inline(always)]
-#[tactic(auto, unfolding(crate::specs::Node::rule_at))]
-fn read_rule(code: &[u64]) -> Rule
-    ensures value { result ≡ rule_at code.now }
-{
-    match word(code, 0) {
-        2 => Rule::Identity,
-        3 => Rule::Elapsed,
-        4 => Rule::Recurs(word(code, 1)),
-        5 => Rule::Spaced(word(code, 1)),
-        6 => Rule::Fixed(word(code, 1)),
-        7 => Rule::Fibonacci(word(code, 1)),
-        8 => Rule::Linear(word(code, 1)),
-        9 => Rule::Windowed(word(code, 1)),
-        10 => Rule::Exponential(word(code, 1), word(code, 2)),
-        _ => Rule::Forever,
+        _ => Node::Leaf(read_leaf(code)),
     }
 }
 

@@ -3,6 +3,7 @@
 ghost use Rattle.std.specs.Prelude.{◌≡◌, ◌+◌, ◌≤◌, [], ◌∷◌, length, drop, slice_index_or, IfOk, IfErr};
 ghost use Rattle.zs_term.specs.OutputText.{output_text};
 ghost use Rattle.zs_term.specs.Schedule.{Schedule, weight};
+ghost use Rattle.zs_term.specs.declared.limits.TheConstants.{MAX_DEPTH, MAX_WEIGHT};
 ghost use Rattle.zs_step.specs.History.{History};
 ghost use Rattle.zs_step.specs.Answer.{answer_of};
 ghost use Rattle.zs_c.specs.Code.{IsCode, held_of};
@@ -20,9 +21,7 @@ use crate::program::outputs::Place;
 use crate::program::stepping::step_code;
 use crate::reply::Reply;
 use zs_step::Decision;
-
-/// The greatest depth of a schedule.
-const MAX_DEPTH: u64 = 64;
+use zs_term::MAX_DEPTH;
 
 // Opens a program. Fails if the words are no program, or if `state` has fewer words than its state.
 #[inline(always)]
@@ -110,11 +109,11 @@ pub(crate) fn run_step(
 // Returns the length of the text in bytes.
 #[inline(always)]
 fn put_text(code: &[u64], words: &[u64], out: &mut [u8]) -> u64
-    ensures text { (t : Schedule) (h : History) → IsCode t code.now 64 → weight t ≤ 1000
-        → words.now ≡ held_of t h
+    ensures text { (t : Schedule) (h : History) → IsCode t code.now MAX_DEPTH
+        → weight t ≤ MAX_WEIGHT → words.now ≡ held_of t h
         → out.new ≡ written (output_text (answer_of t h).output) out.old }
-    ensures size { (t : Schedule) (h : History) → IsCode t code.now 64 → weight t ≤ 1000
-        → words.now ≡ held_of t h
+    ensures size { (t : Schedule) (h : History) → IsCode t code.now MAX_DEPTH
+        → weight t ≤ MAX_WEIGHT → words.now ≡ held_of t h
         → result ≡ length (output_text (answer_of t h).output) }
 {
     let place = Place {

@@ -3,8 +3,8 @@
 ghost use Rattle.std.specs.Prelude.{◌≡◌, ℕ, ◌+◌, ◌≤◌, ◌++◌};
 ghost use Rattle.zs_term.specs.Output.{Output, passes, picked};
 ghost use Rattle.zs_term.specs.Schedule.{Schedule, weight, two, and_then};
+ghost use Rattle.zs_term.specs.declared.limits.TheConstants.{MAX_WEIGHT};
 ghost use Rattle.zs_step.specs.History.{History};
-ghost use Rattle.zs_step.specs.Answer.{only_if, later_of, earlier_of};
 ghost use Rattle.zs_c.specs.Code.{IsCode, held_of};
 ghost use Rattle.zs_c.specs.Node.{IsParts};
 ghost use Rattle.zs_c.specs.Steps.{StepsCode, StepsBoth, StepsThen};
@@ -15,12 +15,10 @@ use crate::program::leaf::{Step, step_leaf};
 use crate::program::node::{Node, Sizes, behind, front, read_node};
 use crate::program::outputs::{Place, read_number};
 use zs_step::Decision;
-use zs_term::{Pick, Test};
+use zs_term::{MAX_WEIGHT, Pick, Test};
 
-/// The greatest weight of a schedule, and so the most visits of a step.
-pub(crate) const MAX_VISITS: u64 = 1000;
-
-// Steps a node once, in the words of its state.
+// Steps a node once, in the words of its state. A step visits at most the greatest weight of nodes,
+// whatever the words are.
 #[cycle(stepping)]
 pub(crate) fn step_code(
     code: &[u64],
@@ -30,33 +28,33 @@ pub(crate) fn step_code(
     visits: &mut u64,
 ) -> Decision
     ensures steps { (t : Schedule) (h : History) → IsCode t code.now levels
-        → visits.old + weight t ≤ MAX_VISITS
+        → visits.old + weight t ≤ MAX_WEIGHT
         → words.old ≡ held_of t h
         → StepsCode t h words.new step.now.moment step.now.input result visits.old visits.new }
 {
-    if levels == 0 || *visits >= MAX_VISITS {
+    if levels == 0 || *visits >= MAX_WEIGHT {
         return Decision::Stop;
     }
     *visits += 1;
     match read_node(code) {
-        Node::Leaf(rule) => step_leaf(rule, words, step),
+        Node::Leaf(leaf) => step_leaf(leaf, words, step),
         Node::Both(sizes) => {
             let (x, y) = step_parts(code, words, sizes, levels - 1, step, visits);
-            later(x, y)
+            x.later(y)
         }
         Node::Either(sizes) => {
             let (x, y) = step_parts(code, words, sizes, levels - 1, step, visits);
-            earlier(x, y)
+            x.earlier(y)
         }
         Node::AndThen(sizes) => step_and_then(code, words, sizes, levels - 1, step, visits),
         Node::WhileInput(test) => {
             let decision = step_code(behind(code, 3), words, levels - 1, step, visits);
-            only_if(test.passes(step.input), decision)
+            decision.only_if(test.passes(step.input))
         }
         Node::WhileOutput(pick, test) => {
             let part = behind(code, 4);
             let decision = step_code(part, words, levels - 1, step, visits);
-            only_if(has_passed(part, words, levels - 1, pick, test), decision)
+            decision.only_if(has_passed(part, words, levels - 1, pick, test))
         }
         Node::Map(_) => step_code(behind(code, 3), words, levels - 1, step, visits),
         Node::ResetWhen(pick, test) => {
@@ -96,7 +94,7 @@ fn step_parts(
     visits: &mut u64,
 ) -> (Decision, Decision)
     ensures steps { (a b : Schedule) (h : History) → IsParts a b sizes code.now levels
-        → visits.old + weight a + weight b ≤ MAX_VISITS
+        → visits.old + weight a + weight b ≤ MAX_WEIGHT
         → words.old ≡ held_of a h ++ held_of b h
         → StepsBoth a b h words.new step.now.moment step.now.input result.0 result.1 visits.old
         visits.new }
@@ -128,7 +126,7 @@ fn step_and_then(
     visits: &mut u64,
 ) -> Decision
     ensures steps { (a b : Schedule) (h : History) → IsParts a b sizes code.now levels
-        → visits.old + weight a + weight b ≤ MAX_VISITS
+        → visits.old + weight a + weight b ≤ MAX_WEIGHT
         → words.old ≡ held_of (two and_then a b) h
         → StepsThen a b h words.new step.now.moment step.now.input result visits.old visits.new }
 {
@@ -153,41 +151,4 @@ fn step_and_then(
         step,
         visits,
     )
-}
-
-// Returns the decision, or done if a test fails.
-#[inline(always)]
-fn only_if(passes: bool, decision: Decision) -> Decision
-    ensures value { result ≡ only_if passes decision }
-{
-    if passes { decision } else { Decision::Stop }
-}
-
-// Continues at the later moment if both continue, else stops.
-#[inline(always)]
-fn later(first: Decision, second: Decision) -> Decision
-    ensures value { result ≡ later_of first second }
-{
-    match first {
-        Decision::Stop => first,
-        Decision::Next(x) => match second {
-            Decision::Stop => second,
-            Decision::Next(y) => Decision::Next(x.max(y)),
-        },
-    }
-}
-
-// Continues at the earlier moment if both continue, at the one that there is if one does, else
-// stops.
-#[inline(always)]
-fn earlier(first: Decision, second: Decision) -> Decision
-    ensures value { result ≡ earlier_of first second }
-{
-    match first {
-        Decision::Stop => second,
-        Decision::Next(x) => match second {
-            Decision::Stop => first,
-            Decision::Next(y) => Decision::Next(x.min(y)),
-        },
-    }
 }

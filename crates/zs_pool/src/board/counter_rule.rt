@@ -3,17 +3,17 @@
 use atomic_table::{Join, Play, Split, TableRule};
 
 /// What a seat knows. No value of this type is made.
-pub struct Count {
+pub(crate) struct Count {
     /// The seat's part of the access to the counter.
-    pub share: u64,
+    pub(crate) share: u64,
     /// How often the seat counted.
-    pub count: u64,
+    pub(crate) count: u64,
     /// The greatest value of the word that the seat saw.
-    pub seen: u64,
+    pub(crate) seen: u64,
 }
 
 /// The word is the sum of what all seats counted.
-pub struct Summed;
+pub(crate) struct Summed;
 
 impl TableRule<(), Count, ()> for Summed {
     ghost use Rattle.zs_term.specs.Saturating.{max_moment};
@@ -25,7 +25,7 @@ impl TableRule<(), Count, ()> for Summed {
 }
 
 /// Adds 1 to the word.
-pub struct Adds;
+pub(crate) struct Adds;
 
 impl Play<(), Count> for Adds {
     ghost use Rattle.zs_pool.specs.Counter.{Added};
@@ -34,7 +34,7 @@ impl Play<(), Count> for Adds {
 }
 
 /// Reads the word. A seat with exclusive access learns that it counted everything that it saw.
-pub struct Looks;
+pub(crate) struct Looks;
 
 impl Play<(), Count> for Looks {
     ghost use Rattle.zs_pool.specs.Counter.{Looked};
@@ -43,7 +43,7 @@ impl Play<(), Count> for Looks {
 }
 
 /// Splits off a seat with a share of 1, which counted nothing.
-pub struct Sharing;
+pub(crate) struct Sharing;
 
 impl Split<Count> for Sharing {
     ghost use Rattle.std.specs.Prelude.{◌-◌};

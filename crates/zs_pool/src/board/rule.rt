@@ -4,17 +4,17 @@ use crossbeam_queue::protocol::{Join, Lesson, Outcome, Protocol, Split};
 use std::collections::LinkedList;
 
 /// What a pass knows. No value of this type is made.
-pub struct Claims<T> {
+pub(crate) struct Claims<T> {
     /// The pass's part of the access to the board.
-    pub share: u64,
+    pub(crate) share: u64,
     /// All batches that were put.
-    pub batches: LinkedList<T>,
+    pub(crate) batches: LinkedList<T>,
     /// The numbers of those that the pass took.
-    pub taken: LinkedList<u64>,
+    pub(crate) taken: LinkedList<u64>,
 }
 
 /// Batches are taken from the front, each once.
-pub struct InTurn;
+pub(crate) struct InTurn;
 
 impl<T> Protocol<T, Claims<T>> for InTurn {
     ghost use Rattle.std.specs.Prelude.{[]};
@@ -27,7 +27,7 @@ impl<T> Protocol<T, Claims<T>> for InTurn {
 }
 
 /// Puts a batch.
-pub struct Puts;
+pub(crate) struct Puts;
 
 impl<T> Outcome<T, Claims<T>> for Puts {
     ghost use Rattle.std.specs.Prelude.{◌≡◌, ◌++◌, ◌∷◌, []};
@@ -43,7 +43,7 @@ impl<T> Lesson<T, Claims<T>> for Puts {
 }
 
 /// Takes a batch.
-pub struct Takes;
+pub(crate) struct Takes;
 
 impl<T> Outcome<T, Claims<T>> for Takes {
     ghost use Rattle.zs_pool.specs.Board.{Took};
@@ -58,7 +58,7 @@ impl<T> Lesson<T, Claims<T>> for Takes {
 }
 
 /// Splits off a pass with a share of 1, which took nothing.
-pub struct Sharing;
+pub(crate) struct Sharing;
 
 impl<T> Split<Claims<T>> for Sharing {
     ghost use Rattle.std.specs.Prelude.{◌-◌, []};

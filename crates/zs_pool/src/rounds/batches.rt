@@ -15,7 +15,11 @@ use std::snapshot::Snapshot;
 use zs_drive::Task;
 
 // Cuts the tasks into batches of `grain`, from the last on. The last batch may be shorter.
-pub fn cut_into(alloc: Global, grain: u64, mut tasks: Vec<Task>) -> Result<Vec<Batch>, PoolFault>
+pub(crate) fn cut_into(
+    alloc: Global,
+    grain: u64,
+    mut tasks: Vec<Task>,
+) -> Result<Vec<Batch>, PoolFault>
     requires grain { 1 ≤ grain }
     ensures numbered { IfOk result (λ v. AreNumbered v.items) }
     ensures cutting { IfOk result (λ v. tasks_of v.items ≡ tasks.items) }
@@ -56,7 +60,7 @@ fn place_batches(
 }
 
 // Returns the tasks of the messages, in the order of the batches.
-pub fn in_order(
+pub(crate) fn in_order(
     alloc: Global,
     now: u64,
     batches: &Snapshot<Vec<Batch>>,

@@ -3,8 +3,8 @@ ghost use Rattle.std.specs.Prelude.{◌≡◌, ◌≤◌, ◌↔◌, ◌==◌, �
 ghost use Rattle.zs_pool.specs.Limits.{max_workers, max_tasks};
 ghost use Rattle.zs_pool.specs.Batches.{IsCut};
 
-/// The greatest number of threads that poll at once.
-pub const MAX_WORKERS: u64 = 64;
+// The greatest number of threads that poll at once.
+const MAX_WORKERS: u64 = 64;
 
 /// The greatest number of tasks of a round, and so of tasks in a batch and of batches.
 pub const MAX_TASKS: u64 = 10_000;

@@ -2,6 +2,7 @@
 ghost use Rattle.std.specs.Prelude.{◌≡◌, ◌+◌, ◌-◌, ◌≤◌, ◌++◌, ◌||◌, [], max};
 ghost use Rattle.zs_pool.specs.Board.{claimer};
 ghost use Rattle.zs_pool.specs.Shelf.{shelver};
+ghost use Rattle.zs_pool.specs.Tally.{seating};
 ghost use Rattle.zs_pool.specs.Shares.{IsOf};
 
 use crate::board::{Board, BoardPass};
@@ -11,29 +12,29 @@ use std::alloc::Global;
 
 // What the threads of a round share: the batches, the polled ones, the count of polls, the moment.
 #[derive_where(Clone, Copy)]
-pub struct Shared<'s, G> {
-    pub gate: &'s G,
-    pub board: &'s Board,
-    pub shelf: &'s Shelf,
-    pub tally: &'s Tally,
+pub(crate) struct Shared<'s, G> {
+    pub(crate) gate: &'s G,
+    pub(crate) board: &'s Board,
+    pub(crate) shelf: &'s Shelf,
+    pub(crate) tally: &'s Tally,
     // The moment of the round, in milliseconds.
-    pub moment: u64,
+    pub(crate) moment: u64,
     // The number of tasks in all batches, and the number of batches.
-    pub tasks: u64,
-    pub batches: usize,
+    pub(crate) tasks: u64,
+    pub(crate) batches: usize,
 }
 
 // One thread's right to claim, to hand in and to count.
 #[derive(Drop)]
-pub struct Rights {
-    pub board_pass: BoardPass,
-    pub shelf_pass: ShelfPass,
-    pub seat: TallySeat,
+pub(crate) struct Rights {
+    pub(crate) board_pass: BoardPass,
+    pub(crate) shelf_pass: ShelfPass,
+    pub(crate) seat: TallySeat,
 }
 
 impl<'s, G> Shared<'s, G> {
     // Splits off the rights of a worker, which may count all tasks.
-    pub fn split<R>(self, rt: &R, alloc: Global, rights: Rights) -> (Rights, Rights)
+    pub(crate) fn split<R>(self, rt: &R, alloc: Global, rights: Rights) -> (Rights, Rights)
         requires of { IsOf self rights }
         requires shares { (2 ≤ rights.board_pass.share) × (2 ≤ rights.shelf_pass.share) }
         requires tasks { self.tasks ≤ rights.seat.allowance }
@@ -44,22 +45,12 @@ impl<'s, G> Shared<'s, G> {
             ≡ shelver self.entry.shelf.now (rights.shelf_pass.share - 1) rights.shelf_pass.put
             rights.shelf_pass.taken }
         ensures seat { result.0.seat
-            ≡ record {
-              tally = self.entry.tally.now;
-              count = rights.seat.count;
-              allowance = rights.seat.allowance - self.entry.tasks;
-              seen = rights.seat.seen;
-            } }
+            ≡ seating self.entry.tally.now rights.seat.count (rights.seat.allowance - self.entry.tasks) rights.seat.seen }
         ensures own_board_pass { result.1.board_pass
             ≡ claimer self.entry.board.now 1 rights.board_pass.batches [] rights.board_pass.none }
         ensures own_shelf_pass { result.1.shelf_pass ≡ shelver self.entry.shelf.now 1 [] [] }
         ensures own_seat { result.1.seat
-            ≡ record {
-              tally = self.entry.tally.now;
-              count = 0;
-              allowance = self.entry.tasks;
-              seen = rights.seat.seen;
-            } }
+            ≡ seating self.entry.tally.now 0 self.entry.tasks rights.seat.seen }
     {
         let Ok((board_pass, own_board_pass)) = self.board.split(rt, alloc, rights.board_pass) else {
             unreachable!()
@@ -82,7 +73,7 @@ impl<'s, G> Shared<'s, G> {
     }
 
     // Joins the rights of a worker into those of the calling thread.
-    pub fn join<R>(self, rt: &R, rights: Rights, other: Rights) -> Rights
+    pub(crate) fn join<R>(self, rt: &R, rights: Rights, other: Rights) -> Rights
         requires of { IsOf self rights }
         requires other { IsOf self other }
         ensures board_pass { result.board_pass
@@ -94,12 +85,7 @@ impl<'s, G> Shared<'s, G> {
             (rights.shelf_pass.put ++ other.shelf_pass.put)
             (rights.shelf_pass.taken ++ other.shelf_pass.taken) }
         ensures seat { result.seat
-            ≡ record {
-              tally = self.entry.tally.now;
-              count = rights.seat.count + other.seat.count;
-              allowance = rights.seat.allowance + other.seat.allowance;
-              seen = max rights.seat.seen other.seat.seen;
-            } }
+            ≡ seating self.entry.tally.now (rights.seat.count + other.seat.count) (rights.seat.allowance + other.seat.allowance) (max rights.seat.seen other.seat.seen) }
     {
         Rights {
             board_pass: self.board.join(rt, rights.board_pass, other.board_pass),

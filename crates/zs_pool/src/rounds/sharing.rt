@@ -122,15 +122,15 @@ fn run_scoped<G: Gate, R: Threads + Wait + Sync>(
 
 // The batches, the number of their tasks, and the number of threads that help: each has a batch.
 #[derive(Drop)]
-pub struct Work {
-    pub batches: Vec<Batch>,
-    pub tasks: u64,
-    pub helpers: usize,
+pub(crate) struct Work {
+    pub(crate) batches: Vec<Batch>,
+    pub(crate) tasks: u64,
+    pub(crate) helpers: usize,
 }
 
 // Polls the batches on the calling thread and its helpers, each of which claims until the board is
 // empty.
-pub fn poll_shared<'s, G: Gate, R: Threads + Wait + Sync>(
+pub(crate) fn poll_shared<'s, G: Gate, R: Threads + Wait + Sync>(
     rt: &R,
     alloc: Global,
     gate: &'s G,

@@ -19,21 +19,21 @@ use std::sync::Wait;
 use std::thread::{Promise, PromisedHandle, Scope, Threads};
 
 // The messages for which the shelf had no room.
-pub type Overflow = Result<Vec<Polled>, AllocError>;
+pub(crate) type Overflow = Result<Vec<Polled>, AllocError>;
 
 // What a thread returns once the board is empty.
 #[derive(Drop)]
-pub struct Served {
-    pub rights: Rights,
-    pub overflow: Overflow,
+pub(crate) struct Served {
+    pub(crate) rights: Rights,
+    pub(crate) overflow: Overflow,
 }
 
 // What a worker promises: it claimed until the board was empty, and each batch that it claimed is
 // polled, and was put on the shelf or is returned.
 #[derive(Drop)]
-pub struct WorkerPromise {
-    pub moment: u64,
-    pub rights: Snapshot<Rights>,
+pub(crate) struct WorkerPromise {
+    pub(crate) moment: u64,
+    pub(crate) rights: Snapshot<Rights>,
 }
 
 impl Promise<Served> for WorkerPromise {
@@ -44,7 +44,7 @@ impl Promise<Served> for WorkerPromise {
 }
 
 // A started worker.
-pub type Worker = PromisedHandle<Served, WorkerPromise>;
+pub(crate) type Worker = PromisedHandle<Served, WorkerPromise>;
 
 // Adds what one more worker returned to what the others did.
 fn both(overflow: Overflow, more: Overflow) -> Overflow
@@ -93,7 +93,7 @@ impl<'s, G: Gate> Shared<'s, G> {
 
     // Claims, polls and puts until the board is empty. A message for which the shelf has no room is
     // returned.
-    pub fn serve<R: Wait>(self, rt: &R, alloc: Global, mut rights: Rights) -> Served
+    pub(crate) fn serve<R: Wait>(self, rt: &R, alloc: Global, mut rights: Rights) -> Served
         requires ready { IsReady self rights }
         ensures same { IsSame rights result.rights }
         ensures served { HasServed self.entry.moment rights result.rights result.overflow }
@@ -144,7 +144,7 @@ impl<'s, G: Gate> Shared<'s, G> {
     }
 
     // Starts this number of workers. If one can't be started, it waits for the others.
-    pub fn start_all<E, R: Threads + Wait + Sync>(
+    pub(crate) fn start_all<E, R: Threads + Wait + Sync>(
         self,
         rt: &'s R,
         scope: &Scope<'s, E>,
@@ -188,7 +188,12 @@ impl<'s, G: Gate> Shared<'s, G> {
     }
 
     // Joins all workers and their rights.
-    pub fn join_all<R: Threads>(self, rt: &R, mut served: Served, workers: Vec<Worker>) -> Served
+    pub(crate) fn join_all<R: Threads>(
+        self,
+        rt: &R,
+        mut served: Served,
+        workers: Vec<Worker>,
+    ) -> Served
         requires of { IsOf self served.rights }
         requires each { All (Promised self served.rights.board_pass.batches) workers.items }
         ensures of { IsOf self.entry result.rights }

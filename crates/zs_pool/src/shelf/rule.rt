@@ -4,17 +4,17 @@ use crossbeam_queue::protocol::{Join, Lesson, Outcome, Protocol, Split};
 use std::collections::LinkedList;
 
 /// What a pass knows. No value of this type is made.
-pub struct Hands<T> {
+pub(crate) struct Hands<T> {
     /// The pass's part of the access to the shelf.
-    pub share: u64,
+    pub(crate) share: u64,
     /// What the pass put.
-    pub put: LinkedList<T>,
+    pub(crate) put: LinkedList<T>,
     /// What the pass took.
-    pub taken: LinkedList<T>,
+    pub(crate) taken: LinkedList<T>,
 }
 
 /// Each value that was put is taken once, or is queued.
-pub struct EachOnce;
+pub(crate) struct EachOnce;
 
 impl<T> Protocol<T, Hands<T>> for EachOnce {
     ghost use Rattle.std.specs.Prelude.{[]};
@@ -27,7 +27,7 @@ impl<T> Protocol<T, Hands<T>> for EachOnce {
 }
 
 /// Puts a value.
-pub struct Puts;
+pub(crate) struct Puts;
 
 impl<T> Outcome<T, Hands<T>> for Puts {
     ghost use Rattle.std.specs.Prelude.{◌≡◌, ◌++◌, ◌∷◌, []};
@@ -43,7 +43,7 @@ impl<T> Lesson<T, Hands<T>> for Puts {
 }
 
 /// Takes a value.
-pub struct Takes;
+pub(crate) struct Takes;
 
 impl<T> Outcome<T, Hands<T>> for Takes {
     ghost use Rattle.std.specs.Prelude.{◌≡◌, ◌++◌, ◌∷◌, []};
@@ -59,7 +59,7 @@ impl<T> Lesson<T, Hands<T>> for Takes {
 }
 
 /// Splits off a pass with a share of 1, which put and took nothing.
-pub struct Sharing;
+pub(crate) struct Sharing;
 
 impl<T> Split<Hands<T>> for Sharing {
     ghost use Rattle.std.specs.Prelude.{◌-◌, []};

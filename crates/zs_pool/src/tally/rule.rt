@@ -3,19 +3,19 @@
 use atomic_table::{Join, Play, Split, TableRule};
 
 /// What a seat knows. No value of this type is made.
-pub struct Tallied {
+pub(crate) struct Tallied {
     /// How often the seat counted.
-    pub count: u64,
+    pub(crate) count: u64,
     /// How often the seat may still count.
-    pub allowance: u64,
+    pub(crate) allowance: u64,
     /// The value of the word that the seat saw last.
-    pub seen: u64,
+    pub(crate) seen: u64,
     /// How much of the allowance is about to be split off.
-    pub noted: u64,
+    pub(crate) noted: u64,
 }
 
 /// The word is the sum of what all seats counted.
-pub struct Exact;
+pub(crate) struct Exact;
 
 impl TableRule<(), Tallied, ()> for Exact {
     ghost use Rattle.zs_pool.specs.Tally.{KeepsTally, tallied};
@@ -27,7 +27,7 @@ impl TableRule<(), Tallied, ()> for Exact {
 }
 
 /// Adds 1 to the word.
-pub struct Counts;
+pub(crate) struct Counts;
 
 impl Play<(), Tallied> for Counts {
     ghost use Rattle.zs_pool.specs.Tally.{Counted};
@@ -36,7 +36,7 @@ impl Play<(), Tallied> for Counts {
 }
 
 /// Reads the word.
-pub struct Sees;
+pub(crate) struct Sees;
 
 impl Play<(), Tallied> for Sees {
     ghost use Rattle.zs_pool.specs.Tally.{Loaded};
@@ -45,7 +45,7 @@ impl Play<(), Tallied> for Sees {
 }
 
 /// Notes how much of the allowance is about to be split off. The word is unchanged.
-pub struct Notes;
+pub(crate) struct Notes;
 
 impl Play<(), Tallied> for Notes {
     ghost use Rattle.zs_pool.specs.Tally.{Noted};
@@ -54,7 +54,7 @@ impl Play<(), Tallied> for Notes {
 }
 
 /// Reads the word, to learn that the allowance fits.
-pub struct Fits;
+pub(crate) struct Fits;
 
 impl Play<(), Tallied> for Fits {
     ghost use Rattle.zs_pool.specs.Tally.{Fitting};
@@ -63,7 +63,7 @@ impl Play<(), Tallied> for Fits {
 }
 
 /// Splits off a seat with the noted allowance, which counted nothing.
-pub struct Sharing;
+pub(crate) struct Sharing;
 
 impl Split<Tallied> for Sharing {
     ghost use Rattle.std.specs.Prelude.{◌-◌};

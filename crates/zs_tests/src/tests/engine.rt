@@ -179,18 +179,8 @@ const FIVE: [Listed<'static>; 5] = [
     ("waits", Mode::Retry, "recurs(3)", 41, &TWICE),
 ];
 
-// Seven equal jobs.
-const SEVEN: [Listed<'static>; 7] = [
-    ("a", Mode::Retry, "recurs(3)", 0, &TWICE),
-    ("b", Mode::Retry, "recurs(3)", 0, &TWICE),
-    ("c", Mode::Retry, "recurs(3)", 0, &TWICE),
-    ("d", Mode::Retry, "recurs(3)", 0, &TWICE),
-    ("e", Mode::Retry, "recurs(3)", 0, &TWICE),
-    ("f", Mode::Retry, "recurs(3)", 0, &TWICE),
-    ("g", Mode::Retry, "recurs(3)", 0, &TWICE),
-];
-
-// A name, the cuts, the ticks, the jobs, and the result under each cut.
+// A name, the cuts, the ticks, the jobs, and the result under each cut. Other runs are plans of
+// tests/plans.
 type Run<'a> = (
     &'a str,
     &'a [(u64, u64)],
@@ -199,34 +189,7 @@ type Run<'a> = (
     &'a str,
 );
 
-static RUNS: [Run<'static>; 9] = [
-    (
-        "no_jobs_need_no_polls",
-        &[(2, 1)],
-        Ticks::Every(1000),
-        &[],
-        "horizon 1000, 0 polls\n",
-    ),
-    (
-        "jobs_that_begin_apart_are_polled_apart",
-        &[(1, 1)],
-        Ticks::Every(1000),
-        &[
-            ("a", Mode::Retry, "recurs(3)", 0, &TWICE),
-            ("b", Mode::Retry, "recurs(3)", 3, &TWICE),
-        ],
-        "0 a: 0..5 next 5, 5..10 last, Some(Succeeded(1)), 3 polls
-1 b: 3..8 next 8, 8..13 last, Some(Succeeded(1)), 3 polls
-horizon 1000, 6 polls
-",
-    ),
-    (
-        "a_job_that_starts_at_the_greatest_moment_never_begins",
-        &[(1, 1)],
-        Ticks::Every(1000),
-        &[("a", Mode::Retry, "recurs(3)", u64::MAX, &TWICE)],
-        "0 a: None, 0 polls\nhorizon 1000, 0 polls\n",
-    ),
+static RUNS: [Run<'static>; 4] = [
     (
         "jobs_end_run_and_never_begin_side_by_side",
         &CUTS,
@@ -275,36 +238,6 @@ horizon 40, 10 polls
             }],
         )],
         "0 a: 0..5 next 15, 16..30 next 40, None, 4 polls\nhorizon 30, 4 polls\n",
-    ),
-    (
-        "equal_jobs_come_to_the_same_under_each_cut",
-        &CUTS,
-        Ticks::Every(1000),
-        &SEVEN,
-        "0 a: 0..5 next 5, 5..10 last, Some(Succeeded(1)), 3 polls
-1 b: 0..5 next 5, 5..10 last, Some(Succeeded(1)), 3 polls
-2 c: 0..5 next 5, 5..10 last, Some(Succeeded(1)), 3 polls
-3 d: 0..5 next 5, 5..10 last, Some(Succeeded(1)), 3 polls
-4 e: 0..5 next 5, 5..10 last, Some(Succeeded(1)), 3 polls
-5 f: 0..5 next 5, 5..10 last, Some(Succeeded(1)), 3 polls
-6 g: 0..5 next 5, 5..10 last, Some(Succeeded(1)), 3 polls
-horizon 1000, 21 polls
-",
-    ),
-    (
-        "equal_jobs_come_to_the_same_on_listed_ticks_under_each_cut",
-        &CUTS,
-        Ticks::List(&[0, 8, 20, 40]),
-        &SEVEN,
-        "0 a: 0..8 next 8, 8..20 last, Some(Succeeded(1)), 3 polls
-1 b: 0..8 next 8, 8..20 last, Some(Succeeded(1)), 3 polls
-2 c: 0..8 next 8, 8..20 last, Some(Succeeded(1)), 3 polls
-3 d: 0..8 next 8, 8..20 last, Some(Succeeded(1)), 3 polls
-4 e: 0..8 next 8, 8..20 last, Some(Succeeded(1)), 3 polls
-5 f: 0..8 next 8, 8..20 last, Some(Succeeded(1)), 3 polls
-6 g: 0..8 next 8, 8..20 last, Some(Succeeded(1)), 3 polls
-horizon 40, 21 polls
-",
     ),
 ];
 

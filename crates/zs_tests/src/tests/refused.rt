@@ -7,12 +7,29 @@ use zs_effect::ScriptFault;
 use zs_run::{PlanFault, read_plan};
 use zs_term::TermFault;
 
-const DOCUMENT: Option<u64> = None;
+// Faults of a document, and of its first job.
+const SHAPE: PlanFault = PlanFault::Shape { job: None };
+
+const RANGE: PlanFault = PlanFault::Range { job: None };
+
+const KEY: PlanFault = PlanFault::UnknownKey { job: None };
+
+const JOB_SHAPE: PlanFault = PlanFault::Shape { job: Some(0) };
+
+// The fault of the first job's schedule.
+macro_rules! schedule {
+    ($fault:expr) => {
+        PlanFault::Schedule {
+            job: 0,
+            fault: $fault,
+        }
+    };
+}
 
 // A name, the text before and after each row, and texts with the fault of the whole.
 type Group<'a> = (&'a str, &'a str, &'a str, &'a [(&'a str, PlanFault)]);
 
-static FAULTS: [Group<'static>; 7] = [
+static FAULTS: [Group<'static>; 6] = [
     (
         "a_document_has_its_first_fault",
         "",
@@ -23,30 +40,15 @@ static FAULTS: [Group<'static>; 7] = [
             (r#"{"jobs":[]"#, PlanFault::Json),
             (r#"{"jobs":[]}}"#, PlanFault::Json),
             // A key is missing, and another is unknown.
-            (r#"{"horizon":1,"x":1}"#, PlanFault::Shape { job: None }),
-            (r#"{"jobs":[],"x":1}"#, PlanFault::Shape { job: None }),
-            (
-                r#"{"horizon":1,"ticks":[1],"jobs":[],"x":1}"#,
-                PlanFault::Shape { job: None },
-            ),
+            (r#"{"horizon":1,"x":1}"#, SHAPE),
+            (r#"{"jobs":[],"x":1}"#, SHAPE),
+            (r#"{"horizon":1,"ticks":[1],"jobs":[],"x":1}"#, SHAPE),
             // A key is unknown, and a number is out of range.
-            (
-                r#"{"horizon":1,"workers":65,"jobs":[],"x":1}"#,
-                PlanFault::UnknownKey { job: None },
-            ),
-            (
-                r#"{"ticks":[],"jobs":[],"start":1}"#,
-                PlanFault::UnknownKey { job: None },
-            ),
+            (r#"{"horizon":1,"workers":65,"jobs":[],"x":1}"#, KEY),
+            (r#"{"ticks":[],"jobs":[],"start":1}"#, KEY),
             // A number is out of range, and the first job has another shape.
-            (
-                r#"{"horizon":1,"workers":65,"jobs":[1]}"#,
-                PlanFault::Range { job: None },
-            ),
-            (
-                r#"{"ticks":[5,5],"jobs":[1]}"#,
-                PlanFault::Range { job: None },
-            ),
+            (r#"{"horizon":1,"workers":65,"jobs":[1]}"#, RANGE),
+            (r#"{"ticks":[5,5],"jobs":[1]}"#, RANGE),
         ],
     ),
     (
@@ -54,48 +56,21 @@ static FAULTS: [Group<'static>; 7] = [
         "",
         "",
         &[
-            (r#"[]"#, PlanFault::Shape { job: None }),
-            (r#"null"#, PlanFault::Shape { job: None }),
-            (r#""plan""#, PlanFault::Shape { job: None }),
-            (r#"{}"#, PlanFault::Shape { job: None }),
-            (r#"{"horizon":1,"jobs":{}}"#, PlanFault::Shape { job: None }),
-            (
-                r#"{"horizon":"1","jobs":[]}"#,
-                PlanFault::Shape { job: None },
-            ),
-            (
-                r#"{"horizon":1.5,"jobs":[]}"#,
-                PlanFault::Shape { job: None },
-            ),
-            (
-                r#"{"horizon":1e3,"jobs":[]}"#,
-                PlanFault::Shape { job: None },
-            ),
-            (
-                r#"{"horizon":-1,"jobs":[]}"#,
-                PlanFault::Shape { job: None },
-            ),
-            (
-                r#"{"horizon":18446744073709551616,"jobs":[]}"#,
-                PlanFault::Shape { job: None },
-            ),
-            (
-                r#"{"horizon":null,"jobs":[]}"#,
-                PlanFault::Shape { job: None },
-            ),
-            (r#"{"ticks":5,"jobs":[]}"#, PlanFault::Shape { job: None }),
-            (
-                r#"{"ticks":[1,2.5],"jobs":[]}"#,
-                PlanFault::Shape { job: None },
-            ),
-            (
-                r#"{"horizon":1,"workers":"2","jobs":[]}"#,
-                PlanFault::Shape { job: None },
-            ),
-            (
-                r#"{"horizon":1,"grain":0.5,"jobs":[]}"#,
-                PlanFault::Shape { job: None },
-            ),
+            (r#"[]"#, SHAPE),
+            (r#"null"#, SHAPE),
+            (r#""plan""#, SHAPE),
+            (r#"{}"#, SHAPE),
+            (r#"{"horizon":1,"jobs":{}}"#, SHAPE),
+            (r#"{"horizon":"1","jobs":[]}"#, SHAPE),
+            (r#"{"horizon":1.5,"jobs":[]}"#, SHAPE),
+            (r#"{"horizon":1e3,"jobs":[]}"#, SHAPE),
+            (r#"{"horizon":-1,"jobs":[]}"#, SHAPE),
+            (r#"{"horizon":18446744073709551616,"jobs":[]}"#, SHAPE),
+            (r#"{"horizon":null,"jobs":[]}"#, SHAPE),
+            (r#"{"ticks":5,"jobs":[]}"#, SHAPE),
+            (r#"{"ticks":[1,2.5],"jobs":[]}"#, SHAPE),
+            (r#"{"horizon":1,"workers":"2","jobs":[]}"#, SHAPE),
+            (r#"{"horizon":1,"grain":0.5,"jobs":[]}"#, SHAPE),
         ],
     ),
     (
@@ -103,35 +78,14 @@ static FAULTS: [Group<'static>; 7] = [
         "",
         "",
         &[
-            (
-                r#"{"horizon":1000000000000000,"jobs":[]}"#,
-                PlanFault::Range { job: None },
-            ),
-            (
-                r#"{"horizon":1,"workers":0,"jobs":[]}"#,
-                PlanFault::Range { job: None },
-            ),
-            (
-                r#"{"horizon":1,"workers":65,"jobs":[]}"#,
-                PlanFault::Range { job: None },
-            ),
-            (
-                r#"{"horizon":1,"grain":0,"jobs":[]}"#,
-                PlanFault::Range { job: None },
-            ),
-            (
-                r#"{"horizon":1,"grain":10001,"jobs":[]}"#,
-                PlanFault::Range { job: None },
-            ),
-            (r#"{"ticks":[],"jobs":[]}"#, PlanFault::Range { job: None }),
-            (
-                r#"{"ticks":[5,4],"jobs":[]}"#,
-                PlanFault::Range { job: None },
-            ),
-            (
-                r#"{"ticks":[1000000000000000],"jobs":[]}"#,
-                PlanFault::Range { job: None },
-            ),
+            (r#"{"horizon":1000000000000000,"jobs":[]}"#, RANGE),
+            (r#"{"horizon":1,"workers":0,"jobs":[]}"#, RANGE),
+            (r#"{"horizon":1,"workers":65,"jobs":[]}"#, RANGE),
+            (r#"{"horizon":1,"grain":0,"jobs":[]}"#, RANGE),
+            (r#"{"horizon":1,"grain":10001,"jobs":[]}"#, RANGE),
+            (r#"{"ticks":[],"jobs":[]}"#, RANGE),
+            (r#"{"ticks":[5,4],"jobs":[]}"#, RANGE),
+            (r#"{"ticks":[1000000000000000],"jobs":[]}"#, RANGE),
         ],
     ),
     (
@@ -142,7 +96,7 @@ static FAULTS: [Group<'static>; 7] = [
             // Something is missing, and a key is unknown.
             (
                 r#"{"mode":"retry","schedule":"forever","script":[],"x":1}"#,
-                PlanFault::Shape { job: Some(0) },
+                JOB_SHAPE,
             ),
             // A key is unknown, and the mode is invalid.
             (
@@ -166,10 +120,7 @@ static FAULTS: [Group<'static>; 7] = [
             // The schedule is invalid, and so is the script.
             (
                 r#"{"name":"a","mode":"retry","schedule":"recurs(1).map(_1)","script":[]}"#,
-                PlanFault::Schedule {
-                    job: 0,
-                    fault: TermFault::NoKind,
-                },
+                schedule!(TermFault::NoKind),
             ),
             // The script is invalid, and the next job has another shape.
             (
@@ -214,118 +165,22 @@ static FAULTS: [Group<'static>; 7] = [
         ],
     ),
     (
-        "a_job_has_its_shape",
-        r#"{"horizon":1000,"jobs":["#,
-        "]}",
-        &[
-            (r#"1"#, PlanFault::Shape { job: Some(0) }),
-            (r#"null"#, PlanFault::Shape { job: Some(0) }),
-            (r#"[]"#, PlanFault::Shape { job: Some(0) }),
-            (
-                r#"{"name":"a","schedule":"forever","script":[]}"#,
-                PlanFault::Shape { job: Some(0) },
-            ),
-            (
-                r#"{"name":"a","mode":"retry","script":[]}"#,
-                PlanFault::Shape { job: Some(0) },
-            ),
-            (
-                r#"{"name":"a","mode":"retry","schedule":"forever"}"#,
-                PlanFault::Shape { job: Some(0) },
-            ),
-            (
-                r#"{"name":1,"mode":"retry","schedule":"forever","script":[]}"#,
-                PlanFault::Shape { job: Some(0) },
-            ),
-            (
-                r#"{"name":"a","mode":null,"schedule":"forever","script":[]}"#,
-                PlanFault::Shape { job: Some(0) },
-            ),
-            (
-                r#"{"name":"a","mode":"retry","schedule":[],"script":[]}"#,
-                PlanFault::Shape { job: Some(0) },
-            ),
-            (
-                r#"{"name":"a","mode":"retry","schedule":"forever","script":{}}"#,
-                PlanFault::Shape { job: Some(0) },
-            ),
-            (
-                r#"{"name":"a","mode":"retry","schedule":"forever","start":-1,"script":[]}"#,
-                PlanFault::Shape { job: Some(0) },
-            ),
-            (
-                r#"{"name":"a","mode":"retry","schedule":"forever","script":[5]}"#,
-                PlanFault::Shape { job: Some(0) },
-            ),
-            (
-                r#"{"name":"a","mode":"retry","schedule":"forever","script":[{"ok":1}]}"#,
-                PlanFault::Shape { job: Some(0) },
-            ),
-            (
-                r#"{"name":"a","mode":"retry","schedule":"forever","script":[{"ms":1}]}"#,
-                PlanFault::Shape { job: Some(0) },
-            ),
-            (
-                r#"{"name":"a","mode":"retry","schedule":"forever","script":[{"ms":1,"ok":1,"err":1}]}"#,
-                PlanFault::Shape { job: Some(0) },
-            ),
-            (
-                r#"{"name":"a","mode":"retry","schedule":"forever","script":[{"ms":1.5,"ok":1}]}"#,
-                PlanFault::Shape { job: Some(0) },
-            ),
-            (
-                r#"{"name":"a","mode":"retry","schedule":"forever","script":[{"ms":1,"err":"no"}]}"#,
-                PlanFault::Shape { job: Some(0) },
-            ),
-        ],
-    ),
-    (
         "each_fault_of_a_schedule_is_told",
         r#"{"horizon":1,"jobs":[{"name":"a","mode":"retry","schedule":""#,
         r#"","script":[]}]}"#,
         &[
-            (
-                "recurs(01)",
-                PlanFault::Schedule {
-                    job: 0,
-                    fault: TermFault::NoTerm { at: 7 },
-                },
-            ),
+            ("recurs(01)", schedule!(TermFault::NoTerm { at: 7 })),
             (
                 "forever.resetWhen(= 0).resetWhen(= 0).resetWhen(= 0).resetWhen(= 0).resetWhen(= 0).resetWhen(= 0).resetWhen(= 0).resetWhen(= 0).resetWhen(= 0)",
-                PlanFault::Schedule {
-                    job: 0,
-                    fault: TermFault::TooBig,
-                },
+                schedule!(TermFault::TooBig),
             ),
             (
                 "recurs(18446744073709551616)",
-                PlanFault::Schedule {
-                    job: 0,
-                    fault: TermFault::BadNumber { at: 7 },
-                },
+                schedule!(TermFault::BadNumber { at: 7 }),
             ),
-            (
-                "exponential(1, 0)",
-                PlanFault::Schedule {
-                    job: 0,
-                    fault: TermFault::BadFactor,
-                },
-            ),
-            (
-                "recurs(1).map(_1)",
-                PlanFault::Schedule {
-                    job: 0,
-                    fault: TermFault::NoKind,
-                },
-            ),
-            (
-                "windowed(0)",
-                PlanFault::Schedule {
-                    job: 0,
-                    fault: TermFault::BadWindow,
-                },
-            ),
+            ("exponential(1, 0)", schedule!(TermFault::BadFactor)),
+            ("recurs(1).map(_1)", schedule!(TermFault::NoKind)),
+            ("windowed(0)", schedule!(TermFault::BadWindow)),
         ],
     ),
 ];
@@ -353,6 +208,35 @@ fn each_text_has_the_fault_that_is_listed(rt: HostRuntime) {
     expect_groups(&rt, rt.alloc(), &FAULTS);
 }
 
+static SHAPES: [&'static str; 17] = [
+    r#"1"#,
+    r#"null"#,
+    r#"[]"#,
+    r#"{"name":"a","schedule":"forever","script":[]}"#,
+    r#"{"name":"a","mode":"retry","script":[]}"#,
+    r#"{"name":"a","mode":"retry","schedule":"forever"}"#,
+    r#"{"name":1,"mode":"retry","schedule":"forever","script":[]}"#,
+    r#"{"name":"a","mode":null,"schedule":"forever","script":[]}"#,
+    r#"{"name":"a","mode":"retry","schedule":[],"script":[]}"#,
+    r#"{"name":"a","mode":"retry","schedule":"forever","script":{}}"#,
+    r#"{"name":"a","mode":"retry","schedule":"forever","start":-1,"script":[]}"#,
+    r#"{"name":"a","mode":"retry","schedule":"forever","script":[5]}"#,
+    r#"{"name":"a","mode":"retry","schedule":"forever","script":[{"ok":1}]}"#,
+    r#"{"name":"a","mode":"retry","schedule":"forever","script":[{"ms":1}]}"#,
+    r#"{"name":"a","mode":"retry","schedule":"forever","script":[{"ms":1,"ok":1,"err":1}]}"#,
+    r#"{"name":"a","mode":"retry","schedule":"forever","script":[{"ms":1.5,"ok":1}]}"#,
+    r#"{"name":"a","mode":"retry","schedule":"forever","script":[{"ms":1,"err":"no"}]}"#,
+];
+
+#[test]
+fn a_job_has_its_shape(rt: HostRuntime) {
+    for job in &SHAPES {
+        let text = format!(in rt.alloc(); "{{\"horizon\":1000,\"jobs\":[{job}]}}");
+        let text = text.expect(&rt, "memory");
+        expect_fault(&rt, rt.alloc(), &text, Some(JOB_SHAPE));
+    }
+}
+
 #[test]
 fn length_is_looked_at_before_json(rt: HostRuntime) {
     let most = " ".repeat(rt.alloc(), 16_777_216).expect(&rt, "memory");
@@ -377,11 +261,9 @@ fn plan_of_zeros(alloc: Global, count: usize) -> Result<String, AllocError> {
 #[test]
 fn a_plan_has_ten_thousand_jobs_at_most(rt: HostRuntime) {
     let most = plan_of_zeros(rt.alloc(), 10_000).expect(&rt, "memory");
-    let first = PlanFault::Shape { job: Some(0) };
-    expect_fault(&rt, rt.alloc(), &most, Some(first));
+    expect_fault(&rt, rt.alloc(), &most, Some(JOB_SHAPE));
     let more = plan_of_zeros(rt.alloc(), 10_001).expect(&rt, "memory");
-    let range = PlanFault::Range { job: DOCUMENT };
-    expect_fault(&rt, rt.alloc(), &more, Some(range));
+    expect_fault(&rt, rt.alloc(), &more, Some(RANGE));
 }
 
 // Makes a plan of one job with this number of entries, each of 0 ms.

@@ -1,23 +1,12 @@
 //! The lines of a report.
 use super::support::expect_text;
 use super::support::plans::{PLAN, REPORT};
+use super::surface::reported;
 use std::alloc::Global;
 use std::process::Abort;
 use std::sync::Wait;
 use std::test::Fail;
 use std::thread::Threads;
-use zs_engine::run_jobs;
-use zs_pool::OpenGate;
-use zs_run::{Plan, read_plan, report};
-
-// Runs the jobs of a plan up to its horizon, and reports them.
-fn reported<R: Threads + Wait + Sync>(rt: &R, alloc: Global, plan: &str) -> Result<String, Fail> {
-    let Plan { clock, cut, jobs } = read_plan(alloc, plan.as_bytes())?;
-    let answer = run_jobs(rt, alloc, cut, &OpenGate, clock, jobs)?;
-    let text = report(alloc, &answer);
-    drop(answer);
-    Ok(text?)
-}
 
 // A name, a plan, and its report.
 type Row<'a> = (&'a str, &'a str, &'a str);
@@ -59,7 +48,7 @@ fn expect_reports<R: Abort + Threads + Wait + Sync>(
 ) -> Result<(), Fail> {
     assert!(rt; !rows.is_empty(), "no rows");
     for (name, plan, lines) in rows {
-        let found = reported(rt, alloc, plan)?;
+        let found = reported(rt, alloc, plan.as_bytes())?;
         expect_text(rt, &found, lines, name);
     }
     Ok(())

@@ -56,12 +56,6 @@ fn an_attempt_is_ready_from_its_end_on_and_answers_again(rt: HostRuntime) -> Res
     Ok(())
 }
 
-#[test]
-fn an_attempt_takes_its_time(rt: HostRuntime) {
-    assert!(rt; Attempt::start(FIVE, 10).end() == 15);
-    assert!(rt; Attempt::start(FIVE, u64::MAX - 3).end() == u64::MAX);
-}
-
 // The text of two entries.
 fn both(alloc: Global, first: Beat, last: Beat) -> Result<String, AllocError> {
     format!(in alloc;

@@ -5,119 +5,38 @@ use std::alloc::{Alloc, AllocError, Global};
 use std::process::Abort;
 use zs_term::{Kind, Term, check};
 
-// A name, a part, how often it is repeated, a frame, and the reading, or `ok` if that is the text
-// itself. In the frame `#` is the repeated part, and `~` that number of opening parentheses. The
-// part `leaves` is a conjunction of 500.
-type Row<'a> = (&'a str, &'a str, usize, &'a str, &'a str);
+// A part, how often it is repeated, a frame, and the reading, or `ok` if that is the text itself.
+// In the frame `#` is the repeated part, and `~` that number of opening parentheses. The part
+// `leaves` is a conjunction of 500.
+type Row<'a> = (&'a str, usize, &'a str, &'a str);
 
 static LIMITS: [Row<'static>; 11] = [
-    ("a_weight_of_1000_is_read", "leaves", 1, "#", "ok"),
-    (
-        "a_weight_of_1000_is_read",
-        "leaves",
-        1,
-        "#.collectAll",
-        "ok",
-    ),
-    (
-        "a_weight_of_1000_is_read",
-        "leaves",
-        1,
-        "#.collectAll.collectAll",
-        "too big",
-    ),
-    (
-        "a_weight_of_1000_is_read",
-        "leaves",
-        1,
-        "(# && recurs(1))",
-        "too big",
-    ),
-    ("a_depth_of_64_is_read", ".collectAll", 63, "forever#", "ok"),
-    (
-        "a_depth_of_64_is_read",
-        ".collectAll",
-        64,
-        "forever#",
-        "too big",
-    ),
-    (
-        "a_depth_of_64_is_read",
-        ".collectAll",
-        62,
-        "forever#.resetWhen(size = 0)",
-        "ok",
-    ),
-    (
-        "a_depth_of_64_is_read",
-        ".collectAll",
-        63,
-        "forever#.resetWhen(size = 0)",
-        "too big",
-    ),
-    (
-        "a_reset_weighs_its_part_twice",
-        ".resetWhen(= 0)",
-        8,
-        "forever#",
-        "ok",
-    ),
-    (
-        "a_reset_weighs_its_part_twice",
-        ".resetWhen(= 0)",
-        9,
-        "forever#",
-        "too big",
-    ),
-    (
-        "a_reset_weighs_its_part_twice",
-        ".resetWhen(= 0)",
-        100,
-        "forever#",
-        "too big",
-    ),
+    // A weight of 1,000 is read.
+    ("leaves", 1, "#", "ok"),
+    ("leaves", 1, "#.collectAll", "ok"),
+    ("leaves", 1, "#.collectAll.collectAll", "too big"),
+    ("leaves", 1, "(# && recurs(1))", "too big"),
+    // A depth of 64 is read.
+    (".collectAll", 63, "forever#", "ok"),
+    (".collectAll", 64, "forever#", "too big"),
+    (".collectAll", 62, "forever#.resetWhen(size = 0)", "ok"),
+    (".collectAll", 63, "forever#.resetWhen(size = 0)", "too big"),
+    // A reset weighs its part twice.
+    (".resetWhen(= 0)", 8, "forever#", "ok"),
+    (".resetWhen(= 0)", 9, "forever#", "too big"),
+    (".resetWhen(= 0)", 100, "forever#", "too big"),
 ];
 
 static PARENTHESES: [Row<'static>; 2] = [
-    (
-        "open_parentheses_and_pending_left_parts_are_no_term",
-        "(",
-        100_000,
-        "#",
-        "no term at byte 100000",
-    ),
-    (
-        "open_parentheses_and_pending_left_parts_are_no_term",
-        "(forever && ",
-        100_000,
-        "#",
-        "no term at byte 1200000",
-    ),
+    ("(", 100_000, "#", "no term at byte 100000"),
+    ("(forever && ", 100_000, "#", "no term at byte 1200000"),
 ];
 
-static MEGABYTES: [Row<'static>; 1] = [(
-    "fifteen_megabytes_of_parentheses_are_no_term",
-    "((((((((((",
-    1_500_000,
-    "#",
-    "no term at byte 15000000",
-)];
+static MEGABYTES: [Row<'static>; 1] = [("((((((((((", 1_500_000, "#", "no term at byte 15000000")];
 
 static DEEP: [Row<'static>; 2] = [
-    (
-        "deep_pairs_and_a_long_chain_are_too_big",
-        " && forever)",
-        100_000,
-        "~forever#",
-        "too big",
-    ),
-    (
-        "deep_pairs_and_a_long_chain_are_too_big",
-        ".collectAll",
-        100_000,
-        "forever#",
-        "too big",
-    ),
+    (" && forever)", 100_000, "~forever#", "too big"),
+    (".collectAll", 100_000, "forever#", "too big"),
 ];
 
 // Frames whose parts are put into each other: 5 * 5 * 5 * 2 * 2 parts.
@@ -156,7 +75,7 @@ fn text_of(alloc: Global, part: &str, times: usize, frame: &str) -> Result<Strin
 // The text of each row is read as listed. A table without rows fails.
 fn expect_limits<R: Abort + Alloc<A = Global>>(rt: &R, rows: &[Row<'_>]) {
     assert!(rt; !rows.is_empty(), "no rows");
-    for (name, part, times, frame, wanted) in rows {
+    for (part, times, frame, wanted) in rows {
         let text = text_of(rt.alloc(), part, *times, frame).expect(rt, "memory");
         let found = reading(rt.alloc(), &text).expect(rt, "memory");
         let wanted = if *wanted == "ok" {
@@ -164,7 +83,7 @@ fn expect_limits<R: Abort + Alloc<A = Global>>(rt: &R, rows: &[Row<'_>]) {
         } else {
             *wanted
         };
-        expect_text(rt, &found, wanted, name);
+        expect_text(rt, &found, wanted, frame);
     }
 }
 
@@ -189,9 +108,9 @@ fn deep_pairs_and_a_long_chain_are_too_big(rt: HostRuntime) {
     expect_limits(&rt, &DEEP);
 }
 
-// A name, the form of a term that a caller makes, its nesting depth, and the kind of its outputs or
-// its fault.
-type Verdict<'a> = (&'a str, Form, u64, &'a str);
+// The form of a term that a caller makes, its nesting depth, and the kind of its outputs or its
+// fault.
+type Verdict<'a> = (Form, u64, &'a str);
 
 // A term that a caller makes.
 enum Form {
@@ -205,33 +124,14 @@ enum Form {
 }
 
 static VERDICTS: [Verdict<'static>; 7] = [
-    ("a_leaf_answers_numbers", Form::Recurs, 0, "numbers"),
-    (
-        "a_factor_and_a_window_are_at_least_1",
-        Form::NoFactor,
-        0,
-        "factor is 0",
-    ),
-    (
-        "a_factor_and_a_window_are_at_least_1",
-        Form::NoWindow,
-        0,
-        "window is 0",
-    ),
-    ("a_term_is_64_deep_at_most", Form::Lists, 63, "others"),
-    ("a_term_is_64_deep_at_most", Form::Lists, 64, "too big"),
-    (
-        "a_term_of_any_depth_is_given_up",
-        Form::Lists,
-        200_000,
-        "too big",
-    ),
-    (
-        "a_term_of_any_depth_is_given_up",
-        Form::Pairs,
-        200_000,
-        "too big",
-    ),
+    (Form::Recurs, 0, "numbers"),
+    (Form::NoFactor, 0, "factor is 0"),
+    (Form::NoWindow, 0, "window is 0"),
+    (Form::Lists, 63, "others"),
+    (Form::Lists, 64, "too big"),
+    // A term of any depth is freed.
+    (Form::Lists, 200_000, "too big"),
+    (Form::Pairs, 200_000, "too big"),
 ];
 
 // Makes the term of a row.
@@ -266,10 +166,10 @@ fn verdict(alloc: Global, term: Term) -> Result<String, AllocError> {
 // The verdict on each row's term is as listed. A table without rows fails.
 fn expect_verdicts<R: Abort + Alloc<A = Global>>(rt: &R, rows: &[Verdict<'_>]) {
     assert!(rt; !rows.is_empty(), "no rows");
-    for (name, form, times, wanted) in rows {
+    for (form, times, wanted) in rows {
         let term = term_of(rt.alloc(), form, *times).expect(rt, "memory");
         let found = verdict(rt.alloc(), term).expect(rt, "memory");
-        expect_text(rt, &found, wanted, name);
+        expect_text(rt, &found, wanted, wanted);
     }
 }
 

@@ -1,7 +1,7 @@
 //! Worked examples, by `plain` on each prefix and by `follow`. The values are worked out by hand
 //! from docs/SEMANTICS.md.
 ghost use Rattle.std.specs.Prelude.{◌<◌, ◌≤◌, length, IfOk};
-ghost use Rattle.zs_step.specs.Compiled.{last_seen, stepper_of};
+ghost use Rattle.zs_step.specs.Compiled.{last_seen};
 ghost use Rattle.zs_step.specs.History.{history_of, IsInOrder};
 
 use super::support::expect_text;
@@ -9,7 +9,7 @@ use std::alloc::{Alloc, AllocError, Global};
 use std::fmt::Write;
 use std::process::Abort;
 use std::test::Fail;
-use zs_step::{Compiled, Decision, Interval, follow, plain};
+use zs_step::{Compiled, Decision, follow, plain};
 use zs_term::{Checked, Out, append_out, read};
 
 // A schedule, its pairs of a moment and an input, the results, and the visits of the steps.
@@ -118,46 +118,26 @@ fn expect_groups<R: Abort + Alloc<A = Global>>(rt: &R, groups: &[Group<'_>]) -> 
     Ok(())
 }
 
+// Pairs that many rows have.
+const TWO: [(u64, u64); 2] = [(1, 0), (2, 0)];
+
+const THREE: [(u64, u64); 3] = [(5, 0), (5, 1), (9, 0)];
+
 static ANSWERS: [Group<'static>; 13] = [
     (
         "counters_go_on_at_equal_moments",
         &[
-            (
-                "forever",
-                &[(5, 0), (5, 1), (9, 0)],
-                "0 5;1 5;2 9;",
-                "1;1;1;",
-            ),
-            (
-                "recurs(2)",
-                &[(5, 0), (5, 1), (9, 0)],
-                "0 5;1 5;2 done;",
-                "1;1;1;",
-            ),
-            (
-                "identity",
-                &[(5, 0), (5, 1), (9, 0)],
-                "0 5;1 5;0 9;",
-                "1;1;1;",
-            ),
-            (
-                "elapsed",
-                &[(5, 0), (5, 1), (9, 0)],
-                "0 5;0 5;4 9;",
-                "1;1;1;",
-            ),
+            ("forever", &THREE, "0 5;1 5;2 9;", "1;1;1;"),
+            ("recurs(2)", &THREE, "0 5;1 5;2 done;", "1;1;1;"),
+            ("identity", &THREE, "0 5;1 5;0 9;", "1;1;1;"),
+            ("elapsed", &THREE, "0 5;0 5;4 9;", "1;1;1;"),
             ("forever", &[], "", ""),
         ],
     ),
     (
         "delays_grow_by_their_rules",
         &[
-            (
-                "fibonacci(10)",
-                &[(5, 0), (5, 1), (9, 0)],
-                "10 15;10 15;20 29;",
-                "1;1;1;",
-            ),
+            ("fibonacci(10)", &THREE, "10 15;10 15;20 29;", "1;1;1;"),
             (
                 "linear(10)",
                 &[(1, 0), (12, 0), (33, 0)],
@@ -177,12 +157,7 @@ static ANSWERS: [Group<'static>; 13] = [
                 "1;1;1;1;",
             ),
             ("fixed(100)", &[(50, 1), (250, 1)], "0 150;1 350;", "1;1;"),
-            (
-                "fixed(0)",
-                &[(5, 0), (5, 1), (9, 0)],
-                "0 5;1 5;2 9;",
-                "1;1;1;",
-            ),
+            ("fixed(0)", &THREE, "0 5;1 5;2 9;", "1;1;1;"),
             (
                 "windowed(100)",
                 &[(50, 1), (400, 1), (460, 1)],
@@ -196,19 +171,19 @@ static ANSWERS: [Group<'static>; 13] = [
         &[
             (
                 "spaced(18446744073709551615)",
-                &[(1, 0), (2, 0)],
+                &TWO,
                 "0 18446744073709551615;1 18446744073709551615;",
                 "1;1;",
             ),
             (
                 "fixed(18446744073709551615)",
-                &[(1, 0), (2, 0)],
+                &TWO,
                 "0 18446744073709551615;1 18446744073709551615;",
                 "1;1;",
             ),
             (
                 "windowed(18446744073709551615)",
-                &[(1, 0), (2, 0)],
+                &TWO,
                 "0 18446744073709551615;1 18446744073709551615;",
                 "1;1;",
             ),
@@ -219,19 +194,19 @@ static ANSWERS: [Group<'static>; 13] = [
         &[
             (
                 "spaced(18446744073709551615)",
-                &[(5, 0), (5, 1), (9, 0)],
+                &THREE,
                 "0 18446744073709551615;1 18446744073709551615;2 18446744073709551615;",
                 "1;1;1;",
             ),
             (
                 "exponential(9223372036854775808)",
-                &[(1, 0), (2, 0)],
+                &TWO,
                 "9223372036854775808 9223372036854775809;18446744073709551615 18446744073709551615;",
                 "1;1;",
             ),
             (
                 "linear(9223372036854775808)",
-                &[(1, 0), (2, 0)],
+                &TWO,
                 "9223372036854775808 9223372036854775809;18446744073709551615 18446744073709551615;",
                 "1;1;",
             ),
@@ -248,13 +223,13 @@ static ANSWERS: [Group<'static>; 13] = [
         &[
             (
                 "forever.map(+ 18446744073709551615)",
-                &[(1, 0), (2, 0)],
+                &TWO,
                 "18446744073709551615 1;18446744073709551615 2;",
                 "2;2;",
             ),
             (
                 "linear(2).map(* 9223372036854775808)",
-                &[(1, 0), (2, 0)],
+                &TWO,
                 "18446744073709551615 3;18446744073709551615 6;",
                 "2;2;",
             ),
@@ -297,7 +272,7 @@ static ANSWERS: [Group<'static>; 13] = [
             ),
             (
                 "(recurs(0) andThenEither linear(7)).map(merge)",
-                &[(1, 0), (2, 0)],
+                &TWO,
                 "7 8;14 16;",
                 "4;3;",
             ),
@@ -325,7 +300,7 @@ static ANSWERS: [Group<'static>; 13] = [
         &[
             (
                 "forever.collectAll.whileOutput(size < 1).map(size)",
-                &[(1, 0), (2, 0)],
+                &TWO,
                 "0 1;1 done;",
                 "4;4;",
             ),
@@ -352,12 +327,7 @@ static ANSWERS: [Group<'static>; 13] = [
                 "0 0;3 3;0 6;2 8;",
                 "2;2;3;2;",
             ),
-            (
-                "forever.resetWhen(= 0)",
-                &[(1, 0), (2, 0)],
-                "0 1;1 2;",
-                "3;2;",
-            ),
+            ("forever.resetWhen(= 0)", &TWO, "0 1;1 2;", "3;2;"),
             (
                 "(recurs(9).resetWhen(= 2) && elapsed).resetWhen(_2 >= 5)",
                 &[(0, 0), (1, 0), (2, 0), (5, 0), (6, 0)],
@@ -401,8 +371,8 @@ static STEPS: [ByHand<'static>; 2] = [
 
 // Steps a state, and appends whether it is broken before, and the result.
 fn push_hand(text: &mut String, compiled: &mut Compiled, now: u64) -> Result<(), Fail>
-    requires order { last_seen (stepper_of compiled.old) ≤ now }
-    ensures seen { last_seen (stepper_of compiled.new) ≤ now }
+    requires order { last_seen compiled.old ≤ now }
+    ensures seen { last_seen compiled.new ≤ now }
 {
     write!(text, "{} ", compiled.broken())?;
     let step = compiled.step(now, 0)?;
@@ -416,7 +386,7 @@ fn push_both_steps(
     first: u64,
     second: u64,
 ) -> Result<(), Fail>
-    requires begun { last_seen (stepper_of compiled.old) ≤ first }
+    requires begun { last_seen compiled.old ≤ first }
     requires order { first ≤ second }
 {
     push_hand(text, compiled, first)?;
@@ -448,13 +418,6 @@ fn a_new_state_is_whole_and_stepped_by_hand(rt: HostRuntime) -> Result<(), Fail>
         expect_text(&rt, &found, wanted, schedule);
     }
     Ok(())
-}
-
-#[test]
-fn intervals_meet_at_their_starts(rt: HostRuntime) {
-    let (early, late) = (Interval::after(3), Interval::after(8));
-    assert!(rt; early.intersect(&late).start() == 8);
-    assert!(rt; early.union(&late).start() == 3);
 }
 
 // Pairs (k, k), each with the result `k k`, and one visit a node.

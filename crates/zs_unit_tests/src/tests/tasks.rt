@@ -9,10 +9,8 @@ use std::fmt::Write;
 use std::process::Abort;
 use std::random::RandomSource;
 use std::test::Fail;
-use zs_agenda::AgendaFault;
 use zs_drive::{DriveFault, Ending, Job, Keeping, Mode, Task, append_attempt};
 use zs_effect::{Beat, Outcome, Script};
-use zs_step::StepFault;
 use zs_term::read;
 
 // A task's number, and the mode, schedule, start and entries of its job, which has the name `a`.
@@ -104,14 +102,14 @@ fn push_standing(text: &mut String, task: &Task) -> Result<(), AllocError> {
     )
 }
 
-// Appends what is known of a task that wasn't polled: its number, name and mode, what it stores,
-// and its due moment.
+// Appends what is known of a task that wasn't polled: its number, name and mode, and its due
+// moment.
 fn push_known(text: &mut String, task: &Task) -> Result<(), AllocError> {
-    let (number, name, mode, keeps) = (task.number(), task.name(), task.mode(), task.keeps());
+    let (number, name, mode) = (task.number(), task.name(), task.mode());
     let (broken, due) = (task.broken(), task.due());
     write!(
         text,
-        "{number} {name} {mode:?} {keeps:?}, broken {broken}, due {due:?}\n"
+        "{number} {name} {mode:?}, broken {broken}, due {due:?}\n"
     )
 }
 
@@ -245,103 +243,8 @@ fn expect_tasks<R: Abort + Alloc<A = Global> + RandomSource>(
     Ok(())
 }
 
-static RUNS: [Row<'static>; 17] = [
-    (
-        "a_repeat_finishes_with_its_schedule",
-        (7, Mode::Repeat, "recurs(0)", 0, &[good!(3, 9)]),
-        Polling::Due(1000),
-        "2 polls, due None, ending Some(Finished), last Some((0, Some(3)))",
-    ),
-    (
-        "a_repeat_runs_behind",
-        (
-            7,
-            Mode::Repeat,
-            "fixed(100)",
-            0,
-            &[good!(50, 1), good!(250, 1), good!(10, 1), good!(10, 1)],
-        ),
-        Polling::Due(500),
-        "7 polls, due Some(550), ending None, last Some((450, Some(460)))",
-    ),
-    (
-        "a_repeat_ends_on_a_boundary",
-        (
-            7,
-            Mode::Repeat,
-            "fixed(100)",
-            0,
-            &[good!(50, 1), good!(100, 1)],
-        ),
-        Polling::Due(300),
-        "4 polls, due Some(350), ending None, last Some((150, Some(250)))",
-    ),
-    (
-        "an_attempt_runs_at_the_horizon",
-        (7, Mode::Repeat, "spaced(10)", 0, &[good!(4, 1)]),
-        Polling::Due(16),
-        "3 polls, due Some(18), ending None, last Some((14, None))",
-    ),
-    (
-        "an_end_at_the_horizon_counts",
-        (7, Mode::Repeat, "spaced(10)", 0, &[good!(4, 1)]),
-        Polling::Due(18),
-        "4 polls, due Some(28), ending None, last Some((14, Some(18)))",
-    ),
-    (
-        "a_failure_ends_a_repeat",
-        (7, Mode::Repeat, "recurs(5)", 0, &[good!(2, 1), bad!(2, 4)]),
-        Polling::Due(1000),
-        "3 polls, due None, ending Some(Failed(4)), last Some((2, Some(4)))",
-    ),
-    (
-        "a_job_starts_past_the_horizon",
-        (7, Mode::Retry, "recurs(3)", 2000, &[bad!(5, 7)]),
-        Polling::Due(1000),
-        "0 polls, due Some(2000), ending None, last None",
-    ),
-    (
-        "a_retry_ends_with_a_success",
-        (7, Mode::Retry, "recurs(3)", 0, &[bad!(5, 7), good!(5, 1)]),
-        Polling::Due(1000),
-        "3 polls, due None, ending Some(Succeeded(1)), last Some((5, Some(10)))",
-    ),
-    (
-        "one_schedule_comes_after_another",
-        (
-            7,
-            Mode::Repeat,
-            "(recurs(2) andThenEither recurs(1))",
-            0,
-            &[good!(1, 5)],
-        ),
-        Polling::Due(1000),
-        "5 polls, due None, ending Some(Finished), last Some((3, Some(4)))",
-    ),
-    (
-        "a_delay_saturates",
-        (
-            7,
-            Mode::Repeat,
-            "(exponential(1, 4294967296) || spaced(1))",
-            0,
-            &[good!(1, 0)],
-        ),
-        Polling::Due(5),
-        "6 polls, due Some(6), ending None, last Some((4, Some(5)))",
-    ),
-    (
-        "a_done_part_goes_on_again",
-        (
-            7,
-            Mode::Repeat,
-            "(identity.whileInput(= 0) || recurs(3))",
-            0,
-            &[good!(1, 0), good!(1, 1), good!(1, 0)],
-        ),
-        Polling::Due(4),
-        "5 polls, due Some(5), ending None, last Some((4, None))",
-    ),
+// Other runs are plans of tests/plans.
+static RUNS: [Row<'static>; 5] = [
     (
         "inputs_are_collected_while_they_pass",
         (
@@ -396,12 +299,6 @@ static RUNS: [Row<'static>; 17] = [
         Polling::Due(1000),
         "2 polls, due Some(18446744073709551615), ending None, last Some((0, Some(4)))",
     ),
-    (
-        "a_job_may_start_at_the_greatest_moment",
-        (7, Mode::Retry, "recurs(3)", u64::MAX, &[bad!(5, 7)]),
-        Polling::Due(1000),
-        "0 polls, due Some(18446744073709551615), ending None, last None",
-    ),
 ];
 
 #[test]
@@ -414,7 +311,7 @@ static POLLS: [Row<'static>; 5] = [
         "a_task_is_known_by_its_job_and_polled_by_hand",
         (7, Mode::Retry, "recurs(3)", 0, &[bad!(5, 7), good!(5, 1)]),
         Polling::Results(&[0, 5, 10, 10]),
-        "7 a Retry Records, broken false, due Some(0)
+        "7 a Retry, broken false, due Some(0)
 Pending, 1 polls, due Some(5)
 Pending, 2 polls, due Some(10)
 Ready(Ok(Succeeded(1))), 3 polls, due None
@@ -425,7 +322,7 @@ Ready(Ok(Succeeded(1))), 3 polls, due None
         "an_early_poll_changes_nothing",
         (7, Mode::Retry, "recurs(3)", 5, &[bad!(5, 7)]),
         Polling::Results(&[4]),
-        "7 a Retry Records, broken false, due Some(5)
+        "7 a Retry, broken false, due Some(5)
 Pending, 0 polls, due Some(5)
 ",
     ),
@@ -433,7 +330,7 @@ Pending, 0 polls, due Some(5)
         "an_ended_task_answers_again",
         (7, Mode::Retry, "recurs(3)", 0, &[good!(5, 1)]),
         Polling::Results(&[0, 5, 5]),
-        "7 a Retry Records, broken false, due Some(0)
+        "7 a Retry, broken false, due Some(0)
 Pending, 1 polls, due Some(5)
 Ready(Ok(Succeeded(1))), 2 polls, due None
 Ready(Ok(Succeeded(1))), 2 polls, due None
@@ -449,7 +346,7 @@ Ready(Ok(Succeeded(1))), 2 polls, due None
             &[bad!(5, 7)],
         ),
         Polling::Results(&[999_999_999_999_999]),
-        "7 a Retry Records, broken false, due Some(999999999999999)
+        "7 a Retry, broken false, due Some(999999999999999)
 Pending, 1 polls, due Some(1000000000000004)
 ",
     ),
@@ -457,7 +354,7 @@ Pending, 1 polls, due Some(1000000000000004)
         "a_task_may_have_any_number",
         (u64::MAX, Mode::Retry, "recurs(3)", 0, &[bad!(5, 7)]),
         Polling::Results(&[]),
-        "18446744073709551615 a Retry Records, broken false, due Some(0)
+        "18446744073709551615 a Retry, broken false, due Some(0)
 ",
     ),
 ];
@@ -469,7 +366,7 @@ fn each_poll_returns_what_is_listed(rt: HostRuntime) -> Result<(), Fail> {
 
 static LOGS: [Row<'static>; 5] = [
     (
-        "a_task_that_keeps_lines_tells_all_attempts_but_the_last",
+        "a_task_that_keeps_lines_tells_an_attempt_as_it_ends",
         (
             7,
             Mode::Retry,
@@ -478,27 +375,27 @@ static LOGS: [Row<'static>; 5] = [
             &[bad!(5, 7), bad!(3, 8), good!(4, 1)],
         ),
         Polling::Logs(Keeping::Lines, &[2, 7, 17, 20, 30, 34]),
-        "7 a Retry Lines, broken false, due Some(2)
+        "7 a Retry, broken false, due Some(2)
 0 polls, ending None, 0 told
 0 recorded
 1 polls, ending None, 0 told
 1 recorded
 attempt 1 2.. running
-2 polls, ending None, 0 told
-1 recorded
+2 polls, ending None, 1 told
 attempt 1 2..7 err 7
 step 1 out 0 next 17
+0 recorded
 3 polls, ending None, 1 told
 attempt 1 2..7 err 7
 step 1 out 0 next 17
 1 recorded
 attempt 2 17.. running
-4 polls, ending None, 1 told
+4 polls, ending None, 2 told
 attempt 1 2..7 err 7
 step 1 out 0 next 17
-1 recorded
 attempt 2 17..20 err 8
 step 2 out 1 next 30
+0 recorded
 5 polls, ending None, 2 told
 attempt 1 2..7 err 7
 step 1 out 0 next 17
@@ -519,7 +416,7 @@ attempt 3 30..34 ok 1
         "an_attempt_is_told_in_the_poll_that_ends_it_where_the_next_begins",
         (7, Mode::Repeat, "recurs(5)", 0, &[good!(2, 1), bad!(3, 4)]),
         Polling::Logs(Keeping::Lines, &[0, 2, 5]),
-        "7 a Repeat Lines, broken false, due Some(0)
+        "7 a Repeat, broken false, due Some(0)
 0 polls, ending None, 0 told
 0 recorded
 1 polls, ending None, 0 told
@@ -541,7 +438,7 @@ attempt 2 2..5 err 4
         "the_step_that_is_done_is_told_of_the_last_record",
         (7, Mode::Repeat, "recurs(1)", 0, &[good!(3, 9)]),
         Polling::Logs(Keeping::Lines, &[0, 3, 6]),
-        "7 a Repeat Lines, broken false, due Some(0)
+        "7 a Repeat, broken false, due Some(0)
 0 polls, ending None, 0 told
 0 recorded
 1 polls, ending None, 0 told
@@ -564,7 +461,7 @@ step 2 out 1 done
         "an_early_poll_and_one_of_an_ended_task_tell_nothing_new",
         (7, Mode::Retry, "recurs(0)", 1, &[bad!(4, 7)]),
         Polling::Logs(Keeping::Lines, &[0, 2, 5, 8, 9]),
-        "7 a Retry Lines, broken false, due Some(1)
+        "7 a Retry, broken false, due Some(1)
 0 polls, ending None, 0 told
 0 recorded
 0 polls, ending None, 0 told
@@ -589,7 +486,7 @@ step 1 out 0 done
         "a_task_that_keeps_records_tells_no_lines",
         (7, Mode::Repeat, "recurs(5)", 0, &[good!(2, 1), bad!(3, 4)]),
         Polling::Logs(Keeping::Records, &[0, 2, 5]),
-        "7 a Repeat Records, broken false, due Some(0)
+        "7 a Repeat, broken false, due Some(0)
 0 polls, ending None, 0 told
 0 recorded
 1 polls, ending None, 0 told
@@ -612,13 +509,4 @@ attempt 2 2..5 err 4
 #[test]
 fn each_task_reports_the_attempts_that_are_listed(rt: HostRuntime) -> Result<(), Fail> {
     expect_tasks(&rt, &LOGS)
-}
-
-#[test]
-fn faults_say_what_was_missing(rt: HostRuntime) -> Result<(), Fail> {
-    let (task, agenda, step) = (DriveFault::Memory, AgendaFault::Memory, StepFault::Memory);
-    let found = format!(in rt.alloc(); "{task}, {agenda}, {step}")?;
-    let wanted = "out of memory, out of memory, out of memory";
-    expect_text(&rt, &found, wanted, "the faults");
-    Ok(())
 }

@@ -59,22 +59,12 @@ fn make<R: Abort + Alloc<A = Global>>(rt: &R, agenda: &mut Agenda, step: &Step<'
     expect_text(rt, &found, wanted, of);
 }
 
-static AGENDAS: [(&str, &[Step<'static>]); 4] = [
+static AGENDAS: [(&str, &[Step<'static>]); 3] = [
     (
-        "jobs_of_one_moment_fire_together_in_rising_number",
+        "jobs_of_one_moment_fire_together_and_may_be_set_again",
         &[
             Step::Set(&[(3, 50), (1, 50), (2, 70)]),
             Step::State("true false, Some(50), None"),
-            Step::Take("50 [1, 3]"),
-            Step::State("false false, Some(70), Some(50)"),
-            Step::Take("70 [2]"),
-            Step::Take("none"),
-        ],
-    ),
-    (
-        "a_fired_job_may_be_set_again",
-        &[
-            Step::Set(&[(3, 50), (1, 50), (2, 70)]),
             Step::Take("50 [1, 3]"),
             Step::State("false false, Some(70), Some(50)"),
             Step::Set(&[(4, 60), (3, 80)]),
@@ -164,15 +154,6 @@ fn expect_ticks(rt: &impl Abort, clock: &Clock, rows: &[(u64, Option<u64>)]) {
     for (due, wanted) in rows {
         assert!(rt; clock.tick(*due) == *wanted);
     }
-}
-
-#[test]
-fn a_clock_of_milliseconds_ends_at_its_horizon(rt: HostRuntime) {
-    let clock = Clock::every_ms(100).expect(&rt, "within the limit");
-    assert!(rt; clock.horizon() == 100);
-    expect_ticks(&rt, &clock, &[(100, Some(100)), (101, None)]);
-    assert!(rt; Clock::every_ms(999_999_999_999_999).is_some());
-    assert!(rt; Clock::every_ms(1_000_000_000_000_000).is_none());
 }
 
 #[test]

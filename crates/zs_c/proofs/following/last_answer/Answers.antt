@@ -6,8 +6,8 @@ use Rattle.zs_c.specs.Pairs.{pair_of, pairs_of}
 use Rattle.zs_c.proofs.SeenPairs.{nothing_seen, history-more, order-seen, history-whole}
 use Rattle.zs_c.proofs.following.last_answer.Goals as goal
 
-pub step_over-requires : goal.step_over-requires
-step_over-requires c =
+pub advance-requires : goal.advance-requires
+advance-requires c =
     let lt : c.loop-i.i < length c.args.seen.now = omega arith in
     let later = order-seen c.args.seen.now c.loop-i.i lt c.requires.order in
     record { order = omega (arith, later, c.loop-i.invariant.stands.last) }
@@ -16,9 +16,9 @@ pub loop-i-preserved : goal.loop-i-preserved
 loop-i-preserved c =
     let lt : c.loop-i.i < length c.args.seen.now = omega arith in
     record {
-      stands = subst (StandsFor c.step_over.new.self) (sym (history-more c.args.seen.now c.loop-i.i lt))
-          (c.in_ok-_stepped.ensures.steps.stands (history_of (take c.loop-i.i (pairs_of c.args.seen.now))) c.loop-i.invariant.stands);
-      schedule = c.in_ok-_stepped.ensures.steps.schedule ∙ c.loop-i.invariant.schedule;
+      stands = subst (StandsFor c.advance.new.self) (sym (history-more c.args.seen.now c.loop-i.i lt))
+          (c.in_ok-_step.ensures.steps.stands (history_of (take c.loop-i.i (pairs_of c.args.seen.now))) c.loop-i.invariant.stands);
+      term = c.in_ok-_step.ensures.term ∙ c.loop-i.invariant.term;
     }
 
 pub returns-clause-ok : goal.returns-clause-ok
@@ -27,5 +27,5 @@ returns-clause-ok c =
     let p = pair_of (get_or c.args.seen.now (length c.args.seen.now - 1) nothing_seen) in
     let whole = history-whole c.args.seen.now c.loop-i.i (length c.args.seen.now - 1) c.requires.some refl (omega arith) in
     subst (λ k. IsAnswer (schedule_of c.args.checked) k c.in_ok-stepped.stepped) whole
-    (subst (λ t. IsAnswer t (p ∷ h) c.in_ok-stepped.stepped) c.loop-i.invariant.schedule
+    (subst (λ t. IsAnswer (schedule_of t) (p ∷ h) c.in_ok-stepped.stepped) c.loop-i.invariant.term
     (c.in_ok-stepped.ensures.steps.answered h c.loop-i.invariant.stands))

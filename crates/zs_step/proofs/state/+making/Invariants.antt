@@ -9,5 +9,5 @@ decreases-part l = 2 * weight (schedule_of l.term.now) + 1
 abbrev pub decreases-parts : goal.decreases-parts
 decreases-parts l = 2 * (weight (schedule_of l.first.now) + weight (schedule_of l.second.now)) + 1
 
-abbrev pub decreases-make : goal.decreases-make
-decreases-make l = 2 * weight (schedule_of l.term.now)
+abbrev pub decreases-state_of : goal.decreases-state_of
+decreases-state_of l = 2 * weight (schedule_of l.term.now)

@@ -7,12 +7,16 @@ use Rattle.zs_term.proofs.Texts.{text_grown, text_enclosed, begins_both}
 use Rattle.zs_term.proofs.out_text.+texts.Goals as goal
 
 -- a list with its brackets
-pub push_out-returns-in_ok-append_list-in-Items-clause-ok :
-    goal.push_out-returns-in_ok-append_list-in-Items-clause-ok
-push_out-returns-in_ok-append_list-in-Items-clause-ok t c =
+pub append_outs-returns-clause-ok :
+    goal.append_outs-returns-clause-ok
+append_outs-returns-clause-ok t c =
+    text_enclosed c.push_str-2.result _ _ _ _ _ c.in_ok-push_str.ensures.bytes c.in_ok-append_list.ensures.ok c.push_str-2.ensures.bytes
+
+-- an output that is a list
+pub push_out-returns-in-Items-clause-ok : goal.push_out-returns-in-Items-clause-ok
+push_out-returns-in-Items-clause-ok t c =
     let same : output_of c.args.out.now ≡ listed (outputs_of (outs_list c.in-Items.outs)) = search (rules, the_lemmas, stored_outputs_are) in
-    let text = text_enclosed c.push_str-in-Items-2.result _ _ _ _ _ c.in_ok-push_str-in-Items.ensures.bytes c.in_ok-append_list-in-Items.ensures.ok c.push_str-in-Items-2.ensures.bytes in
-    subst (λ w. OnOk c.push_str-in-Items-2.result (string_bytes c.push_str-in-Items-2.new.self ≡ string_bytes c.args.text.now ++ w)) (sym (ap output_text same)) text
+    subst (λ w. OnOk c.append_outs.result (string_bytes c.append_outs.new.text ≡ string_bytes c.args.text.now ++ w)) (sym (ap output_text same)) c.append_outs.ensures.ok
 
 -- one more output of a list
 pub append_items-loop-i-preserved : goal.append_items-loop-i-preserved

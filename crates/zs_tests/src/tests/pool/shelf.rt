@@ -43,19 +43,6 @@ fn take<R: Wait>(rt: &R, shelf: &Shelf, pass: &mut ShelfPass) -> Option<u64>
     }
 }
 
-#[test]
-fn a_shelf_of_one_is_full_after_one(rt: HostRuntime) -> Result<(), Fail> {
-    let alloc = rt.alloc();
-    let (shelf, mut pass) = Shelf::new(&rt, alloc, 1)?;
-    assert!(rt; put(&rt, alloc, &shelf, &mut pass, 0) == Ok(()));
-    let refused = put(&rt, alloc, &shelf, &mut pass, 1);
-    assert!(rt; refused == Err((1, PoolFault::Full)));
-    assert!(rt; take(&rt, &shelf, &mut pass) == Some(0));
-    assert!(rt; take(&rt, &shelf, &mut pass) == None);
-    assert!(rt; shelf.close(&rt, alloc, pass)?.is_empty());
-    Ok(())
-}
-
 // Puts four batches by two passes in turn, takes the first, and joins the passes.
 fn put_by_turns<R: Wait + Abort>(rt: &R, alloc: Global, shelf: &Shelf, pass: ShelfPass) -> ShelfPass
     requires shelf { pass.shelf ≡ shelf.now }

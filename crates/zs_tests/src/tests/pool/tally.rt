@@ -22,15 +22,6 @@ fn count_to(tally: &Tally, mut seat: TallySeat, n: u64) -> (TallySeat, u64)
 }
 
 #[test]
-fn a_new_tally_has_counted_nothing(rt: HostRuntime) -> Result<(), Fail> {
-    let (tally, mut seat) = Tally::new(rt.alloc())?;
-    assert!(rt; tally.seen(&mut seat) == 0);
-    assert!(rt; Tally::left(&seat) == u64::MAX);
-    assert!(rt; tally.close(seat) == 0);
-    Ok(())
-}
-
-#[test]
 fn a_seat_sees_what_another_counted(rt: HostRuntime) -> Result<(), Fail> {
     let (tally, seat) = Tally::new(rt.alloc())?;
     let (first, mut second) = tally.split(seat, 1);

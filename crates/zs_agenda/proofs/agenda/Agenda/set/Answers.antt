@@ -26,16 +26,16 @@ pub invariant_of-self-in-Err : goal.invariant_of-self-in-Err
 invariant_of-self-in-Err c =
     let n : ByJob = c.self.inside.by_job in
     let unset : tree.get nat_cmp n c.args.job ≡ None = sym (get-moments_of n c.args.job) ∙ ap (λ (t : Timers). map.get t.moments c.args.job) c.self.view_is ∙ c.requires.absent in
-    let same : HasSameMoments n c.remove.new.by_job = put_and_forgotten n c.put.new.by_job c.remove.new.by_job c.args.job c.args.moment unset c.in_ok-put.ensures.ok c.remove.ensures.forgets in
-    same-Agrees (jobs_at c.self.inside.by_moment) (jobs_at c.add.new.by_moment) (tree.get nat_cmp n) (tree.get nat_cmp c.remove.new.by_job) c.self.inside.last_taken
+    let same : HasSameMoments n c.forget.new.by_job = put_and_forgotten n c.put.new.by_job c.forget.new.by_job c.args.job c.args.moment unset c.in_ok-put.ensures.ok c.forget.ensures.forgets in
+    same-Agrees (jobs_at c.self.inside.by_moment) (jobs_at c.add.new.by_moment) (tree.get nat_cmp n) (tree.get nat_cmp c.forget.new.by_job) c.self.inside.last_taken
     c.in-Err.ensures.err same c.self.invariant
 
 pub returns-in-Err-clause-err : goal.returns-in-Err-clause-err
 returns-in-Err-clause-err c =
     let n : ByJob = c.self.inside.by_job in
     let unset : tree.get nat_cmp n c.args.job ≡ None = sym (get-moments_of n c.args.job) ∙ ap (λ (t : Timers). map.get t.moments c.args.job) c.self.view_is ∙ c.requires.absent in
-    let same : HasSameMoments n c.remove.new.by_job = put_and_forgotten n c.put.new.by_job c.remove.new.by_job c.args.job c.args.moment unset c.in_ok-put.ensures.ok c.remove.ensures.forgets in
-    rw (same_moments n c.remove.new.by_job same) c.self.view_is
+    let same : HasSameMoments n c.forget.new.by_job = put_and_forgotten n c.put.new.by_job c.forget.new.by_job c.args.job c.args.moment unset c.in_ok-put.ensures.ok c.forget.ensures.forgets in
+    rw (same_moments n c.forget.new.by_job same) c.self.view_is
 
 on_err : {A B : Type 0} (r : Result A B) (P : Type 0) → P → OnErr r P
 on_err (Ok a) P p = tt

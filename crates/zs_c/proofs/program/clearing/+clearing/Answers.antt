@@ -7,7 +7,7 @@ clear-returns-then-levels-eq0 t c = record { clears = λ u coded sized. absurd (
 
 pub clear-returns-in-Leaf : goal.clear-returns-in-Leaf
 clear-returns-in-Leaf t c = record {
-  clears = λ u coded. leaf-clears u c.args.code.now c.args.words.now c.clear_leaf.new.words c.args.levels c.read_node.result c.in-Leaf.rule coded
+  clears = λ u coded. leaf-clears u c.args.code.now c.args.words.now c.clear_leaf.new.words c.args.levels c.read_node.result c.in-Leaf.leaf coded
       c.read_node.ensures.value c.in-Leaf.is c.clear_leaf.ensures.clears;
 }
 

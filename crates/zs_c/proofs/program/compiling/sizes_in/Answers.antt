@@ -1,6 +1,5 @@
-use Rattle.std.proofs.Common.{◌≡◌, [], length, ap, ◌∙◌, arith}
+use Rattle.std.proofs.Common.{[], length, ap, ◌∙◌, arith}
 use Rattle.zs_term.specs.Schedule.{schedule_of}
-use Rattle.zs_c.specs.Code.{held_size}
 use Rattle.zs_c.proofs.Codes.{held-length}
 use Rattle.zs_c.proofs.program.compiling.sizes_in.Goals as goal
 
@@ -11,10 +10,7 @@ returns-clause-ok c =
     let t = schedule_of c.in_ok-checked.checked in
     record {
       term = t;
-      spelled = c.in_ok-checked.ensures.ok;
-      sized = c.len.ensures ∙ c.in_ok-program.program.ok.0 ∙ ap length c.in_ok-program.ensures.ok;
-      state_sized = λ h.
-          let size : c.state_size.result ≡ held_size t = c.state_size.ensures.value ∙ ap (λ z. held_size (schedule_of z)) c.term.ensures.term in
-          let same = held-length t [] h in
-          omega (arith, size, same);
+      spelled = record { spelled = c.in_ok-checked.ensures.ok; flat = c.in_ok-program.ensures.flat };
+      sized = c.len.ensures ∙ c.in_ok-program.program.ok.0 ∙ ap length c.in_ok-program.ensures.program;
+      state_sized = λ h. omega (arith, c.in_ok-program.ensures.state, held-length t [] h);
     }

@@ -1,7 +1,0 @@
-use Rattle.zs_step.proofs.Steps.{exponential-stands}
-use Rattle.zs_step.proofs.leaf_state.LeafState.step.Goals as goal
-
-pub returns-in-Exponential-clause-stands : goal.returns-in-Exponential-clause-stands
-returns-in-Exponential-clause-stands c =
-    exponential-stands c.args.self.now c.in-Exponential.base c.in-Exponential.factor c.in-Exponential.wait c.saturating_mul.result c.args.now c.args.input
-    c.in-Exponential.is c.saturating_mul.ensures

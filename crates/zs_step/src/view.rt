@@ -1,0 +1,164 @@
+//! The output of a state's last step: the number that tests read, the output itself, and its text.
+
+ghost use Rattle.std.specs.Prelude.{◌≡◌, ◌≤◌, ◌++◌, true, IfOk, IsOk, OnOk, string_bytes};
+ghost use Rattle.zs_term.specs.Output.{output_of, pair, applied};
+ghost use Rattle.zs_term.specs.OutputText.{output_text, IsBeginning};
+ghost use Rattle.zs_step.specs.Memory.{is_bare};
+ghost use Rattle.zs_step.specs.Numbers.{IsNumbers, IsSource, returns_piece, height};
+ghost use Rattle.zs_step.specs.State.{last_output, side_output, state_schedule};
+
+use crate::numbers::Numbers;
+use crate::state::State;
+use std::alloc::{AllocError, Global};
+use zs_term::{Func, Out, Pick, append_number, append_outs, make_left, make_pair, make_right};
+
+// Goes down to the node that makes the output: through each node that returns its part's output, or
+// a piece of it.
+#[cycle(sources)]
+fn source(state: &State) -> &State
+    ensures value { last_output result.now ≡ last_output state.now }
+    ensures source { IsSource result.now }
+    ensures lower { height result.now ≤ height state.now }
+    ensures bare { is_bare (state_schedule state.now) ≡ true
+        → is_bare (state_schedule result.now) ≡ true }
+{
+    match state {
+        State::WhileInput { part, .. } => source(part),
+        State::WhileOutput { part, .. } => source(part),
+        State::ResetWhen { part, .. } => source(part),
+        State::Map { part, func } => match func {
+            Func::First | Func::Second | Func::Merge => source(piece(part, *func)),
+            Func::Size | Func::Const(_) | Func::Add(_) | Func::Mul(_) => state,
+        },
+        State::Leaf(_)
+        | State::Both { .. }
+        | State::Either { .. }
+        | State::AndThen { .. }
+        | State::CollectAll { .. } => state,
+    }
+}
+
+// Goes down to the piece of a part's output that a function returns: to a part of a pair or to the
+// content of a side, or to the whole output.
+#[cycle(sources)]
+fn piece(part: &State, func: Func) -> &State
+    requires piece { returns_piece func ≡ true }
+    ensures value { last_output result.now ≡ applied func (last_output part.now) }
+    ensures lower { height result.now ≤ height part.now }
+    ensures bare { is_bare (state_schedule part.now) ≡ true
+        → is_bare (state_schedule result.now) ≡ true }
+{
+    match (func, source(part)) {
+        (Func::First, State::Both { parts }) => &parts.0,
+        (Func::First, State::Either { parts }) => &parts.0,
+        (Func::Second, State::Both { parts }) => &parts.1,
+        (Func::Second, State::Either { parts }) => &parts.1,
+        (Func::Merge, State::AndThen { done, parts }) => { if *done { &parts.1 } else { &parts.0 } }
+        (_, whole) => whole,
+    }
+}
+
+// Returns what tests read of the output.
+pub(crate) fn read_numbers(state: &State) -> Numbers
+    ensures value { IsNumbers result (last_output state.now) }
+{
+    match source(state) {
+        State::Leaf(leaf) => Numbers::One(leaf.output()),
+        State::Both { parts } => read_numbers(&parts.0).pair(read_numbers(&parts.1)),
+        State::Either { parts } => read_numbers(&parts.0).pair(read_numbers(&parts.1)),
+        State::AndThen { .. } => Numbers::Side,
+        State::CollectAll { kept, .. } => Numbers::Size(kept.len()),
+        State::Map { part, func } => match read_numbers(part).mapped(*func) {
+            Some(numbers) => numbers,
+            None => unreachable!(),
+        },
+        State::WhileInput { .. } | State::WhileOutput { .. } | State::ResetWhen { .. } => {
+            unreachable!()
+        }
+    }
+}
+
+// Returns what tests read of a function of a part's output, given what they read of that.
+pub(crate) fn read_mapped(whole: Numbers, part: &State, func: Func) -> Numbers
+    ensures value { IsNumbers whole (last_output part.now)
+        → IsNumbers result (applied func (last_output part.now)) }
+{
+    match whole.mapped(func) {
+        Some(numbers) => numbers,
+        None => read_numbers(piece(part, func)),
+    }
+}
+
+// Makes the output. Only its lists share memory with the state.
+#[tactic(auto, using(crate::proofs::Steps::value_of_items))]
+#[cycle(making)]
+pub(crate) fn make_out(alloc: Global, state: &State) -> Result<Out, AllocError>
+    ensures value { IfOk result (λ o. output_of o ≡ last_output state.now) }
+    ensures succeeds { is_bare (state_schedule state.now) ≡ true → IsOk result }
+{
+    match source(state) {
+        State::Both { parts } => make_both(alloc, parts),
+        State::Either { parts } => make_both(alloc, parts),
+        State::AndThen { done, parts } => {
+            if *done {
+                make_right(alloc, make_out(alloc, &parts.1)?)
+            } else {
+                make_left(alloc, make_out(alloc, &parts.0)?)
+            }
+        }
+        State::CollectAll { kept, .. } => Ok(Out::Items(kept.list().copy(alloc)?)),
+        node => Ok(Out::Num(read_numbers(node).picked(Pick::Whole))),
+    }
+}
+
+// Makes a pair of the outputs of two states.
+#[cycle(making)]
+fn make_both(alloc: Global, parts: &(State, State)) -> Result<Out, AllocError>
+    ensures value { IfOk result (λ o.
+        output_of o ≡ pair (last_output parts.now.0) (last_output parts.now.1)) }
+{
+    let first = make_out(alloc, &parts.0)?;
+    let second = make_out(alloc, &parts.1)?;
+    make_pair(alloc, first, second)
+}
+
+// Appends the text of the output. If that fails, the text may end with a part of it.
+#[cycle(texts)]
+pub(crate) fn append(text: &mut String, state: &State) -> Result<(), AllocError>
+    ensures ok { OnOk result
+        (string_bytes text.new ≡ string_bytes text.old ++ output_text (last_output state.now)) }
+    ensures kept { IsBeginning (string_bytes text.old) (string_bytes text.new) }
+{
+    match source(state) {
+        State::Both { parts } => append_both(text, parts),
+        State::Either { parts } => append_both(text, parts),
+        State::AndThen { done, parts } => {
+            if *done {
+                text.push_str("Right(")?;
+                append(text, &parts.1)?;
+            } else {
+                text.push_str("Left(")?;
+                append(text, &parts.0)?;
+            }
+            text.push_str(")")
+        }
+        State::CollectAll { kept, .. } => append_outs(text, kept.list()),
+        node => append_number(text, read_numbers(node).picked(Pick::Whole)),
+    }
+}
+
+// Appends the text of a pair of the outputs of two states.
+#[cycle(texts)]
+fn append_both(text: &mut String, parts: &(State, State)) -> Result<(), AllocError>
+    ensures ok { OnOk result
+        (string_bytes text.new
+        ≡ string_bytes text.old
+        ++ output_text (pair (last_output parts.now.0) (last_output parts.now.1))) }
+    ensures kept { IsBeginning (string_bytes text.old) (string_bytes text.new) }
+{
+    text.push_str("(")?;
+    append(text, &parts.0)?;
+    text.push_str(",")?;
+    append(text, &parts.1)?;
+    text.push_str(")")
+}
