@@ -1,3 +1,3 @@
-module zsched
+module example.org/zsched
 
 go 1.19

@@ -1,22 +1,18 @@
 // Package zsched retries by the proved schedules of zsched.
 //
-// A Schedule doesn't sleep, and neither does a Stepper, whose state has a fixed size; Retry really
-// sleeps. The results are proved, the sleeping is not. One goroutine at a time may step a Schedule
-// or a Stepper.
+// A Schedule doesn't sleep, and neither does a Stepper, whose state has a fixed size; Retry and
+// RetryValue really sleep. The results are proved, the sleeping is not. BoundsOf returns how often
+// and how long a schedule retries at most. One goroutine at a time may step a Schedule or a Stepper.
 package zsched
 
 /*
-#cgo LDFLAGS: -lzsched
+#cgo CFLAGS: -I${SRCDIR}
+#cgo LDFLAGS: -L${SRCDIR} -lzsched
 #include <zsched.h>
 */
 import "C"
 
-import (
-	"context"
-	"errors"
-	"time"
-	"unsafe"
-)
+import "unsafe"
 
 // Numbers of a Fault.
 const (
@@ -29,9 +25,8 @@ const (
 )
 
 const (
-	done    = 1
-	room    = 256
-	longest = uint64(1<<63-1) / uint64(time.Millisecond)
+	done = 1
+	room = 256
 )
 
 // Seen is what a schedule saw at one step.
@@ -80,6 +75,40 @@ func Check(text string) error {
 	return errorOf(C.zs_check(bytesOf(data), C.size_t(len(data)), &at), at)
 }
 
+// Bounds is what a schedule does for every input and however long attempts take, if each attempt
+// takes 1 millisecond or more and no moment is above 999999999999999. Times are in milliseconds.
+type Bounds struct {
+	// Seen is the number of attempts that were examined.
+	Seen uint64
+	// Least is the first attempt that can be the last one.
+	Least uint64
+	// HasMost is false if there may be any number of attempts.
+	HasMost bool
+	// Most is the number of attempts at most, or 0 without HasMost.
+	Most uint64
+	// Longest is the longest wait after the attempts that were examined.
+	Longest uint64
+	// HasTotal is false if there is no bound for all waits together.
+	HasTotal bool
+	// Total is all waits together at most, or 0 without HasTotal.
+	Total uint64
+}
+
+// BoundsOf returns the bounds of a text's schedule, of which at most the first `steps` attempts are
+// examined, or a *Fault.
+func BoundsOf(text string, steps uint64) (Bounds, error) {
+	data, found, at := []byte(text), C.struct_zs_bounds{}, C.uint64_t(0)
+	number := C.zs_bounds(bytesOf(data), C.size_t(len(data)), C.uint64_t(steps), &found, &at)
+	return Bounds{uint64(found.seen), uint64(found.least), found.has_most == 1, uint64(found.most),
+		uint64(found.longest), found.has_total == 1, uint64(found.total)}, errorOf(number, at)
+}
+
+// Within returns whether there are at most `most` attempts, and `total` milliseconds of waits
+// together.
+func (bounds Bounds) Within(most, total uint64) bool {
+	return bounds.HasMost && bounds.Most <= most && bounds.HasTotal && bounds.Total <= total
+}
+
 // bytesOf returns the address of bytes, or nil if there are none.
 func bytesOf(data []byte) *C.uint8_t {
 	if len(data) == 0 {
@@ -111,7 +140,8 @@ func resultOf(call func(out []byte) (C.uint32_t, C.zs_reply)) (Answer, error) {
 	return Answer{number == done, uint64(reply.next), string(out[:reply.size]), uint64(reply.visits)}, nil
 }
 
-// Schedule is a schedule and the steps that it has seen, which are its whole state.
+// Schedule is a schedule and the steps that it has seen, which are its whole state. New makes one;
+// the zero value has no text, so its steps are a *Fault.
 type Schedule struct {
 	text string
 	seen []Seen
@@ -146,7 +176,8 @@ func (schedule *Schedule) After(moment, input uint64) (Answer, error) {
 }
 
 // Stepper is a schedule with a state of fixed size, so a step takes no longer after many steps than
-// after one. Its text is read once.
+// after one. Its text is read once. NewStepper makes one; the zero value has no program, so its steps
+// are a *Fault with the number NoProgram.
 type Stepper struct {
 	program []uint64
 	state   []uint64
@@ -208,101 +239,10 @@ func (stepper *Stepper) After(moment, input uint64) (Answer, error) {
 	return result, err
 }
 
-// wordsOf returns the address of words, of which there is at least one.
+// wordsOf returns the address of words, or nil if there are none.
 func wordsOf(words []uint64) *C.uint64_t {
+	if len(words) == 0 {
+		return nil
+	}
 	return (*C.uint64_t)(unsafe.Pointer(&words[0]))
-}
-
-// follower is what Retry steps: a Stepper, or a Schedule for one with collectAll.
-type follower interface {
-	After(moment, input uint64) (Answer, error)
-}
-
-// begun returns the schedule of a text, before its first step, or a *Fault.
-func begun(text string) (follower, error) {
-	stepper, err := NewStepper(text)
-	var fault *Fault
-	if errors.As(err, &fault) && fault.Number == KeepsList {
-		return New(text)
-	}
-	return stepper, err
-}
-
-// Retry calls attempt until there is no error or the schedule is done, and sleeps between two
-// attempts. It returns the last error. The input of an error is what inputOf returns. Moments are
-// in milliseconds from the start of the first attempt. No attempt begins before the moment that the
-// schedule plans, and each counts as 1 millisecond at least, so the bounds of a schedule hold of
-// each run. If the context ends during a sleep, the last error is returned in an *Ended, which is
-// the context's error too. A text that is no schedule is a *Fault.
-func Retry(ctx context.Context, text string, inputOf func(error) uint64, attempt func(context.Context) error) error {
-	schedule, err := begun(text)
-	if err != nil {
-		return err
-	}
-	start, planned := time.Now(), uint64(0)
-	for {
-		failure := attempt(ctx)
-		if failure == nil {
-			return nil
-		}
-		moment := uint64(time.Since(start).Milliseconds())
-		if moment <= planned {
-			moment = planned + 1
-		}
-		result, err := schedule.After(moment, inputOf(failure))
-		if err != nil {
-			return err
-		}
-		if result.Done {
-			return failure
-		}
-		planned = result.Next
-		if !sleep(ctx, start, planned) {
-			return &Ended{Last: failure, Cause: ctx.Err()}
-		}
-	}
-}
-
-// sleep sleeps until millis milliseconds have passed since a moment, and returns whether they passed
-// before the context ended.
-func sleep(ctx context.Context, start time.Time, millis uint64) bool {
-	if millis > longest {
-		millis = longest
-	}
-	for ctx.Err() == nil {
-		rest := time.Duration(millis)*time.Millisecond - time.Since(start)
-		if rest <= 0 {
-			return true
-		}
-		timer := time.NewTimer(rest)
-		select {
-		case <-timer.C:
-		case <-ctx.Done():
-			timer.Stop()
-		}
-	}
-	return false
-}
-
-// Ended is the error of a context that ended between two attempts.
-type Ended struct {
-	// Last is the error of the last attempt.
-	Last error
-	// Cause is the error of the context.
-	Cause error
-}
-
-// Error returns the text of both errors.
-func (ended *Ended) Error() string {
-	return ended.Last.Error() + " (" + ended.Cause.Error() + ")"
-}
-
-// Unwrap returns the error of the last attempt.
-func (ended *Ended) Unwrap() error {
-	return ended.Last
-}
-
-// Is returns whether the context's error is target, since it is that error too.
-func (ended *Ended) Is(target error) bool {
-	return errors.Is(ended.Cause, target)
 }

@@ -3,7 +3,7 @@ import java.net.InetAddress;
 import java.net.ServerSocket;
 import java.net.Socket;
 import java.nio.charset.StandardCharsets;
-import zsched.Schedule;
+import zsched.Retry;
 
 /** A real retry: a client calls a server on this machine until it is ready. It is busy at first. */
 public final class Example {
@@ -40,7 +40,7 @@ public final class Example {
         serving.start();
         long begun = System.nanoTime();
         int[] attempts = {0};
-        String text = Schedule.retry(SCHEDULE, error -> 503, () -> {
+        String text = Retry.of(SCHEDULE).on(IOException.class::isInstance).inputOf(error -> 503).call(() -> {
             attempts[0]++;
             return fetch(server);
         });

@@ -87,6 +87,18 @@ static napi_value answer(napi_env env, napi_callback_info info)
     return result(env, zs_answer(text.data, text.length, seen.data, seen.length / 2, reply.data, out.data, out.length));
 }
 
+/* bounds(text, steps, found, at): found has the seven fields of struct zs_bounds */
+static napi_value bounds(napi_env env, napi_callback_info info)
+{
+    napi_value given[MOST];
+    span text, found, at;
+    uint64_t steps;
+    if (!arguments(env, info, 4, given) || !bytes(env, given[0], &text) || !number(env, given[1], &steps) ||
+        !words(env, given[2], 7, &found) || !words(env, given[3], 1, &at))
+        return NULL;
+    return result(env, zs_bounds(text.data, text.length, steps, found.data, at.data));
+}
+
 /* programSize(text, size, stateSize, at) */
 static napi_value program_size(napi_env env, napi_callback_info info)
 {
@@ -157,6 +169,7 @@ NAPI_MODULE_INIT()
     const napi_property_descriptor calls[] = {
         {"check", NULL, check, NULL, NULL, NULL, napi_default, NULL},
         {"answer", NULL, answer, NULL, NULL, NULL, napi_default, NULL},
+        {"bounds", NULL, bounds, NULL, NULL, NULL, napi_default, NULL},
         {"programSize", NULL, program_size, NULL, NULL, NULL, napi_default, NULL},
         {"compile", NULL, compile, NULL, NULL, NULL, napi_default, NULL},
         {"programBegin", NULL, program_begin, NULL, NULL, NULL, napi_default, NULL},

@@ -64,19 +64,97 @@ export class Stepper {
 /** Throws a Fault if the text, a string or its bytes, is no schedule. */
 export function check(text: string | Uint8Array): void;
 
+/** What a schedule does for every input and however long attempts take; times in milliseconds. */
+export class Bounds {
+  /** The number of attempts that were examined. */
+  readonly seen: bigint;
+  /** The first attempt that can be the last one. */
+  readonly least: bigint;
+  /** The number of attempts at most, or null if there is no bound. */
+  readonly most: bigint | null;
+  /** The longest wait after the attempts that were examined. */
+  readonly longest: bigint;
+  /** All waits together at most, or null if there is no bound. */
+  readonly total: bigint | null;
+  /** Whether there are at most `most` attempts, and `total` ms of waits together. */
+  within(most: bigint | number, total: bigint | number): boolean;
+}
+
 /**
- * Retries until an attempt, which may be asynchronous, doesn't throw, and sleeps between two. When
- * the schedule is done, the last error is thrown. inputOf returns the schedule's input of an error.
- * If it throws, or returns no whole number from 0 up to 2^64 - 1, the error is thrown, and what was
- * wrong is its `notTriedAgain`, if the error is an Error. An aborted signal throws its reason. No
- * attempt begins before the moment that the schedule plans, and each counts as 1 millisecond at
- * least, so the bounds of a schedule hold of each run. Time and memory don't grow with the attempts,
- * except with collectAll.
+ * Returns the Bounds of a schedule, of which at most the first `steps` attempts are examined: 1000
+ * without a number. They hold if each attempt takes 1 ms or more, and no moment is above
+ * 999999999999999. Throws a Fault if the text is no schedule.
+ */
+export function bounds(text: string | Uint8Array, steps?: bigint | number): Bounds;
+
+/**
+ * Tokens that many calls share, as in gRPC's retry throttling. A failed attempt takes a token, and one
+ * that doesn't fail adds the ratio, up to the number of tokens at first. A retry follows only while
+ * more than half of that number are there; else the call gives up, as if its schedule were done.
+ */
+export class Budget {
+  /** Makes a budget with all its tokens: 10, and the ratio 0.1, without numbers. */
+  constructor(tokens?: number, ratio?: number);
+  /** The tokens that are there. */
+  get tokens(): number;
+  /** Adds the ratio after an attempt that didn't fail. */
+  add(): void;
+  /** Takes a token after a failed attempt. Returns whether a retry may follow. */
+  take(): boolean;
+}
+
+/** The error of a retry whose signal was aborted. Its `cause` is the signal's reason. */
+export class Aborted extends Error {
+  readonly name: 'AbortError';
+  readonly code: 'ABORT_ERR';
+  /** The error of the last attempt, or undefined if there was none. */
+  readonly lastError: unknown;
+}
+
+/** A failed attempt. */
+export interface FailedAttempt {
+  error: any;
+  /** The number of the attempt, from 1. */
+  number: number;
+  /** The milliseconds until the next attempt, or null if there is none. */
+  wait: number | null;
+}
+
+export interface RetryOptions {
+  /**
+   * Returns the schedule's input of an error: 0 without it. If it throws, or returns no whole number
+   * from 0 up to 2^64 - 1, the error is thrown, and what was wrong is its `notTriedAgain`, if the
+   * error is an Error.
+   */
+  inputOf?: (error: any) => bigint | number;
+  /** Whether to retry after an error, if the schedule continues. */
+  shouldRetry?: (failed: Pick<FailedAttempt, 'error' | 'number'>) => boolean | Promise<boolean>;
+  /** Is called after each failed attempt, before the wait. If it throws, the retry ends so. */
+  onFailedAttempt?: (failed: FailedAttempt) => void | Promise<void>;
+  /** If it is aborted, the retry throws an Aborted. It is passed to the attempts. */
+  signal?: AbortSignal;
+  /** Shortens each wait by a random part of it, of at most this share, from 0 to 1. */
+  jitter?: number;
+  /** Returns the least milliseconds to wait after an error, such as a server's Retry-After. */
+  retryAfter?: (error: any) => number | null | undefined;
+  /** The budget that this retry shares with others. */
+  budget?: Budget;
+}
+
+/**
+ * Retries until an attempt, which may be asynchronous, doesn't throw, and waits between two. When
+ * the schedule is done, the last error is thrown. A wait of 0 lets the event loop turn too. Time and
+ * memory don't grow with the attempts, except with collectAll.
+ *
+ * The schedule is stepped at the moment when an attempt ended, but at least 1 millisecond after the
+ * one that it planned for it, so its Bounds hold of each run. Without `jitter` no attempt begins
+ * before its planned moment; with it the bounds hold of the moments that the schedule is stepped at,
+ * and waits are never longer. With `retryAfter` the bounds of waits are those of the schedule alone.
  */
 export function retry<T>(
   text: string,
-  attempt: () => T | Promise<T>,
-  options?: { inputOf?: (error: any) => bigint | number; signal?: AbortSignal },
+  attempt: (number: number, signal: AbortSignal | undefined) => T | Promise<T>,
+  options?: RetryOptions,
 ): Promise<T>;
 
 /** Returns the version of the library as one number: 1000000 * major + 1000 * minor + patch. */

@@ -1,16 +1,27 @@
 'use strict';
-// Retries by the proved schedules of zsched.
+// Retries by the proved schedules of zsched; zsched.d.ts says what each call does.
 //
 // A Schedule doesn't sleep, and neither does a Stepper, whose state has a fixed size; retry really
 // sleeps. The results are proved, the sleeping is not. Moments and inputs are BigInts or whole
 // numbers, from 0 up to 2^64 - 1.
-const calls = require(process.env.ZSCHED_NODE || './zsched.node');
+const calls = load(process.env.ZSCHED_NODE || './zsched.node');
 
 const DONE = 1;
 const KEEPS_LIST = 6;
 const OTHER_STATE = 9;
 const ROOM = 256;
 const LONGEST = 2 ** 31 - 1;
+
+/** Returns the addon. If it can't be loaded, the error says for which machines it is built. */
+function load(place) {
+  try {
+    return require(place);
+  } catch (cause) {
+    const here = `${process.platform} on ${process.arch}`;
+    throw new Error(`zsched: ${place} can't be loaded on ${here}. The package has it for Linux on x64 with glibc; elsewhere `
+      + 'build it by bindings/node/build of the sources, and name it in ZSCHED_NODE', { cause });
+  }
+}
 
 /**
  * The error of a call. The number and the place are those of zsched.h, and the message is the
@@ -24,6 +35,62 @@ class Fault extends Error {
     this.name = 'Fault';
     this.number = number;
     this.at = at;
+  }
+}
+
+/**
+ * The error of a retry whose signal was aborted, as Node's own: `cause` is the signal's reason.
+ * `lastError` is the error of the last attempt, or undefined if there was none.
+ */
+class Aborted extends Error {
+  constructor(reason, lastError) {
+    super('The operation was aborted', { cause: reason });
+    this.name = 'AbortError';
+    this.code = 'ABORT_ERR';
+    this.lastError = lastError;
+  }
+}
+
+/**
+ * Tokens that many calls share, as in gRPC's retry throttling: a failed attempt takes one, one that
+ * doesn't fail adds the ratio, and a retry follows only while more than half of them are there.
+ */
+class Budget {
+  #most;
+  #ratio;
+  #tokens;
+
+  constructor(tokens = 10, ratio = 0.1) {
+    this.#most = tokens;
+    this.#ratio = ratio;
+    this.#tokens = tokens;
+  }
+
+  get tokens() {
+    return this.#tokens;
+  }
+
+  /** Adds the ratio after an attempt that didn't fail. */
+  add() {
+    this.#tokens = Math.min(this.#most, this.#tokens + this.#ratio);
+  }
+
+  /** Takes a token after a failed attempt. Returns whether a retry may follow. */
+  take() {
+    this.#tokens = Math.max(0, this.#tokens - 1);
+    return this.#tokens > this.#most / 2;
+  }
+}
+
+/** What a schedule does for every input: `most` and `total` are null if there is no bound. */
+class Bounds {
+  constructor([seen, least, hasMost, most, longest, hasTotal, total]) {
+    Object.assign(this, { seen, least, most: hasMost ? most : null, longest, total: hasTotal ? total : null });
+  }
+
+  /** Whether there are at most `most` attempts, and `total` ms of waits together. */
+  within(most, total) {
+    return this.most !== null && this.most <= most && this.total !== null && this.total <= total;
   }
 }
 
@@ -52,6 +119,13 @@ function resultOf(call) {
 function check(text) {
   const at = new BigUint64Array(1);
   throwFault(calls.check(Buffer.from(text), at), at[0]);
+}
+
+/** Returns the Bounds of a schedule, of which at most the first `steps` attempts are examined. */
+function bounds(text, steps = 1000) {
+  const [found, at] = [new BigUint64Array(7), new BigUint64Array(1)];
+  throwFault(calls.bounds(Buffer.from(text), unsigned(steps), found, at), at[0]);
+  return new Bounds(found);
 }
 
 /** A schedule and the steps that it has seen, which are its whole state. */
@@ -144,14 +218,16 @@ class Stepper {
   }
 }
 
+function unsigned(number) {
+  const whole = BigInt(number);
+  if (whole < 0n || whole >= 2n ** 64n) {
+    throw new RangeError(`${whole} is no unsigned number of 64 bits`);
+  }
+  return whole;
+}
+
 function pair(moment, input) {
-  return [moment, input].map((number) => {
-    const whole = BigInt(number);
-    if (whole < 0n || whole >= 2n ** 64n) {
-      throw new RangeError(`${whole} is no unsigned number of 64 bits`);
-    }
-    return whole;
-  });
+  return [unsigned(moment), unsigned(input)];
 }
 
 function begun(text) {
@@ -165,59 +241,35 @@ function begun(text) {
   }
 }
 
-/**
- * Sleeps until `planned` milliseconds, a BigInt, have passed since `start`, in nanoseconds. A timer
- * may end early, so the clock decides. Rejects with the signal's reason if it is aborted before.
- */
-async function sleep(start, planned, signal) {
-  signal?.throwIfAborted();
-  for (;;) {
-    const rest = start + planned * 1000000n - process.hrtime.bigint();
-    if (rest <= 0n) {
-      return;
-    }
-    await new Promise((resolve, reject) => {
-      const stop = () => {
-        clearTimeout(timer);
-        reject(signal.reason);
-      };
-      const timer = setTimeout(() => {
-        signal?.removeEventListener('abort', stop);
-        resolve();
-      }, Math.min(Math.ceil(Number(rest) / 1e6), LONGEST));
-      signal?.addEventListener('abort', stop, { once: true });
-    });
-    signal?.throwIfAborted();
+/** Throws an Aborted if the signal is aborted. */
+function throwIfAborted(signal, lastError) {
+  if (signal?.aborted) {
+    throw new Aborted(signal.reason, lastError);
   }
 }
 
 /**
- * Retries until an attempt, which may be asynchronous, doesn't throw, and sleeps between two. When
- * the schedule is done, the last error is thrown. inputOf returns the schedule's input of an error.
- * If it throws, or returns no whole number from 0 up to 2^64 - 1, the error is thrown, and what was
- * wrong is its `notTriedAgain`, if the error is an Error. An aborted signal throws its reason. No
- * attempt begins before the moment that the schedule plans, and each counts as 1 millisecond at
- * least, so the bounds of a schedule hold of each run. Time and memory don't grow with the attempts,
- * except with collectAll.
+ * Sleeps until a moment of the clock in nanoseconds, and lets the event loop turn in any case. A
+ * timer may end early, so the clock decides. Ends at once if the signal is aborted.
  */
-async function retry(text, attempt, { inputOf = () => 0, signal } = {}) {
-  const schedule = begun(text);
-  const start = process.hrtime.bigint();
-  let planned = 0n;
-  for (;;) {
-    signal?.throwIfAborted();
-    try {
-      return await attempt();
-    } catch (error) {
-      const now = (process.hrtime.bigint() - start) / 1000000n;
-      const result = stepAfter(schedule, now > planned ? now : planned + 1n, error, inputOf);
-      if (result.done) {
-        throw error;
+async function sleep(until, signal) {
+  let rest = until - process.hrtime.bigint();
+  do {
+    await new Promise((resolve) => {
+      if (rest <= 0n) {
+        setImmediate(resolve);
+        return;
       }
-      planned = result.next;
-      await sleep(start, planned, signal);
-    }
-  }
+      const end = () => {
+        clearTimeout(timer);
+        signal?.removeEventListener('abort', end);
+        resolve();
+      };
+      const timer = setTimeout(end, Math.min(Math.ceil(Number(rest) / 1e6), LONGEST));
+      signal?.addEventListener('abort', end, { once: true });
+    });
+    rest = until - process.hrtime.bigint();
+  } while (rest > 0n && !signal?.aborted);
 }
 
 /** Makes the step of an error, or throws the error with its `notTriedAgain`. */
@@ -235,4 +287,46 @@ function stepAfter(schedule, now, error, inputOf) {
   }
 }
 
-module.exports = { Fault, Schedule, Stepper, check, retry, version: () => calls.version() };
+/** When the next attempt begins, in nanoseconds of the clock. The schedule plans it at `next`. */
+function begin(start, now, passed, next, error, { jitter = 0, retryAfter }) {
+  let until = start + next * 1000000n;
+  if (jitter > 0) {
+    until = now + BigInt(Math.round(Number(next - passed) * 1e6 * (1 - Math.min(jitter, 1) * Math.random())));
+  }
+  const least = now + BigInt(Math.ceil((retryAfter?.(error) ?? 0) * 1e6));
+  return until > least ? until : least;
+}
+
+async function retry(text, attempt, options = {}) {
+  const { inputOf = () => 0, shouldRetry = () => true, onFailedAttempt = () => {}, signal, budget } = options;
+  const schedule = begun(text);
+  const start = process.hrtime.bigint();
+  let planned = 0n;
+  let error;
+  for (let number = 1; ; number += 1) {
+    throwIfAborted(signal, error);
+    try {
+      const value = await attempt(number, signal);
+      budget?.add();
+      return value;
+    } catch (thrown) {
+      error = thrown;
+    }
+    const now = process.hrtime.bigint();
+    const millis = (now - start) / 1000000n;
+    const passed = millis > planned ? millis : planned;
+    const again = !signal?.aborted && await shouldRetry({ error, number }) && (budget?.take() ?? true);
+    const result = again ? stepAfter(schedule, passed > planned ? passed : planned + 1n, error, inputOf) : { done: true };
+    if (result.done) {
+      await onFailedAttempt({ error, number, wait: null });
+      throwIfAborted(signal, error);
+      throw error;
+    }
+    planned = result.next;
+    const until = begin(start, now, passed, planned, error, options);
+    await onFailedAttempt({ error, number, wait: Number(until - now) / 1e6 });
+    await sleep(until, signal);
+  }
+}
+
+module.exports = { Aborted, Bounds, Budget, Fault, Schedule, Stepper, bounds, check, retry, version: () => calls.version() };

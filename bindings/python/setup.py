@@ -1,31 +1,49 @@
-"""Puts the built libzsched.so into the wheel.
+"""Links libzsched.so of the archive libzsched.a, and puts it into the wheel.
 
 So the wheel is for this machine's platform, and for every Python 3."""
 import os
 import pathlib
-import shutil
+import platform
+import subprocess
+import sys
 
 from setuptools import setup
 from setuptools.command.build_py import build_py
 from setuptools.dist import Distribution
-from wheel.bdist_wheel import bdist_wheel
+
+try:
+    from setuptools.command.bdist_wheel import bdist_wheel
+except ImportError:
+    # setuptools before 70.1
+    from wheel.bdist_wheel import bdist_wheel
 
 HERE = pathlib.Path(__file__).resolve().parent
-MADE = HERE.parents[1] / "crates" / "zsched_c" / "out"
+NAME = "libzsched.a"
+# It has no soname, so that no other module gets this one in place of the system's.
+FLAGS = ["-shared", "-s", "-Wl,-z,noexecstack,-z,relro,-z,now,-z,defs"]
+
+
+def archive():
+    """Returns the archive: the one in the folder that ZSCHED_LIBRARY_DIR names, else the one of the sdist, else the one that
+    tools/make-library made in this tree."""
+    if sys.platform != "linux" or platform.machine() != "x86_64":
+        raise SystemExit(f"zsched: {NAME} is for Linux on x86-64, and not for {sys.platform} on {platform.machine()}")
+    made = HERE.parents[1] / "crates" / "zsched_c" / "out" / NAME
+    named = os.environ.get("ZSCHED_LIBRARY_DIR")
+    found = pathlib.Path(named, NAME) if named else HERE / NAME if (HERE / NAME).exists() else made
+    if not found.exists():
+        raise SystemExit(f"zsched: there is no {found}: build it by tools/make-library, or name its folder in ZSCHED_LIBRARY_DIR")
+    return found
 
 
 class WithLibrary(build_py):
     """Builds the modules, with the library in their folder."""
 
     def run(self):
-        """Builds the modules, then copies the library.
-
-        It is in the folder that ZSCHED_LIBRARY_DIR names, else in that of tools/make-library."""
+        """Builds the modules, then links the library."""
         super().run()
-        library = pathlib.Path(os.environ.get("ZSCHED_LIBRARY_DIR", MADE)) / "libzsched.so"
-        if not library.exists():
-            raise SystemExit(f"there is no {library}: build it by tools/make-library, or name its folder in ZSCHED_LIBRARY_DIR")
-        shutil.copyfile(library, pathlib.Path(self.build_lib) / "zsched" / "libzsched.so")
+        out = pathlib.Path(self.build_lib) / "zsched" / "libzsched.so"
+        subprocess.run(["cc", *FLAGS, "-o", out, "-Wl,--whole-archive", archive(), "-Wl,--no-whole-archive"], check=True)
 
 
 class OfThisMachine(bdist_wheel):

@@ -1,15 +1,26 @@
-//! Links libzsched.a: the one in the folder that ZSCHED_LIBRARY_DIR names, else the one that
-//! tools/make-library made in this tree.
+//! Links libzsched.a: the one in the folder that ZSCHED_LIBRARY_DIR names, else the one of the
+//! packaged crate, else the one that tools/make-library made in this tree.
+use std::env;
 use std::path::PathBuf;
+
+const NAME: &str = "libzsched.a";
 
 fn main() {
     println!("cargo:rerun-if-env-changed=ZSCHED_LIBRARY_DIR");
-    let made = PathBuf::from(env!("CARGO_MANIFEST_DIR")).join("../../crates/zsched_c/out");
-    let folder = std::env::var_os("ZSCHED_LIBRARY_DIR").map_or(made, PathBuf::from);
-    let library = folder.join("libzsched.a");
+    let here = PathBuf::from(env!("CARGO_MANIFEST_DIR"));
+    let folder = match env::var_os("ZSCHED_LIBRARY_DIR") {
+        Some(named) => PathBuf::from(named),
+        None if here.join(NAME).exists() => here,
+        None => here.join("../../crates/zsched_c/out"),
+    };
+    let library = folder.join(NAME);
     println!("cargo:rerun-if-changed={}", library.display());
     if !library.exists() {
         println!("cargo:warning=there is no {}: build it by tools/make-library, or name its folder in ZSCHED_LIBRARY_DIR", library.display());
+    }
+    let target = env::var("TARGET").unwrap_or_default();
+    if !target.starts_with("x86_64-") || !target.contains("-linux-") {
+        println!("cargo:warning={NAME} is for Linux on x86-64, and not for {target}");
     }
     println!("cargo:rustc-link-search=native={}", folder.display());
     println!("cargo:rustc-link-lib=static=zsched");

@@ -11,7 +11,7 @@ import (
 	"os"
 	"time"
 
-	"zsched"
+	"example.org/zsched"
 )
 
 const (

@@ -5,15 +5,14 @@ import com.sun.jna.Native;
 import java.nio.charset.StandardCharsets;
 import java.time.Duration;
 import java.util.Arrays;
-import java.util.concurrent.Callable;
-import java.util.function.ToLongFunction;
+import java.util.OptionalLong;
 
 /**
  * A proved schedule of zsched and the steps that it has seen, which are its whole state. It doesn't
- * sleep; {@link #retry} really sleeps. Its results are proved, the sleeping is not.
+ * sleep; {@link Retry} really sleeps. Its results are proved, the sleeping is not.
  *
- * <p>The library is libzsched.so, which JNA finds by the property jna.library.path, or the one that
- * the property zsched.library names. Numbers are unsigned and of 64 bits, so those from 2^63 on
+ * <p>The library is libzsched.so, which JNA finds by the property jna.library.path or in the jar, or
+ * the one that the property zsched.library names. Numbers are unsigned and of 64 bits, so those from 2^63 on
  * look negative here: compare and print them by {@link Long#compareUnsigned} and
  * {@link Long#toUnsignedString(long)}. Threads must not share a schedule that one of them steps.
  */
@@ -23,6 +22,8 @@ public final class Schedule {
         int zs_check(byte[] text, long textLength, long[] at);
 
         int zs_answer(byte[] text, long textLength, long[] seen, long pairs, long[] reply, byte[] out, long room);
+
+        int zs_bounds(byte[] text, long textLength, long steps, long[] bounds, long[] at);
 
         int zs_program_size(byte[] text, long textLength, long[] size, long[] stateSize, long[] at);
 
@@ -51,8 +52,23 @@ public final class Schedule {
         }
     }
 
-    /** What is stepped: a {@link Schedule} or a {@link Stepper}. */
-    private interface Follower {
+    /**
+     * What a schedule does for every input and however long attempts take, if each takes 1
+     * millisecond or more and no moment is above 999999999999999: the number of attempts that were
+     * examined, the first that can be the last one, the number of attempts at most, the longest wait
+     * after the examined ones, and all waits together, in milliseconds. {@code most} and
+     * {@code total} are empty if there is no bound.
+     */
+    public record Bounds(long seen, long least, OptionalLong most, long longest, OptionalLong total) {
+        /** Returns whether there are at most {@code most} attempts, and so much wait in all. */
+        public boolean within(long most, Duration total) {
+            return this.most.isPresent() && Long.compareUnsigned(this.most.getAsLong(), most) <= 0 && this.total.isPresent()
+                && Long.compareUnsigned(this.total.getAsLong(), total.toMillis()) <= 0;
+        }
+    }
+
+    /** What a retry steps: a {@link Schedule} or a {@link Stepper}. */
+    interface Follower {
         Answer after(long moment, long input);
     }
 
@@ -141,6 +157,22 @@ public final class Schedule {
         return new Answer(number == DONE, reply[0], output, reply[2]);
     }
 
+    /**
+     * Returns the bounds of a text's schedule, of which at most the first {@code steps} attempts are
+     * examined. Throws {@link Fault}.
+     */
+    public static Bounds bounds(String text, long steps) {
+        byte[] bytes = text.getBytes(StandardCharsets.UTF_8);
+        long[] found = new long[7];
+        long[] at = new long[1];
+        refuse(CALLS.zs_bounds(bytes, bytes.length, steps, found, at), at[0]);
+        return new Bounds(found[0], found[1], limit(found[2], found[3]), found[4], limit(found[5], found[6]));
+    }
+
+    private static OptionalLong limit(long isThere, long number) {
+        return isThere == 1 ? OptionalLong.of(number) : OptionalLong.empty();
+    }
+
     private static Calls load() {
         try {
             return Native.load(System.getProperty("zsched.library", "zsched"), Calls.class);
@@ -173,7 +205,7 @@ public final class Schedule {
     }
 
     /** Returns a schedule with a state of fixed size; one with collectAll stores its steps. */
-    private static Follower begun(String text) {
+    static Follower begun(String text) {
         try {
             return new Stepper(text)::after;
         } catch (Fault fault) {
@@ -181,58 +213,6 @@ public final class Schedule {
                 throw fault;
             }
             return new Schedule(text)::after;
-        }
-    }
-
-    /**
-     * Retries until there is a value or the schedule is done, and sleeps between two attempts. At
-     * the end it throws the last error.
-     *
-     * <p>The input of an error is what inputOf returns. If inputOf throws a RuntimeException, the
-     * error is thrown, and what inputOf threw is suppressed by it. An InterruptedException of the
-     * attempt is thrown at once. Moments are in milliseconds from the start of the first attempt.
-     * No attempt begins before the moment that the schedule plans, and each counts as 1 millisecond
-     * at least, so the bounds of a schedule hold of each run. Time and memory don't grow with the
-     * number of attempts, except for a schedule with collectAll, whose output grows.
-     */
-    public static <T> T retry(String text, ToLongFunction<Exception> inputOf, Callable<T> attempt) throws Exception {
-        Follower schedule = begun(text);
-        long start = System.nanoTime();
-        long planned = 0;
-        while (true) {
-            try {
-                return attempt.call();
-            } catch (InterruptedException interrupted) {
-                throw interrupted;
-            } catch (Exception error) {
-                long now = (System.nanoTime() - start) / 1_000_000;
-                Answer result = schedule.after(Math.max(now, planned + 1), input(inputOf, error));
-                if (result.done()) {
-                    throw error;
-                }
-                planned = result.next();
-                sleep(start, planned);
-            }
-        }
-    }
-
-    /** Sleeps until a number of milliseconds, which is unsigned, has passed since a start. */
-    private static void sleep(long start, long millis) throws InterruptedException {
-        boolean isFar = Long.compareUnsigned(millis, Long.MAX_VALUE / 1_000_000) > 0;
-        for (long rest = 1; rest > 0; ) {
-            rest = isFar ? Long.MAX_VALUE : millis * 1_000_000 - (System.nanoTime() - start);
-            Thread.sleep(rest > 0 ? rest / 1_000_000 + 1 : 0);
-        }
-    }
-
-    private static long input(ToLongFunction<Exception> inputOf, Exception error) throws Exception {
-        try {
-            return inputOf.applyAsLong(error);
-        } catch (RuntimeException fault) {
-            if (fault != error) {
-                error.addSuppressed(fault);
-            }
-            throw error;
         }
     }
 }

@@ -11,10 +11,11 @@ input. These results are proved; the sleeping is not.
 
 The library is libzsched.so: the file that the variable ZSCHED_LIBRARY names, else the one in the
 folder of this file, else the one that tools/make-library made in this tree, else the system's."""
+from .budgets import Budget
 from .faults import Fault, ScheduleFault
-from .retries import Attempt, Retrying, retrying
+from .retries import Attempt, Retrying, Statistics, retrying
 from .schedules import Answer, Bounds, Schedule, Stepper, bounds, check
 
-__all__ = ["Answer", "Attempt", "Bounds", "Fault", "Retrying", "Schedule", "ScheduleFault", "Stepper", "bounds", "check",
-           "retrying"]
+__all__ = ["Answer", "Attempt", "Bounds", "Budget", "Fault", "Retrying", "Schedule", "ScheduleFault", "Statistics", "Stepper",
+           "bounds", "check", "retrying"]
 __version__ = "0.3.0"

@@ -1,18 +1,45 @@
 """Retries that really sleep."""
 import asyncio
 import collections.abc
+import dataclasses
 import functools
 import inspect
 import operator
+import random
 import threading
 import time
 import types
 import typing
 
+from .budgets import Budget
 from .schedules import Schedule, Stepper, begun, check
 
 LONGEST = threading.TIMEOUT_MAX
+GENERATORS = (types.GeneratorType, types.AsyncGeneratorType)
 T = typing.TypeVar("T")
+
+
+@dataclasses.dataclass
+class Statistics:
+    """What happened in all calls so far: their number, how many attempts were not the first of their
+    call, how many calls gave up by the schedule or the budget, and the seconds of all sleeps."""
+    calls: int = 0
+    retries: int = 0
+    given_up: int = 0
+    slept: float = 0.0
+    _lock: typing.Any = dataclasses.field(default_factory=threading.Lock, repr=False, compare=False)
+
+    def add_call(self) -> None:
+        """Counts a call; threads may add at once."""
+        with self._lock:
+            self.calls += 1
+
+    def add(self, retries: int = 0, given_up: int = 0, slept: float = 0.0) -> None:
+        """Adds to the other numbers."""
+        with self._lock:
+            self.retries += retries
+            self.given_up += given_up
+            self.slept += slept
 
 
 class Attempt:
@@ -32,7 +59,7 @@ class Attempt:
 
     def __exit__(self, kind: type[BaseException] | None, error: BaseException | None,
                  trace: types.TracebackType | None) -> bool:
-        return self._run.ended(error)
+        return self._run.is_retried(error)
 
 
 class Run:
@@ -40,13 +67,16 @@ class Run:
 
     It holds the schedule, the start, and the moment that is planned for the next attempt."""
 
-    def __init__(self, retrying: "Retrying") -> None:
-        self.retrying = retrying
-        self.schedule = begun(retrying.text)
-        self.start = retrying.clock()
-        self.attempts = self.planned = 0
-        self.wait = 0.0
-        self.is_over = False
+    # It is made after the first error. Most calls have none, and set nothing of this.
+    schedule: Schedule | Stepper | None = None
+    attempts = planned = 0
+    until = wait = 0.0
+    is_over = False
+
+    def __init__(self, by: "Retrying") -> None:
+        self.by = by
+        self.start = by.clock()
+        by.statistics.add_call()
 
     def __iter__(self) -> "Run":
         return self
@@ -57,27 +87,38 @@ class Run:
     def __next__(self) -> Attempt:
         if self.is_over:
             raise StopIteration
-        if self.attempts and self.retrying.sleep is not None:
-            self.retrying.sleep(self.wait)
-        while self.attempts and self.retrying.sleep is None and (rest := self.rest()) > 0:
-            time.sleep(rest)
+        if self.attempts:
+            self.sleep()
         return self.begin()
 
     async def __anext__(self) -> Attempt:
         if self.is_over:
             raise StopAsyncIteration
-        if self.attempts and self.retrying.sleep is not None:
-            await self.retrying.sleep(self.wait)
-        while self.attempts and self.retrying.sleep is None:
-            rest = self.rest()
-            await asyncio.sleep(max(0.0, rest))
-            if rest <= 0:
-                break
+        if self.attempts:
+            await self.sleep_asynchronously()
         return self.begin()
 
-    def rest(self) -> float:
-        """Returns the seconds until the next attempt may begin."""
-        return self.planned / 1000 - (self.retrying.clock() - self.start)
+    def sleep(self) -> None:
+        """Sleeps until the next attempt may begin."""
+        if self.by.sleep is not None:
+            late = self.by.sleep(self.wait)
+            if inspect.isawaitable(late):
+                if inspect.iscoroutine(late):
+                    late.close()
+                raise TypeError(f"zsched: {self.by.sleep!r} sleeps asynchronously, and the function or loop is not asynchronous")
+            return
+        while (rest := self.until - self.by.clock()) > 0:
+            time.sleep(rest)
+
+    async def sleep_asynchronously(self) -> None:
+        """The same, for a coroutine. Other tasks run in any case."""
+        if self.by.sleep is not None:
+            await self.by.sleep(self.wait)
+            return
+        rest = self.until - self.by.clock()
+        await asyncio.sleep(max(0.0, rest))
+        while (rest := self.until - self.by.clock()) > 0:
+            await asyncio.sleep(rest)
 
     def begin(self) -> Attempt:
         """Returns the next attempt."""
@@ -85,92 +126,83 @@ class Run:
         self.is_over = True
         return Attempt(self)
 
-    def input_of(self, error: Exception) -> int | None:
-        """Returns the input of an error. If there is none, adds a note to it and returns None."""
+    def input_of(self, failure: typing.Any) -> int | None:
+        """Returns the input of an error or result. If there is none, adds a note to the error and returns None; if it has no
+        notes, raises ValueError."""
         try:
-            code = operator.index(self.retrying.input_of(error))
+            code = operator.index(self.by.input_of(failure))
+            why = f"returned {code}, which is no unsigned number of 64 bits"
         except Exception as fault:
-            error.add_note(f"zsched: not tried again, since input_of returned no whole number: {fault!r}")
-            return None
-        if not 0 <= code < 2 ** 64:
-            error.add_note(f"zsched: not tried again, since input_of returned {code}, which is no unsigned number of 64 bits")
-            return None
-        return code
+            code, why = -1, f"returned no whole number: {fault!r}"
+        if 0 <= code < 2 ** 64:
+            return code
+        note = f"zsched: not tried again, since input_of {why}"
+        if not isinstance(failure, BaseException):
+            raise ValueError(note)
+        failure.add_note(note)
+        return None
 
-    def ended(self, error: BaseException | None) -> bool:
+    def is_retried(self, error: BaseException | None) -> bool:
         """Ends an attempt. Returns whether its error is suppressed and another attempt follows."""
+        if error is None and self.by.budget is not None:
+            self.by.budget.add()
         # An error that is no Exception isn't the service's: Ctrl-C, or a cancelled task.
-        if not isinstance(error, Exception) or not isinstance(error, self.retrying.on):
-            return False
-        code = self.input_of(error)
+        return isinstance(error, Exception) and isinstance(error, self.by.on) and self.goes_on(error)
+
+    def is_rejected(self, result: typing.Any) -> bool:
+        """Ends an attempt. Returns whether another one follows in place of its result."""
+        if self.by.retry_on_result is not None and self.by.retry_on_result(result):
+            return self.goes_on(result)
+        if self.by.budget is not None:
+            self.by.budget.add()
+        return False
+
+    def goes_on(self, failure: typing.Any) -> bool:
+        """Steps the schedule by an error, or a result that counts as one. Returns whether another attempt follows."""
+        code = self.input_of(failure)
         if code is None:
             return False
+        if self.schedule is None:
+            self.schedule = begun(self.by.schedule)
         # The attempt counts as 1 millisecond at least, even if the clock is set back or its sleep ended early.
-        now = int((self.retrying.clock() - self.start) * 1000)
-        following = self.schedule.after(max(now, self.planned + 1), code).next
+        now = self.by.clock()
+        passed = max(int((now - self.start) * 1000), self.planned)
+        following = None
+        if self.by.budget is None or self.by.budget.take():
+            following = self.schedule.after(max(passed, self.planned + 1), code).next
         if following is None:
+            self.by.statistics.add(given_up=1)
+            if self.by.on_give_up is not None:
+                self.by.on_give_up(failure, self.attempts)
             return False
-        self.wait, self.planned, self.is_over = (following - max(now, self.planned)) / 1000, following, False
-        if self.retrying.sleep is None and self.wait > LONGEST:
-            raise OverflowError(f"zsched: the next attempt is {self.wait:.0f} seconds away, and the longest wait is "
-                                f"{LONGEST:.0f}") from error
-        if self.retrying.before_sleep is not None:
-            self.retrying.before_sleep(error, self.attempts, self.wait)
+        self.plan(failure, now, passed, following)
+        self.by.statistics.add(retries=1, slept=self.wait)
+        if self.by.before_sleep is not None:
+            self.by.before_sleep(failure, self.attempts, self.wait)
         return True
 
-
-class Retrying:
-    """What `retrying` returns: a decorator, a loop and an asynchronous loop.
-
-    Many calls may use one at the same time."""
-
-    def __init__(self, text: str, on: typing.Any, input_of: typing.Any, before_sleep: typing.Any, clock: typing.Any,
-                 sleep: typing.Any) -> None:
-        check(text)
-        self.text, self.on, self.input_of, self.before_sleep = text, on, input_of, before_sleep
-        self.clock, self.sleep = clock, sleep
-
-    def __iter__(self) -> collections.abc.Iterator[Attempt]:
-        """Returns the attempts, with a sleep between two."""
-        return Run(self)
-
-    def __aiter__(self) -> collections.abc.AsyncIterator[Attempt]:
-        """Returns the attempts, with an asynchronous sleep between two."""
-        return Run(self)
-
-    def __call__(self, function: T) -> T:
-        """Returns the function, or coroutine function, with retries as the schedule says."""
-        if inspect.iscoroutinefunction(function):
-            return self._asynchronous(function)
-
-        @functools.wraps(function)
-        def tried(*arguments, **named):
-            for attempt in self:
-                with attempt:
-                    return function(*arguments, **named)
-        return tried
-
-    def _asynchronous(self, function):
-        """The same for a coroutine function."""
-        @functools.wraps(function)
-        async def tried(*arguments, **named):
-            async for attempt in self:
-                with attempt:
-                    return await function(*arguments, **named)
-        return tried
+    def plan(self, failure: typing.Any, now: float, passed: int, following: int) -> None:
+        """Plans the next attempt, which may begin at the millisecond `following`."""
+        wait, until = (following - passed) / 1000, self.start + following / 1000
+        if self.by.jitter:
+            wait *= 1 - self.by.jitter * random.random()
+            until = now + wait
+        if self.by.retry_after is not None and (least := self.by.retry_after(failure)) is not None:
+            wait, until = max(wait, least), max(until, now + least)
+        self.wait, self.until, self.planned, self.is_over = wait, until, following, False
+        if self.by.sleep is None and wait > LONGEST:
+            raise OverflowError(f"zsched: the next attempt is {wait:.0f} seconds away, and the longest wait is {LONGEST:.0f}"
+                                ) from (failure if isinstance(failure, BaseException) else None)
 
 
-def _no_input(error: Exception) -> int:
+def _no_input(error: typing.Any) -> int:
     """Returns the input of an error if the caller defines none: 0."""
     return 0
 
 
-def retrying(schedule: str | Schedule | Stepper, *, on: type[Exception] | tuple[type[Exception], ...] = Exception,
-             input_of: collections.abc.Callable[[typing.Any], int] = _no_input,
-             before_sleep: collections.abc.Callable[[typing.Any, int, float], object] | None = None,
-             clock: collections.abc.Callable[[], float] = time.monotonic,
-             sleep: collections.abc.Callable[[float], typing.Any] | None = None) -> Retrying:
-    """Returns a decorator and a loop that retry after each error, when the schedule says so.
+@dataclasses.dataclass(frozen=True, eq=False)
+class Retrying:
+    """A decorator, a loop and an asynchronous loop that retry after each error, when the schedule says so.
 
     When the schedule is done, the last error is raised.
 
@@ -179,14 +211,140 @@ def retrying(schedule: str | Schedule | Stepper, *, on: type[Exception] | tuple[
         and so is one that is no Exception, such as that of a cancelled task
     input_of: returns the schedule's input of an error, a whole number from 0 to 2^64 - 1; if it
         returns none or raises, the error is raised with a note that says so
+    retry_on_result: returns whether a result of a decorated function counts as an error; input_of
+        and the hooks then get the result, and the last one is returned when the schedule is done
     before_sleep: is called with the error, the number of the attempt and the seconds to sleep
+    on_give_up: is called with the error and the number of the attempt, when the schedule is done or
+        the budget has no token
+    jitter: shortens each sleep by a random part of it, of at most this share, from 0 to 1
+    retry_after: returns the least seconds to sleep after an error, or None
+    budget: is a Budget that other calls share; without tokens the call gives up
     clock: returns seconds that don't fall
-    sleep: sleeps for a number of seconds, or for fewer to spread the attempts of many clients;
-        without one no attempt begins before its planned moment by the clock
+    sleep: sleeps for a number of seconds, or for fewer; without one, and without jitter, no attempt
+        begins before its planned moment by the clock
 
-    The schedule's moments are whole milliseconds from the start of the first attempt. Each attempt
-    counts as 1 millisecond at least, so the schedule's Bounds hold of each run. Time and memory
-    don't grow with the number of attempts, except for a schedule with collectAll, whose output
-    grows. Raises ScheduleFault if the text is no schedule. Without `sleep`, a wait that is
-    longer than threading.TIMEOUT_MAX seconds raises OverflowError."""
-    return Retrying(schedule if isinstance(schedule, str) else schedule.text, on, input_of, before_sleep, clock, sleep)
+    The schedule's moments are whole milliseconds from the start of the first attempt. It is stepped
+    when an attempt ended, but at least 1 millisecond after the moment that it planned for the
+    attempt, so its Bounds hold of each run; with jitter, or a sleep that ends early, they hold of the
+    moments that it is stepped at. With retry_after the bounds of waits are those of the schedule
+    alone. Time and memory don't grow with the number of attempts, except for a schedule with
+    collectAll, whose output grows. Raises ScheduleFault if the text is no schedule. Without `sleep`,
+    a wait that is longer than threading.TIMEOUT_MAX seconds raises OverflowError.
+
+    A decorated function has `statistics`, and `with_(schedule=..)`, which returns it with other
+    options. Many calls may use one at the same time."""
+
+    schedule: typing.Any
+    _: dataclasses.KW_ONLY
+    on: type[BaseException] | tuple[type[BaseException], ...] = Exception
+    input_of: collections.abc.Callable[[typing.Any], int] = _no_input
+    retry_on_result: collections.abc.Callable[[typing.Any], object] | None = None
+    before_sleep: collections.abc.Callable[[typing.Any, int, float], object] | None = None
+    on_give_up: collections.abc.Callable[[typing.Any, int], object] | None = None
+    jitter: float = 0.0
+    retry_after: collections.abc.Callable[[typing.Any], float | None] | None = None
+    budget: Budget | None = None
+    clock: collections.abc.Callable[[], float] = time.monotonic
+    sleep: collections.abc.Callable[[float], typing.Any] | None = None
+    statistics: Statistics = dataclasses.field(init=False, repr=False, default_factory=Statistics)
+
+    def __post_init__(self) -> None:
+        object.__setattr__(self, "schedule", self.schedule if isinstance(self.schedule, str) else self.schedule.text)
+        check(self.schedule)
+        if not 0 <= self.jitter <= 1:
+            raise ValueError(f"zsched: a jitter of {self.jitter} is not from 0 to 1")
+        for name in ["input_of", "retry_on_result", "before_sleep", "on_give_up", "retry_after", "clock"]:
+            if _is_asynchronous(getattr(self, name)):
+                raise TypeError(f"zsched: {name} is a coroutine function, which would not be awaited")
+
+    def with_(self, **changes: typing.Any) -> "Retrying":
+        """Returns the same with other options, and with statistics that begin at 0."""
+        return dataclasses.replace(self, **changes)
+
+    def __iter__(self) -> collections.abc.Iterator[Attempt]:
+        """Returns the attempts, with a sleep between two."""
+        return self._run()
+
+    def __aiter__(self) -> collections.abc.AsyncIterator[Attempt]:
+        """Returns the attempts, with an asynchronous sleep between two."""
+        return self._run()
+
+    def _run(self) -> Run:
+        if self.retry_on_result is not None:
+            raise TypeError("zsched: a loop has no result for retry_on_result: decorate a function")
+        return Run(self)
+
+    def __call__(self, function: T) -> T:
+        """Returns the function, or coroutine function, with retries as the schedule says.
+
+        Raises TypeError for a generator function, whose body runs after the call."""
+        if inspect.isgeneratorfunction(function) or inspect.isasyncgenfunction(function):
+            raise _no_generator(function)
+        by = self.with_()
+        tried = (_asynchronous if _is_asynchronous(function) else _synchronous)(by, function)
+        tried.statistics, tried.with_ = by.statistics, lambda **changes: by.with_(**changes)(function)
+        return tried
+
+
+def _is_asynchronous(function: typing.Any) -> bool:
+    """Returns whether a function, or an object's `__call__`, is a coroutine function."""
+    return inspect.iscoroutinefunction(function) or inspect.iscoroutinefunction(getattr(type(function), "__call__", None))
+
+
+def _no_generator(function: typing.Any) -> TypeError:
+    """Returns the error for a function that returns a generator."""
+    name = getattr(function, "__qualname__", repr(function))
+    return TypeError(f"zsched: {name} returns a generator, whose body runs after the call: decorate the function that uses it")
+
+
+def _synchronous(by: Retrying, function: typing.Any) -> typing.Any:
+    """Returns a function with retries. If it returns an awaitable, so does its first attempt, and each is awaited."""
+    @functools.wraps(function)
+    def tried(*arguments, **named):
+        run = Run(by)
+        while True:
+            run.attempts += 1
+            try:
+                result = function(*arguments, **named)
+            except Exception as error:
+                if not run.is_retried(error):
+                    raise
+            else:
+                if hasattr(type(result), "__await__"):
+                    return _awaited(run, function, arguments, named, result)
+                if isinstance(result, GENERATORS):
+                    raise _no_generator(function)
+                if not run.is_rejected(result):
+                    return result
+            run.sleep()
+    return tried
+
+
+def _asynchronous(by: Retrying, function: typing.Any) -> typing.Any:
+    """Returns a coroutine function with retries."""
+    @functools.wraps(function)
+    async def tried(*arguments, **named):
+        run = Run(by)
+        run.attempts = 1
+        return await _awaited(run, function, arguments, named, function(*arguments, **named))
+    return tried
+
+
+async def _awaited(run: Run, function: typing.Any, arguments: typing.Any, named: typing.Any, begun: typing.Any) -> typing.Any:
+    """Awaits an attempt that has begun, and those that follow."""
+    while True:
+        try:
+            result = await (begun if begun is not None else function(*arguments, **named))
+        except Exception as error:
+            if not run.is_retried(error):
+                raise
+        else:
+            if isinstance(result, GENERATORS):
+                raise _no_generator(function)
+            if not run.is_rejected(result):
+                return result
+        await run.sleep_asynchronously()
+        run.attempts, begun = run.attempts + 1, None
+
+
+retrying = Retrying

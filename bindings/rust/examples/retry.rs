@@ -34,9 +34,10 @@ fn main() -> Result<(), Box<dyn std::error::Error>> {
     let text = zsched::retry(SCHEDULE, |code| *code, || {
         attempts += 1;
         fetch(server)
-    })?;
-    println!("{text:?} after {attempts} attempts");
-    assert_eq!((text.as_deref(), attempts), (Ok("ready"), 4));
+    })
+    .map_err(|failed| failed.to_string())?;
+    println!("{text} after {attempts} attempts");
+    assert_eq!((text.as_str(), attempts), ("ready", 4));
     assert!(begun.elapsed().as_millis() >= 140);
     serving.join().expect("the server ends");
     Ok(())

@@ -9,11 +9,12 @@
 //! # Ok::<(), zsched::Fault>(())
 //! ```
 //!
-//! `Schedule` doesn't sleep, and neither does `Stepper`, whose state has a fixed size; `retry`
-//! really sleeps. The results are proved, the sleeping is not.
+//! `Schedule` doesn't sleep, and neither does `Stepper`, whose state has a fixed size; `retry` and
+//! `Retry` really sleep. `bounds` returns how often and how long a schedule retries at most. These
+//! results are proved, the sleeping is not.
 //!
-//! Without the feature `std`, which is on by default, everything but `retry` and `retry_by` is
-//! available, over `alloc`.
+//! Without the feature `std`, which is on by default, everything but the retries is available, over
+//! `alloc`.
 
 #![cfg_attr(not(feature = "std"), no_std)]
 
@@ -24,8 +25,11 @@ use alloc::string::String;
 use alloc::vec;
 use alloc::vec::Vec;
 use core::fmt;
+
 #[cfg(feature = "std")]
-use std::time::{Duration, Instant};
+mod retries;
+#[cfg(feature = "std")]
+pub use retries::{retry, Budget, Failed, Retry};
 
 /// What a schedule saw at one step.
 #[repr(C)]
@@ -46,6 +50,18 @@ struct Reply {
     at: u64,
 }
 
+#[repr(C)]
+#[derive(Default)]
+struct Told {
+    seen: u64,
+    least: u64,
+    has_most: u64,
+    most: u64,
+    longest: u64,
+    has_total: u64,
+    total: u64,
+}
+
 extern "C" {
     fn zs_check(text: *const u8, text_len: usize, at: *mut u64) -> u32;
     fn zs_answer(
@@ -57,6 +73,7 @@ extern "C" {
         out: *mut u8,
         out_len: usize,
     ) -> u32;
+    fn zs_bounds(text: *const u8, text_len: usize, steps: u64, bounds: *mut Told, at: *mut u64) -> u32;
     fn zs_program_size(text: *const u8, text_len: usize, size: *mut u64, state_size: *mut u64, at: *mut u64) -> u32;
     fn zs_compile(text: *const u8, text_len: usize, program: *mut u64, program_len: usize, at: *mut u64) -> u32;
     fn zs_program_begin(program: *const u64, program_len: usize, state: *mut u64, state_len: usize) -> u32;
@@ -188,6 +205,49 @@ pub fn check(text: &str) -> Result<(), Fault> {
     // `at` is a variable.
     let number = unsafe { zs_check(text.as_ptr(), text.len(), &mut at) };
     if number == NEXT { Ok(()) } else { Err(Fault::of(number, at)) }
+}
+
+/// What a schedule does for every input and however long attempts take, if each takes 1 millisecond
+/// or more and no moment is above 999999999999999. Times are in milliseconds.
+#[derive(Clone, Copy, Debug, PartialEq, Eq)]
+pub struct Bounds {
+    /// The number of attempts that were examined.
+    pub seen: u64,
+    /// The first attempt that can be the last one.
+    pub least: u64,
+    /// The number of attempts at most; `None` if there is no bound.
+    pub most: Option<u64>,
+    /// The longest wait after the attempts that were examined.
+    pub longest: u64,
+    /// All waits together at most; `None` if there is no bound.
+    pub total: Option<u64>,
+}
+
+impl Bounds {
+    /// Returns whether there are at most `most` attempts, and `total` milliseconds of waits together.
+    pub fn within(&self, most: u64, total: u64) -> bool {
+        self.most.is_some_and(|it| it <= most) && self.total.is_some_and(|it| it <= total)
+    }
+}
+
+/// Returns the bounds of a text's schedule, of which at most the first `steps` attempts are examined.
+///
+/// ```
+/// let bounds = zsched::bounds("(exponential(100) && recurs(5))", 1000)?;
+/// assert!(bounds.within(6, 3100) && !bounds.within(5, 3100));
+/// # Ok::<(), zsched::Fault>(())
+/// ```
+pub fn bounds(text: &str, steps: u64) -> Result<Bounds, Fault> {
+    let (mut found, mut at) = (Told::default(), 0);
+    // SAFETY: the pointer and the length are those of a text that is borrowed for the call, and the
+    // others are variables.
+    let number = unsafe { zs_bounds(text.as_ptr(), text.len(), steps, &mut found, &mut at) };
+    if number != NEXT {
+        return Err(Fault::of(number, at));
+    }
+    let limit = |is_there: u64, value| (is_there == 1).then_some(value);
+    let (most, total) = (limit(found.has_most, found.most), limit(found.has_total, found.total));
+    Ok(Bounds { seen: found.seen, least: found.least, most, longest: found.longest, total })
 }
 
 /// Returns the result of a text's schedule at the last of some steps, which are in order, oldest
@@ -391,128 +451,9 @@ impl PartialEq for Stepper {
 
 impl Eq for Stepper {}
 
-/// A schedule with a state of fixed size; one with `collectAll` stores its steps instead.
-#[cfg(feature = "std")]
-enum Follower {
-    Flat(Stepper),
-    Listed(Schedule),
-}
-
-#[cfg(feature = "std")]
-impl Follower {
-    fn new(text: &str) -> Result<Follower, Fault> {
-        match Stepper::new(text) {
-            Err(Fault::KeepsList) => Schedule::new(text).map(Follower::Listed),
-            made => made.map(Follower::Flat),
-        }
-    }
-
-    fn next_after(&mut self, moment: u64, input: u64) -> Result<Option<u64>, Fault> {
-        match self {
-            Follower::Flat(stepper) => stepper.next_after(moment, input),
-            Follower::Listed(schedule) => schedule.after(moment, input).map(|result| result.next),
-        }
-    }
-}
-
-/// Retries until there is a value or the schedule is done, and sleeps between two attempts.
-///
-/// The input of an error is what `input_of` returns. Moments are in milliseconds from the start of
-/// the first attempt. No attempt begins before the moment that the schedule plans, and each counts
-/// as 1 millisecond at least, so the bounds of a schedule hold of each run. Time and memory don't
-/// grow with the number of attempts, except for a schedule with `collectAll`, whose output grows.
-///
-/// The outer fault is that of the text, or `Memory`.
-#[cfg(feature = "std")]
-pub fn retry<T, E>(
-    text: &str,
-    input_of: impl Fn(&E) -> u64,
-    attempt: impl FnMut() -> Result<T, E>,
-) -> Result<Result<T, E>, Fault> {
-    let start = Instant::now();
-    retry_by(text, input_of, attempt, || start.elapsed().as_millis() as u64, std::thread::sleep)
-}
-
-/// Retries as `retry` does, with the caller's clock and sleep.
-///
-/// `now` returns milliseconds from the start of the first attempt. `sleep` may end early, for
-/// example to spread the attempts of many clients: a step's moment is still at least 1 millisecond
-/// after the one that was planned for its attempt.
-#[cfg(feature = "std")]
-pub fn retry_by<T, E>(
-    text: &str,
-    input_of: impl Fn(&E) -> u64,
-    mut attempt: impl FnMut() -> Result<T, E>,
-    mut now: impl FnMut() -> u64,
-    mut sleep: impl FnMut(Duration),
-) -> Result<Result<T, E>, Fault> {
-    let (mut schedule, mut planned) = (Follower::new(text)?, 0_u64);
-    loop {
-        let error = match attempt() {
-            Ok(value) => return Ok(Ok(value)),
-            Err(error) => error,
-        };
-        let passed = now().max(planned);
-        let Some(next) = schedule.next_after(passed.max(planned.saturating_add(1)), input_of(&error))? else {
-            return Ok(Err(error));
-        };
-        sleep(Duration::from_millis(next - passed));
-        planned = next;
-    }
-}
-
 #[cfg(all(test, feature = "std"))]
 mod tests {
     use super::*;
-
-    /// Retries an attempt that takes `millis` milliseconds and fails `failures` times, by a clock
-    /// that else only sleeps advance. Returns the waits and the result.
-    fn tried(text: &str, millis: u64, failures: u64) -> (Vec<u64>, Result<u64, u64>) {
-        let (clock, mut waits, mut attempts) = (core::cell::Cell::new(0), Vec::new(), 0);
-        let attempt = || {
-            attempts += 1;
-            clock.set(clock.get() + millis);
-            if attempts > failures { Ok(attempts) } else { Err(503) }
-        };
-        let sleep = |wait: Duration| {
-            waits.push(wait.as_millis() as u64);
-            clock.set(clock.get() + wait.as_millis() as u64);
-        };
-        let ended = retry_by(text, |code| *code, attempt, || clock.get(), sleep).expect("a schedule");
-        (waits, ended)
-    }
-
-    #[test]
-    fn attempts_wait_as_the_schedule_says() {
-        assert_eq!(tried("(exponential(10) && recurs(5))", 5, 3), (vec![10, 20, 40], Ok(4)));
-        assert_eq!(tried("(spaced(30) && recurs(2))", 5, 9), (vec![30, 30], Err(503)));
-        assert_eq!(tried("spaced(30).whileInput(< 500)", 5, 9), (vec![], Err(503)));
-    }
-
-    #[test]
-    fn an_attempt_counts_as_1_millisecond_at_least() {
-        assert_eq!(tried("(exponential(10) && recurs(5))", 0, 3), (vec![11, 21, 41], Ok(4)));
-        let (waits, ended) = tried("elapsed.whileOutput(< 200)", 0, 9999);
-        assert_eq!((waits, ended), (vec![1; 200], Err(503)));
-    }
-
-    #[test]
-    fn a_schedule_that_collects_is_followed_by_its_list() {
-        assert_eq!(tried("(linear(5) && recurs(9)).collectAll", 5, 3), (vec![5, 10, 15], Ok(4)));
-        assert_eq!(tried("(linear(5) && recurs(2)).collectAll", 5, 3), (vec![5, 10], Err(503)));
-    }
-
-    #[test]
-    fn the_state_after_many_attempts_is_as_long_as_before() {
-        let (waits, ended) = tried("spaced(1)", 5, 200_000);
-        assert_eq!((waits.len(), ended), (200_000, Ok(200_001)));
-        let mut stepper = Stepper::new("(spaced(1) && recurs(9))").expect("a schedule");
-        let words = stepper.state().len();
-        for moment in 0..1000 {
-            stepper.after(moment, 0).expect("a step");
-        }
-        assert_eq!(stepper.state().len(), words);
-    }
 
     #[test]
     fn a_long_output_and_a_fault_leave_the_right_state() {

@@ -1,36 +1,16 @@
 //! A retry under tokio: a client calls a server on this machine, which is busy at first, and blocks
 //! no thread while it waits.
-use std::future::Future;
 use std::net::SocketAddr;
+use std::sync::atomic::{AtomicUsize, Ordering::Relaxed};
+use std::sync::Arc;
 use std::time::{Duration, Instant};
 use tokio::io::{AsyncReadExt, AsyncWriteExt};
 use tokio::net::{TcpListener, TcpStream};
-use zsched::{Fault, Stepper};
+use zsched::{Budget, Retry};
 
 const SCHEDULE: &str = "((exponential(20) || spaced(100)) && recurs(5))";
 const BUSY: usize = 3;
-
-/// Retries until there is a value or the schedule is done, and sleeps between two attempts. Each
-/// attempt counts as 1 millisecond at least. The outer fault is that of the text.
-async fn retry<T, E, A: Future<Output = Result<T, E>>>(
-    text: &str,
-    input_of: impl Fn(&E) -> u64,
-    mut attempt: impl FnMut() -> A,
-) -> Result<Result<T, E>, Fault> {
-    let (mut schedule, start, mut planned) = (Stepper::new(text)?, Instant::now(), 0);
-    loop {
-        let error = match attempt().await {
-            Ok(value) => return Ok(Ok(value)),
-            Err(error) => error,
-        };
-        let moment = (start.elapsed().as_millis() as u64).max(planned + 1);
-        match schedule.next_after(moment, input_of(&error))? {
-            Some(next) => planned = next,
-            None => return Ok(Err(error)),
-        }
-        tokio::time::sleep_until((start + Duration::from_millis(planned)).into()).await;
-    }
-}
+static BUDGET: Budget = Budget::new(10.0, 0.5);
 
 /// Sends "busy" to the first `BUSY` clients, and "ready" to the next one.
 async fn serve(listener: TcpListener) -> std::io::Result<()> {
@@ -54,15 +34,24 @@ async fn main() -> Result<(), Box<dyn std::error::Error>> {
     let listener = TcpListener::bind(("127.0.0.1", 0)).await?;
     let server = listener.local_addr()?;
     let serving = tokio::spawn(serve(listener));
-    let (start, mut attempts) = (Instant::now(), 0);
-    let text = retry(SCHEDULE, |code| *code, || {
-        attempts += 1;
-        fetch(server)
-    })
-    .await?;
-    println!("{text:?} after {attempts} attempts");
-    assert_eq!((text.as_deref(), attempts), (Ok("ready"), BUSY + 1));
+    let (start, attempts) = (Instant::now(), Arc::new(AtomicUsize::new(0)));
+    let counted = attempts.clone();
+    // A task of its own: the future of a retry is Send.
+    let retrying = tokio::spawn(async move {
+        let attempt = || {
+            counted.fetch_add(1, Relaxed);
+            fetch(server)
+        };
+        Retry::new(SCHEDULE).input_of(|code| *code).budget(&BUDGET).call_async(attempt, tokio::time::sleep).await
+    });
+    let (text, attempts) = (retrying.await?.map_err(|failed| failed.to_string())?, attempts.load(Relaxed));
+    println!("{text} after {attempts} attempts");
+    assert_eq!((text.as_str(), attempts, BUDGET.tokens()), ("ready", BUSY + 1, 7.5));
     assert!(start.elapsed().as_millis() >= 140);
+    // Ten seconds of waits would be too long: a timeout drops the retry.
+    let never = Retry::new("spaced(10000)");
+    let retrying = never.call_async(|| async { Err::<(), u64>(503) }, tokio::time::sleep);
+    assert!(tokio::time::timeout(Duration::from_millis(20), retrying).await.is_err());
     serving.await??;
     Ok(())
 }

@@ -1,0 +1,43 @@
+package zsched
+
+import (
+	"math"
+	"sync"
+)
+
+// Budget is the tokens that many calls share, as in gRPC's retry throttling. A failed attempt takes a
+// token, and one that doesn't fail adds the ratio, up to the number of tokens at first. A retry follows
+// only while more than half of that number are there; else the call gives up, as if its schedule were
+// done. So calls stop retrying when most of them fail. NewBudget makes one; the zero value lets no call
+// retry. Goroutines may share a budget.
+type Budget struct {
+	mutex               sync.Mutex
+	most, ratio, tokens float64
+}
+
+// NewBudget returns a budget with all its tokens. gRPC's documents have 10 tokens and the ratio 0.1.
+func NewBudget(tokens, ratio float64) *Budget {
+	return &Budget{most: tokens, ratio: ratio, tokens: tokens}
+}
+
+// Tokens returns the tokens that are there.
+func (budget *Budget) Tokens() float64 {
+	budget.mutex.Lock()
+	defer budget.mutex.Unlock()
+	return budget.tokens
+}
+
+// Add adds the ratio after an attempt that didn't fail.
+func (budget *Budget) Add() {
+	budget.mutex.Lock()
+	defer budget.mutex.Unlock()
+	budget.tokens = math.Min(budget.most, budget.tokens+budget.ratio)
+}
+
+// Take takes a token after a failed attempt. It returns whether a retry may follow.
+func (budget *Budget) Take() bool {
+	budget.mutex.Lock()
+	defer budget.mutex.Unlock()
+	budget.tokens = math.Max(0, budget.tokens-1)
+	return budget.tokens > budget.most/2
+}

@@ -1,0 +1,366 @@
+//! Retries that really sleep.
+use crate::{Fault, Schedule, Stepper};
+use std::fmt;
+use std::future::Future;
+use std::hash::{BuildHasher, RandomState};
+use std::sync::{Mutex, PoisonError};
+use std::time::{Duration, Instant};
+
+/// Why a retry ended without a value.
+#[derive(Clone, Copy, Debug, PartialEq, Eq)]
+pub enum Failed<E> {
+    /// The text is no schedule, or an allocation failed.
+    Schedule(Fault),
+    /// The schedule is done, or the error isn't retried: the error of the last attempt.
+    Attempt(E),
+}
+
+impl<E> Failed<E> {
+    /// Returns the error of the last attempt, if there was one.
+    pub fn into_last(self) -> Option<E> {
+        match self {
+            Failed::Schedule(_) => None,
+            Failed::Attempt(error) => Some(error),
+        }
+    }
+}
+
+impl<E> From<Fault> for Failed<E> {
+    fn from(fault: Fault) -> Failed<E> {
+        Failed::Schedule(fault)
+    }
+}
+
+impl<E: fmt::Display> fmt::Display for Failed<E> {
+    /// Writes the text of the fault, or of the last error.
+    fn fmt(&self, f: &mut fmt::Formatter<'_>) -> fmt::Result {
+        match self {
+            Failed::Schedule(fault) => fault.fmt(f),
+            Failed::Attempt(error) => error.fmt(f),
+        }
+    }
+}
+
+impl<E: std::error::Error + 'static> std::error::Error for Failed<E> {
+    fn source(&self) -> Option<&(dyn std::error::Error + 'static)> {
+        match self {
+            Failed::Schedule(_) => None,
+            Failed::Attempt(error) => error.source(),
+        }
+    }
+}
+
+/// Retries until there is a value or the schedule is done, and sleeps between two attempts.
+///
+/// The input of an error is what `input_of` returns. [`Retry`] does the same with options.
+pub fn retry<T, E>(
+    text: &str,
+    input_of: impl Fn(&E) -> u64 + Send + Sync,
+    attempt: impl FnMut() -> Result<T, E>,
+) -> Result<T, Failed<E>> {
+    Retry::new(text).input_of(input_of).call(attempt)
+}
+
+/// Tokens that many calls share, as in gRPC's retry throttling.
+///
+/// A failed attempt takes a token, and one that doesn't fail adds the ratio, up to the number of tokens
+/// at first. A retry follows only while more than half of that number are there; else the call gives
+/// up, as if its schedule were done. So calls stop retrying when most of them fail.
+///
+/// ```
+/// use zsched::{Budget, Failed, Retry};
+///
+/// static BUDGET: Budget = Budget::new(10.0, 0.1);
+/// let (mut attempts, retry) = (0, Retry::new("recurs(9)").budget(&BUDGET));
+/// let mut failing = || retry.call(|| {
+///     attempts += 1;
+///     Err::<(), u64>(503)
+/// });
+/// assert_eq!([failing(), failing()], [Err(Failed::Attempt(503)); 2]);
+/// assert_eq!((attempts, BUDGET.tokens()), (5 + 1, 4.0));
+/// ```
+#[derive(Debug)]
+pub struct Budget {
+    most: f64,
+    ratio: f64,
+    tokens: Mutex<f64>,
+}
+
+impl Budget {
+    /// Returns a budget with all its tokens. gRPC's documents have 10 tokens and the ratio 0.1.
+    pub const fn new(tokens: f64, ratio: f64) -> Budget {
+        Budget { most: tokens, ratio, tokens: Mutex::new(tokens) }
+    }
+
+    /// Returns the tokens that are there.
+    pub fn tokens(&self) -> f64 {
+        *self.tokens.lock().unwrap_or_else(PoisonError::into_inner)
+    }
+
+    /// Adds the ratio after an attempt that didn't fail.
+    pub fn add(&self) {
+        let mut tokens = self.tokens.lock().unwrap_or_else(PoisonError::into_inner);
+        *tokens = self.most.min(*tokens + self.ratio);
+    }
+
+    /// Takes a token after a failed attempt. Returns whether a retry may follow.
+    pub fn take(&self) -> bool {
+        let mut tokens = self.tokens.lock().unwrap_or_else(PoisonError::into_inner);
+        *tokens = (*tokens - 1.0).max(0.0);
+        *tokens > self.most / 2.0
+    }
+}
+
+type Of<'a, E, T> = Box<dyn Fn(&E) -> T + Send + Sync + 'a>;
+type Notify<'a, E> = Box<dyn Fn(&E, u64, Duration) + Send + Sync + 'a>;
+
+/// A retry by a schedule, with options.
+///
+/// Moments are in milliseconds from the start of the first attempt. The schedule is stepped at the
+/// moment when an attempt ended, but at least 1 millisecond after the one that it planned for it, so
+/// its `bounds` hold of each run. Without a jitter no attempt begins before its planned moment; with
+/// it the bounds hold of the moments that the schedule is stepped at, and sleeps are never longer.
+/// Time and memory don't grow with the number of attempts, except for a schedule with `collectAll`,
+/// whose output grows.
+///
+/// ```
+/// let mut attempts = 0;
+/// let found = zsched::Retry::new("(exponential(1) && recurs(5))")
+///     .input_of(|code: &u64| *code)
+///     .when(|code| *code >= 500)
+///     .notify(|code, number, wait| println!("attempt {number}: {code}, the next one in {wait:?}"))
+///     .call(|| {
+///         attempts += 1;
+///         if attempts < 3 { Err(503) } else { Err(404) }
+///     });
+/// assert_eq!((found, attempts), (Err::<(), _>(zsched::Failed::Attempt(404)), 3));
+/// ```
+pub struct Retry<'a, E> {
+    text: &'a str,
+    input_of: Of<'a, E, u64>,
+    when: Of<'a, E, bool>,
+    notify: Notify<'a, E>,
+    retry_after: Of<'a, E, Option<Duration>>,
+    jitter: f64,
+    budget: Option<&'a Budget>,
+}
+
+impl<'a, E> Retry<'a, E> {
+    /// Returns the retry of a text's schedule, which its calls read.
+    pub fn new(text: &'a str) -> Retry<'a, E> {
+        Retry {
+            text,
+            input_of: Box::new(|_| 0),
+            when: Box::new(|_| true),
+            notify: Box::new(|_, _, _| ()),
+            retry_after: Box::new(|_| None),
+            jitter: 0.0,
+            budget: None,
+        }
+    }
+
+    /// Sets what the schedule's input of an error is: 0 without it.
+    pub fn input_of(mut self, input_of: impl Fn(&E) -> u64 + Send + Sync + 'a) -> Self {
+        self.input_of = Box::new(input_of);
+        self
+    }
+
+    /// Sets which errors are retried: each without it.
+    pub fn when(mut self, when: impl Fn(&E) -> bool + Send + Sync + 'a) -> Self {
+        self.when = Box::new(when);
+        self
+    }
+
+    /// Sets what is called before each sleep, with the error, the number of the attempt that failed,
+    /// from 1, and the time to sleep.
+    pub fn notify(mut self, notify: impl Fn(&E, u64, Duration) + Send + Sync + 'a) -> Self {
+        self.notify = Box::new(notify);
+        self
+    }
+
+    /// Sets how long to sleep at least after an error, such as a server's `Retry-After`. The bound of
+    /// all attempts still holds then; those of waits are the schedule's alone.
+    pub fn retry_after(mut self, least: impl Fn(&E) -> Option<Duration> + Send + Sync + 'a) -> Self {
+        self.retry_after = Box::new(least);
+        self
+    }
+
+    /// Shortens each sleep by a random part of it, of at most this share, from 0 to 1.
+    pub fn jitter(mut self, share: f64) -> Self {
+        self.jitter = share.clamp(0.0, 1.0);
+        self
+    }
+
+    /// Sets the budget that this retry shares with others.
+    pub fn budget(mut self, budget: &'a Budget) -> Self {
+        self.budget = Some(budget);
+        self
+    }
+
+    /// Retries until there is a value or the schedule is done, and sleeps between two attempts, on
+    /// this thread.
+    pub fn call<T>(&self, attempt: impl FnMut() -> Result<T, E>) -> Result<T, Failed<E>> {
+        let start = Instant::now();
+        self.call_by(attempt, || start.elapsed(), std::thread::sleep)
+    }
+
+    /// Retries as `call` does, with the caller's clock and sleep.
+    ///
+    /// `now` returns the time from the start of the first attempt. If `sleep` ends early, a step's
+    /// moment is still at least 1 millisecond after the one that was planned for its attempt.
+    pub fn call_by<T>(
+        &self,
+        mut attempt: impl FnMut() -> Result<T, E>,
+        mut now: impl FnMut() -> Duration,
+        mut sleep: impl FnMut(Duration),
+    ) -> Result<T, Failed<E>> {
+        let mut run = Run::new(self)?;
+        loop {
+            match attempt() {
+                Ok(value) => return Ok(run.succeed(value)),
+                Err(error) => sleep(run.sleep_after(now(), error)?),
+            }
+        }
+    }
+
+    /// Retries an asynchronous attempt, with an executor's sleep: `tokio::time::sleep`, say.
+    pub async fn call_async<T, A: Future<Output = Result<T, E>>, S: Future>(
+        &self,
+        mut attempt: impl FnMut() -> A,
+        mut sleep: impl FnMut(Duration) -> S,
+    ) -> Result<T, Failed<E>> {
+        let (mut run, start) = (Run::new(self)?, Instant::now());
+        loop {
+            let wait = match attempt().await {
+                Ok(value) => return Ok(run.succeed(value)),
+                Err(error) => run.sleep_after(start.elapsed(), error)?,
+            };
+            sleep(wait).await;
+        }
+    }
+}
+
+/// One call: its schedule, the number of attempts so far, and the planned moment of the last one.
+struct Run<'r, 'a, E> {
+    of: &'r Retry<'a, E>,
+    schedule: Follower,
+    attempts: u64,
+    planned: u64,
+}
+
+impl<'r, 'a, E> Run<'r, 'a, E> {
+    fn new(of: &'r Retry<'a, E>) -> Result<Self, Fault> {
+        Ok(Run { of, schedule: Follower::new(of.text)?, attempts: 0, planned: 0 })
+    }
+
+    /// Returns the value of an attempt that didn't fail.
+    fn succeed<T>(&self, value: T) -> T {
+        if let Some(budget) = self.of.budget {
+            budget.add();
+        }
+        value
+    }
+
+    /// Steps the schedule after an attempt that failed. Returns the time from `now` to the next one,
+    /// or the error.
+    fn sleep_after(&mut self, now: Duration, error: E) -> Result<Duration, Failed<E>> {
+        self.attempts += 1;
+        let moment = (now.as_millis() as u64).max(self.planned.saturating_add(1));
+        if !(self.of.when)(&error) || self.of.budget.is_some_and(|it| !it.take()) {
+            return Err(Failed::Attempt(error));
+        }
+        let Some(next) = self.schedule.next_after(moment, (self.of.input_of)(&error))? else {
+            return Err(Failed::Attempt(error));
+        };
+        let passed = now.max(Duration::from_millis(self.planned));
+        let mut wait = Duration::from_millis(next).saturating_sub(passed);
+        if self.of.jitter > 0.0 {
+            wait = wait.mul_f64(1.0 - self.of.jitter * random());
+        }
+        wait = wait.max((self.of.retry_after)(&error).unwrap_or_default());
+        self.planned = next;
+        (self.of.notify)(&error, self.attempts, wait);
+        Ok(wait)
+    }
+}
+
+/// Returns a random number from 0 to 1: each `RandomState` has other keys.
+fn random() -> f64 {
+    (RandomState::new().hash_one(0) >> 11) as f64 / (1_u64 << 53) as f64
+}
+
+/// A schedule with a state of fixed size; one with `collectAll` stores its steps instead.
+enum Follower {
+    Flat(Stepper),
+    Listed(Schedule),
+}
+
+impl Follower {
+    fn new(text: &str) -> Result<Follower, Fault> {
+        match Stepper::new(text) {
+            Err(Fault::KeepsList) => Schedule::new(text).map(Follower::Listed),
+            made => made.map(Follower::Flat),
+        }
+    }
+
+    fn next_after(&mut self, moment: u64, input: u64) -> Result<Option<u64>, Fault> {
+        match self {
+            Follower::Flat(stepper) => stepper.next_after(moment, input),
+            Follower::Listed(schedule) => schedule.after(moment, input).map(|result| result.next),
+        }
+    }
+}
+
+#[cfg(test)]
+mod tests {
+    use super::*;
+
+    /// Retries an attempt that takes `millis` milliseconds and fails `failures` times, by a clock
+    /// that else only sleeps advance. Returns the waits and the result.
+    fn tried(text: &str, millis: u64, failures: u64) -> (Vec<u64>, Result<u64, u64>) {
+        let (clock, mut waits, mut attempts) = (core::cell::Cell::new(0), Vec::new(), 0);
+        let attempt = || {
+            attempts += 1;
+            clock.set(clock.get() + millis);
+            if attempts > failures { Ok(attempts) } else { Err(503) }
+        };
+        let sleep = |wait: Duration| {
+            waits.push(wait.as_millis() as u64);
+            clock.set(clock.get() + wait.as_millis() as u64);
+        };
+        let ended = Retry::new(text).input_of(|code| *code).call_by(attempt, || Duration::from_millis(clock.get()), sleep);
+        (waits, ended.map_err(|failed| failed.into_last().expect("a schedule")))
+    }
+
+    #[test]
+    fn attempts_wait_as_the_schedule_says() {
+        assert_eq!(tried("(exponential(10) && recurs(5))", 5, 3), (vec![10, 20, 40], Ok(4)));
+        assert_eq!(tried("(spaced(30) && recurs(2))", 5, 9), (vec![30, 30], Err(503)));
+        assert_eq!(tried("spaced(30).whileInput(< 500)", 5, 9), (vec![], Err(503)));
+    }
+
+    #[test]
+    fn an_attempt_counts_as_1_millisecond_at_least() {
+        assert_eq!(tried("(exponential(10) && recurs(5))", 0, 3), (vec![11, 21, 41], Ok(4)));
+        let (waits, ended) = tried("elapsed.whileOutput(< 200)", 0, 9999);
+        assert_eq!((waits, ended), (vec![1; 200], Err(503)));
+    }
+
+    #[test]
+    fn a_schedule_that_collects_is_followed_by_its_list() {
+        assert_eq!(tried("(linear(5) && recurs(9)).collectAll", 5, 3), (vec![5, 10, 15], Ok(4)));
+        assert_eq!(tried("(linear(5) && recurs(2)).collectAll", 5, 3), (vec![5, 10], Err(503)));
+    }
+
+    #[test]
+    fn the_state_after_many_attempts_is_as_long_as_before() {
+        let (waits, ended) = tried("spaced(1)", 5, 200_000);
+        assert_eq!((waits.len(), ended), (200_000, Ok(200_001)));
+        let mut stepper = Stepper::new("(spaced(1) && recurs(9))").expect("a schedule");
+        let words = stepper.state().len();
+        for moment in 0..1000 {
+            stepper.after(moment, 0).expect("a step");
+        }
+        assert_eq!(stepper.state().len(), words);
+    }
+}
