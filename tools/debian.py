@@ -9,6 +9,7 @@ import shutil
 import subprocess
 import textwrap
 
+from library_files import put
 from zsched_tools.command import Refused
 
 TOP = pathlib.Path(__file__).resolve().parent.parent
@@ -79,13 +80,6 @@ def libc_of(path):
     if not versions:
         raise Refused(f"{path}: it names no version of the C library")
     return "{}.{}".format(*max((int(major), int(minor)) for major, minor in versions))
-
-
-def put(place, data, mode=0o644):
-    """Writes a file, and makes its folders."""
-    place.parent.mkdir(parents=True, exist_ok=True)
-    place.write_bytes(data.encode() if isinstance(data, str) else data)
-    place.chmod(mode)
 
 
 def zipped(data):

@@ -9,6 +9,7 @@ TOP = pathlib.Path(__file__).resolve().parent.parent
 MADE = TOP / "crates" / "zsched_c" / "out"
 ABI = (TOP / "include" / "zsched.abi").read_text(encoding="utf-8")
 SONAME = re.search(r"^soname (\S+)$", ABI, re.M)[1]
+FUNCTIONS = re.findall(r"^function (\S+) (\S+)$", ABI, re.M)
 PC = """\
 prefix={prefix}
 libdir=${{prefix}}/{libdir}
@@ -68,7 +69,7 @@ def version():
 def symbols():
     """The version script of the shared library: its functions, each with the version that exports it."""
     nodes = {}
-    for name, node in re.findall(r"^function (\S+) (\S+)$", ABI, re.M):
+    for name, node in FUNCTIONS:
         nodes.setdefault(node, []).append(name)
     text, before = "", ""
     for node, names in sorted(nodes.items()):

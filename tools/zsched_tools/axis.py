@@ -1,4 +1,5 @@
 """The time axis of a picture: the places of moments, and the moments that have a label."""
+import itertools
 import math
 from typing import NamedTuple
 
@@ -11,15 +12,23 @@ _STEPS = (_SHORT_STEPS + [1000 * it for it in [1, 2, 5, 10, 15, 30]] + [MINUTE *
           + [HOUR * it for it in [1, 2, 3, 6, 12]])
 
 
-_TIMES = _STEPS + [DAY * many * 10**power for power in range(12) for many in [1, 2, 5]]
-
-
 class View(NamedTuple):
     """The part of time that a picture shows: its first and last moment, None for a default; and whether its axis
     is logarithmic."""
     first: int | None = None
     last: int | None = None
     is_log: bool = False
+
+
+def round_numbers(unit=1):
+    """1, 2, 5, 10, 20 and so on, times a unit."""
+    return (unit * many * 10**power for power in itertools.count() for many in [1, 2, 5])
+
+
+def steps_to(most):
+    """Round numbers for the lines of an axis, from 0 to the first that isn't under the most: at most five."""
+    step = next(step for step in round_numbers() if 4 * step >= most)
+    return [step * number for number in range(max(1, -(-most // step)) + 1)]
 
 
 class Scale:
@@ -41,15 +50,7 @@ class Scale:
 def step_between_labels(time, room):
     """The least sensible step that leaves room between two labels."""
     least = time * NEAREST_LABELS / room
-    for step in _STEPS:
-        if step >= least:
-            return step
-    days = 1
-    while True:
-        for step in [days * DAY, 2 * days * DAY, 5 * days * DAY]:
-            if step >= least:
-                return step
-        days *= 10
+    return next(step for step in itertools.chain(_STEPS, round_numbers(DAY)) if step >= least)
 
 
 def labels(scale):
@@ -70,7 +71,7 @@ def labels(scale):
 def _labels_of_times(scale):
     """The same on a logarithmic axis: moments that count from the first one."""
     found = [(scale.first, "0" if scale.first == 0 else "+0 ms")]
-    for time in _TIMES:
+    for time in [*_STEPS, *itertools.islice(round_numbers(DAY), 36)]:
         moment = scale.first + time
         if moment <= scale.last and scale.at(moment) - scale.at(found[-1][0]) >= NEAREST_LABELS * 2 // 3:
             found.append((moment, duration(time) if scale.first == 0 else f"+{duration(time)}"))

@@ -54,6 +54,8 @@ class Bounds:
 
     def line(self):
         """All of it in one line."""
+        if self.least == 1 and self.most is None and self.longest > LAST_MOMENT:
+            return "nothing is proved"
         return f"{self.attempts()}; {self.waits()}"
 
 
@@ -64,9 +66,36 @@ def bounds_of(line):
                   read["steps_seen"])
 
 
+def of_policies(path, policies):
+    """The bounds of each Policy, for every draw if it is random."""
+    groups = [list((it.limits() or ())[:2]) if it.is_drawn else [it.spelled] for it in policies]
+    found = iter(run(path, sum(groups, [])))
+    firsts = [[next(found) for _ in group] for group in groups]
+    return [_of_draws(path, it, first) if it.is_drawn else first[0] for it, first in zip(policies, firsts)]
+
+
+def _of_draws(path, policy, found):
+    """The bounds of a random Policy from those of its greatest and its least waits. Its waits are at most the greatest
+    before the last attempt."""
+    if not found:
+        return Bounds(1, None, LAST_MOMENT + 1, None, MOST_STEPS)
+    most, without_limit = found[1].most, policy.limits()[2]
+    waits = run(path, [without_limit if most is None else f"({without_limit} && recurs({most - 1}))"])[0]
+    # Steps after the last moment of a plan aren't looked at, and with shorter waits they come before it.
+    if waits.seen < MOST_STEPS and (waits.total is None or waits.total > LAST_MOMENT):
+        return Bounds(found[0].least, most, LAST_MOMENT + 1, None, MOST_STEPS)
+    return Bounds(found[0].least, most, waits.longest, waits.total, waits.seen)
+
+
 def run(path, policies, seconds=None):
     """The bounds of each policy by the program at this path. subprocess.TimeoutExpired is raised after the seconds."""
     status, printed, errors = program.run(path, "".join(f"{policy}\n" for policy in policies).encode(), seconds)
     if status:
         raise ChildProcessError(program.failure(status, errors, "zsched-bounds"))
-    return [bounds_of(line) for line in printed.splitlines()]
+    lines = printed.splitlines()
+    if len(lines) != len(policies):
+        raise ChildProcessError(f"{path} printed {plural(len(lines), 'line')} for {len(policies)} policies")
+    try:
+        return [bounds_of(line) for line in lines]
+    except (ValueError, KeyError, TypeError):
+        raise ChildProcessError(f"{path} printed a line without bounds") from None

@@ -1,7 +1,6 @@
 """A log of calls, read as attempts with their moments: CSV, JSON lines, or the JSON of OpenTelemetry's spans.
 
 Moments and lengths are whole nanoseconds here. A cell that isn't understood is an error with its row and column."""
-import argparse
 import csv
 import datetime
 import io
@@ -12,8 +11,8 @@ from decimal import Decimal
 from typing import NamedTuple
 
 from zsched_tools.cause import listed, shown
-from zsched_tools.command import Refused
-from zsched_tools.hints import milliseconds
+from zsched_tools.command import Refused, number
+from zsched_tools.hints import TABLE, milliseconds
 from zsched_tools.spans import spans_in
 
 UNITS = {"ns": Decimal(1), "us": Decimal(1000), "ms": Decimal(10**6), "s": Decimal(10**9)}
@@ -39,9 +38,7 @@ _STATUS = re.compile(r"(?:(ok|err|error) )?([0-9]{1,20})(?: [a-z' -]+)?", re.IGN
 _OK = {"ok", "success", "succeeded", "true", "unset"}
 _ERRORS = {"error", "err", "fail", "failed", "failure", "false", "timeout", "timed out", "timedout", "canceled", "-",
            "no response", "reset", "refused", "aborted by the client"}
-_GRPC = ("ok cancelled unknown invalid_argument deadline_exceeded not_found already_exists permission_denied "
-         "resource_exhausted failed_precondition aborted out_of_range unimplemented internal unavailable data_loss "
-         "unauthenticated").split()
+_GRPC = [code.lower() for code in TABLE["grpc"]]
 # Below the first, a moment counts from the log's own begin; the others are the least of each unit since 1970.
 _EPOCHS = [(10**17, "ns", "epoch nanoseconds"), (10**14, "us", "epoch microseconds"),
            (10**11, "ms", "epoch milliseconds"), (10**8, "s", "epoch seconds")]
@@ -72,16 +69,9 @@ def add_options(group):
     group.add_argument("--unit", choices=list(UNITS), help="the unit of lengths (by the column's name, else ms)")
     group.add_argument("--timestamps", choices=["begin", "end"], default="begin",
                        help="what a column 'timestamp' is: the begin of an attempt (default) or its end")
-    group.add_argument("--errors-from", type=_code, default=400, metavar="N",
+    group.add_argument("--errors-from", type=number(0, MOST_CODE, "{} is not a whole number"), default=400, metavar="N",
                        help="a status of N or more is an error (400); so is 0, unless N is below 100")
     group.add_argument("--endpoint", metavar="NAME", help="only the attempts of this endpoint, path or span's name")
-
-
-def _code(word):
-    """A status, as a whole number."""
-    if not word.isascii() or not word.isdigit():
-        raise argparse.ArgumentTypeError(f"{word} is not a whole number")
-    return int(word)
 
 
 def by_request(calls):

@@ -1,7 +1,8 @@
 """The certificate of a simulated policy: the program's report of its plan, compared with the scenario.
 
 Each ending and number of attempts must be the simulated one. Each attempt of the report must end as the scenario says for
-the moment at which it begins in the report; that outcome is computed again from the report."""
+the moment at which it begins in the report; that outcome is computed again from the report. Clients whose scripts a plan
+has no room for are in no report, and count as they were simulated."""
 import re
 from array import array
 from dataclasses import dataclass
@@ -19,7 +20,7 @@ class Uncertified(Exception):
 
 
 @dataclass(slots=True)
-class Certified:
+class Client:
     """A client in the report: when its attempts begin, how long each takes (0 if it runs at the horizon), its value and
     whether that is ok; and how the client ends."""
     name: str
@@ -41,26 +42,45 @@ def clients_in(report):
         lengths = array("Q", [int(last) - int(begin) if last else 0 for begin, last, _, _ in attempts])
         values = array("Q", [int(value or 0) for _, _, _, value in attempts])
         ending = Ending(end[1].decode(), None if end[2] is None else int(end[2]), int(end[3]), len(attempts))
-        yield Certified(_NAME.match(block)[1].decode(), begins, lengths, values,
-                        bytes(word == b"ok" for _, _, word, _ in attempts), ending)
+        yield Client(_NAME.match(block)[1].decode(), begins, lengths, values,
+                     bytes(word == b"ok" for _, _, word, _ in attempts), ending)
 
 
-def certified(scenario, simulated, reports):
-    """The clients in the reports of a plan's parts. Uncertified says how they differ from the simulated endings, or
-    from the scenario."""
-    clients = [client for report in reports for client in clients_in(report)]
-    if len(clients) != len(simulated):
-        raise Uncertified(f"the report has {len(clients)} jobs, and {len(simulated)} clients were simulated")
-    code = scenario.budget.code if scenario.budget else None
-    for number, (client, wanted) in enumerate(zip(clients, simulated)):
+def certified(scenario, simulated, reports, others=()):
+    """The clients, those in the reports of a plan's parts and the runs of the others, by their numbers. Uncertified says
+    how they differ from the simulated endings, or from the scenario."""
+    others = dict(others)
+    found = [client for report in reports for client in clients_in(report)] if len(others) < len(simulated) else []
+    if len(found) + len(others) != len(simulated):
+        raise Uncertified(f"the report has {len(found)} jobs, and the plan has {len(simulated) - len(others)}")
+    numbers = [number for number in range(len(simulated)) if number not in others]
+    code, runs = scenario.budget.code if scenario.budget else None, others.copy()
+    for number, client in zip(numbers, found):
         if client.name != name_of(number):
             raise Uncertified(f"the report has job {client.name}, but {name_of(number)} is expected")
-        _hold(client, wanted)
-    walk = Walk(scenario, [Run(client.begins, b"", _tail(client.ending, code)) for client in clients])
-    for client, ending, kinds in zip(clients, walk.endings, walk.found):
-        _hold(client, ending)
-        _hold_attempts(scenario, client, kinds)
-    return clients
+        _hold(client, simulated[number])
+        runs[number] = Run(client.begins, b"", _tail(client.ending, code))
+    walk = Walk(scenario, [runs[number] for number in range(len(simulated))])
+    clients = {number: _simulated(scenario, number, run, walk.found[number], simulated[number])
+               for number, run in others.items()} | dict(zip(numbers, found))
+    for number, client in clients.items():
+        _hold(client, walk.endings[number])
+        if number not in others:
+            _hold_attempts(scenario, client, walk.found[number])
+    return [clients[number] for number in range(len(simulated))]
+
+
+def _simulated(scenario, number, run, kinds, ending):
+    """A client that is in no report."""
+    outcomes = [scenario.outcomes[kind & ~DENIED] for kind in kinds]
+    lengths = array("Q", [outcome.ms for outcome in outcomes])
+    if ending.how == "unfinished" and run.begins[len(kinds) - 1] + lengths[-1] > scenario.horizon:
+        lengths[-1] = 0
+    values = array("Q", [outcome.value for outcome in outcomes])
+    if kinds[-1] & DENIED:
+        values[-1] = scenario.budget.code
+    return Client(name_of(number), run.begins[:len(kinds)], lengths, values,
+                  bytes(outcome.is_ok for outcome in outcomes), ending)
 
 
 def _tail(ending, code):

@@ -1,43 +1,52 @@
-"""How a command ends: rejected input, failures of the machine, and the exit status of each."""
+"""How a command reads, writes and ends: what each exit status means, rejected input, and failures of the machine."""
+import argparse
 import contextlib
+import errno
+import functools
 import io
 import os
+import pathlib
+import shutil
 import sys
 
-from zsched_tools import colors
+from zsched_tools import colors, release
+from zsched_tools.cause import WIDTH, shown
 
-REFUSED = 2
-FAILED = 3
+# The exit statuses of all commands. 0 is yes. A process that SIGPIPE ends has the status 141 in a shell.
+NO, REFUSED, FAILED, INTERRUPTED = 1, 2, 3, 130
+_OF_OUTPUT = (errno.ENOSPC, errno.EFBIG, errno.EDQUOT)
 _colored = ["auto"]
 
 
 class Refused(Exception):
-    """Input that is rejected. The text has the place: a file, a line."""
+    """Input or a program that is rejected. The text has the place: a file, a line."""
 
 
 def run(tool, work):
-    """Does a command's work and returns its exit status: 0, 2 if the input is rejected, 3 if reading or writing
-    failed, 130 if the user interrupted it. Each status except 0 has one line on standard error. `starting.run` does the
-    same, but writes no line if the reader of standard output closes it."""
+    """Does a command's work and returns its exit status: that of the work (None is 0), 2 if the input is rejected or a
+    program isn't there, 3 if reading, writing or a program failed, 130 if the user interrupted it. Each of these has one
+    line on standard error. `starting.run` does the same, but writes no line if the reader of standard output closes it."""
     if sys.stdout is None:
         return _told(tool, "standard output is closed", FAILED)
     try:
-        work()
+        status = work() or 0
         sys.stdout.flush()
-        return 0
+        return status
     except Refused as refused:
         return _told(tool, refused, REFUSED)
+    except RecursionError:
+        return _told(tool, "the input is nested too deeply", REFUSED)
     except BrokenPipeError:
         _drop_output()
         return _told(tool, "the reader of standard output closed it", FAILED)
     except OSError as failure:
         _drop_output()
-        place = f"{failure.filename}: " if failure.filename else ""
-        return _told(tool, f"{place}{failure.strerror or failure}", FAILED)
+        place = failure.filename or ("standard output" if failure.errno in _OF_OUTPUT else "")
+        return _told(tool, f"{shown(str(place), WIDTH)}{': ' if place else ''}{failure.strerror or failure}", FAILED)
     except MemoryError:
         return _told(tool, "out of memory", FAILED)
     except KeyboardInterrupt:
-        return _told(tool, "interrupted", 130)
+        return _told(tool, "interrupted", INTERRUPTED)
 
 
 def _drop_output():
@@ -47,9 +56,84 @@ def _drop_output():
         os.dup2(os.open(os.devnull, os.O_WRONLY), sys.stdout.fileno())
 
 
+def forms(tool, description, epilog, metavar):
+    """The parser of a command of several forms, and what adds a form, by `add_parser`."""
+    made = functools.partial(argparse.ArgumentParser, epilog=epilog, formatter_class=argparse.RawDescriptionHelpFormatter)
+    parser = made(prog=tool, description=description)
+    release.add_version(parser)
+    colors.add_color(parser)
+    return parser, parser.add_subparsers(required=True, metavar=metavar, parser_class=made)
+
+
+def number(least, most, words):
+    """A reader of whole numbers of the command line. `words` say what is wrong with another one."""
+    def read(word):
+        if word.isascii() and word.isdigit() and len(word) <= 20 and least <= int(word) <= most:
+            return int(word)
+        raise argparse.ArgumentTypeError(words.format(word))
+    return read
+
+
+@contextlib.contextmanager
+def new_folder(path, other):
+    """A folder that gets its name after all files in it are written, and that is removed if something fails before;
+    None without a path. `other` is what else may write it."""
+    if path is None:
+        yield None
+        return
+    folder = pathlib.Path(path)
+    if folder.exists() and (not folder.is_dir() or any(folder.iterdir())):
+        raise Refused(f"{folder}: exists, and isn't an empty folder")
+    making = folder.with_name(folder.name + ".partial")
+    if making.exists():
+        raise Refused(f"{making}: exists: another {other} writes it, or an interrupted one left it (then remove it)")
+    making.mkdir()
+    try:
+        yield making
+        os.rename(making, folder)
+    finally:
+        shutil.rmtree(making, ignore_errors=True)
+
+
 def color(choice):
     """Sets when the last line of a command is coloured: auto, always or never."""
     _colored[0] = choice
+
+
+def standard_input():
+    """The bytes of standard input, as a file. If it is a terminal, a line on standard error says so."""
+    if sys.stdin is None:
+        raise OSError("standard input is closed")
+    if sys.stdin.isatty() and sys.stderr is not None:
+        tool = os.path.basename(sys.argv[0])
+        print(f"{tool}: reads standard input, a terminal; Ctrl-D ends it", file=sys.stderr, flush=True)
+    return sys.stdin.buffer
+
+
+def read(path, most=-1):
+    """The bytes of a file, at most `most`; - is standard input."""
+    if path == "-":
+        with naming("standard input"):
+            return standard_input().read(most)
+    with naming(path), open(path, "rb") as file:
+        return file.read(most)
+
+
+def write(path, data):
+    """Writes a file: a text or bytes."""
+    with naming(path), open(path, "wb") as file:
+        file.write(data.encode() if isinstance(data, str) else data)
+
+
+@contextlib.contextmanager
+def naming(path):
+    """Gives errors of reading and writing the name of this file, if they have none."""
+    try:
+        yield
+    except OSError as failure:
+        if failure.errno is not None and failure.filename is None:
+            failure.filename = str(path)
+        raise
 
 
 def _told(tool, text, status):

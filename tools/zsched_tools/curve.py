@@ -1,11 +1,16 @@
 """What a simulated policy did: its load second by second, and its figures."""
+import json
 from collections import Counter
 
+from zsched_tools.cause import WIDTH, shown
 from zsched_tools.durations import duration
 from zsched_tools.scenario import LAST_MOMENT, THOUSAND
 
 CSV_HEAD = "second,begun,ok,err,running"
 SHARES = [50, 95, 99]
+# The times of which a peak is the worst: the name in JSON, the length, and the words. None is a second of the clock.
+SPANS = [("100ms", 100, "in 100 ms"), ("second", THOUSAND, "in a second"), ("clock_second", None, "in a clock second")]
+MOST_NAMED = 10
 
 
 class Curve:
@@ -13,12 +18,14 @@ class Curve:
     when it ends."""
 
     def __init__(self, clients):
-        self.begun, self.ok, self.err = Counter(), Counter(), Counter()
+        self.begun, self.ok, self.err, self.begins = Counter(), Counter(), Counter(), Counter()
         for client in clients:
-            self.begun.update(begin // THOUSAND for begin in client.begins)
+            self.begins.update(client.begins)
             for begin, length, is_ok in zip(client.begins, client.lengths, client.are_ok):
                 if length:
                     (self.ok if is_ok else self.err)[(begin + length) // THOUSAND] += 1
+        for begin, count in self.begins.items():
+            self.begun[begin // THOUSAND] += count
         self.last = max([max(count) for count in [self.begun, self.ok, self.err] if count], default=0)
 
     def rows(self):
@@ -33,10 +40,22 @@ class Curve:
         """The rows as CSV."""
         return "".join(f"{line}\n" for line in [CSV_HEAD, *(",".join(map(str, row)) for row in self.rows())])
 
-    def peak(self, since=0):
-        """The most attempts that begin in one second from a moment on, and the first such second; None without attempts."""
-        seconds = [(count, -second) for second, count in self.begun.items() if second * THOUSAND >= since]
-        return (max(seconds)[0], -max(seconds)[1]) if seconds else None
+    def peak(self, span, since=0):
+        """The most attempts, of those from a moment on, that begin within a time, and the first begin of such a time; None
+        without attempts. Without a span it is a second of the clock."""
+        if span is None:
+            found = [(count, -second * THOUSAND) for second, count in self.begun.items() if second * THOUSAND >= since]
+            return (max(found)[0], -max(found)[1]) if found else None
+        moments = sorted(begin for begin in self.begins if begin >= since)
+        best, within, first = None, 0, 0
+        for moment in moments:
+            within += self.begins[moment]
+            while moments[first] <= moment - span:
+                within -= self.begins[moments[first]]
+                first += 1
+            if best is None or within > best[0]:
+                best = within, moments[first]
+        return best
 
 
 def share_of(ordered, percent):
@@ -45,11 +64,12 @@ def share_of(ordered, percent):
 
 
 class Figures:
-    """The figures of a policy, for one column of the table."""
+    """The figures of a policy, for one column of the table. `uncertified` has the names of the clients that are in no
+    report."""
 
-    def __init__(self, scenario, clients, passes):
-        self.curve = Curve(clients)
-        self.passes, self.clients = passes, len(clients)
+    def __init__(self, scenario, text, clients, uncertified, passes):
+        self.text, self.curve = text, Curve(clients)
+        self.passes, self.clients, self.uncertified = passes, len(clients), uncertified
         counts = [client.ending.attempts for client in clients]
         self.attempts, self.greatest = sum(counts), max(counts)
         self.mean = round(10 * self.attempts / len(clients)) / 10
@@ -60,17 +80,64 @@ class Figures:
         self.gave_up, self.unfinished = endings["failed"], endings["unfinished"]
         self.denied = sum(scenario.budget is not None and client.ending.how == "failed"
                           and client.ending.value == scenario.budget.code for client in clients)
-        self.peak = self.curve.peak()
-        self.peak_after = None if scenario.back is None else self.curve.peak(scenario.back)
+        self.peaks = [self.curve.peak(span) for _, span, _ in SPANS]
+        self.peaks_after = [self.curve.peak(span, scenario.back) for _, span, _ in SPANS if scenario.back is not None]
+        self.recovery = None if scenario.back is None else _recovery(clients, scenario.back)
 
     def shares(self):
         """The times to success at the shares of the table, and the greatest."""
         return [share_of(self.times, percent) for percent in [*SHARES, 100]]
 
+    def certified(self):
+        """The share of the clients that is certified, in percent. It is 100 only for all."""
+        return f"{10_000 * (self.clients - len(self.uncertified)) // self.clients / 100:g} %"
 
-def _peak(found, part):
-    """A peak's height (part 0) or its second (part 1) as a cell."""
-    return "-" if found is None else f"{found[0]:,}" if part == 0 else seconds(found[1] * THOUSAND)
+    def note(self):
+        """The clients that aren't certified, in words, or None."""
+        if not self.uncertified:
+            return None
+        names = ", ".join(self.uncertified[:MOST_NAMED]) + (", .." if len(self.uncertified) > MOST_NAMED else "")
+        return (f"{len(self.uncertified):,} of {self.clients:,} clients not certified (a script has at most "
+                f"1,000 entries): {names}")
+
+    def members(self, name):
+        """The figures as an object of JSON. Times are milliseconds."""
+        def peaks(found):
+            return {name: peak and {"attempts": peak[0], "from_ms": peak[1]} for (name, *_), peak in zip(SPANS, found)}
+        return {
+            "name": name, "schedule": self.text, "attempts": self.attempts, "attempts_mean": self.mean,
+            "attempts_greatest": self.greatest, "peak": peaks(self.peaks), "peak_after": peaks(self.peaks_after) or None,
+            "time_to_success_ms": dict(zip([f"p{percent}" for percent in SHARES] + ["greatest"], self.shares())),
+            "succeeded": len(self.times), "last_success_ms": self.last_success, "recovery_ms": self.recovery,
+            "gave_up": self.gave_up, "out_of_budget": self.denied, "unfinished": self.unfinished,
+            "certified": self.clients - len(self.uncertified), "not_certified": self.uncertified, "passes": self.passes}
+
+
+def _recovery(clients, back):
+    """The time from a moment to the last success of a client whose first attempt failed; None if one is unfinished."""
+    met = [client.ending for client in clients if any(client.lengths[:1]) and not client.are_ok[0]]
+    if any(ending.how == "unfinished" for ending in met):
+        return None
+    return max([ending.at - back for ending in met if ending.how == "succeeded" and ending.at > back], default=0)
+
+
+def to_json(scenario, figures):
+    """The scenario and the figures as a line of JSON."""
+    return json.dumps({
+        "scenario": headline(scenario), "clients": len(scenario.starts), "horizon_ms": scenario.horizon,
+        "seed": scenario.seed, "back_ms": scenario.back,
+        "policies": [it.members(name) for name, it in figures.items()]}, ensure_ascii=False)
+
+
+def policy_lines(figures):
+    """Each policy's name and text, in lines."""
+    for name, it in figures.items():
+        yield f"{name}: {shown(it.text, 10 * WIDTH)}"
+
+
+def _peak(found):
+    """A peak as a cell: its height, and when it begins."""
+    return "-" if found is None else f"{found[0]:,} at {seconds(found[1])}"
 
 
 def table(scenario, figures):
@@ -83,34 +150,27 @@ def table(scenario, figures):
     yield row("attempts", lambda it: f"{it.attempts:,}")
     yield row("  of a client, mean", lambda it: f"{it.mean:,}")
     yield row("  of a client, greatest", lambda it: f"{it.greatest:,}")
-    yield row("peak, attempts a second", lambda it: _peak(it.peak, 0))
-    yield row("  in the second from", lambda it: _peak(it.peak, 1))
-    if scenario.back is not None:
-        yield row(f"peak after {duration(scenario.back)}", lambda it: _peak(it.peak_after, 0))
-        yield row("  in the second from", lambda it: _peak(it.peak_after, 1))
+    for number, (_, _, words) in enumerate(SPANS):
+        yield row(("  " if number else "peak ") + words, lambda it, number=number: _peak(it.peaks[number]))
+    for number, (_, _, words) in enumerate(SPANS if scenario.back is not None else ()):
+        head = "  " if number else f"peak after {duration(scenario.back)}, "
+        yield row(head + words, lambda it, number=number: _peak(it.peaks_after[number]))
     names = [f"p{percent}" for percent in SHARES] + ["greatest"]
     for number, name in enumerate(names):
         words = f"time to success, {name}" if number == 0 else f"  {name}"
         yield row(words, lambda it, number=number: _time(it.shares()[number]))
     yield row("last success at", lambda it: _time(it.last_success))
+    if scenario.back is not None:
+        yield row(f"recovery after {duration(scenario.back)}", lambda it: _time(it.recovery))
     yield row("gave up", lambda it: f"{it.gave_up:,}")
     if scenario.budget is not None:
         yield row("  out of budget", lambda it: f"{it.denied:,}")
     yield row("unfinished", lambda it: f"{it.unfinished:,}")
-    yield row("passes", lambda it: str(it.passes))
+    yield row("certified", lambda it: it.certified())
 
 
 def _time(time):
     return "-" if time is None else duration(time)
-
-
-def lines(rows):
-    """The lines of a table: the first column to the left, the others to the right."""
-    rows = list(rows)
-    widths = [max(map(len, column)) for column in zip(*rows)]
-    for name, *cells in rows:
-        placed = [cell.rjust(width) for cell, width in zip(cells, widths[1:])]
-        yield "  ".join([name.ljust(widths[0]), *placed]).rstrip()
 
 
 def headline(scenario):
@@ -135,5 +195,6 @@ def seconds(moment):
 def state_words(window):
     """What a service does in a window."""
     state = ["", "down", "slow"][window.state]
-    capacity = "" if window.capacity is None else f"serves {window.capacity:,} a second"
+    per = "a second" if window.per == THOUSAND else f"each {duration(window.per)}"
+    capacity = "" if window.capacity is None else f"serves {window.capacity:,} {per}"
     return ", ".join(filter(None, [state, capacity])) or "up"

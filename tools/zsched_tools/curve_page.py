@@ -2,7 +2,7 @@
 It is one file that loads nothing from elsewhere."""
 import html
 
-from zsched_tools.curve import headline, table
+from zsched_tools.curve import headline, policy_lines, table
 from zsched_tools.curve_picture import draw_curves
 
 NARROW, WIDE = 360, 920
@@ -28,12 +28,13 @@ th,td{{padding:3px 0 3px 14px;border-bottom:1px solid var(--grid);text-align:rig
 tr:first-child>th+th{{white-space:normal;overflow-wrap:anywhere;min-width:8ch;vertical-align:bottom}}
 th:first-child{{padding-left:0;text-align:left;font-weight:normal;white-space:pre-wrap}}
 p{{color:var(--soft);max-width:70ch}}
+.policy{{color:var(--ink);margin:4px 0;overflow-wrap:anywhere}}
 @media(max-width:500px){{table{{font-size:12px}}th,td{{padding-left:8px}}}}
 </style>
 """
 NOTE = """<p>A panel shows one policy; all have the same time and the same height for the same load. Areas are the
 attempts that ended in a second, ok above err; the line is those that began in it, the dashed line those that run at its
-end. The run of each policy is the report of a plan, which the program confirmed for every client.</p>
+end. The run of each policy is the report of a plan, which the program confirmed for every client that is certified.</p>
 """
 
 
@@ -50,4 +51,8 @@ def curve_page(scenario, figures):
         mark = "th" if number == 0 else "td"
         yield f'<tr><th scope="row">{html.escape(cells[0])}</th>'
         yield "".join(f"<{mark}>{html.escape(cell)}</{mark}>" for cell in cells[1:]) + "</tr>\n"
-    yield "</table></div>\n" + NOTE + "</html>\n"
+    yield "</table></div>\n"
+    notes = [f"{name}: {it.note()}" for name, it in figures.items() if it.uncertified]
+    for line in [*policy_lines(figures), *notes]:
+        yield f'<p class="policy">{html.escape(line)}</p>\n'
+    yield NOTE + "</html>\n"

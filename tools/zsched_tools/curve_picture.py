@@ -1,7 +1,8 @@
 """The load of policies as a picture: a panel a policy, all with one time axis and one height for the same load. The
 windows of the service are shaded. An outcome is shown by its colour and by its place: ok is above err."""
 
-from zsched_tools.axis import Scale, labels
+from zsched_tools.axis import Scale, labels, steps_to
+from zsched_tools.cause import WIDTH, shown
 from zsched_tools.curve import headline, seconds, state_words
 from zsched_tools.drawing import cut_text, path, place, rectangle, root, text, text_width
 from zsched_tools.durations import duration
@@ -10,10 +11,11 @@ from zsched_tools.scenario import DOWN, THOUSAND
 MARGIN = 16
 PANEL = 120
 GAP = 34
-# The room above a panel's loads for what the service does.
-WORDS = 18
+# The room above a panel for the policy, and above its loads for what the service does.
+HEAD, WORDS = 36, 18
 SMALL = 11
 LETTERS = 12
+TITLE = 14
 # A picture has no more columns than this; of more seconds some share one.
 MOST_COLUMNS = 600
 
@@ -43,7 +45,7 @@ class Layout:
         self.every = -(-last // MOST_COLUMNS)
         self.columns = {name: columns(it.curve.rows(), self.every) for name, it in figures.items()}
         self.most = max(max(row[1], row[2] + row[3], row[4]) for rows in self.columns.values() for row in rows)
-        self.steps = _steps(self.most)
+        self.steps = steps_to(self.most)
         self.left = MARGIN + max(text_width(f"{step:,}", SMALL) for step in self.steps) + 8
         self.scale = Scale(0, last * THOUSAND, self.left, width - MARGIN)
         self.title = _wrapped(headline(scenario), width - 2 * MARGIN)
@@ -51,7 +53,7 @@ class Layout:
 
     def panel(self, number):
         """The top of a panel's plot."""
-        return self.top + number * (WORDS + PANEL + GAP) + 20 + WORDS
+        return self.top + number * (HEAD + WORDS + PANEL + GAP - 20) + HEAD + WORDS
 
     @property
     def bottom(self):
@@ -66,23 +68,12 @@ def columns(rows, every):
     return [(group[0][0], *map(max, list(zip(*group))[1:])) for group in groups]
 
 
-def _steps(most):
-    """Round loads for the lines of a panel, from 0 to the first that isn't under the most: at most five."""
-    power = 1
-    while True:
-        for step in [power, 2 * power, 5 * power]:
-            if 4 * step >= most:
-                return [step * number for number in range(max(1, -(-most // step)) + 1)]
-        power *= 10
-
-
 def _wrapped(words, room):
-    """The lines of the title, cut at its parts."""
+    """The lines of the title, cut at its words."""
     lines = [""]
-    for part in words.split("; "):
-        longer = f"{lines[-1]}; {part}" if lines[-1] else part
-        if lines[-1] and text_width(longer, 15) > room:
-            lines[-1] += ";"
+    for part in words.split(" "):
+        longer = f"{lines[-1]} {part}".lstrip()
+        if lines[-1] and text_width(longer, 1.15 * TITLE) > room:
             lines.append(part)
         else:
             lines[-1] = longer
@@ -153,15 +144,18 @@ def _served(figures):
 def _panel(layout, number, name):
     """A policy's panel: the shaded windows, what ended in each second, and the lines of what began and what runs."""
     top, rows, figures = layout.panel(number), layout.columns[name], layout.figures[name]
-    height, second = figures.peak or (0, 0)
-    verdict = [f"{figures.attempts:,} attempts", f"peak {height:,} at {seconds(second * THOUSAND)}", _served(figures)]
-    shown = cut_text(name, LETTERS, (layout.width - MARGIN - layout.left) / 3)
-    yield text(layout.left, top - WORDS - 7, shown, "name", title=name)
-    begin = layout.left + 1.15 * text_width(shown, LETTERS) + 8
+    (short, _), (height, _) = [peak or (0, 0) for peak in figures.peaks[:2]]
+    verdict = [f"{figures.attempts:,} attempts", f"peak {height:,} a second, {short:,} in 100 ms",
+               _served(figures)]
+    room = layout.width - MARGIN - layout.left
+    called, policy = cut_text(name, LETTERS, room / 3), shown(figures.text, 10 * WIDTH)
+    yield text(layout.left, top - WORDS - 23, called, "name", title=name)
+    begin = layout.left + 1.15 * text_width(called, LETTERS) + 8
+    yield text(begin, top - WORDS - 23, cut_text(policy, SMALL, layout.width - MARGIN - begin), "soft", title=policy)
     words = "; ".join(verdict)
-    while text_width(words, SMALL) > layout.width - MARGIN - begin and "; " in words:
+    while text_width(words, SMALL) > room and "; " in words:
         words = words.rpartition("; ")[0]
-    yield text(begin, top - WORDS - 7, words, "soft", title="; ".join(verdict))
+    yield text(layout.left, top - WORDS - 7, words, "soft", title="; ".join(verdict))
     yield from _windows(layout, top)
     yield from _grid(layout, top)
     yield path(_area(layout, top, rows, lambda row: 0, lambda row: row[3]), "err")

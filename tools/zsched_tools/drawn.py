@@ -1,101 +1,320 @@
-"""Policies in which numbers are drawn once a client: `rand(LO, HI)`, and the delays of `jitter(BASE, CAP, N)`.
+"""Policies in the words of the tools: schedules with sugar, random numbers, and policies of config files.
 
-A plan has no random numbers, so each client gets a schedule in which its numbers are written. `jitter` is AWS's "full
-jitter": N delays, the k-th drawn evenly from 0 to the smaller of CAP and BASE * 2^(k - 1), and then it is done."""
+    delays(1s, 1.5s, 2.25s)                     these waits, one after another
+    exponential(1s, 1.5, max 10s, 9 retries)    a fraction as the factor, a cap, a number of retries
+    S jitter full                               each wait of S drawn evenly from 0 to the wait
+    rand(LO, HI)                                a number that is drawn once
+    jitter(BASE, CAP, N)                        ((exponential(BASE) || spaced(CAP)) && recurs(N)) jitter full
+    @FILE#NAME                                  the policy NAME that `zsched-policy import FILE` finds
+
+`jitter equal` draws from half of the wait to the wait, `jitter 20%` from 80 % to 120 % of it, and `jitter 2/3..1` from two
+thirds of it to the wait. A schedule has no random numbers, so each draw is a schedule in which its numbers are written.
+The waits of S come from the program. They must depend on nothing but their number. The first 239 are drawn one by one, and
+all later ones, which must be equal, with one draw."""
+import functools
+import itertools
 import re
-from typing import NamedTuple
+import sys
+from fractions import Fraction
+from math import ceil, floor
+from typing import Callable, NamedTuple
 
+from zsched_tools import hints, program
+from zsched_tools.bounding import LAST_MOMENT
 from zsched_tools.cause import Cause
+from zsched_tools.command import REFUSED
+from zsched_tools.duration_text import milliseconds
+from zsched_tools.durations import duration
+from zsched_tools.hints import TABLE
 from zsched_tools.place import FaultAt
+from zsched_tools.policy import spelling
 from zsched_tools.positions import MAX_WHOLE
+from zsched_tools.schedule_rules import any_cause
+from zsched_tools.trying import plan_of, waits_in
 
 MOST_DELAYS = 240
-_CALL = re.compile(r"(?<![A-Za-z])(rand|jitter)(?![A-Za-z]) *(?:\(([^()]*)\))?")
-_FORMS = {"rand": "rand(LO, HI)", "jitter": "jitter(BASE, CAP, N)"}
+MOST_WAITS = 999
+LOW, HIGH = "low", "high"
+_CALL = re.compile(r"(?<![A-Za-z])(rand|jitter|delays|exponential)(?![A-Za-z]) *(?:\(([^()]*)\))?")
+_PART = r"[0-9]{1,9}(?:/[1-9][0-9]{0,8})?"
+_AFTER = re.compile(rf" *(?<![A-Za-z])jitter +(full|equal|([0-9]{{1,3}}(?:\.[0-9]{{1,9}})?) *%|({_PART})\.\.({_PART}))"
+                    "(?![A-Za-z0-9/])")
+_LIMIT = r"elapsed\.whileOutput\(<=? *[0-9]+ *\)"
+_LIMITED = re.compile(rf"\( *(.*\S) *&& *{_LIMIT} *\)")
+_OF_INPUT = re.compile(r"(.*)\.whileInput\([^()]*\)")
+_UNSTEADY = {"elapsed", "fixed", "windowed", "identity", "whileInput"}
+_RANDOM_WAIT = re.compile(r"(?:spaced|linear|fibonacci|exponential)\( *\Z")
 
 
 class Piece(NamedTuple):
-    """A piece of a policy's text: a text that is the same for all clients (no word), or a call with its numbers."""
+    """A piece of a policy's text. `spelled` is its text without sugar. `draw` returns that of a draw: it gets a source of
+    random numbers, or LOW or HIGH for the least or the greatest draw. It is None if nothing is random."""
     at: int
     size: int
-    word: str
-    numbers: tuple
+    spelled: str
+    draw: Callable | None = None
 
 
-def _numbers(found):
-    """The numbers of a call, which must be whole and fit."""
-    word, form = found[1], _FORMS[found[1]]
-    texts = [part.strip() for part in (found[2] or "").split(",")]
-    size = len(found[0].rstrip())
-
-    def refuse(what, help):
-        raise FaultAt(Cause(found.start(), size, what, help))
-    if len(texts) != form.count(",") + 1 or not all(it.isascii() and it.isdigit() and len(it) < 20 for it in texts):
-        refuse(f"{word} takes {form.count(',') + 1} whole numbers", f"write {form}")
-    numbers = tuple(map(int, texts))
-    if word == "rand" and numbers[0] > numbers[1]:
-        refuse("the first number is greater than the second", f"write rand({numbers[1]}, {numbers[0]})")
-    if word == "jitter" and not 1 <= numbers[2] <= MOST_DELAYS:
-        refuse(f"jitter has {numbers[2]} delays", f"write 1 to {MOST_DELAYS}: a schedule has room for no more")
-    return numbers
-
-
-class Policy:
-    """A policy's text, read once and drawn for each client."""
-
-    def __init__(self, text):
-        self.text = text
-        self.pieces, at = [], 0
-        for found in _CALL.finditer(text):
-            self.pieces.append(Piece(at, found.start() - at, "", ()))
-            self.pieces.append(Piece(found.start(), len(found[0]), found[1], _numbers(found)))
-            at = found.end()
-        self.pieces.append(Piece(at, len(text) - at, "", ()))
-
-    @property
-    def is_drawn(self):
-        """Whether clients differ in their schedules."""
-        return len(self.pieces) > 1
-
-    def texts(self, random):
-        """The text of each piece for the next client."""
-        for piece in self.pieces:
-            if not piece.word:
-                yield self.text[piece.at:piece.at + piece.size]
-            elif piece.word == "rand":
-                yield str(drawn(random, *piece.numbers))
-            else:
-                yield jittered(random, *piece.numbers)
-
-    def schedule(self, random):
-        """The schedule of the next client."""
-        return "".join(self.texts(random))
-
-    def cause_at(self, random, cause):
-        """A cause in the schedule of the next client as one in the policy: a call is one place."""
-        at = cause.at
-        for piece, text in zip(self.pieces, self.texts(random)):
-            if at < len(text) or piece is self.pieces[-1]:
-                return cause._replace(at=piece.at, size=piece.size) if piece.word else cause._replace(at=piece.at + at)
-            at -= len(text)
-        return cause
+def refuse(at, size, what, help="", **values):
+    """Raises the fault at a place of a policy, in the texts with these names."""
+    raise FaultAt(Cause(at, size, *(hints.said(it, **values) for it in (what, help))))
 
 
 def drawn(random, least, most):
-    """A whole number from least to most, each equally likely. It uses only `random.random`, whose numbers for a
-    seed are the same in all versions of Python."""
+    """A whole number from least to most, each equally likely; for LOW and HIGH that end. It uses only `random.random`,
+    whose numbers for a seed are the same in all versions of Python."""
+    if random in (LOW, HIGH):
+        return least if random == LOW else most
     return least + int(random.random() * (most - least + 1))
 
 
-def jittered(random, base, cap, count):
-    """The schedule of some drawn delays, one after another."""
-    delays = [drawn(random, 0, min(cap, base << min(number, 64), MAX_WHOLE)) for number in range(count)]
-    return _one_after_another([f"(recurs(1)&&spaced({delay}))" for delay in delays])
+class Policy:
+    """A policy's text, read once and drawn any number of times. FaultAt has a fault with its place in the text. `zsched`
+    is the program's path (None: the one that is found)."""
+
+    def __init__(self, text, zsched=None):
+        self.text, self.zsched, self.left_out = text, zsched, []
+        self.source = text
+        if text.startswith("@"):
+            self.source, self.left_out = _of_file(text)
+        edits = [edit for found in _AFTER.finditer(self.source) for edit in self._jitter(found)]
+        for found in _CALL.finditer(self.source):
+            is_inside = any(edit.at <= found.start() < edit.at + edit.size for edit in edits)
+            edits += [] if is_inside else filter(None, [_called(found)])
+        self.pieces, at = [], 0
+        for edit in sorted(edits):
+            if edit.at < at:
+                refuse(edit.at, edit.size, "one_jitter")
+            self.pieces += [Piece(at, edit.at - at, self.source[at:edit.at]), edit]
+            at = edit.at + edit.size
+        self.pieces.append(Piece(at, len(self.source) - at, self.source[at:]))
+        self.spelled = "".join(piece.spelled for piece in self.pieces)
+
+    @property
+    def is_drawn(self):
+        """Whether draws differ."""
+        return any(piece.draw for piece in self.pieces)
+
+    def texts(self, random):
+        """The text of each piece in the next draw."""
+        return [piece.draw(random) if piece.draw else piece.spelled for piece in self.pieces]
+
+    def schedule(self, random):
+        """The schedule of the next draw; for LOW and HIGH that of the least and the greatest waits."""
+        return "".join(self.texts(random))
+
+    def show(self, tool):
+        """Writes the schedule that the text becomes, and what that leaves out, to standard error."""
+        if self.spelled != self.text:
+            print(f"{tool}: {self.text} is {self.spelled}", file=sys.stderr)
+        for what in self.left_out:
+            print(f"{tool}: {self.text} leaves out {what}", file=sys.stderr)
+
+    def cause_at(self, random, cause):
+        """A cause in the schedule of the next draw as one in the policy: a piece with sugar is one place."""
+        if self.source != self.text:
+            return cause._replace(at=0, size=len(self.text))
+        at = cause.at
+        for piece, text in zip(self.pieces, self.texts(random)):
+            if at < len(text) or piece is self.pieces[-1]:
+                is_whole = text != self.source[piece.at:piece.at + piece.size]
+                return cause._replace(at=piece.at, size=piece.size) if is_whole else cause._replace(at=piece.at + at)
+            at -= len(text)
+        return cause
+
+    def limits(self):
+        """The schedules whose bounds together hold for every draw: of the greatest waits, of the least waits, and of the
+        greatest without a limit of time. None if nothing is known to hold.
+
+        All parts but a limit of time evaluate the same steps whatever they wait, and a longer wait of a part makes no
+        wait of the whole shorter. A limit of time that all parts are under ends no later if the waits are longer."""
+        fixed = "".join("0" if piece.draw and piece.size else piece.spelled for piece in self.pieces)
+        rest, count = re.subn(_LIMIT, "forever", fixed)
+        words = set(re.findall("[A-Za-z]+", rest))
+        befores = ["".join(it.spelled for it in self.pieces[:number]) for number, piece in enumerate(self.pieces)
+                   if piece.draw and self.source.startswith("rand", piece.at)]
+        if words & {"elapsed", "fixed", "windowed", "resetWhen", "whileOutput"} or not all(
+                map(_RANDOM_WAIT.search, befores)) or (count and ("||" in rest or "andThenEither" in rest)):
+            return None
+        high = self.schedule(HIGH)
+        return high, self.schedule(LOW), re.sub(_LIMIT, "forever", high)
+
+    def _jitter(self, found):
+        """The pieces of a jitter: the schedule before it, and its words."""
+        begin, end = _operand(self.source, found.start()), found.start()
+        while (inner := _LIMITED.fullmatch(self.source, begin, end)) and _is_balanced(inner[1]) or (
+                inner := _OF_INPUT.fullmatch(self.source, begin, end)):
+            begin, end = inner.span(1)
+        if begin == end:
+            refuse(found.start(), len(found[0]), "jitter_follows", "a_jitter")
+        inner = Policy(self.source[begin:end], self.zsched)
+        unsteady = _UNSTEADY & set(re.findall("[A-Za-z]+", inner.spelled))
+        if inner.is_drawn:
+            refuse(begin, end - begin, "drawn_already", "or_rand")
+        if unsteady:
+            refuse(begin, end - begin, "depend", "without", text=min(unsteady))
+        ends, word = _ends(found), Piece(found.start(), len(found[0]), found[0], lambda _: "")
+        return word, Piece(begin, end - begin, inner.spelled, lambda random: _jittered(
+            self.zsched or program.find(), inner, begin, ends, random))
+
+
+def _ends(found):
+    """The least and the greatest part of a wait that a jitter draws."""
+    ends = {"full": "0..1", "equal": "1/2..1"}.get(found[1], found[1]).split("..")
+    around = Fraction(found[2] or 0) / 100
+    low, high = (1 - around, 1 + around) if found[2] else map(Fraction, ends)
+    if not 0 <= low <= high:
+        refuse(found.start(), len(found[0]), "least_wait", "percent")
+    return low, high
+
+
+def _is_balanced(text):
+    """Whether each parenthesis of a text has its other one."""
+    depths = list(itertools.accumulate((letter == "(") - (letter == ")") for letter in text))
+    return min(depths, default=0) >= 0 and (depths or [0])[-1] == 0
+
+
+def _operand(text, end):
+    """Where the schedule begins that ends here: a leaf or a pair of parentheses, with the methods after it."""
+    at = end
+    while at and (text[at - 1] == ")" or text[at - 1].isalpha()):
+        if text[at - 1] == ")":
+            depths = itertools.accumulate((letter == ")") - (letter == "(") for letter in reversed(text[:at]))
+            size = next((size for size, depth in enumerate(depths, 1) if depth == 0), 0)
+            if not size:
+                break
+            at -= size
+        at = re.search(r"[A-Za-z]*\Z", text[:at]).start()
+        if not text[:at].endswith("."):
+            break
+        at -= 1
+    return at
+
+
+def _called(found):
+    """The piece of a call, or None if it is that of a schedule."""
+    word, at, size = found[1], found.start(), len(found[0].rstrip())
+    texts = [part.strip() for part in (found[2] or "").split(",")]
+    if word == "exponential":
+        is_sugar = re.search("[a-z]", found[2] or "") or any("." in part for part in texts[1:])
+        return Piece(at, size, _exponential(at, size, texts)) if is_sugar else None
+    if word == "delays":
+        waits = [_milliseconds(at, size, part) for part in texts]
+        return Piece(at, size, _spelled(at, size, lambda: spelling.listed(waits), len(waits)))
+    form, many = TABLE["draws"][word], TABLE["draws"][word].count(",") + 1
+    if len(texts) != many or not all(it.isascii() and it.isdigit() and len(it) < 20 for it in texts):
+        refuse(at, size, "takes_numbers", "write", word=word, count=many, text=form)
+    least, most, count = map(int, [*texts, 1][:3])
+    if word == "rand":
+        if least > most:
+            refuse(at, size, "falling", "write", text=f"rand({most}, {least})")
+        return Piece(at, size, found[0], lambda random: str(drawn(random, least, most)))
+    if not 1 <= count <= MOST_DELAYS:
+        refuse(at, size, "many_draws", "no_more_draws", count=count, most=MOST_DELAYS)
+    ranges = [(0, min(most, least << min(number, 64), MAX_WHOLE)) for number in range(count)]
+    return Piece(at, size, found[0], lambda random: _one_after_another([_delay(drawn(random, *it)) for it in ranges]))
+
+
+def _milliseconds(at, size, text):
+    """A duration of a call."""
+    try:
+        return milliseconds(text)
+    except ValueError as fault:
+        refuse(at, size, str(fault))
+
+
+def _exponential(at, size, texts):
+    """The schedule of an exponential with a fraction, a cap or a number of retries."""
+    factor, most, retries = Fraction(2), None, None
+    for number, text in enumerate(texts[1:]):
+        if found := re.fullmatch(r"max +(.+)", text):
+            most = _milliseconds(at, size, found[1])
+        elif found := re.fullmatch(r"([0-9]{1,9}) +retr(?:y|ies)", text):
+            retries = int(found[1])
+        elif number == 0 and re.fullmatch(r"[0-9]{1,9}(\.[0-9]{1,9})?", text):
+            factor = Fraction(text)
+        else:
+            refuse(at, size, "no_exponential", "an_exponential", text=text)
+    first = _milliseconds(at, size, texts[0])
+    return _spelled(at, size, lambda: spelling.exponential(first, factor, most), retries, "an_exponential")
+
+
+def _spelled(at, size, make, retries, help=""):
+    """The schedule of the waits that `make` returns, which must have room for all."""
+    try:
+        text, left_out = spelling.spelled(make(), retries)
+    except ValueError as fault:
+        refuse(at, size, str(fault), help)
+    if left_out:
+        refuse(at, size, "no_room" if retries else "no_endless", "write_max", most=spelling.MOST_PIECES)
+    return text
+
+
+def _of_file(text):
+    """The policy that a text names, as @FILE#NAME: its schedule with its jitter, and what it leaves out."""
+    from zsched_tools.policy import command
+    path, _, name = text[1:].partition("#")
+    line = command.line_of_file(path, name or None)
+    jitter, left_out, timeout = line["jitter"] or {}, line["left_out"], line["attempt_timeout_ms"]
+    left_out += [f"the limit of an attempt, {duration(timeout)}"] if timeout else []
+    left_out += [f"that only these are retried: {', '.join(line['retries_on'])}"] if line["retries_on"] else []
+    least, percent = None, Fraction(str(jitter.get("percent", 0))) / 100
+    if jitter == {"kind": "full"}:
+        return f"{line['schedule']} jitter full", left_out
+    if jitter.get("kind") == "proportional":
+        least = (1 - percent) / (1 + percent)
+    elif jitter.get("kind") == "added" and percent:
+        least = 1 / (1 + percent)
+    elif jitter:
+        left_out = [*left_out, f"{jitter['kind']} jitter: each wait has its greatest value"]
+    return line["schedule"] + ("" if least is None else f" jitter {least}..1"), left_out
+
+
+@functools.cache
+def waits_of(zsched, schedule):
+    """The first waits of a schedule by the program, at most MOST_WAITS, and whether it ends after them. FaultAt has a
+    fault of the schedule."""
+    script = [(1, "err", 0)] * MOST_WAITS + [(1, "ok", 0)]
+    status, report, errors = program.report_of(zsched, plan_of([schedule], "retry", LAST_MOMENT, script).encode(), 1)
+    line = program.failure(status, errors)
+    if status == REFUSED:
+        raise FaultAt(any_cause(schedule, line.partition("schedule: ")[2]))
+    if status:
+        raise ChildProcessError(line)
+    return waits_in(report), b"\nend failed" in report
+
+
+def _jittered(zsched, inner, at, ends, random):
+    """The schedule of an inner policy, whose place is `at`, with waits that are drawn between two parts of each."""
+    try:
+        waits, is_all = waits_of(zsched, inner.spelled)
+    except FaultAt as fault:
+        cause = inner.cause_at(random, fault.cause)
+        raise FaultAt(cause._replace(at=at + cause.at)) from None
+    is_endless = not is_all and not re.search("recurs|whileOutput", inner.spelled)
+    room = MOST_DELAYS if is_all and len(waits) <= MOST_DELAYS else MOST_DELAYS - 1
+    if len(set(waits[room:])) > 1 or (len(waits) == MOST_WAITS and not is_endless):
+        refuse(at, len(inner.text), "many_waits", "fewer", most=MOST_DELAYS)
+
+    def draw(wait):
+        most = min(floor(wait * ends[1]), MAX_WHOLE)
+        return drawn(random, min(ceil(wait * ends[0]), most), most)
+    terms = [_delay(draw(wait)) for wait in waits[:room]]
+    if not is_all:
+        terms.append(f"spaced({draw(waits[-1] if waits else MAX_WHOLE)})")
+    elif waits[room:]:
+        terms.append(_delay(draw(waits[-1]), len(waits) - room))
+    return _one_after_another(terms or ["recurs(0)"])
+
+
+def _delay(wait, count=1):
+    """The schedule of a delay that is repeated."""
+    return f"(recurs({count})&&spaced({wait}))"
 
 
 def _one_after_another(terms):
     """Terms joined by andThenEither, in halves, so that the depth grows with the logarithm of their number."""
     if len(terms) == 1:
         return terms[0]
-    half = (len(terms) + 1) // 2
-    return f"({_one_after_another(terms[:half])}andThenEither{_one_after_another(terms[half:])})"
+    first, second = (_one_after_another(part) for part in (terms[:-(len(terms) // 2)], terms[-(len(terms) // 2):]))
+    return f"({first}andThenEither{'' if second[0] == '(' else ' '}{second})"

@@ -2,13 +2,12 @@
 
 While the program runs, a thread scans the plan, which takes longest. The modules for that are imported then."""
 import argparse
-import os
 import subprocess
 import sys
 import tempfile
 import threading
 
-from zsched_tools import colors, plan_size, program, release, starting
+from zsched_tools import colors, command, plan_size, program, release, starting
 from zsched_tools.cause import WIDTH, shown
 
 ABOUT = """Runs zsched on a plan, and shows where the plan's fault is.
@@ -22,15 +21,14 @@ If the plan is accepted, standard output gets 'FILE: no fault'. zsched itself wr
 the report.
 
 With --all the later faults are shown too: the command mends each fault in a copy and
-runs the copy. A plan that may have more than 100000000 attempts gets a warning. It is
-run with a clock of one moment, on which it has the same faults."""
-STATUSES = """exit status, that of zsched:
+runs the copy. A plan that may have more than 1000000 attempts gets a warning. It is
+run with a clock of one moment, on which it has the same faults. A plan whose workers
+take longer than one would gets a warning too."""
+STATUSES = """exit status:
   0  the plan has no fault
-  2  the plan is rejected, or an option is wrong
-  3  reading or writing failed, in zsched or in this command
-  4  no memory, or no thread
-  128 and more: a signal ended zsched
-and 1 if zsched isn't found"""
+  2  the plan is rejected, an option is wrong, or zsched isn't found
+  3  reading or writing failed, or zsched did: no memory, no thread, a signal"""
+TOOL = "zsched-explain"
 MOST_FAULTS = 10
 # The seconds after which a plan with fewer jobs is tried.
 PATIENCE = 2
@@ -44,13 +42,6 @@ class Words(argparse.ArgumentParser):
         self.exit(2, f"{self.prog}: {message}\n{self.format_usage()}")
 
 
-def _number(word):
-    """A number of faults."""
-    if not word.isascii() or not word.isdigit() or not 1 <= int(word[:9]) <= 10000:
-        raise argparse.ArgumentTypeError(f"{word} isn't a number from 1 to 10000")
-    return int(word)
-
-
 def words():
     """The parser of the arguments."""
     found = Words(prog="zsched-explain", description=ABOUT, epilog=STATUSES,
@@ -60,43 +51,25 @@ def words():
     found.add_argument("--zsched", metavar="PATH",
                        help="the program; by default that of the variable ZSCHED, else the built or the installed one")
     found.add_argument("--all", action="store_true", help="show all faults of the plan, not only the first")
-    found.add_argument("--most", type=_number, default=MOST_FAULTS, metavar="N",
+    count = command.number(1, 10000, "{} isn't a number from 1 to 10000")
+    found.add_argument("--most", type=count, default=MOST_FAULTS, metavar="N",
                        help=f"how many faults --all shows at most ({MOST_FAULTS})")
     colors.add_color(found)
     release.add_version(found)
     return found
 
 
-def main(arguments=None):
-    """Runs the command, by default with the arguments of the process. Returns its exit status."""
-    taken = starting.parsed(words(), arguments)
-    try:
-        return _explain("standard input" if taken.plan == "-" else taken.plan, taken)
-    except KeyboardInterrupt:
-        return 130
-    except BrokenPipeError:
-        return starting.end_by_pipe()
-
-
-def _explain(name, taken):
-    """Explains the plan, which messages call by this name. Returns the exit status."""
-    paint = colors.Paint(taken.color, sys.stderr)
-    try:
-        zsched = program.find(taken.zsched)
-        look = Look(_plan(taken.plan))
-    except program.NoProgram as missing:
-        return _failed(str(missing), 1)
-    except OSError as failed:
-        return _failed(f"{shown(name, WIDTH)}: {failed.strerror}", 3)
+def _explain(taken):
+    """Explains the plan. Returns the exit status."""
+    name, paint = "standard input" if taken.plan == "-" else taken.plan, colors.Paint(taken.color, sys.stderr)
+    zsched = program.find(taken.zsched)
+    look = Look(command.read(taken.plan, program.MAX_BYTES + 1))
     many = plan_size.warning(look.data)
-    if many:
-        print(f"zsched-explain: {paint('strong', 'warning')}: {many}", file=sys.stderr, flush=True)
-    try:
-        status, line = refusal(zsched, look, data=plan_size.with_one_tick(look.data) if many else None)
-        if status == 2 and taken.all:
-            return _tell_all(name, zsched, look.data, taken.most, paint)
-    except OSError as failed:
-        return _failed(f"{zsched}: {failed.strerror}", 1)
+    for found in [many, plan_size.workers_warning(look.data)]:
+        plan_size.warn(TOOL, found, taken.color)
+    status, line = refusal(zsched, look, data=plan_size.with_one_tick(look.data) if many else None)
+    if status == command.REFUSED and taken.all:
+        return _tell_all(name, zsched, look.data, taken.most, paint)
     return tell(name, look, status, line, paint)
 
 
@@ -120,7 +93,7 @@ def _tell_all(name, zsched, data, most, paint):
 
 def outcome(zsched, data):
     """The status and the line of the program on a plan's bytes."""
-    status, _, errors = program.run(zsched, data)
+    status, _, errors = program.report_of(zsched, data, None)
     return status, errors.decode(errors="replace")
 
 
@@ -131,20 +104,6 @@ def fault_of_fewer(zsched, data):
     fewer = alike.fewer(data)
     status, line = outcome(zsched, fewer.data) if fewer else (0, "")
     return (2, fewer.line(line)) if status == 2 else None
-
-
-def _failed(what, status):
-    """Writes a failure to standard error. Returns the status."""
-    print(f"zsched-explain: {what}", file=sys.stderr)
-    return status
-
-
-def _plan(name):
-    """The plan's bytes, at most one more than the program allows."""
-    if name == "-":
-        return sys.stdin.buffer.read(program.MAX_BYTES + 1)
-    with open(name, "rb") as file:
-        return file.read(program.MAX_BYTES + 1)
 
 
 class Look(threading.Thread):
@@ -170,13 +129,23 @@ class Look(threading.Thread):
 
 def refusal(zsched, look, seconds=None, data=None):
     """Runs the program on a plan's bytes, or on `data` with the same faults, and starts the scan. Returns the status and
-    the line on standard error, and drops the report. After `seconds` the program is killed, and subprocess.TimeoutExpired
+    the line on standard error. After `seconds` the program is killed, and subprocess.TimeoutExpired
     is raised. After PATIENCE it is killed if a plan with one of each group of alike jobs has the fault."""
     data = look.data if data is None else data
-    with tempfile.TemporaryFile() as plan:
+    with tempfile.TemporaryFile() as plan, tempfile.TemporaryFile() as report:
         plan.write(data)
         plan.seek(0)
-        process = subprocess.Popen([zsched], stdin=plan, stdout=subprocess.DEVNULL, stderr=subprocess.PIPE)
+        with program.starting(zsched):
+            process = subprocess.Popen([zsched], stdin=plan, stdout=report, stderr=subprocess.PIPE)
+        status, errors = _ended(zsched, look, process, seconds, data)
+        if status == 0:
+            report.seek(max(0, report.seek(0, 2) - 40))
+            program.check_report(zsched, report.read())
+    return status, errors
+
+
+def _ended(zsched, look, process, seconds, data):
+    """The status and the line of a process that runs a plan, as `refusal` returns them."""
     with process:
         try:
             look.start()
@@ -193,23 +162,19 @@ def refusal(zsched, look, seconds=None, data=None):
         except BaseException:
             process.kill()
             raise
-    status = process.returncode
-    return status if status >= 0 else 128 - status, errors.decode(errors="replace")
+    return process.returncode, errors.decode(errors="replace")
 
 
 def tell(name, look, status, line, paint=lambda _, text: text):
     """Writes the explanation of the program's status and line. Returns the status."""
-    if status != 0:
+    if status == command.REFUSED:
         said = f"{paint('bad', line.rstrip())}\n" if line.strip() else line
-        sys.stderr.write(said + (look.explanation(name, line, paint) if status == 2 else ""))
-        return status
-    if sys.stdout is None:
-        return _failed("standard output is closed", 3)
-    try:
-        print(f"{shown(name, WIDTH)}: no fault", flush=True)
-    except BrokenPipeError:
-        raise
-    except OSError as failed:
-        os.dup2(os.open(os.devnull, os.O_WRONLY), sys.stdout.fileno())
-        return _failed(f"standard output: {failed.strerror}", 3)
-    return 0
+        sys.stderr.write(said + look.explanation(name, line, paint))
+    elif status:
+        raise ChildProcessError(program.failure(status, line.encode()))
+    else:
+        print(f"{shown(name, WIDTH)}: no fault")
+    return status
+
+
+main = starting.command(TOOL, words, _explain)

@@ -1,9 +1,13 @@
-"""Whether the attempts of a log follow a policy: the decisions of the program at the log's own moments.
+"""Whether the attempts of a log follow a policy: the decisions of the program after each attempt.
 
-The program steps the schedule S at the moments at which the request's attempts really ended. The job that shows its
-decision after attempt k has the schedule (S || recurs(k - 1)). Up to step k - 1 the second part continues at once, so
-the attempts follow each other without a wait, and the k-th ends when the k-th of the log did. At step k it is done, and
-the decision of the whole is that of S."""
+A schedule S without `elapsed`, `fixed` and `windowed` decides by the number of steps and their inputs alone: one job
+of S for each request shows all its waits. Others are stepped at the moments at which the request's attempts really
+ended. The job that shows the decision after attempt k has the schedule (S || recurs(k - 1)). Up to step k - 1 the
+second part continues at once, so the attempts follow each other without a wait, and the k-th ends when the k-th of the
+log did. At step k it is done, and the decision of the whole is that of S.
+
+A script has at most 1,000 entries, and the last one repeats. The jobs of a longer request end with (S && recurs(n)), or
+have a clock whose moments are the ends of its attempts."""
 import json
 import re
 from typing import NamedTuple
@@ -12,11 +16,13 @@ from zsched_tools.call_log import by_request, in_ms
 from zsched_tools.command import Refused
 from zsched_tools.document_faults import MAX_MOMENT
 from zsched_tools.durations import duration
-from zsched_tools.outage import MOST_ENTRIES, blocks_of, cut_plans, run_plan
+from zsched_tools.outage import ATTEMPTS_OF_PLAN, MOST_ATTEMPTS, MOST_ENTRIES, blocks_of, cut_plans, run_plan
+from zsched_tools.schedule_rules import MAX_DEPTH, MAX_WEIGHT, cause_of
 from zsched_tools.summary import plural
 
 KINDS = ["early", "late", "extra", "missing"]
-_STEP = re.compile(rb"step [0-9]+ out \S+ (?:next ([0-9]+)|done)\n")
+_TIMED, _INPUTS = {"elapsed", "fixed", "windowed"}, {"identity", "whileInput"}
+_STEP = re.compile(rb"\.\.([0-9]+) \S+ [0-9]+\nstep ([0-9]+) out \S+ (?:next ([0-9]+)|done)\n")
 
 
 class Attempt(NamedTuple):
@@ -77,23 +83,19 @@ class Compared(NamedTuple):
 def compared(calls, schedule, mode, tolerance, zsched):
     """Compares a log's attempts with a policy."""
     by_name = by_request(calls)
-    requests = {name: _attempts(name, found) for name, found in by_name.items()}
+    requests = {name: _attempts(found) for name, found in by_name.items()}
     latest = max((call.begin + (call.length or 0) for call in calls), default=0)
-    asked = [(name, number) for name, found in requests.items() for number in range(1, _stepped(found, mode) + 1)]
-    waits = dict(zip(asked, _waits([_job(at, schedule, mode, requests[name], number)
-                                    for at, (name, number) in enumerate(asked)],
-                                   [_steps(requests[name])[number - 1] for name, number in asked], zsched)))
+    waits = Decisions(schedule, mode, zsched, requests).waits
     differences = []
     for name, found in requests.items():
         ends = in_ms(latest - by_name[name][0].begin)
-        differences += _differences(name, found, mode, lambda number, name=name: waits[name, number], tolerance, ends)
+        differences += _differences(name, found, mode, lambda number, name=name: waits.get((name, number)), tolerance,
+                                    ends)
     return Compared(len(requests), len(calls), differences)
 
 
-def _attempts(name, calls):
+def _attempts(calls):
     """The attempts of a request."""
-    if len(calls) >= MOST_ENTRIES:
-        raise Refused(f'"{name}" has {len(calls)} attempts, and may have {MOST_ENTRIES - 1}')
     first = calls[0].begin
     return [Attempt(in_ms(call.begin - first), in_ms(call.begin - first + (call.length or 0)), call.is_ok, call.code)
             for call in calls]
@@ -117,25 +119,81 @@ def _steps(found):
     return moments
 
 
-def _job(at, schedule, mode, found, number):
-    """The job whose last step is the schedule's after an attempt."""
-    word, other = ("err", "ok") if mode == "retry" else ("ok", "err")
-    moments = [0, *_steps(found)]
-    entries = [f'{{"ms":{moments[place + 1] - moments[place]},"{word}":{found[place].code}}}'
-               for place in range(number)]
-    text = json.dumps(f"({schedule} || recurs({number - 1}))")
-    return (f'{{"name":"{at}","mode":"{mode}","schedule":{text},"script":[{",".join(entries)},'
-            f'{{"ms":1,"{other}":0}}]}}')
+def _wrapped(name, schedule, operator, count):
+    """The schedule under an operator with recurs."""
+    text = f"({schedule} {operator} recurs({count}))"
+    if cause_of(text, "too big"):
+        raise Refused(f'"{name}": {MAX_WEIGHT - 2} parts and {MAX_DEPTH - 1} levels are the most of a schedule for '
+                      f"{MOST_ENTRIES:,} attempts or more, and of one with {', '.join(sorted(_TIMED))}")
+    return text
 
 
-def _waits(jobs, moments, zsched):
-    """The waits that the last steps of some jobs return; None where the schedule is done."""
-    found = []
-    for plan in cut_plans(MAX_MOMENT, jobs)[0] if jobs else ():
-        for block in blocks_of(run_plan(zsched, plan)):
-            following = _STEP.match(block, block.rfind(b"\nstep ") + 1)[1]
-            found.append(None if following is None else int(following) - moments[len(found)])
-    return found
+class Decisions:
+    """The waits that a schedule returns after the attempts of each request, by its name and the attempt's number: None
+    if it is done, and nothing after that."""
+
+    def __init__(self, schedule, mode, zsched, requests):
+        self.schedule, self.zsched, self.waits = schedule, zsched, {}
+        self.word, self.other = ("err", "ok") if mode == "retry" else ("ok", "err")
+        self.words = set(re.findall("[A-Za-z]+", schedule))
+        requests = {name: (found[:count], _steps(found)) for name, found in requests.items()
+                    if (count := _stepped(found, mode))}
+        if not self.words & _TIMED:
+            requests = self._count(requests)
+        short = {name: it for name, it in requests.items() if len(it[0]) < MOST_ENTRIES}
+        self._step(MAX_MOMENT, short, None)
+        for name in requests.keys() - short:
+            found, moments = requests[name]
+            if len(found)**2 > MOST_ATTEMPTS:
+                raise Refused(f'"{name}" has {len(found):,} attempts, and at most {int(MOST_ATTEMPTS**0.5):,} can be '
+                              "compared with this schedule, whose decisions depend on time")
+            self._step([0, *moments], {name: requests[name]}, ATTEMPTS_OF_PLAN // len(found) + 1)
+
+    def _script(self, name, found, lengths):
+        """The entries of attempts that take these times, and of one that ends the request if there is room."""
+        codes = [it.code if self.words & _INPUTS else 0 for it in found]
+        entries = [f'{{"ms":{length},"{self.word}":{code}}}' for length, code in zip(lengths, codes)]
+        if len(entries) < MOST_ENTRIES:
+            return [*entries, f'{{"ms":1,"{self.other}":0}}']
+        if len(set(entries[MOST_ENTRIES - 1:])) > 1:
+            raise Refused(f'"{name}": its attempts from the {MOST_ENTRIES:,}th on have different codes, and the '
+                          "schedule depends on codes")
+        alike = next(at for at in range(MOST_ENTRIES - 1, -1, -1) if not at or entries[at - 1] != entries[at])
+        return entries[:alike + 1]
+
+    def _blocks(self, clock, jobs, most=None):
+        """The jobs' reports on a clock. A job is its schedule and its script."""
+        mode = "retry" if self.word == "err" else "repeat"
+        texts = [f'{{"name":"{at}","mode":"{mode}","schedule":{json.dumps(schedule)},"script":[{",".join(script)}]}}'
+                 for at, (schedule, script) in enumerate(jobs)]
+        for plan in cut_plans(clock, texts, most)[0] if jobs else ():
+            yield from blocks_of(run_plan(self.zsched, plan))
+
+    def _count(self, requests):
+        """Stores the waits after the attempts of requests. Returns the requests whose waits pass the last moment."""
+        jobs = [(self.schedule if len(found) < MOST_ENTRIES else _wrapped(name, self.schedule, "&&", len(found)),
+                 self._script(name, found, [1] * len(found))) for name, (found, _) in requests.items()]
+        rest = {}
+        for name, block in zip(requests, self._blocks(MAX_MOMENT, jobs)):
+            found = _STEP.findall(block)[:len(requests[name][0])]
+            self.waits.update({(name, int(number)): int(following) - int(end) if following else None
+                               for end, number, following in found})
+            if len(found) < len(requests[name][0]) and (not found or found[-1][2]):
+                rest[name] = requests[name]
+        return rest
+
+    def _step(self, clock, requests, most):
+        """Stores the waits after the attempts of requests, whose steps have the moments of the log: by the lengths of
+        attempts, or by the clock."""
+        asked = [(name, number) for name, (found, _) in requests.items() for number in range(1, len(found) + 1)]
+        jobs = []
+        for name, number in asked:
+            found, moments = requests[name]
+            lengths = [1 if most else after - before for before, after in zip([0, *moments], moments[:number])]
+            jobs.append((_wrapped(name, self.schedule, "||", number - 1), self._script(name, found[:number], lengths)))
+        for (name, number), block in zip(asked, self._blocks(clock, jobs, most)):
+            end, _, following = next(it for it in _STEP.findall(block) if int(it[1]) == number)
+            self.waits[name, number] = int(following) - int(end) if following else None
 
 
 def _differences(name, found, mode, wait_after, tolerance, ends):

@@ -1,6 +1,5 @@
 """The command zsched-follows: whether a service's attempts, as its log has them, follow a policy."""
 import argparse
-import pathlib
 import sys
 
 from zsched_tools import call_log, colors, command, importing, program, release, starting
@@ -32,24 +31,22 @@ attempt takes no time. A status of 400 or more is an error, and so are 0 (no res
 spans are those of one parent: spans of the kind client, else those without spans below them. docs/FORMATS.md has the
 names of columns and all rules.
 
-The decisions are those of the proved program. It steps the schedule S at the moments at which the log's attempts ended,
-one run for each attempt k: the job's schedule is (S || recurs(k - 1)), so its attempts follow each other at once and
-end when those of the log did, and its step k returns what S decides there. So after an early or a late attempt the
-policy goes on from that attempt's own end. All moments count from the begin of the request's first attempt, in whole
-milliseconds."""
+The decisions are those of the proved program. A schedule S without elapsed, fixed and windowed decides by the number
+of steps and their codes alone, so one run shows the waits after all attempts of a request. Another one is stepped at
+the moments at which the log's attempts ended, with one run for each attempt k: the job's schedule is (S || recurs(k -
+1)), so its attempts follow each other at once and end when those of the log did, and its step k returns what S decides
+there. So after an early or a late attempt the policy goes on from that attempt's own end. All moments count from the
+begin of the request's first attempt, in whole milliseconds."""
 EPILOG = """Exit status: 0 if all attempts follow; 1 if one differs; 2 if the log, the policy or an option is wrong,
 with file, row and column on standard error, or if there is no program; 3 if reading, writing or the program fails."""
 
 
 def work(given):
     """Runs the command with its arguments; returns the exit status."""
-    try:
-        given.zsched = program.find(given.zsched)
-    except program.NoProgram as missing:
-        raise Refused(missing) from None
+    given.zsched = program.find(given.zsched)
     name = "standard input" if given.log == "-" else given.log
-    data = sys.stdin.buffer.read() if given.log == "-" else pathlib.Path(given.log).read_bytes()
-    importing.check_schedule(given)
+    data = command.read(given.log)
+    importing.check_schedule(TOOL, given)
     notes = Notes()
     log = call_log.Reader(shown(name, WIDTH), data, given, notes)
     if not log.has_moments:
@@ -87,8 +84,4 @@ def arguments():
     return parser
 
 
-def main():
-    """The command line."""
-    given = starting.parsed(arguments())
-    command.color(given.color)
-    return starting.run(TOOL, lambda: work(given))
+main = starting.command(TOOL, arguments, work)

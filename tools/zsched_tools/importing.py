@@ -11,15 +11,18 @@ from typing import NamedTuple
 
 from zsched_tools import call_log, faults, program, windows
 from zsched_tools.cause import WIDTH, line_of, shown
-from zsched_tools.command import Refused
+from zsched_tools.command import Refused, write
 from zsched_tools.document_faults import MAX_JOBS, MAX_MOMENT
+from zsched_tools.drawn import Policy
 from zsched_tools.durations import duration
 from zsched_tools.hints import milliseconds
 from zsched_tools.outage import MOST_ENTRIES
-from zsched_tools.placed import Value, Written, Wrong, key, told
+from zsched_tools.place import FaultAt
+from zsched_tools.placed import Written, Wrong, told
 from zsched_tools.policy_file import read_toml, read_yaml
 from zsched_tools.policy_plan import Names, Notes, is_allowed, plan_of, whole
 from zsched_tools.scenario import Outcome
+from zsched_tools.schedule_rules import any_cause
 from zsched_tools.summary import plural
 
 READERS = {".yaml": read_yaml, ".yml": read_yaml, ".toml": read_toml}
@@ -50,7 +53,7 @@ job.
 A name that a plan doesn't allow is changed. Lengths of time are rounded to whole milliseconds, at
 least 1. Standard error reports both. YAML needs PyYAML (Debian: python3-yaml)."""
 EPILOG = """Exit status: 0; 2 if FILE can't become a plan, with file, line and column on standard
-error; 3 if reading or writing fails."""
+error, or if there is no program; 3 if reading, writing or the program fails."""
 
 
 class Source(NamedTuple):
@@ -85,9 +88,9 @@ def _until(word):
     return int(length)
 
 
-def add_command(forms, form):
+def add_command(forms):
     """Adds the command to those of zsched-plan."""
-    given = forms.add_parser("from", description=ABOUT, epilog=EPILOG, formatter_class=form,
+    given = forms.add_parser("from", description=ABOUT, epilog=EPILOG,
                              help="a log (CSV) or a policy file (YAML, TOML) as a plan")
     given.add_argument("file", metavar="FILE", help="the file; the end of its name says what it is")
     given.add_argument("-o", dest="out", metavar="PLAN", help="the plan's file (standard output)")
@@ -124,7 +127,7 @@ def _from(given):
     if given.out is None:
         sys.stdout.buffer.write(data)
     else:
-        pathlib.Path(given.out).write_bytes(data)
+        write(given.out, data)
 
 
 def _say(text):
@@ -140,7 +143,7 @@ def _report(notes, path, line):
 
 def _of_log(given):
     """The plan or the scenario of a log, and how many jobs it has."""
-    check_schedule(given)
+    check_schedule("zsched-plan", given)
     notes, data = Notes(), pathlib.Path(given.file).read_bytes()
     log = call_log.Reader(shown(given.file, WIDTH), data, given, notes)
     if given.windows and not log.has_moments:
@@ -193,10 +196,7 @@ def _requests(log, notes):
 
 def _scripts(given, log, service, requests, horizon):
     """The scripts of the requests under the schedule, by the moments of their attempts."""
-    try:
-        zsched = program.find(given.zsched)
-    except program.NoProgram as missing:
-        raise Refused(f"{missing}; --by-attempt and --windows need none") from None
+    zsched = program.find(given.zsched)
     scripts, too_long = windows.scripts(service, requests, given.schedule, given.mode, horizon, zsched)
     if too_long:
         _say(f"{plural(len(too_long), 'job')}, {requests[too_long[0]].name} the first, have more than {MOST_ENTRIES} "
@@ -206,14 +206,24 @@ def _scripts(given, log, service, requests, horizon):
     return scripts
 
 
-def check_schedule(given):
-    """Runs the program to check the schedule of a log's jobs."""
-    source = Source("--schedule", given.schedule)
-    script = [Value({key("ms", 0): Value(1, 0), key("ok", 0): Value(0, 0)}, 0)]
-    job = {"name": "log", "mode": "retry", "schedule": given.schedule, "script": script}
-    job = Value({key(name, 0): Value(value, 0, 0) for name, value in job.items()}, 0)
-    plan = {key("horizon", 0): Value(0, 0), key("jobs", 0): Value([job], 0)}
-    check(source, Written(Value(plan, 0)), given.zsched)
+def check_schedule(tool, given):
+    """Reads the schedule of a log's jobs, which may have sugar, and runs the program to check it."""
+    try:
+        policy = Policy(given.schedule)
+    except FaultAt as fault:
+        raise Source("--schedule", given.schedule).refused(fault.cause) from None
+    if policy.is_drawn:
+        raise Refused("--schedule: random waits can't be compared with those of a log")
+    policy.show(tool)
+    given.schedule = policy.spelled
+    found = program.find(given.zsched)
+    status, _, errors = program.report_of(found, program.one_job(0, given.schedule, '{"ms":1,"ok":0}'), 1)
+    line = program.failure(status, errors)
+    if status == 2:
+        cause = any_cause(given.schedule, line.partition("schedule: ")[2])
+        raise Source("--schedule", given.schedule).refused(cause)
+    if status:
+        raise OSError(f"{found}: {line}")
 
 
 def _of_policies(given, read):
@@ -227,25 +237,21 @@ def _of_policies(given, read):
     jobs = root.data.get("jobs")
     count = len(jobs.data) if jobs is not None and isinstance(jobs.data, list) else 0
     if count <= MAX_JOBS and len(plan.text.encode()) <= program.MAX_BYTES:
-        check(source, plan, given.zsched)
+        check(source, plan, given.zsched, count)
     _report(notes, given.file, source.line)
     return plan.text, count
 
 
-def check(source, plan, zsched):
-    """Runs the program to check a plan. A fault is shown at its place in the source."""
-    try:
-        found = program.find(zsched)
-    except program.NoProgram as missing:
-        _say(f"the plan wasn't checked: {missing}")
-        return
+def check(source, plan, zsched, jobs=1):
+    """Runs the program to check a plan of some jobs. A fault is shown at its place in the source."""
+    found = program.find(zsched)
     data = _HORIZON.sub(lambda it: it[1] + "0".ljust(len(it[2])), plan.text, 1).encode()
-    status, _, errors = program.run(found, data)
+    status, _, errors = program.report_of(found, data, jobs)
     line = errors.decode(errors="replace").strip().removeprefix("zsched: ")
     if status == 2:
         fault = faults.explained(faults.Plan(data), line)
         at, is_letter = plan.place(fault.cause.at)
         cause = fault.cause._replace(at=at, size=fault.cause.size if is_letter else 1)
-        raise source.refused(cause, None if source.name == "--schedule" else fault.name)
+        raise source.refused(cause, fault.name)
     if status:
         raise OSError(f"{found}: {line or f'status {status}'}")

@@ -75,15 +75,17 @@ class Load:
             if attempt.end is not None:
                 (self.ok if attempt.outcome == "ok" else self.err)[attempt.end // self.every] += 1
 
-    def coarser(self, factor):
-        """The load in steps that are longer by the factor."""
-        if factor == 1:
-            return self
-        found = Load(self.every * factor)
+    def _moved(self, every, place):
+        """The load in other steps: `place` returns that of each step."""
+        found = Load(every)
         for mine, theirs in zip(self._counters(), found._counters()):
             for step, count in mine.items():
-                theirs[step // factor] += count
+                theirs[place(step)] += count
         return found
+
+    def coarser(self, factor):
+        """The load in steps that are longer by the factor."""
+        return self if factor == 1 else self._moved(self.every * factor, lambda step: step // factor)
 
     def fitted(self):
         """The load in steps that are longer by a power of 10, so that attempts begin in at most MOST_FITTED of them."""
@@ -95,11 +97,7 @@ class Load:
     def clamped(self, first, last):
         """The load from the first to the last step. What is before the first step is in the step before it, and what is
         after the last step in the step after it."""
-        found = Load(self.every)
-        for mine, theirs in zip(self._counters(), found._counters()):
-            for step, count in mine.items():
-                theirs[min(max(step, first - 1), last + 1)] += count
-        return found
+        return self._moved(self.every, lambda step: min(max(step, first - 1), last + 1))
 
     def joined_with(self, other):
         """Both loads as one. Its steps are the longer ones of both, or longer. The longer step must be a multiple of

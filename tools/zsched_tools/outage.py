@@ -3,7 +3,10 @@
 Each pass runs the clients that are still open as if the service served no attempt. From the moments at which their
 attempts begin, `Walk` then computes how each client ends. A client whose attempts failed as they were run is settled; the
 others run again with the computed outcomes. At the end the outcomes are written as a plan, which the program runs once
-more: `certificate` compares that report with the scenario."""
+more: `certificate` compares that report with the scenario.
+
+A script has at most 1,000 entries, and the last one repeats. A client of more attempts is run so, and only up to a moment.
+It can be certified if all its attempts from the 1,000th on end alike."""
 import json
 import random
 import re
@@ -12,16 +15,18 @@ import tempfile
 from array import array
 
 from zsched_tools import program
+from zsched_tools.command import naming
 from zsched_tools.program import MAX_BYTES
 from zsched_tools.split import MOST_JOBS
-from zsched_tools.world import CUT, DENIED, DONE, GOES_ON, UNDENIED, Run, Walk
+from zsched_tools.world import CUT, DENIED, DONE, GOES_ON, MOST_ENTRIES, UNDENIED, Run, Walk
 from zsched_tools.scenario import DOWN
 
-MOST_ENTRIES = 1000
+# The most attempts of a policy, and about how many a plan makes of clients with many.
+MOST_ATTEMPTS, ATTEMPTS_OF_PLAN = 50_000_000, 1_000_000
 # The number of failures after the known ones with which a client is run: in the first pass, and at least later.
 FIRST_LOOK, LESS_LOOK = 32, 16
 _CUT_ENTRY = '{"ms":1,"ok":0}'
-_BEGIN = re.compile(rb"\nattempt \d+ (\d+)\.\.")
+BEGIN = re.compile(rb"\nattempt \d+ (\d+)\.\.")
 _TAILS = {b"s": CUT, b"f": DONE, b"u": GOES_ON}
 
 
@@ -41,17 +46,17 @@ def schedules_of(scenario, name):
     source = random.Random(f"{scenario.seed} {name}")
     after = f".whileInput(!= {scenario.budget.code})" if scenario.budget else ""
     if not policy.is_drawn:
-        return [policy.text + after] * len(scenario.starts)
+        return [policy.spelled + after] * len(scenario.starts)
     return [policy.schedule(source) + after for _ in scenario.starts]
 
 
-def cut_plans(horizon, jobs):
-    """Plans of some jobs, in order, each within the program's limits, and the most jobs of a plan. `zsched-plan split
-    --lines` makes the same plans from these jobs."""
-    before, after = f'{{"horizon":{horizon},"jobs":[', "\n]}\n"
-    most = MOST_JOBS
+def cut_plans(clock, jobs, most=None):
+    """Plans of some jobs with a horizon or a list of ticks, in order, each within the program's limits, and the most
+    jobs of a plan. `zsched-plan split --lines` makes the same plans from these jobs."""
+    before, after = f'{{"{"ticks" if isinstance(clock, list) else "horizon"}":{clock},"jobs":[', "\n]}\n"
+    most = most or MOST_JOBS
     while True:
-        groups = [jobs[first:first + most] for first in range(0, len(jobs), most)]
+        groups = [jobs[first:first + most] for first in range(0, len(jobs), most)] or [[]]
         sizes = [len(before) + len(after) + sum(map(len, group)) + 2 * len(group) for group in groups]
         if most == 1 or max(sizes) <= MAX_BYTES:
             break
@@ -62,14 +67,17 @@ def cut_plans(horizon, jobs):
 def run_plan(zsched, plan):
     """The report of a plan, which must have no fault. It is written to a file first, so that only one copy is in
     memory."""
-    with tempfile.TemporaryFile() as given, tempfile.TemporaryFile() as report:
+    with naming(tempfile.gettempdir()), tempfile.TemporaryFile() as given, tempfile.TemporaryFile() as report:
         given.write(plan)
         given.seek(0)
-        ended = subprocess.run([zsched], stdin=given, stdout=report, stderr=subprocess.PIPE, check=False)
+        with program.starting(zsched):
+            ended = subprocess.run([zsched], stdin=given, stdout=report, stderr=subprocess.PIPE, check=False)
         if ended.returncode:
             raise ChildProcessError(program.failure(ended.returncode, ended.stderr))
         report.seek(0)
-        return report.read()
+        found = report.read()
+    program.check_report(zsched, found, plan.count(b'"script":['))
+    return found
 
 
 def blocks_of(report):
@@ -81,11 +89,18 @@ def blocks_of(report):
         begin = end + 1 if end >= 0 else end
 
 
-def _runs_in(report, kinds):
-    """The runs in a report of clients that are never served. `kinds` has the failures with which each was run."""
+def _runs_in(report, kinds, unfinished):
+    """The runs in a report of clients that are never served. `kinds` has the failures with which each was run,
+    `unfinished` is the tail of one that is."""
     for block, of_client in zip(blocks_of(report), kinds):
         end = block.rfind(b"\nend ") + 5
-        yield Run(array("Q", map(int, _BEGIN.findall(block))), of_client, _TAILS[block[end:end + 1]])
+        tail = _TAILS[block[end:end + 1]]
+        yield Run(array("Q", map(int, BEGIN.findall(block))), of_client, unfinished if tail == GOES_ON else tail)
+
+
+def shortest(kinds):
+    """The kinds of a script that says the same: its last entry repeats."""
+    return kinds.rstrip(kinds[-1:]) + kinds[-1:]
 
 
 class Search:
@@ -97,14 +112,15 @@ class Search:
                       for client, (schedule, start) in enumerate(zip(schedules, scenario.starts))]
         self.runs = [None] * len(self.heads)
         self.scripts = {}
-        self.passes = 0
+        self.passes = self.until = 0
 
     def settle(self, say):
-        """The walk over the settled runs. `say` is called with a line at each step."""
+        """The walk over the settled runs. `say` is called at each step, with the share of the clients that are settled
+        and a line."""
         are_open, guesses = range(len(self.heads)), [b""] * len(self.heads)
         while self.passes < self.most_passes:
             self.passes += 1
-            say(f"pass {self.passes}, {len(are_open):,} clients")
+            say(1 - len(are_open) / len(self.heads), f"pass {self.passes}, {len(are_open):,} clients")
             self._look(are_open, guesses)
             walk = Walk(self.scenario, self.runs)
             are_open = [client for client in range(len(self.heads)) if not walk.is_settled(client)]
@@ -122,20 +138,33 @@ class Search:
 
     def _look(self, clients, guesses):
         """Runs some clients with their known failures and some more, and stores the runs."""
-        looked, jobs = [], []
+        few, many = {}, {}
         for client in clients:
             guess = guesses[client]
-            if len(guess) >= MOST_ENTRIES - 1:
-                raise Unsettled(f"{name_of(client)} makes {MOST_ENTRIES} attempts or more, and a script has no more "
-                                "entries: lengthen the waits of the policy, or shorten the scenario")
-            more = bytes([guess[-1]]) * max(LESS_LOOK, len(guess) // 2) if guess else bytes([DOWN]) * FIRST_LOOK
-            looked.append((guess + more)[:MOST_ENTRIES - 1])
-            jobs.append(self._job(client, self._script(looked[-1]) + "," + _CUT_ENTRY))
-        plans, most = cut_plans(self.scenario.horizon, jobs)
+            more = bytes([guess[-1]]) * max(LESS_LOOK, len(guess)) if guess else bytes([DOWN]) * FIRST_LOOK
+            (few if len(guess + more) < MOST_ENTRIES else many)[client] = (guess + more)[:MOST_ENTRIES]
+        self._run(few, self.scenario.horizon, "," + _CUT_ENTRY, MOST_JOBS)
+        if many:
+            known = [len(guesses[client]) for client in many]
+            if sum(known) > MOST_ATTEMPTS:
+                raise Unsettled(f"{len(many):,} clients make more than {MOST_ATTEMPTS:,} attempts: take fewer clients, "
+                                "longer waits, or a shorter scenario")
+            latest = max(self.runs[client].begins[len(guesses[client]) - 1] for client in many)
+            self.until = min(self.scenario.horizon, 2 * max(self.until, latest))
+            self._run(many, self.until, "", -(-ATTEMPTS_OF_PLAN // max(known)))
+
+    def _run(self, looked, until, last, most):
+        """Runs clients with these failures and the last entry up to a moment, and stores the runs."""
+        if not looked:
+            return
+        clients, kinds = list(looked), list(looked.values())
+        jobs = [self._job(client, self._script(of_client if last else shortest(of_client)) + last)
+                for client, of_client in looked.items()]
+        plans, most = cut_plans(until, jobs, most)
+        tail = CUT if until < self.scenario.horizon else GOES_ON
         for number, plan in enumerate(plans):
-            first = number * most
-            of_plan = _runs_in(run_plan(self.zsched, plan), looked[first:first + most])
-            for client, run in zip(clients[first:first + most], of_plan):
+            part = slice(number * most, (number + 1) * most)
+            for client, run in zip(clients[part], _runs_in(run_plan(self.zsched, plan), kinds[part], tail)):
                 self.runs[client] = run
 
     def _job(self, client, entries):
@@ -154,10 +183,9 @@ class Search:
         return (outcome._replace(value=self.scenario.budget.code) if kind & DENIED else outcome).entry()
 
     def final_jobs(self, walk):
-        """The jobs of the plan in which each attempt has the computed outcome. Equal entries at the end are written once,
-        since the last entry repeats."""
+        """The jobs of the plan in which each attempt has the computed outcome; None for a client whose script has no room
+        for that."""
+        alike = bytes(kind if kind & DENIED else first for kind, first in enumerate(walk.outcomes))
         for client, found in enumerate(walk.found):
-            kinds = bytes(found) or b"\0"
-            while len(kinds) > 1 and kinds[-1] == kinds[-2]:
-                kinds = kinds[:-1]
-            yield self._job(client, self._script(kinds))
+            kinds = shortest(bytes(found).translate(alike) or b"\0")
+            yield self._job(client, self._script(kinds)) if len(kinds) <= MOST_ENTRIES else None

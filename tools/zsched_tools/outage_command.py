@@ -1,29 +1,31 @@
 """The command zsched-outage: simulates many clients in an outage, and the program confirms each run."""
 import argparse
-import contextlib
-import os
 import pathlib
 import random
-import shutil
 import sys
 
-from zsched_tools import command, program, schedule_rules, schedule_text, starting
-from zsched_tools.cause import Cause
+from zsched_tools import command, plan_size, program, starting, summary
 from zsched_tools.certificate import Uncertified, certified
 from zsched_tools.colors import Paint, add_color
 from zsched_tools.command import REFUSED, Refused
-from zsched_tools.curve import Figures, headline, lines, table
+from zsched_tools.curve import Figures, headline, policy_lines, table, to_json
 from zsched_tools.curve_page import curve_page
 from zsched_tools.curve_picture import draw_curves
-from zsched_tools.outage import Search, Unsettled, cut_plans, run_plan, schedules_of
+from zsched_tools.drawn import LOW
+from zsched_tools.duration_text import duration_argument
+from zsched_tools.durations import duration
+from zsched_tools.outage import Search, Unsettled, cut_plans, name_of, run_plan, schedules_of
 from zsched_tools.place import FaultAt, in_file, place_lines
 from zsched_tools.plan_text import LONGEST_PLAN
 from zsched_tools.progress import Now
 from zsched_tools.release import add_version
-from zsched_tools.scenario import in_text, read_scenario
+from zsched_tools.scenario import DOWN, in_text, read_scenario
+from zsched_tools.schedule_rules import any_cause
 from zsched_tools.split import MOST_JOBS, write_parts
+from zsched_tools.summary import plural
 
 TOOL = "zsched-outage"
+EXCEEDED = 1
 MOST_PASSES = 50
 DESCRIPTION = """Simulates many clients, each with a retry policy, in an outage: a service that is down, slow or full.
 Prints a table with a column for each policy: attempts, peaks of load, times to success, and the number of clients that
@@ -31,6 +33,7 @@ gave up.
 
   zsched-outage outage.json
   zsched-outage outage.json -o outage --html outage.html
+  zsched-outage outage.json --max-peak 200/100ms --max-recovery 1min --max-gave-up 0
 
 A scenario is a JSON object. A time is a whole number of milliseconds or a text, as "1.5s" or "3min".
 
@@ -51,10 +54,11 @@ A scenario is a JSON object. A time is a whole number of milliseconds or a text,
   }
 
 clients    "number" is how many. They start all at once, evenly "within" a time, or at a rate "per_second"; the first
-           starts at "start" (0). {"starts": [0, 120, "1.5s"]} has the start of each instead.
+           starts at "start" (0). Client i, from 0, starts at start + within * i / number, or at start + 1000 * i /
+           per_second, rounded down. {"starts": [0, 120, "1.5s"]} has the start of each instead.
 windows    in order, without overlap. "is" is "down", "slow" or "up" (default). "capacity" is the most attempts that the
-           service serves of those that begin in one second of the window; for the others it is full. Without "to" a
-           window has no end. At all other times the service is up.
+           service serves of those that begin in one second of the window, or in each time "per", as "100ms"; for the
+           others it is full. Without "to" a window has no end. At all other times the service is up.
 outcomes   how an attempt ends if the service is "up", "down", "slow" or "full" when it begins, as an entry of a plan's
            script. Defaults: 40 ms ok 200, 50 ms err 503, 2000 ms ok 200; full as down.
 budget     a bucket of tokens for retries that all clients of a policy share. It is full at the start.
@@ -63,23 +67,32 @@ budget     a bucket of tokens for retries that all clients of a policy share. It
            {"like": "aws", "tokens": 500, "retry": 5, "ok": 1}: a retry takes "retry" tokens, and returns them if it is
            served. A first attempt that is served returns "ok" tokens.
            A client that may not retry fails with the code "err" (0).
-policies   schedules by name. rand(LO, HI) is a number drawn once for each client. jitter(BASE, CAP, N) is a schedule of
-           N delays, the k-th drawn from 0 to the smaller of CAP and BASE * 2^(k - 1). The same seed gives the same bytes.
+policies   schedules by name, or other texts that zsched-try takes, as "(exponential(100) && recurs(9)) jitter full" and
+           "@service.yaml#checkout". rand(LO, HI) is a number drawn once for each client. jitter(BASE, CAP, N) is a
+           schedule of N delays, the k-th drawn from 0 to the smaller of CAP and BASE * 2^(k - 1). The same seed gives the
+           same bytes.
 
 How a run is simulated: the proved program first runs all clients as if the service served no attempt. The moment at which
 an attempt begins sets its outcome. The program runs the clients again until no outcome changes. Only the program steps
-schedules. The last run is the certificate: every ending, number of attempts and outcome in it must be the simulated one.
-The last row of the table has the number of passes: 2 for an outage in which no client makes more than 32 attempts, mostly
-3 or 4 with a capacity, and more if clients make hundreds of attempts."""
+schedules. At one millisecond, attempts end before others begin, and clients are in the order of their numbers. The last
+run is the certificate: every ending, number of attempts and outcome in it must be the simulated one.
+
+A plan has no room for a client of more than 1,000 attempts of which those from the 1,000th on end in different ways. It is
+simulated as if each of these ended as the 1,000th, until it is served. It is in no plan and in no report, and isn't
+certified. The table has the share of the clients that is certified, and below it are the names of some others.
+
+A peak is the most attempts that begin within 100 ms, within a second from any moment, and within a second of the clock.
+Recovery is the time from the end of the last window that is down to the last success of a client whose first attempt
+failed."""
 FILES = """With -o FOLDER, for each policy: NAME.json (the plan), NAME.report (its certified report) and NAME.csv
 (second, begun, ok, err, running: attempts that began and ended in each second, and those that run when it ends). A plan
 of more than 10,000 jobs or 16,777,216 bytes is written as JSON lines, NAME.jsonl, and as parts in NAME.parts, as
 `zsched-plan split --lines` makes them. Standard error says so before the plan runs."""
 EPILOG = FILES + """
 
-Exit status: 0; 1 if a scenario doesn't settle (with the open clients), or a report isn't the simulated run (with the
-job, the policy and both endings); 2 if the scenario or an argument is wrong, with file, line and column on standard
-error; 3 if reading, writing or the program fails."""
+Exit status: 0; 1 if a policy exceeds a limit --max-.., if a scenario doesn't settle (with the open clients), or if a
+report isn't the simulated run (with the job, the policy and both endings); 2 if the scenario or an argument is wrong,
+with file, line and column on standard error, or if there is no program; 3 if reading, writing or the program fails."""
 
 
 def _drawn_by(scenario, name):
@@ -90,40 +103,41 @@ def _drawn_by(scenario, name):
 def _check_policies(scenario, zsched):
     """Runs the program to check the first client's schedule of each policy. FaultAt has the place in the scenario."""
     for name, (policy, node) in scenario.policies.items():
-        schedule = policy.schedule(_drawn_by(scenario, name))
-        script = f'"script":[{scenario.outcomes[0].entry()}]'
-        head = '{"horizon":0,"jobs":[{"name":"c","mode":"retry","schedule":'
-        status, _, line = program.run(zsched, f"{head}{_quoted(schedule)},{script}}}]}}".encode())
+        policy.zsched = zsched
+        try:
+            schedule = policy.schedule(_drawn_by(scenario, name))
+        except FaultAt as fault:
+            raise FaultAt(in_text(node, fault.cause)) from None
+        policy.show(TOOL)
+        status, _, line = program.report_of(zsched, program.one_job(0, schedule, scenario.outcomes[DOWN].entry()), 1)
         if status == 2:
             fault = line.decode(errors="replace").strip().removeprefix("zsched: job 0: schedule: ")
-            cause = schedule_text.cause_of(schedule, fault) or schedule_rules.cause_of(schedule, fault)
-            cause = cause or Cause(0, len(schedule), f"the fault is in this schedule: {fault}")
-            raise FaultAt(in_text(node, policy.cause_at(_drawn_by(scenario, name), cause)))
-
-
-def _quoted(text):
-    return '"' + text.replace("\\", "\\\\").replace('"', '\\"') + '"'
+            raise FaultAt(in_text(node, policy.cause_at(_drawn_by(scenario, name), any_cause(schedule, fault))))
 
 
 def _settled(scenario, zsched, name, most_passes, say):
-    """The jobs of the plan of a policy, the simulated endings, and the number of passes."""
+    """The jobs of the plan of a policy, the simulated endings, the runs of the clients that have no job, and the number
+    of passes."""
     search = Search(scenario, zsched, schedules_of(scenario, name), most_passes)
-    walk = search.settle(lambda words: say(f"{name}: {words}"))
-    return list(search.final_jobs(walk)), walk.endings, search.passes
+    walk = search.settle(say)
+    jobs = list(search.final_jobs(walk))
+    others = {number: search.runs[number] for number, job in enumerate(jobs) if job is None}
+    return list(filter(None, jobs)), walk.endings, others, search.passes
 
 
 def simulate(scenario, zsched, name, most_passes, say):
-    """The run of one policy: its jobs, plans, the most jobs of a plan, reports and figures. It raises
-    Unsettled or Uncertified."""
+    """The run of one policy: its jobs, plans, the most jobs of a plan, reports and figures. `say` is called at each step
+    with the share that is done and a line. It raises Unsettled or Uncertified."""
     try:
-        jobs, endings, passes = _settled(scenario, zsched, name, most_passes, say)
+        jobs, endings, others, passes = _settled(scenario, zsched, name, most_passes, say)
         plans, most = cut_plans(scenario.horizon, jobs)
-        say(f"{name}: the certificate")
+        say(1, "the certificate")
         reports = [run_plan(zsched, plan) for plan in plans]
-        clients = certified(scenario, endings, reports)
+        clients = certified(scenario, endings, reports, others)
     except (Unsettled, Uncertified) as failed:
         raise type(failed)(f"policy {name}: {failed}") from None
-    return jobs, plans, most, reports, Figures(scenario, clients, passes + 1)
+    text = scenario.policies[name][0].text
+    return jobs, plans, most, reports, Figures(scenario, text, clients, list(map(name_of, others)), passes + 1)
 
 
 def _joined(reports):
@@ -140,13 +154,24 @@ def write_files(folder, name, horizon, found):
     """Writes a policy's files."""
     jobs, plans, most, reports, figures = found
     if len(plans) == 1:
-        (folder / f"{name}.json").write_bytes(plans[0])
+        command.write(folder / f"{name}.json", plans[0])
     else:
         population = folder / f"{name}.jsonl"
-        population.write_text("".join(f"{line}\n" for line in [f'{{"horizon":{horizon}}}', *jobs]))
+        command.write(population, "".join(f"{line}\n" for line in [f'{{"horizon":{horizon}}}', *jobs]))
         write_parts(population, True, most, folder / f"{name}.parts")
-    (folder / f"{name}.report").write_bytes(_joined(reports))
-    (folder / f"{name}.csv").write_text(figures.curve.csv())
+    command.write(folder / f"{name}.report", _joined(reports))
+    command.write(folder / f"{name}.csv", figures.curve.csv())
+
+
+def warn_of_attempts(scenario, name, color):
+    """Warns, before a policy runs, if its attempts may be many: those of the least waits until the service is up for
+    good."""
+    policy, starts = scenario.policies[name][0], scenario.starts
+    end = max((it.end for it in scenario.windows if it.state or it.capacity is not None), default=0)
+    time = max(0, min(scenario.horizon, end) - min(starts))
+    plan = program.one_job(time, policy.schedule(LOW), scenario.outcomes[DOWN].entry())
+    many = plan_size.warning(plan, times=len(starts))
+    plan_size.warn(TOOL, many and f"policy {name}: {many}", color)
 
 
 def warn_of_parts(scenario, name):
@@ -157,75 +182,79 @@ def warn_of_parts(scenario, name):
               f"{MOST_JOBS:,} jobs and {LONGEST_PLAN:,} bytes: it is written as JSON lines and parts", file=sys.stderr)
 
 
-@contextlib.contextmanager
-def _made(path):
-    """A folder that is renamed to its final name after all files are written, and removed if something fails before; None
-    without a path."""
-    if path is None:
-        yield None
-        return
-    folder = pathlib.Path(path)
-    if folder.exists() and (not folder.is_dir() or any(folder.iterdir())):
-        raise Refused(f"{folder}: exists, and isn't an empty folder")
-    making = folder.with_name(folder.name + ".partial")
-    if making.exists():
-        raise Refused(f"{making}: exists: another run writes it, or an interrupted one left it (then remove it)")
-    making.mkdir()
-    try:
-        yield making
-        os.rename(making, folder)
-    finally:
-        shutil.rmtree(making, ignore_errors=True)
-
-
 def _all(given, scenario, zsched):
     """Simulates all policies, one after another, and writes the requested files; returns the figures of each."""
     figures = {}
-    with _made(given.folder) as folder, Now() as progress:
+    with command.new_folder(given.folder, "run") as folder, Now() as progress:
         for name in scenario.policies:
+            def say(share, words, name=name):
+                done = 100 * (len(figures) + 0.9 * share) / len(scenario.policies)
+                progress.say(f"{done:.0f} %: {name}: {words}")
+            warn_of_attempts(scenario, name, given.color)
             warn_of_parts(scenario, name)
-            found = simulate(scenario, zsched, name, given.passes, progress.say)
+            found = simulate(scenario, zsched, name, given.passes, say)
             if folder is not None:
-                progress.say(f"{name}: files")
+                say(1, "files")
                 write_files(folder, name, scenario.horizon, found)
             figures[name] = found[-1]
     if given.svg:
-        pathlib.Path(given.svg).write_text("".join(f"{line}\n" for line in draw_curves(scenario, figures)))
+        command.write(given.svg, "".join(f"{line}\n" for line in draw_curves(scenario, figures)))
     if given.html:
-        pathlib.Path(given.html).write_text("".join(curve_page(scenario, figures)))
+        command.write(given.html, "".join(curve_page(scenario, figures)))
     return figures
 
 
 def _print(given, scenario, figures):
-    """The table."""
-    paint = Paint(given.color, sys.stdout)
-    rows = list(lines(table(scenario, figures)))
-    print(f"{headline(scenario)}\n\n{paint('strong', rows[0])}")
-    for row in rows[1:]:
-        print(row)
+    """The policies and the table, or the JSON."""
+    if given.json:
+        print(to_json(scenario, figures))
+        return
+    head, *rows = summary.table(list(table(scenario, figures)), 1)
+    notes = [f"{name}: {it.note()}" for name, it in figures.items() if it.uncertified]
+    for line in [headline(scenario), *policy_lines(figures), "", Paint(given.color, sys.stdout)("strong", head), *rows,
+                 *notes]:
+        print(line)
+
+
+def _exceeded(given, figures):
+    """The limits that a policy exceeds, in words."""
+    if given.max_peak is not None:
+        most, span = given.max_peak
+        peak = figures.curve.peak(span)
+        if peak is not None and peak[0] > most:
+            yield f"{peak[0]:,} attempts in {duration(span)}, from {duration(peak[1])} on, over --max-peak {most:,}"
+    if given.max_recovery is not None and (figures.recovery is None or figures.recovery > given.max_recovery):
+        found = "not recovered at the horizon" if figures.recovery is None else f"recovered in {duration(figures.recovery)}"
+        yield f"{found}, over --max-recovery {duration(given.max_recovery)}"
+    if given.max_gave_up is not None and figures.gave_up > given.max_gave_up:
+        yield f"{plural(figures.gave_up, 'client')} gave up, over --max-gave-up {given.max_gave_up:,}"
 
 
 def work(given):
     """Runs the command with its arguments; returns the exit status."""
     name = "standard input" if given.scenario == "-" else given.scenario
-    data = sys.stdin.buffer.read() if given.scenario == "-" else pathlib.Path(given.scenario).read_bytes()
+    data = command.read(given.scenario)
     for path in filter(None, [given.folder, given.svg, given.html]):
         if not pathlib.Path(path).absolute().parent.is_dir():
             raise Refused(f"{path}: its folder doesn't exist")
     try:
         zsched = program.find(given.zsched)
         scenario = read_scenario(data)
+        if given.max_recovery is not None and scenario.back is None:
+            raise Refused(f"{name}: --max-recovery needs a window that is down and ends before the horizon")
         _check_policies(scenario, zsched)
         figures = _all(given, scenario, zsched)
-    except program.NoProgram as missing:
-        raise Refused(missing) from None
     except FaultAt as fault:
         return _wrong(name, data.decode(errors="replace"), fault.cause, Paint(given.color, sys.stderr))
     except (Unsettled, Uncertified) as failed:
         print(f"{TOOL}: {failed}", file=sys.stderr)
         return 1
     _print(given, scenario, figures)
-    return 0
+    exceeded = [f"{TOOL}: policy {name}: {words}" for name, it in figures.items() for words in _exceeded(given, it)]
+    sys.stdout.flush()
+    for line in exceeded:
+        print(line, file=sys.stderr)
+    return EXCEEDED if exceeded else 0
 
 
 def _wrong(name, text, cause, paint):
@@ -235,11 +264,16 @@ def _wrong(name, text, cause, paint):
     return REFUSED
 
 
-def _passes(word):
-    """The most passes."""
-    if not (word.isascii() and word.isdigit() and len(word) < 6 and int(word)):
-        raise argparse.ArgumentTypeError(f"{word} isn't a number of passes from 1 to 99999")
-    return int(word)
+_count = command.number(0, 10**15 - 1, '"{}" is not a whole number')
+
+
+def _peak(word):
+    """A number of attempts and the time within which they begin."""
+    count, _, span = word.partition("/")
+    time = duration_argument(span or "1s")
+    if not time:
+        raise argparse.ArgumentTypeError(f'"{word}" has no time: write 500, or 50/100ms')
+    return _count(count), time
 
 
 def arguments():
@@ -251,7 +285,15 @@ def arguments():
                         help="a new or empty folder for plans, reports and curves")
     parser.add_argument("--svg", metavar="FILE", help="a picture of the curves under one axis")
     parser.add_argument("--html", metavar="FILE", help="a page with the picture and the table, for any width")
-    parser.add_argument("--passes", type=_passes, default=MOST_PASSES, metavar="N",
+    parser.add_argument("--json", action="store_true", help="print one object in place of the table")
+    parser.add_argument("--max-peak", type=_peak, metavar="N[/TIME]",
+                        help="the most attempts that may begin within a second, or within TIME, as 50/100ms")
+    parser.add_argument("--max-recovery", type=duration_argument, metavar="TIME",
+                        help="the longest time from the end of the last window that is down to the last success of a "
+                             "client whose first attempt failed")
+    parser.add_argument("--max-gave-up", type=_count, metavar="N", help="the most clients that may give up")
+    passes = command.number(1, 99999, "{} isn't a number of passes from 1 to 99999")
+    parser.add_argument("--passes", type=passes, default=MOST_PASSES, metavar="N",
                         help=f"the most passes before the certificate ({MOST_PASSES})")
     parser.add_argument("--zsched", metavar="PATH", help="the program (ZSCHED, the built or the installed one)")
     add_color(parser)
@@ -259,8 +301,4 @@ def arguments():
     return parser
 
 
-def main():
-    """The command line."""
-    given = starting.parsed(arguments())
-    command.color(given.color)
-    return starting.run(TOOL, lambda: work(given))
+main = starting.command(TOOL, arguments, work)

@@ -7,7 +7,7 @@ from zsched_tools.bars import Shapes, draw_shape, mark
 from zsched_tools.command import Refused
 from zsched_tools.drawing import cut_text, path, place, rectangle, root, text, text_width
 from zsched_tools.durations import duration
-from zsched_tools.report import Attempt, Ending, Job, records
+from zsched_tools.report import Ending, Job
 from zsched_tools.summary import ending_text, plural
 
 MOST_JOBS = 200
@@ -56,28 +56,6 @@ class Row:
         if self.ending.how == "unfinished":
             return f"unfinished at {when} · {many}"
         return f"{ending_text(self.ending.how, self.ending.result(), LONGEST_RESULT)} · {many} · {when}"
-
-
-def rows_of(source, chosen):
-    """The jobs of a report with their attempts: the chosen ones, or all. More jobs than a picture has room
-    for are rejected, and so is a name that no job has."""
-    rows, attempts, jobs, missing = [], [], 0, set(chosen)
-    for job, record in records(source):
-        is_chosen = job is not None and (not chosen or job.name in chosen)
-        if isinstance(record, Attempt):
-            if is_chosen and len(rows) < MOST_JOBS:
-                attempts.append(record)
-        elif isinstance(record, Ending):
-            jobs += is_chosen
-            missing.discard(job.name)
-            if is_chosen and len(rows) < MOST_JOBS:
-                rows.append(Row(job, attempts, record))
-                attempts = []
-    if missing:
-        raise Refused(f"has no job {min(missing)}")
-    if jobs > MOST_JOBS:
-        raise Refused(f"has {jobs} jobs to draw, and a picture has room for {MOST_JOBS}: choose some with --job NAME")
-    return rows
 
 
 class Layout:

@@ -4,8 +4,9 @@ import json
 import re
 from typing import NamedTuple
 
-from zsched_tools.cause import WIDTH, Cause, line_of, shown
-from zsched_tools.explanation import excerpt
+from zsched_tools.cause import Cause, line_of, shown
+from zsched_tools.explanation import unpainted
+from zsched_tools.place import in_file, place_lines
 
 DEEPEST = 20
 _HALF_OF_A_PAIR = re.compile("[\ud800-\udfff]")
@@ -113,14 +114,7 @@ class Written:
 
 def told(name, text, cause, job=None):
     """The lines that show the place of a cause in a file's text, without a newline at the end."""
-    begin = text.rfind("\n", 0, cause.at) + 1
-    number = line_of(text, cause.at)
-    source, mark = excerpt(text, begin, cause)
-    gutter = " " * len(str(number))
-    lines = [f"{shown(name, WIDTH)}:{number}:{cause.at - begin + 1}: {cause.what}", f"{gutter} |",
-             f"{number} | {source}", f"{gutter} | {mark}"]
-    if cause.help:
-        lines.append(f"{gutter} = help: {cause.help}")
+    lines = list(place_lines(in_file(name, text, cause), text, cause, unpainted))
     if job is not None:
-        lines.append(f'{gutter} = job "{shown(job, 64)}"')
-    return "\n".join(line.rstrip() for line in lines)
+        lines.append(f'{" " * len(str(line_of(text, cause.at)))} = job "{shown(job, 64)}"')
+    return "\n".join(lines)

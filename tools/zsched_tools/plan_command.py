@@ -1,7 +1,5 @@
 """The command zsched-plan: cuts a large plan into plans, and converts other files to a plan."""
-import argparse
-
-from zsched_tools import colors, command, release, starting
+from zsched_tools import command, starting
 from zsched_tools.progress import Progress
 from zsched_tools.split import MOST_JOBS, write_parts
 from zsched_tools.summary import plural
@@ -23,14 +21,6 @@ EPILOG = """Exit status: 0, with the number of parts and jobs on standard output
 with the file and the line on standard error; 3 if reading or writing fails."""
 
 
-def _jobs_of_a_part(word):
-    """The number N."""
-    number = int(word) if word.isascii() and word.isdigit() and len(word) < 9 else 0
-    if not 1 <= number <= MOST_JOBS:
-        raise argparse.ArgumentTypeError(f"{word} isn't a number of jobs from 1 to {MOST_JOBS}")
-    return number
-
-
 def _split(given):
     progress = Progress(TOOL, lambda jobs: f"{jobs} jobs cut")
     try:
@@ -42,26 +32,18 @@ def _split(given):
 
 def _arguments():
     """The parser of the command line."""
-    form = argparse.RawDescriptionHelpFormatter
-    parser = argparse.ArgumentParser(prog=TOOL, description=DESCRIPTION, epilog=EPILOG, formatter_class=form)
-    release.add_version(parser)
-    colors.add_color(parser)
-    forms = parser.add_subparsers(required=True, metavar="FORM")
-    split = forms.add_parser("split", description=SPLIT, epilog=EPILOG, formatter_class=form,
-                             help="a plan cut by its jobs")
-    split.add_argument("jobs", metavar="N", type=_jobs_of_a_part, help=f"the most jobs of a part, 1 to {MOST_JOBS}")
+    parser, forms = command.forms(TOOL, DESCRIPTION, EPILOG, "FORM")
+    split = forms.add_parser("split", description=SPLIT, help="a plan cut by its jobs")
+    count = command.number(1, MOST_JOBS, f"{{}} isn't a number of jobs from 1 to {MOST_JOBS}")
+    split.add_argument("jobs", metavar="N", type=count, help=f"the most jobs of a part, 1 to {MOST_JOBS}")
     split.add_argument("plan", metavar="PLAN", help="the plan's file")
     split.add_argument("--lines", action="store_true",
                        help="PLAN is JSON lines: the document without its key 'jobs', then a job a line")
     split.add_argument("-o", dest="folder", metavar="FOLDER", required=True,
                        help="a new folder for the parts, or an empty one")
     split.set_defaults(work=_split)
-    add_from(forms, form)
+    add_from(forms)
     return parser
 
 
-def main():
-    """The command line."""
-    given = starting.parsed(_arguments())
-    command.color(given.color)
-    return starting.run(TOOL, lambda: given.work(given))
+main = starting.command(TOOL, _arguments, lambda given: given.work(given))

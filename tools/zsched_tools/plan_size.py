@@ -1,13 +1,17 @@
-"""How many attempts a plan may have at most, before it is run."""
+"""How many attempts a plan may have at most, and whether its workers pay, before it is run."""
 import itertools
 import json
 import math
 import operator
+import sys
 from typing import NamedTuple
 
 from zsched_tools import program, schedule_rules
+from zsched_tools.colors import Paint
 
-MOST_ATTEMPTS = 10**8
+MOST_ATTEMPTS = 10**6
+# The nodes of schedules that a thread steps in about a millisecond.
+_BATCH = 4000
 _MOST_TICKS = 1000000
 _LAST_TICK = 999999999999999
 _LEAST_MS = 1
@@ -31,18 +35,52 @@ class Bound(NamedTuple):
     out: object = None
 
 
-def warning(plan):
-    """The warning for the bytes of a plan that may have more than MOST_ATTEMPTS attempts, else None; also None for a plan
-    that the program rejects."""
+def warn(tool, found, color="auto"):
+    """Writes a warning to standard error, if there is one."""
+    if found and sys.stderr is not None:
+        print(f"{tool}: {Paint(color, sys.stderr)('strong', 'warning')}: {found}", file=sys.stderr, flush=True)
+
+
+def warning(plan, limit=MOST_ATTEMPTS, times=1):
+    """The warning for the bytes of a plan that may have more attempts than the limit if it is run so many times, else
+    None; also None for a plan that the program rejects."""
+    most = (_found(plan, _most_attempts) or 0) * times
+    if most <= limit:
+        return None
+    return f"its attempts may be {most:.1e}, more than {limit}: the run may be long, and its report large"
+
+
+def workers_warning(plan):
+    """The warning for the bytes of a plan with several workers and batches that take less than their threads, else None."""
+    grain = _found(plan, _lacking_grain) if b"workers" in plan else None
+    if grain is None:
+        return None
+    return (f"its workers take longer than one, since threads start at each moment: leave \"workers\" out, or, if thousands "
+            f"of jobs are due at a moment, write a grain of {grain} or more")
+
+
+def _found(plan, search):
+    """What a search finds in the tree of a plan, or None if the program rejects the plan."""
     try:
-        tree = json.loads(plan, parse_float=_no_whole, parse_constant=_no_whole)
-        clock = tree["ticks"] if "ticks" in tree else [tree["horizon"]]
-        most = sum(_attempts(job, clock) for job in tree["jobs"])
+        return search(json.loads(plan, parse_float=_no_whole, parse_constant=_no_whole))
     except (ValueError, TypeError, KeyError, IndexError, AttributeError, StopIteration, RuntimeError, OverflowError):
         return None
-    if most <= MOST_ATTEMPTS:
+
+
+def _most_attempts(tree):
+    """The attempts of all jobs together, at most."""
+    clock = tree["ticks"] if "ticks" in tree else [tree["horizon"]]
+    return sum(_attempts(job, clock) for job in tree["jobs"])
+
+
+def _lacking_grain(tree):
+    """The least grain that pays, if a plan has several workers and more than one batch, and a smaller grain."""
+    grain, jobs = tree.get("grain", 1), tree["jobs"]
+    if tree.get("workers", 1) < 2 or len(jobs) <= grain:
         return None
-    return f"its attempts may be {most:.1e}, more than {MOST_ATTEMPTS}: the run may be long, and its report large"
+    nodes = max(sum(piece.word not in "()" for piece in schedule_rules.pieces(job["schedule"])) for job in jobs)
+    least = -(-_BATCH // nodes)
+    return least if grain < least else None
 
 
 def with_one_tick(plan):

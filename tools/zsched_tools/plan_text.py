@@ -2,17 +2,18 @@
 
 Texts are of single bytes (see `report.as_text`), so that the written bytes are the read bytes. The text is checked for
 UTF-8 when its values are read."""
-import io
+import itertools
 import json
 import re
 from typing import NamedTuple
 
 from zsched_tools.command import Refused
-from zsched_tools.patterns import maybe, run_of
 from zsched_tools.report import shown, text_lines
 
 LONGEST_PLAN = 16_777_216
 PIECE = 2**18
+# The number of jobs of JSON lines that are written together.
+AT_ONCE = 1000
 
 _SPACE = re.compile(r"[ \t\n\r]*")
 _REST_OF_NUMBER = re.compile("[-+.0-9eE]*")
@@ -25,20 +26,6 @@ class Number(str):
 def _no_number(word):
     raise ValueError(f"{word} is not a number")
 
-
-# A job of JSON lines as programs write it: ASCII, no escapes, numbers with only digits. Others are decoded.
-_TEXT = r'"[ !#-\[\]-~]*+"'
-_DIGITS = "(?:0|[1-9][0-9]*+)"
-_FLAT = rf"(?:{_TEXT}|{_DIGITS})"
-_ENTRY = rf"\{{ ?{_TEXT}: ?{_FLAT}{run_of(rf', ?{_TEXT}: ?{_FLAT}')} ?\}}"
-_MEMBER = rf', ?"(?!name")[ !#-\[\]-~]*+": ?(?:{_FLAT}|\[{maybe(_ENTRY + run_of(f", ?{_ENTRY}"))}\])'
-_NAME = r'\{ ?"name": ?"([ !#-\[\]-~]*+)"'
-_REST = rf"{run_of(_MEMBER)} ?\}}"
-_PLAIN_JOB = re.compile(_NAME + _REST)
-_NAMED_LINES = re.compile(rf"^{_NAME}(.*)\n", re.MULTILINE)
-_PLAIN_REST = re.compile(_REST)
-# The number of characters of JSON lines that are matched together.
-BLOCK = 2**16
 
 _DECODER = json.JSONDecoder(parse_constant=_no_number, parse_float=Number, parse_int=Number)
 
@@ -221,26 +208,14 @@ class LinesText:
 
     def jobs(self):
         """The jobs in order."""
-        lines = self._lines_after_head()
-        for number, text in enumerate(lines, 2):
-            yield self._job(number, text)
+        for number, text in enumerate(self._lines_after_head(), 2):
+            yield _job("\n" + text, self._value(number, text), number)
 
     def groups(self):
         """The jobs in order, many at a time: their texts and their names."""
-        self._lines_after_head()
-        number = 2
-        while block := self.file.read(BLOCK) + self.file.readline(LONGEST_PLAN):
-            found, lines = _NAMED_LINES.findall(block), block.split("\n")
-            # Most jobs of a block have the same text after their name, so each text is matched once.
-            rests = {rest for _, rest in found}
-            if lines.pop() == "" and len(found) == len(lines) and all(map(_PLAIN_REST.fullmatch, rests)):
-                yield ["\n" + line for line in lines], [name for name, _ in found]
-                number += len(found)
-                continue
-            for number, text in enumerate(text_lines(io.StringIO(block, newline="\n"), LONGEST_PLAN, number - 1), number):
-                job = self._job(number, text)
-                yield [job.text], [job.name]
-            number += 1
+        jobs = self.jobs()
+        while some := list(itertools.islice(jobs, AT_ONCE)):
+            yield [job.text for job in some], [job.name for job in some]
 
     def _lines_after_head(self):
         """Consumes the first line, and returns the lines after it."""
@@ -253,13 +228,6 @@ class LinesText:
             raise Refused("line 1: this isn't a plan's document without its jobs")
         self.before = text.strip().removesuffix("}") + ("," if value else "") + '"jobs":['
         return lines
-
-    def _job(self, number, text):
-        """The job of a line."""
-        plain = _PLAIN_JOB.fullmatch(text)
-        if plain is not None:
-            return JobText("\n" + text, plain[1], number)
-        return _job("\n" + text, self._value(number, text), number)
 
     @staticmethod
     def _value(number, text):

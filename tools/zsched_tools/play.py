@@ -26,6 +26,7 @@ SANITIZER = b"AddressSanitizer"
 SMALLER = "shorten the horizon, or lengthen the waits"
 LONGEST_BODY = program.MAX_BYTES
 LONGEST_REPORT = 8_000_000
+MOST_ATTEMPTS = 10**8
 LONGEST_SHOWN = 200_000
 PATIENCE = 30
 # A page has two policies.
@@ -78,16 +79,18 @@ def every_input(bounds, plan):
 def answer(zsched, plan, seconds, bounds=None):
     """What the page shows for the bytes of a plan: the report, and what holds for every input; or the fault with its
     place."""
-    many = plan_size.warning(plan)
+    many = plan_size.warning(plan, MOST_ATTEMPTS)
     if many:
         return {"fault": {"field": "until", "cause": many, "help": SMALLER}}
     try:
         status, report, size, errors = run(zsched, plan, seconds)
+        if status == 0 and size <= LONGEST_REPORT:
+            program.check_report(zsched, report)
     except Late:
         cause = f"no report within {seconds} seconds, so zsched was stopped"
         return {"fault": {"field": "until", "cause": cause, "help": SMALLER}}
     except OSError as fault:
-        return {"fault": {"cause": f"{zsched} could not be run: {fault.strerror}"}}
+        return {"fault": {"cause": f"{zsched} could not be run: {fault.strerror or fault}"}}
     said = errors.decode(errors="replace").strip().removeprefix("zsched: ")
     if status == 2:
         return {"fault": placed(plan, said)}
@@ -221,13 +224,6 @@ class Handler(http.server.BaseHTTPRequestHandler):
         """Nothing is logged."""
 
 
-def port_of(word):
-    """A port's number."""
-    if not re.fullmatch("[0-9]{1,5}", word) or int(word) > 65535:
-        raise argparse.ArgumentTypeError(f"{word} is not a port: 0 to 65535")
-    return int(word)
-
-
 def stop(number, frame):
     """Ends the server as Ctrl-C does."""
     raise KeyboardInterrupt
@@ -235,10 +231,7 @@ def stop(number, frame):
 
 def serve(given):
     """Serves the page until Ctrl-C."""
-    try:
-        zsched, bounds = program.find(given.zsched), program.find_bounds(given.bounds)
-    except program.NoProgram as none:
-        raise command.Refused(none) from none
+    zsched, bounds = program.find(given.zsched), program.find_bounds(given.bounds)
     try:
         server = Server(given.port, zsched, SECONDS, bounds)
     except OSError as fault:
@@ -253,16 +246,18 @@ def serve(given):
             pass
 
 
-def main():
-    """The command line."""
+def arguments():
+    """The parser of the command line."""
     words = argparse.ArgumentParser(
         prog="zsched-play", description=__doc__,
         epilog="Ctrl-C ends it, with status 0. Status 2: a wrong argument, no program, or a port that isn't free.")
-    words.add_argument("--port", type=port_of, default=PORT, help=f"the port ({PORT}); 0 picks a free one")
+    port = command.number(0, 65535, "{} is not a port: 0 to 65535")
+    words.add_argument("--port", type=port, default=PORT, help=f"the port ({PORT}); 0 picks a free one")
     words.add_argument("--zsched", metavar="PATH", help="the program (ZSCHED, or the one that is built or on PATH)")
     words.add_argument("--bounds", metavar="PATH", help="zsched-bounds (ZSCHED_BOUNDS, or the one that is built or on PATH)")
     release.add_version(words)
     colors.add_color(words)
-    given = starting.parsed(words)
-    command.color(given.color)
-    return starting.run("zsched-play", lambda: serve(given))
+    return words
+
+
+main = starting.command("zsched-play", arguments, serve)

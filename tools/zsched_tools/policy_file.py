@@ -7,10 +7,11 @@ import tomllib
 
 from zsched_tools.cause import Cause, line_of, shown
 from zsched_tools.placed import DEEPEST, Raw, Value, Wrong, key
+from zsched_tools.policy.reading import yaml_module
 
 # More than the longest plan has. An alias in a list of aliases may represent any number of values.
 MOST_VALUES = 5_000_000
-NO_YAML = "YAML needs PyYAML, and it isn't installed (Debian: python3-yaml; pip: PyYAML)"
+NESTED = "this is nested too deeply"
 
 _NUMBER = re.compile(r"-?(?:0|[1-9][0-9]*)(?:\.[0-9]+)?(?:[eE][+-]?[0-9]+)?")
 _BARE = r"[A-Za-z0-9_-]+"
@@ -27,17 +28,15 @@ def _scalar(data, at, text):
 
 def read_yaml(text):
     """The value of a YAML document."""
-    try:
-        import yaml
-    except ImportError:
-        raise OSError(NO_YAML) from None
-    loader = None
+    yaml, loader = yaml_module(), None
     try:
         loader = yaml.SafeLoader(text)
         node = loader.get_single_node()
         if node is None:
             raise Wrong(Cause(0, 0, "the file is empty"))
         return _Yaml(yaml, loader, text).value(node, 0)
+    except RecursionError:
+        raise Wrong(Cause(0, 0, NESTED)) from None
     except yaml.MarkedYAMLError as fault:
         mark = fault.problem_mark or fault.context_mark
         raise Wrong(Cause(min(mark.index, len(text)), 1, f"not YAML: {fault.problem}")) from None
@@ -103,7 +102,7 @@ def read_toml(text):
             at = sum(len(row) + 1 for row in before) + int(column) - 1
         raise Wrong(Cause(min(at, len(text)), 1, f"not TOML: {what}")) from None
     except RecursionError:
-        raise Wrong(Cause(0, 0, "this is nested too deeply")) from None
+        raise Wrong(Cause(0, 0, NESTED)) from None
     return _Toml(text, _toml_places(text)).value(tree, (), 0)
 
 

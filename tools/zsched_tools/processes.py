@@ -42,13 +42,17 @@ def _start(function, processes, pipes):
     near, far = context.Pipe()
     pipes.append(near)
     processes.append(context.Process(target=_work, args=(function, far, pipes), daemon=True))
-    processes[-1].start()
+    # A process never sees Ctrl-C: the one that started it ends it.
+    signal.pthread_sigmask(signal.SIG_BLOCK, [signal.SIGINT])
+    try:
+        processes[-1].start()
+    finally:
+        signal.pthread_sigmask(signal.SIG_UNBLOCK, [signal.SIGINT])
     far.close()
 
 
 def _work(function, pipe, others):
     """Receives items and sends the function's results, in a separate process. It ends when the other side is closed."""
-    signal.signal(signal.SIGINT, signal.SIG_IGN)
     for other in others:
         other.close()
     while True:

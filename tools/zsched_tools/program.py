@@ -1,35 +1,35 @@
 """The path of the program, one run of it, and the length of its longest plan."""
+import contextlib
+import json
 import os
 import pathlib
+import re
 import shutil
 import subprocess
 
+from zsched_tools.command import Refused
+
 MAX_BYTES = 16777216
-CRATES = pathlib.Path(__file__).resolve().parents[2] / "crates"
-BUILT = CRATES / "zsched" / "out" / "zsched"
+_HERE = pathlib.Path(__file__).resolve()
+CRATES = _HERE.parents[2] / "crates"
+# The folder of the programs that were installed with these tools, which are in share/zsched beside it.
+INSTALLED = _HERE.parents[3] / "bin" if _HERE.parents[2].name == "share" else None
 
 
-class NoProgram(Exception):
-    """The program wasn't found. The text says where it was searched."""
+class NoProgram(Refused):
+    """The program wasn't found, or can't be run. The text says where it was searched."""
 
 
 def find(named=None):
-    """The program's path: the given one, else that of the variable ZSCHED, else the one that this tree built,
-    else the one on PATH."""
-    for place in [named, os.environ.get("ZSCHED")]:
-        if place:
-            if not os.access(place, os.X_OK) or os.path.isdir(place):
-                raise NoProgram(f"no program at {place}")
-            return str(place)
-    if os.access(BUILT, os.X_OK):
-        return str(BUILT)
-    installed = shutil.which("zsched")
-    if installed is None:
-        unproved = sorted(BUILT.parent.glob("unproved-*"))
+    """The program's path: the given one, else that of the variable ZSCHED, else the one that this tree built, else the one
+    that was installed with these tools, else the one on PATH."""
+    found = find_beside("zsched", named)
+    if found is None:
+        unproved = sorted((CRATES / "zsched" / "out").glob("unproved-*"))
         which = f"{unproved[-1]}, unproved" if unproved else "the unproved one that ./run leaves in crates/zsched/out"
         raise NoProgram("zsched is neither built (./run --proved builds it) nor installed; --zsched PATH or ZSCHED "
                         f"names one, as {which}")
-    return installed
+    return found
 
 
 def find_beside(name, named=None):
@@ -42,12 +42,12 @@ def find_beside(name, named=None):
             return str(place)
     crate = name.replace("-", "_")
     built = CRATES / crate / "out" / crate
-    return str(built) if os.access(built, os.X_OK) else shutil.which(name)
+    return str(built) if os.access(built, os.X_OK) else _installed(name)
 
 
-def find_population(named=None):
-    """The path of zsched-population, or None if it isn't found."""
-    return find_beside("zsched-population", named)
+def _installed(name):
+    """The path of a program that was installed with these tools, else that of one on PATH, or None."""
+    return INSTALLED and shutil.which(name, path=INSTALLED) or shutil.which(name)
 
 
 def find_bounds(named=None):
@@ -55,11 +55,44 @@ def find_bounds(named=None):
     return find_beside("zsched-bounds", named)
 
 
-def run(program, plan, seconds=None):
-    """Runs the program on a plan's bytes: status, standard output, standard error. After `seconds` it is killed, and
+def one_job(horizon, schedule, entry):
+    """The bytes of a plan with a job whose attempts all end as an entry says."""
+    text = json.dumps(schedule, ensure_ascii=False)
+    return (f'{{"horizon":{horizon},"jobs":[{{"name":"job","mode":"retry","schedule":{text},"script":[{entry}]}}]}}'
+            ).encode()
+
+
+def run(program, given, seconds=None):
+    """Runs a program on some bytes: status, standard output, standard error. After `seconds` it is killed, and
     subprocess.TimeoutExpired is raised."""
-    ended = subprocess.run([program], input=plan, capture_output=True, timeout=seconds, check=False)
+    with starting(program):
+        ended = subprocess.run([program], input=given, capture_output=True, timeout=seconds, check=False)
     return ended.returncode, ended.stdout, ended.stderr
+
+
+@contextlib.contextmanager
+def starting(program):
+    """Says that a program can't be run by NoProgram."""
+    try:
+        yield
+    except OSError as fault:
+        if fault.filename != program:
+            raise
+        raise NoProgram(f"{program} can't be run: {fault.strerror}") from None
+
+
+def report_of(zsched, plan, jobs, seconds=None):
+    """Runs zsched on the bytes of a plan with this number of jobs, as `run` does, and checks the report."""
+    status, report, errors = run(zsched, plan, seconds)
+    if status == 0:
+        check_report(zsched, report, jobs)
+    return status, report, errors
+
+
+def check_report(zsched, report, jobs=None):
+    """Raises ChildProcessError unless the bytes end as a report does, and have this number of jobs."""
+    if not re.search(rb"(?:^|\n)polls [0-9]+\n\Z", report[-40:]) or jobs not in (None, report.count(b"\nend ")):
+        raise ChildProcessError(f"{zsched} wrote no report" if not report else f"{zsched} wrote no complete report")
 
 
 def failure(status, errors, name="zsched"):

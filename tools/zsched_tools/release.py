@@ -14,5 +14,7 @@ def version():
 
 
 def add_version(parser):
-    """Adds --version to a command's options."""
+    """Adds --version and --generate to a command's options."""
+    from zsched_tools.generated import add_generate
     parser.add_argument("--version", action="version", version=f"{parser.prog} {version()}")
+    add_generate(parser)

@@ -7,7 +7,6 @@ of the last attempt, and the polls are the moments at which attempts began or en
 import dataclasses
 import io
 import re
-import sys
 
 from zsched_tools.command import Refused
 
@@ -279,8 +278,3 @@ def records(source, reader=None):
 def as_text(binary):
     """A binary file as text of single bytes, whose lines end only at byte 10."""
     return io.TextIOWrapper(binary, encoding="latin-1", newline="\n")
-
-
-def standard_input():
-    """Standard input as such a text."""
-    return as_text(sys.stdin.buffer)

@@ -4,7 +4,7 @@ import gc
 import os
 import sys
 
-from zsched_tools import colors, command, load, release, starting
+from zsched_tools import command, load, starting
 from zsched_tools.axis import View
 from zsched_tools.command import Refused
 from zsched_tools.duration_text import duration_argument
@@ -12,10 +12,10 @@ from zsched_tools.join import write_joined, write_known
 from zsched_tools.lines import write_lines, write_report
 from zsched_tools.page import load_page, page
 from zsched_tools.manifest import is_manifest
-from zsched_tools.picture import MOST_JOBS, draw
+from zsched_tools.picture import MOST_JOBS
 from zsched_tools.progress import Progress
 from zsched_tools.report import as_text
-from zsched_tools.strip import crowd_of, draw_strip, note_of
+from zsched_tools.strip import crowd_of, draw_crowd, draw_strip, note_of
 from zsched_tools.summary import SORTS, Options, write_summary
 
 TOOL = "zsched-report"
@@ -64,10 +64,8 @@ It reads all parts before it writes a byte, so they must be files, not pipes. do
 def _with_source(given, work):
     """Calls `work` with the given binary file or standard input. An error of the input gets the name of the file."""
     try:
-        if given.file is None:
-            if sys.stdin is None:
-                raise OSError("standard input is closed")
-            return work(sys.stdin.buffer, _progress(None))
+        if given.file in (None, "-"):
+            return work(command.standard_input(), _progress(None))
         with open(given.file, "rb") as binary:
             return work(binary, _progress(os.fstat(binary.fileno()).st_size))
     except Refused as refused:
@@ -138,17 +136,14 @@ def _view(given):
 
 
 def _svg(given):
-    crowd = _crowd(given)
-    lines = (draw(crowd.rows, given.title, _view(given)) if crowd.jobs <= MOST_JOBS
-             else draw_strip(crowd.load, given.title, note=note_of(crowd), view=_view(given)))
-    for line in lines:
+    for line in draw_crowd(_crowd(given), given.title, _view(given)):
         _write(f"{line}\n")
 
 
 def _html(given):
-    crowd = _crowd(given)
-    pieces = (page(crowd.rows, given.title, view=_view(given)) if crowd.jobs <= MOST_JOBS
-              else load_page(crowd.load, given.title, note_of(crowd), _view(given)))
+    crowd, view = _crowd(given), _view(given)
+    pieces = (page(crowd.rows, given.title, view) if crowd.jobs <= MOST_JOBS
+              else load_page(crowd.load, given.title, note_of(crowd), view))
     for piece in pieces:
         _write(piece)
 
@@ -200,11 +195,7 @@ def _add_view(one):
 
 def _arguments():
     """The parser of the command line."""
-    form = argparse.RawDescriptionHelpFormatter
-    parser = argparse.ArgumentParser(prog=TOOL, description=DESCRIPTION, epilog=EPILOG, formatter_class=form)
-    release.add_version(parser)
-    colors.add_color(parser)
-    forms = parser.add_subparsers(required=True, metavar="FORM")
+    parser, forms = command.forms(TOOL, DESCRIPTION, EPILOG, "FORM")
     for name, work, about, short in [
             ("lines", _lines, LINES, "JSON lines"),
             ("from-lines", _from_lines, FROM_LINES, "the report again, from JSON lines"),
@@ -212,7 +203,7 @@ def _arguments():
             ("load", _load, LOAD, "a table with a line for each step of time"),
             ("svg", _svg, SVG, "a picture"),
             ("html", _html, HTML, "a page with the picture, that zooms")]:
-        one = forms.add_parser(name, description=about, epilog=EPILOG, formatter_class=form, help=short)
+        one = forms.add_parser(name, description=about, help=short)
         what = "JSON lines" if name == "from-lines" else "the report"
         one.add_argument("file", metavar="FILE", nargs="?", help=f"{what}; standard input by default")
         if name in ["svg", "html"]:
@@ -224,18 +215,18 @@ def _arguments():
             _add_view(one)
         _ADDED.get(name, lambda one: None)(one)
         one.set_defaults(work=work)
-    joined = forms.add_parser("join", description=JOIN, epilog=EPILOG, formatter_class=form, help="one report of many")
+    joined = forms.add_parser("join", description=JOIN, help="one report of many")
     joined.add_argument("parts", metavar="MANIFEST | PART", nargs="+",
                         help="the manifest of the parts, or the reports of all parts in order")
     joined.set_defaults(work=_join)
     return parser
 
 
-def main():
-    """The command line."""
-    # Nothing here has reference cycles, and the search for cycles takes a quarter of the time of short jobs.
+def _work(given):
+    """Writes the form. Nothing here has reference cycles, and the search for them takes a quarter of the time of short
+    jobs."""
     gc.disable()
-    given = starting.parsed(_arguments())
-    command.color(given.color)
-    run = command.run if given.work is _join else starting.run
-    return run(TOOL, lambda: given.work(given))
+    given.work(given)
+
+
+main = starting.command(TOOL, _arguments, _work, lambda given: given.work is _join)

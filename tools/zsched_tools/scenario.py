@@ -39,11 +39,12 @@ class Outcome(NamedTuple):
 
 class Window(NamedTuple):
     """A time from `begin` until `end` (not included) in which the service is in a state. With a capacity it serves at
-    most that many of the attempts that begin in a second of the window; the others find it full."""
+    most that many of the attempts that begin in each `per` milliseconds of the window; the others find it full."""
     begin: int
     end: int
     state: int
     capacity: int | None
+    per: int = 1000
 
 
 class Budget(NamedTuple):
@@ -239,7 +240,7 @@ class _Reading:
             _refuse(node, "windows must be a list in brackets", 'write [{"from": "0s", "to": "30s", "is": "down"}]')
         last = 0
         for item in node.items() if node is not None else ():
-            parts = _members(item, "a window", ["from", "to", "is", "capacity"], ["from"])
+            parts = _members(item, "a window", ["from", "to", "is", "capacity", "per"], ["from"])
             begin = _time(parts["from"], "from")
             end = _time(parts["to"], "to") if "to" in parts else LAST_MOMENT + 1
             if begin < last:
@@ -259,7 +260,12 @@ class _Reading:
         capacity = _whole(parts["capacity"], "the capacity", 1, MOST_CLIENTS) if "capacity" in parts else None
         if capacity is not None and state == DOWN:
             _refuse(parts["capacity"], "a service that is down has no capacity", 'remove "capacity", or "is"')
-        return Window(begin, end, state, capacity)
+        if "per" in parts and capacity is None:
+            _refuse(parts["per"], '"per" is the time of a "capacity"', 'write "capacity": 200, "per": "100ms"')
+        per = _time(parts["per"], "per") if "per" in parts else THOUSAND
+        if not per:
+            _refuse(parts["per"], '"per" is 0', 'write "100ms", or "1s"')
+        return Window(begin, end, state, capacity, per)
 
     def _budget(self, node):
         """The bucket of tokens for retries."""

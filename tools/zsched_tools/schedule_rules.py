@@ -1,13 +1,14 @@
 """Why a schedule without faults of spelling is rejected: it is too big, a factor or a window is 0, or it has no kind."""
 from typing import NamedTuple
 
+from zsched_tools import schedule_text
 from zsched_tools.cause import Cause
-from zsched_tools.hints import LEAVES, OPERATORS
+from zsched_tools.hints import LEAVES, OPERATORS, said
 from zsched_tools.schedule_text import TOKEN
 
 MAX_DEPTH = 64
 MAX_WEIGHT = 1000
-NUMBER = "a number"
+NUMBER = ("number",)
 
 
 class Piece(NamedTuple):
@@ -47,17 +48,23 @@ def cause_of(text, fault):
     if fault == "too big":
         return _too_big(text)
     if fault == "factor is 0":
-        return _zero(text, "exponential", 2, "the factor is 0", "write 1 for equal delays, 2 for delays that double")
+        return _zero(text, "exponential", 2, "zero_factor", "factor_one")
     if fault == "window is 0":
-        return _zero(text, "windowed", 0, "the window is 0", "write 1 or more, in milliseconds")
+        return _zero(text, "windowed", 0, "zero_window", "window_one")
     return _no_kind(text) if fault == "no kind" else None
+
+
+def any_cause(text, fault):
+    """The cause of a schedule's fault, of any kind."""
+    whole = Cause(0, len(text), f"the fault is in this schedule: {fault}")
+    return schedule_text.cause_of(text, fault) or cause_of(text, fault) or whole
 
 
 def _zero(text, word, place, what, help):
     """The cause if the argument at this place of a leaf is 0, else None."""
     for piece in pieces(text):
         if piece.word == word and len(piece.arguments) > place and piece.arguments[place][0] == "0":
-            return Cause(piece.arguments[place].start(), 1, what, help)
+            return Cause(piece.arguments[place].start(), 1, said(what), said(help))
     return None
 
 
@@ -79,12 +86,10 @@ def _too_big(text):
         else:
             depth, weight = parts.pop()
             parts.append((depth + 1, 1 + (2 if piece.word == "resetWhen" else 1) * weight))
-        if opened + (parts[-1][0] if parts else 1) > MAX_DEPTH:
-            return Cause(piece.at, piece.end - piece.at, f"here the schedule gets deeper than {MAX_DEPTH}",
-                         "each method and operator around a part is a level; join parts as ((A && B) && (C && D))")
-        if opened + sum(weight for _, weight in parts) > MAX_WEIGHT:
-            return Cause(piece.at, piece.end - piece.at, f"here the schedule gets heavier than {MAX_WEIGHT}",
-                         "each word and each operator weighs 1, and the part of a resetWhen counts twice")
+        for total, most, what, help in [(parts[-1][0] if parts else 1, MAX_DEPTH, "deeper", "levels"),
+                                        (sum(weight for _, weight in parts), MAX_WEIGHT, "heavier", "weights")]:
+            if opened + total > most:
+                return Cause(piece.at, piece.end - piece.at, said(what, most=most), said(help))
     return None
 
 
@@ -110,70 +115,39 @@ def _no_kind(text):
 
 def _behind(piece, kind):
     """The kind of a schedule of a kind with a method; raises NoKind."""
+    first = piece.arguments[0][0] if piece.arguments else ""
+    is_pick, is_tested = first in ("_1", "_2"), piece.word in ("whileOutput", "resetWhen")
+
+    def refuse(is_wrong, what, help, **values):
+        if is_wrong:
+            values = {"first": first, "kind": said(kind[0]), **values}
+            raise NoKind(Cause(piece.at, piece.end - piece.at, *(said(it, **values) for it in (what, help))))
     if piece.word == "collectAll":
         return ("list", kind)
-    first = piece.arguments[0][0]
-    if piece.word == "map":
-        return _mapped(piece, first, kind)
-    if piece.word in ("whileOutput", "resetWhen"):
-        _test(piece, first if first in ("_1", "_2", "size") else "", kind)
-    return kind
-
-
-def _refuse(piece, what, help):
-    """Raises the cause at a method."""
-    raise NoKind(Cause(piece.at, piece.end - piece.at, what, help))
-
-
-def _mapped(piece, function, kind):
-    """The kind of a function's result; raises NoKind."""
-    if function in ("_1", "_2"):
-        if kind[0] != "pair":
-            _refuse(piece, f"{function} of {_shown(kind)}", "only && and || make pairs")
-        return kind[int(function[1])]
-    if function == "size" and kind[0] != "list":
-        _refuse(piece, f"the size of {_shown(kind)}", "only collectAll makes lists")
-    if function == "merge":
-        if kind[0] != "sum":
-            _refuse(piece, f"merge of {_shown(kind)}", "merge follows an andThenEither")
-        if kind[1] != kind[2]:
-            _refuse(piece, f"merge of {_shown(kind[1])} with {_shown(kind[2])}",
-                    "map both sides of the andThenEither to one kind first, as by .map(_1)")
-        return kind[1]
-    if function in ("+", "*") and kind != NUMBER:
-        _refuse(piece, f"{function} on {_shown(kind)}", _path(kind, f"map({{}}).{_written(piece)}"))
-    return NUMBER
-
-
-def _test(piece, pick, kind):
-    """Raises NoKind unless the tested part is a number."""
-    if not pick and kind != NUMBER:
-        _refuse(piece, f"{_shown(kind)} is compared with a number",
-                _path(kind, _written(piece).replace("(", "({} ")))
-    if pick == "size" and kind[0] != "list":
-        _refuse(piece, f"the size of {_shown(kind)}", "only collectAll makes lists")
-    if pick in ("_1", "_2"):
-        if kind[0] != "pair":
-            _refuse(piece, f"{pick} of {_shown(kind)}", "only && and || make pairs")
-        part = kind[int(pick[1])]
-        if part != NUMBER:
-            _refuse(piece, f"{pick} is {_shown(part)}, and is compared with a number",
-                    f"a pick reaches one level: write .map({pick}) before, or test the part inside")
-
-
-def _written(piece):
-    """A method as it is written."""
-    return f"{piece.word}({' '.join(argument[0] for argument in piece.arguments)})"
+    if piece.word == "whileInput":
+        return kind
+    refuse(is_pick and kind[0] != "pair", "part_of", "make_pairs")
+    refuse(first == "size" and kind[0] != "list", "size_of", "make_lists")
+    part = kind[int(first[1])] if is_pick else kind
+    written = f"{piece.word}({' '.join(argument[0] for argument in piece.arguments)})"
+    if is_tested:
+        refuse(is_pick and part != NUMBER, "part_compared", "reach", kind=said(part[0]))
+        is_whole = not is_pick and first != "size"
+        refuse(is_whole and kind != NUMBER, "compared", _path(kind, written.replace("(", "({} ")))
+        return kind
+    if is_pick:
+        return part
+    refuse(first in ("+", "*") and kind != NUMBER, "function_on", _path(kind, f"map({{}}).{written}"))
+    if first != "merge":
+        return NUMBER
+    refuse(kind[0] != "sum", "part_of", "merge_after")
+    refuse(kind[1] != kind[2], "merge_with", "both_sides", kind=said(kind[1][0]), other=said(kind[2][0]))
+    return kind[1]
 
 
 def _path(kind, form):
     """What to write to reach a number in a kind: this form with each pick that gives one."""
     if kind[0] == "sum":
-        return "write .map(merge) before"
+        return "merge_before"
     picks = ["size"] if kind[0] == "list" else [pick for pick, part in zip(("_1", "_2"), kind[1:]) if part == NUMBER]
-    return "write " + " or ".join(form.format(pick) for pick in picks) if picks else "write .map(_1) or .map(_2) before"
-
-
-def _shown(kind):
-    """A kind in words."""
-    return {"pair": "a pair", "sum": "a Left or Right", "list": "a list"}.get(kind[0], NUMBER)
+    return said("write", text=" or ".join(form.format(pick) for pick in picks)) if picks else "map_before"

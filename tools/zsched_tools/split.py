@@ -5,11 +5,9 @@ name, which is renamed after the whole plan was checked. In memory are only the 
 jobs."""
 import hashlib
 import os
-import pathlib
-import shutil
 
-from zsched_tools import manifest
-from zsched_tools.command import Refused
+from zsched_tools import command, manifest
+from zsched_tools.command import Refused, naming
 from zsched_tools.names import Names, first_repeat
 from zsched_tools.plan_text import LONGEST_PLAN, LinesText, PlanText
 from zsched_tools.report import as_text
@@ -137,22 +135,15 @@ def _write_parts(path, form, parts):
 def write_parts(path, is_lines, most, folder, progress=None):
     """Makes a folder with the parts of a plan, and returns the number of parts and jobs. If the plan is rejected,
     no folder is made."""
-    folder = pathlib.Path(folder)
-    if folder.exists() and (not folder.is_dir() or any(folder.iterdir())):
-        raise Refused(f"{folder}: exists, and isn't an empty folder")
     if not os.path.isfile(path) and os.path.exists(path):
         raise Refused(f"{path}: is not a regular file, and a plan may be read twice")
-    making = folder.with_name(folder.name + ".partial")
-    if making.exists():
-        raise Refused(f"{making}: exists: another split writes it, or an interrupted one left it (then remove it)")
-    making.mkdir()
-    parts = Parts(making, most, progress)
-    try:
-        _write_parts(path, LinesText if is_lines else PlanText, parts)
-        os.rename(making, folder)
-    except Refused as refused:
-        raise Refused(f"{path}: {refused}") from None
-    finally:
-        parts.drop()
-        shutil.rmtree(making, ignore_errors=True)
+    with command.new_folder(folder, "split") as making:
+        parts = Parts(making, most, progress)
+        try:
+            with naming(folder):
+                _write_parts(path, LinesText if is_lines else PlanText, parts)
+        except Refused as refused:
+            raise Refused(f"{path}: {refused}") from None
+        finally:
+            parts.drop()
     return len(parts.sums), parts.jobs

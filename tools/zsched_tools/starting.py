@@ -1,4 +1,4 @@
-"""How a tool starts and ends: the Python that it needs, its exit status, and a reader of its output that closes it.
+"""How a tool starts and ends: the Python that it needs, its exit status, Ctrl-C, and a reader of its output that closes it.
 
 A Python older than the tools need must be able to read this file."""
 import contextlib
@@ -19,19 +19,26 @@ def old_python(tool, version=None):
 
 
 def require_python(tool):
-    """Ends the process with one line and status 3 if this Python is too old."""
+    """Ends the process with one line and status 3 if this Python is too old. From here on Ctrl-C ends it with 130."""
     line = old_python(tool)
     if line is not None:
         sys.stderr.write(line + "\n")
         sys.exit(3)
 
+    def end(*_):
+        os.write(2, ("%s: interrupted\n" % tool).encode())
+        os._exit(130)
+    signal.signal(signal.SIGINT, end)
+    # The shell's lines of each tool block it until here, if `env` can.
+    signal.pthread_sigmask(signal.SIG_UNBLOCK, [signal.SIGINT])
 
-def parsed(parser, words=None):
+
+def parsed(parser):
     """The parsed command line. Help and version are written as in `run`, and end the process."""
     shown = io.StringIO()
     try:
         with contextlib.redirect_stdout(shown):
-            return parser.parse_args(words)
+            return parser.parse_args()
     except SystemExit as ended:
         if ended.code:
             raise
@@ -39,18 +46,33 @@ def parsed(parser, words=None):
 
 
 def run(tool, work):
-    """Does a command's work and returns its exit status: that of the work (None is 0), or that of `command.run` if the
-    work raises. If the reader of standard output closes it, the process ends by SIGPIPE, as `yes` does."""
+    """Does a command's work and returns its exit status, as `command.run` does. If the reader of standard output closes
+    it, the process ends by SIGPIPE, as `yes` does. Ctrl-C is an exception in the work, so that it can clean up."""
     from zsched_tools import command
-    status = []
+    before = signal.getsignal(signal.SIGINT)
 
     def quietly():
         try:
-            status.append(work() or 0)
+            signal.signal(signal.SIGINT, signal.default_int_handler)
+            status = work()
             sys.stdout.flush()
+            return status
         except BrokenPipeError:
             end_by_pipe()
-    return command.run(tool, quietly) or (status[0] if status else 0)
+        finally:
+            signal.signal(signal.SIGINT, before)
+    return command.run(tool, quietly)
+
+
+def command(tool, arguments, work, is_reported=lambda given: False):
+    """The main function of a command: `arguments` makes its parser, `work` gets the parsed command line. If
+    `is_reported`, a line says that the reader of standard output closed it."""
+    def main():
+        from zsched_tools import command
+        given = parsed(arguments())
+        command.color(given.color)
+        return (command.run if is_reported(given) else run)(tool, lambda: work(given))
+    return main
 
 
 def end_by_pipe():

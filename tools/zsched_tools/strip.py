@@ -1,7 +1,7 @@
 """Draws the load of many jobs as a strip of bars, below the rows of a picture or in place of them."""
 
 from zsched_tools import columns, picture
-from zsched_tools.axis import NEAREST_LABELS, Scale, View, labels, step_between_labels
+from zsched_tools.axis import NEAREST_LABELS, Scale, View, labels, round_numbers, step_between_labels, steps_to
 from zsched_tools.command import Refused
 from zsched_tools.drawing import cut_text, path, place, rectangle, root, text, text_width, titled
 from zsched_tools.durations import duration
@@ -34,15 +34,23 @@ def load_of_rows(rows, scale):
     return found
 
 
-def strip(load, scale, top, times=1):
-    """The strip of a load, from a height on: the attempts that ended in each step, and what runs and waits at its end.
-    `times` is a factor of the bars' heights."""
-    first, last = scale.first // load.every, scale.last // load.every
+def _shown(load, first, last):
+    """The rows of a load between two moments, the most attempts of one, and the most that run and wait at its end."""
+    first, last = first // load.every, last // load.every
     rows = [row for row in load.clamped(first, last).rows() if first <= row[0] // load.every <= last]
     most = max([max(row[1], row[2] + row[3]) for row in rows], default=0)
-    open_ = max([row[4] + row[5] for row in rows], default=0)
+    return rows, most, max([row[4] + row[5] for row in rows], default=0)
+
+
+def strip(load, scale, top, times=1):
+    """The strip of a load, from a height on: the attempts that ended in each step, and what runs and waits at its end.
+    `times` is a factor of the bars' heights. If it isn't 1, the heights have an axis at the left."""
+    rows, most, open_ = _shown(load, scale.first, scale.last)
     base, floor = _lines(top, times)
     every = duration(load.every)
+    if times > 1:
+        for foot, height, greatest in [(base, BARS, most), (floor, LINES, open_)]:
+            yield from _levels_of(scale, foot, times * height / max(1, greatest), greatest)
     yield _words(f"attempts in each {every}: those that ended, ok above err; a line: those that began; most: {most}",
                  f"in {every}: ok above err; line: begun; most: {most}", scale, top + WORDS - 5)
     yield from _bars(rows, load.every, scale, base, times * BARS / max(1, most))
@@ -57,6 +65,14 @@ def _lines(top, times):
     """The heights of the two lines at the bottom of the bars."""
     base = top + WORDS + times * BARS
     return base, base + WORDS + times * LINES
+
+
+def _levels_of(scale, base, unit, most):
+    """The lines of round numbers up to the most, with the numbers at the left."""
+    for number in steps_to(most):
+        if number <= most:
+            yield path(f"M{place(scale.left)} {place(base - number * unit)}H{place(scale.right)}", "grid")
+            yield text(scale.left - 5, base - number * unit + 4, f"{number:,}", "legend", "end")
 
 
 def _grid(moment, scale, top):
@@ -107,16 +123,6 @@ def _levels(rows, every, scale, base, unit):
             yield path(f"M{place(left)} {place(level)}H{place(right)}", "edge")
 
 
-def _round_number(least):
-    """The least of 1, 2, 5, 10, 20, .. that isn't below a number."""
-    ten = 1
-    while True:
-        for number in (ten, 2 * ten, 5 * ten):
-            if number >= least:
-                return number
-        ten *= 10
-
-
 def _moments_of(load, view):
     """The first and the last moment that a load's picture shows."""
     first, last = load.steps() or (0, 0)
@@ -128,8 +134,11 @@ def draw_strip(load, title, note=None, view=View(), width=None):
     With a width it is a part of a page."""
     is_file, width = width is None, width or picture.WIDTH
     first, last = _moments_of(load, view)
-    load = load.coarser(_round_number(-(-(-(-last // load.every) - first // load.every) // MOST_BARS)))
-    scale = Scale(*_moments_of(load, view), LEFT, width - LEFT, load.every if view.is_log else None)
+    least = -(-(-(-last // load.every) - first // load.every) // MOST_BARS)
+    load = load.coarser(next(number for number in round_numbers() if number >= least))
+    moments = _moments_of(load, view)
+    left = LEFT + text_width(f"{max(_shown(load, *moments)[1:]):,}", picture.SMALL_SIZE)
+    scale = Scale(*moments, left, width - LEFT, load.every if view.is_log else None)
     found, base = labels(scale)
     top = 16 + (30 if title else 0) + (20 if note else 0) + (18 if base else 0)
     bottom = _lines(top, ALONE)[1] + 8
@@ -146,7 +155,8 @@ def draw_strip(load, title, note=None, view=View(), width=None):
         yield text(LEFT, top - 6, f"time since moment {base} ms", "axis")
     for moment, label in found:
         yield _grid(moment, scale, top)
-        yield text(scale.at(moment), bottom + 16, label, "axis", "middle" if scale.at(moment) > 60 else "start")
+        at = scale.at(moment)
+        yield text(at, bottom + 16, label, "axis", "start" if at < 60 else "end" if at > width - 60 else "middle")
     yield from strip(load, scale, top, ALONE)
     yield "</svg>"
 
@@ -193,6 +203,13 @@ def crowd_of(file, chosen, progress=None):
     if crowd.missing:
         raise Refused(f"has no job {min(crowd.missing)}")
     return crowd
+
+
+def draw_crowd(crowd, title, view=View()):
+    """The picture of a report's jobs, or of their load if they are too many for rows, in lines of SVG."""
+    if crowd.jobs <= picture.MOST_JOBS:
+        return picture.draw(crowd.rows, title, view)
+    return draw_strip(crowd.load, title, note_of(crowd), view)
 
 
 def note_of(crowd):

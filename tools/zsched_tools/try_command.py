@@ -1,18 +1,22 @@
 """The command zsched-try: what policies do, a line each."""
 import argparse
 import io
+import random
 import re
 import sys
 
-from zsched_tools import bounding, command, program, schedule_rules, schedule_text, starting
-from zsched_tools.cause import Cause
+from zsched_tools import bounding, command, plan_size, program, starting
+from zsched_tools.bounding import LAST_MOMENT
 from zsched_tools.colors import Paint, add_color
 from zsched_tools.command import REFUSED, Refused
 from zsched_tools.duration_text import duration_argument
+from zsched_tools.drawn import Policy
 from zsched_tools.durations import duration
-from zsched_tools.picture import draw, rows_of
-from zsched_tools.place import place_lines
+from zsched_tools.place import FaultAt, place_lines
+from zsched_tools.progress import Now
 from zsched_tools.release import add_version
+from zsched_tools.schedule_rules import any_cause
+from zsched_tools.strip import crowd_of, draw_crowd
 from zsched_tools.summary import plural
 from zsched_tools.trying import MOST_AFTER, plan_of, tried_in
 
@@ -20,7 +24,6 @@ TOOL = "zsched-try"
 EXCEEDED = 1
 # The program's status if it is out of memory or of threads.
 NO_MEMORY = 4
-LAST_MOMENT = 999_999_999_999_999
 DESCRIPTION = """Runs policies from the command line, all on the same attempts, and prints a line for each: how it ends,
 after how many attempts and when, and how long it waits. If zsched-bounds is there, a second line says what the policy
 does for every input and every duration of attempts, until it gives up. That line is proved.
@@ -35,13 +38,22 @@ does for every input and every duration of attempts, until it gives up. That lin
 
 Each attempt ends as --fails says. With --after N this holds only for the first N, and the others end as --then says. A
 duration is a number of milliseconds, or has a unit: 40, 40ms, 1.5s, 2min, 1h30m, 1d. docs/RECIPES.md has policies for
-many tasks."""
+many tasks.
+
+A policy is a schedule, or one of these, and standard error shows the schedule that it becomes. Random waits are drawn with
+--seed. docs/FORMATS.md says what then holds for every draw.
+
+  @service.yaml#checkout                      the policy that `zsched-policy import service.yaml` finds
+  delays(1s, 1.5s, 2.25s)                     these waits, one after another
+  exponential(1s, 1.5, max 10s, 9 retries)    a factor with a fraction, a cap, a number of retries
+  (exponential(100) && recurs(5)) jitter full each wait drawn from 0 to it; jitter equal from half of it, jitter 20% from
+                                              80 % to 120 % of it, jitter 2/3..1 from two thirds of it"""
 EPILOG = """A policy that is unfinished at --until has neither an end nor a last attempt, so it exceeds every --max-total
 and --max-attempts. Its waits count up to --until. --max-.. are limits of this run, --require-.. of every run.
 
 Exit status: 0; 1 if a policy exceeds a bound, or if a required bound isn't proved (standard error names it); 2 if a
-policy or an argument is wrong, with a caret below its place, or if --require-.. is given without zsched-bounds; 3 if a
-program or writing fails."""
+policy or an argument is wrong, with a caret below its place, if there is no zsched, or if --require-.. is given without
+zsched-bounds; 3 if a program or writing fails."""
 
 
 def _time(least):
@@ -65,11 +77,7 @@ def _entry(word):
 
 def _count(most):
     """A reader of whole numbers up to a greatest."""
-    def read(word):
-        if not (word.isascii() and word.isdigit() and len(word) <= 20 and int(word) <= most):
-            raise argparse.ArgumentTypeError(f'"{word}" is not a whole number up to {most}')
-        return int(word)
-    return read
+    return command.number(0, most, f'"{{}}" is not a whole number up to {most}')
 
 
 def _entries(given):
@@ -111,86 +119,123 @@ def _not_proved(given, bounds):
         yield f"--require-total {duration(total)} is not proved: {found}"
 
 
-def _bounds(given):
+def bounds_of_all(given):
     """The bounds of the policies for every input; None for each if zsched-bounds isn't found and isn't required."""
-    try:
-        path = program.find_bounds(given.bounds)
-    except program.NoProgram as missing:
-        raise Refused(missing) from None
+    path = program.find_bounds(given.bounds)
     if path is not None:
-        return bounding.run(path, given.policies)
-    if [given.require_most, given.require_wait, given.require_total] != [None] * 3:
+        return bounding.of_policies(path, given.read)
+    if any(value is not None for name, value in vars(given).items() if name.startswith("require_")):
         raise Refused("--require-most, --require-wait and --require-total need zsched-bounds, which is neither built nor "
                       "installed; set --bounds PATH or ZSCHED_BOUNDS")
     return [None] * len(given.policies)
 
 
-def _wrong(given, line):
-    """Shows the fault of a policy in this line of the program; returns the status."""
-    place = re.fullmatch(r"zsched: job (\d+): schedule: (.+)", line)
-    if place is None:
-        raise Refused(line.removeprefix("zsched: "))
-    number, fault = int(place[1]), place[2]
-    text = given.policies[number]
-    cause = schedule_text.cause_of(text, fault) or schedule_rules.cause_of(text, fault)
-    cause = cause or Cause(0, len(text), f"the fault is in this schedule: {fault}")
-    policy_text = f"policy {number + 1}, " if len(given.policies) > 1 else ""
-    place = f"{TOOL}: {policy_text}byte {len(text[:cause.at].encode())}"
+def _read(given):
+    """Reads the policies and draws the schedule of each. FaultAt has the fault of the policy number `given.at`."""
+    given.read, given.schedules = [], []
+    for given.at, text in enumerate(given.policies):
+        try:
+            text.encode()
+        except UnicodeEncodeError:
+            raise Refused(f"policy {given.at + 1} is not UTF-8") from None
+        given.read.append(Policy(text, given.zsched and program.find(given.zsched)))
+        given.schedules.append(given.read[-1].schedule(_source(given, text)))
+
+
+def _source(given, text):
+    """The random numbers of a policy."""
+    return random.Random(f"{given.seed} {text}")
+
+
+def _wrong(tool, given, cause):
+    """Shows the fault of the policy number `given.at`."""
+    text = given.policies[given.at]
+    which = f"policy {given.at + 1}, " if len(given.policies) > 1 else ""
+    place = f"{tool}: {which}byte {len(text[:cause.at].encode())}"
     for shown in place_lines(place, text, cause, Paint(given.color, sys.stderr)):
         print(shown, file=sys.stderr)
-    return REFUSED
+
+
+def of_all(policy):
+    """What the bounds of a policy are for."""
+    return "for every draw and input" if policy.is_drawn else "for every input"
 
 
 def _print_all(given, report, all_bounds):
     """The lines of the policies, or the picture; and the bounds that they exceed. Returns the status."""
     if given.svg:
-        for line in draw(rows_of(io.StringIO(report.decode()), []), given.title):
+        for line in draw_crowd(crowd_of(io.BytesIO(report), []), given.title):
             print(line)
     paint, status = Paint(given.color, sys.stdout), 0
     widest = max(map(len, given.policies)) + 2 if len(given.policies) > 1 else 0
-    for policy, found, bounds in zip(given.policies, tried_in(report), all_bounds):
+    for policy, found, bounds in zip(given.read, tried_in(report), all_bounds):
         if not given.svg:
             style = "good" if found.how in ("succeeded", "finished") else "bad" if found.how == "failed" else "strong"
             ending, after, rest = found.line().partition(" after ")
-            print((policy.ljust(widest) if widest else "") + paint(style, ending) + after + rest)
+            print((policy.text.ljust(widest) if widest else "") + paint(style, ending) + after + rest)
             if bounds is not None:
-                print(" " * widest + f"for every input: {bounds.line()}")
+                print(" " * widest + f"{of_all(policy)}: {bounds.line()}")
         for words in [*_exceeded(given, found), *(_not_proved(given, bounds) if bounds is not None else [])]:
             sys.stdout.flush()
-            print(f"{TOOL}: {policy}: {words}", file=sys.stderr)
+            print(f"{TOOL}: {policy.text}: {words}", file=sys.stderr)
             status = EXCEEDED
     return status
 
 
+def _run(tool, given, plan):
+    """Runs the plan of the policies, and returns the report. FaultAt has a fault. If the plan may have many attempts, a
+    line on standard error says so before it runs."""
+    zsched, jobs, status = program.find(given.zsched), len(given.policies), 0
+    many = plan_size.warning(plan)
+    if many:
+        status, report, errors = program.report_of(zsched, plan_size.with_one_tick(plan), jobs)
+    if not status:
+        plan_size.warn(tool, many, given.color)
+        with Now() as progress:
+            progress.say("zsched runs the policies")
+            status, report, errors = program.report_of(zsched, plan, jobs)
+    line = program.failure(status, errors)
+    place = re.fullmatch(r"zsched: job (\d+): schedule: (.+)", line)
+    if status == REFUSED and place:
+        given.at = int(place[1])
+        cause = any_cause(given.schedules[given.at], place[2])
+        raise FaultAt(given.read[given.at].cause_at(_source(given, given.policies[given.at]), cause))
+    if status == REFUSED:
+        raise Refused(line.removeprefix("zsched: "))
+    if status:
+        raise ChildProcessError(line + "; shorten --until, or lengthen the waits" * (status == NO_MEMORY or status < 0))
+    return report
+
+
+def tried(tool, given, is_plan=False):
+    """Runs the policies of a command line, and returns the report, or the plan. A fault is shown, and the result is
+    None."""
+    try:
+        _read(given)
+        plan = plan_of(given.schedules, given.mode, given.until, _entries(given), given.policies)
+        report = plan if is_plan else _run(tool, given, plan.encode())
+    except FaultAt as fault:
+        return _wrong(tool, given, fault.cause)
+    for policy, schedule in zip(given.read, given.schedules):
+        policy.show(tool)
+        if policy.is_drawn:
+            print(f"{tool}: {policy.text} with the seed {given.seed} is {schedule}", file=sys.stderr)
+    return report
+
+
 def work(given):
     """Runs the command with its arguments; returns the exit status."""
-    for number, policy in enumerate(given.policies, 1):
-        try:
-            policy.encode()
-        except UnicodeEncodeError:
-            raise Refused(f"policy {number} is not UTF-8") from None
-    plan = plan_of(given.policies, given.mode, given.until, _entries(given))
+    found = tried(TOOL, given, given.plan)
+    if found is None:
+        return REFUSED
     if given.plan:
-        print(plan, end="")
+        print(found, end="")
         return 0
-    try:
-        zsched = program.find(given.zsched)
-    except program.NoProgram as missing:
-        raise Refused(missing) from None
-    status, report, errors = program.run(zsched, plan.encode())
-    if status == REFUSED:
-        return _wrong(given, program.failure(status, errors))
-    if status:
-        more = "; shorten --until, or lengthen the waits" if status == NO_MEMORY or status < 0 else ""
-        raise ChildProcessError(program.failure(status, errors) + more)
-    return _print_all(given, report, _bounds(given))
+    return _print_all(given, found, bounds_of_all(given))
 
 
-def arguments():
-    """The parser of the command line."""
-    form = argparse.RawDescriptionHelpFormatter
-    parser = argparse.ArgumentParser(prog=TOOL, description=DESCRIPTION, epilog=EPILOG, formatter_class=form)
-    parser.add_argument("policies", metavar="POLICY", nargs="+", help="a schedule")
+def add_attempts(parser):
+    """Adds the options of what each attempt does, and of the programs, to a command's."""
     parser.add_argument("--mode", choices=["retry", "repeat"], default="retry",
                         help="runs again after each error (retry, the default) or after each success (repeat)")
     parser.add_argument("--fails", type=_entry, metavar="ATTEMPT",
@@ -198,6 +243,17 @@ def arguments():
     parser.add_argument("--after", type=_count(MOST_AFTER), metavar="N", help="how many attempts end as --fails says")
     parser.add_argument("--then", type=_entry, metavar="ATTEMPT", help="each attempt after these: '35 ok 200'")
     parser.add_argument("--until", type=_time(0), default=_time(0)("1d"), metavar="TIME", help="the horizon: 1d")
+    parser.add_argument("--seed", type=_count(2**64 - 1), default=0, metavar="N", help="of random waits (0)")
+    parser.add_argument("--zsched", metavar="PATH", help="the program (ZSCHED, the built or the installed one)")
+    parser.add_argument("--bounds", metavar="PATH", help="zsched-bounds (ZSCHED_BOUNDS, the built or installed one)")
+
+
+def arguments():
+    """The parser of the command line."""
+    form = argparse.RawDescriptionHelpFormatter
+    parser = argparse.ArgumentParser(prog=TOOL, description=DESCRIPTION, epilog=EPILOG, formatter_class=form)
+    parser.add_argument("policies", metavar="POLICY", nargs="+", help="a schedule")
+    add_attempts(parser)
     parser.add_argument("--max-total", type=_time(0), metavar="TIME", help="the latest end")
     parser.add_argument("--max-wait", type=_time(0), metavar="TIME", help="the longest wait")
     parser.add_argument("--max-attempts", type=_count(2**64 - 1), metavar="N", help="the most attempts")
@@ -208,15 +264,9 @@ def arguments():
     printed.add_argument("--plan", action="store_true", help="print the plan, and run nothing")
     printed.add_argument("--svg", action="store_true", help="print the picture")
     parser.add_argument("--title", default="", help="the text above the picture")
-    parser.add_argument("--zsched", metavar="PATH", help="the program (ZSCHED, the built or the installed one)")
-    parser.add_argument("--bounds", metavar="PATH", help="zsched-bounds (ZSCHED_BOUNDS, the built or installed one)")
     add_color(parser)
     add_version(parser)
     return parser
 
 
-def main():
-    """The command line."""
-    given = starting.parsed(arguments())
-    command.color(given.color)
-    return starting.run(TOOL, lambda: work(given))
+main = starting.command(TOOL, arguments, work)

@@ -1,4 +1,5 @@
 """Policies from the command line as one plan, and the result of each in one line."""
+import itertools
 import json
 import re
 from dataclasses import dataclass
@@ -24,12 +25,12 @@ def job_names(policies):
     return names
 
 
-def plan_of(policies, mode, horizon, entries):
-    """The text of a plan with a job for each policy, all with the same script."""
+def plan_of(schedules, mode, horizon, entries, policies=None):
+    """The text of a plan with a job for each schedule, all with the same script. The policies give the names."""
     script = ", ".join(f'{{ "ms": {ms}, "{word}": {value} }}' for ms, word, value in entries)
     jobs = [f'    {{\n      "name": "{name}",\n      "mode": "{mode}",\n      "schedule": '
-            f'{json.dumps(policy, ensure_ascii=False)},\n      "script": [{script}]\n    }}'
-            for name, policy in zip(job_names(policies), policies)]
+            f'{json.dumps(schedule, ensure_ascii=False)},\n      "script": [{script}]\n    }}'
+            for name, schedule in zip(job_names(policies or schedules), schedules)]
     return f'{{\n  "horizon": {horizon},\n  "jobs": [\n' + ",\n".join(jobs) + "\n  ]\n}\n"
 
 
@@ -51,19 +52,18 @@ class Tried:
                 f"(waited {duration(self.waited)}, longest wait {duration(self.longest)})")
 
 
+def waits_in(block):
+    """The waits between the attempts of a job in a report."""
+    return [int(begin) - int(end) for (_, end), (begin, _) in itertools.pairwise(_ATTEMPT.findall(block))]
+
+
 def tried_in(report):
     """The result of each job in a report's bytes."""
     for block in report.split(b"\njob "):
         end = _END.search(block, block.rfind(b"\nend "))
         how, result, at = end[1].decode(), (end[2] or b"").decode(), int(end[3])
-        attempts = waited = longest = 0
-        last = None
-        for found in _ATTEMPT.finditer(block):
-            attempts += 1
-            wait = 0 if last is None else int(found[1]) - last
-            waited, longest = waited + wait, max(longest, wait)
-            last = int(found[2]) if found[2] else at
-        if how == "unfinished" and last is not None:
-            waited, longest = waited + at - last, max(longest, at - last)
+        moments = [(int(begin), int(end or at)) for begin, end in _ATTEMPT.findall(block)]
+        waits = [begin - end for (_, end), (begin, _) in itertools.pairwise(moments)]
+        waits += [at - moments[-1][1]] if how == "unfinished" and moments else []
         result = result if len(result) <= WIDEST_RESULT else result[:WIDEST_RESULT - 2] + ".."
-        yield Tried(how, result, at, attempts, waited, longest)
+        yield Tried(how, result, at, len(moments), sum(waits), max(waits, default=0))

@@ -6,11 +6,10 @@ attempt."""
 import bisect
 import collections
 import json
-import re
 from typing import NamedTuple
 
 from zsched_tools.durations import duration
-from zsched_tools.outage import MOST_ENTRIES, blocks_of, cut_plans, run_plan
+from zsched_tools.outage import BEGIN, MOST_ENTRIES, blocks_of, cut_plans, run_plan
 from zsched_tools.scenario import DEFAULTS, Outcome
 from zsched_tools.summary import plural
 
@@ -21,7 +20,6 @@ LOOK = 32
 MOST_SHOWN = 5
 # Errors of the request, which say nothing about the service; the others of HTTP's 4xx do.
 _OF_SERVICE = {408, 425, 429}
-_BEGIN = re.compile(rb"\nattempt \d+ (\d+)\.\.")
 
 
 class Request(NamedTuple):
@@ -135,7 +133,7 @@ def scripts(service, requests, schedule, mode, horizon, zsched):
         blocks = (block for plan in cut_plans(horizon, jobs)[0] for block in blocks_of(run_plan(zsched, plan)))
         still = []
         for at, script, block in zip(are_open, tried, blocks):
-            begins = list(map(int, _BEGIN.findall(block)))
+            begins = list(map(int, BEGIN.findall(block)))
             if _extended(found[at], requests[at], service, script, begins, mode):
                 (too_long if len(found[at]) == MOST_ENTRIES else still).append(at)
         are_open = still

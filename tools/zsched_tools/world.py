@@ -16,6 +16,8 @@ DENIED = 8
 UNDENIED = bytes(kind & ~DENIED for kind in range(256))
 # How the run of a client ends: its schedule is done, it continues after the horizon, or the run was cut.
 DONE, GOES_ON, CUT = range(3)
+# The most entries of a script, of which the last one repeats.
+MOST_ENTRIES = 1000
 
 
 @dataclass(slots=True)
@@ -46,7 +48,7 @@ class Service:
     def __init__(self, windows):
         self.windows = [*windows, Window(LAST_MOMENT + 2, LAST_MOMENT + 3, UP, None)]
         self.next = 0
-        self.second, self.served = None, 0
+        self.step, self.served = None, 0
 
     def kind(self, moment):
         """The state of the service for an attempt that begins now."""
@@ -57,9 +59,9 @@ class Service:
             return UP
         if window.capacity is None:
             return window.state
-        second = self.next, (moment - window.begin) // 1000
-        if second != self.second:
-            self.second, self.served = second, 0
+        step = self.next, (moment - window.begin) // window.per
+        if step != self.step:
+            self.step, self.served = step, 0
         self.served += 1
         return window.state if self.served <= window.capacity else FULL
 
@@ -161,13 +163,14 @@ class Walk:
         self.endings[client] = Ending(how, value, at, len(self.found[client]))
 
     def is_settled(self, client):
-        """Whether the client's run was the true one up to its end: each attempt before that failed as it was run. If the last
-        attempt is served, or still runs at the horizon, its kind doesn't matter."""
+        """Whether the client's run was the true one up to its end: each attempt before that, or each that a script has
+        room for, failed as it was run. If the last attempt is served, or still runs at the horizon, its kind doesn't
+        matter."""
         ending, kinds, run = self.endings[client], self.found[client], self.runs[client]
         if ending is None:
             return False
         is_free = ending.how == "succeeded" or (ending.how == "unfinished" and self._is_running(client))
-        count = len(kinds) - is_free
+        count = min(len(kinds) - is_free, MOST_ENTRIES)
         return kinds[:count].translate(self.outcomes) == run.kinds[:count].translate(self.outcomes)
 
     def _is_running(self, client):

@@ -1,12 +1,11 @@
 """The command zsched-policy: prints the retry policies of a config as schedules."""
-import argparse
 import json
 import sys
 
-from zsched_tools import colors, command, release, starting
+from zsched_tools import command, starting
 from zsched_tools.cause import listed, shown
 from zsched_tools.command import Refused
-from zsched_tools.policy import libraries, python_source, reading, services
+from zsched_tools.policy import difference, libraries, python_source, reading, services
 from zsched_tools.policy.reading import Wrong
 from zsched_tools.policy.spelling import spelled
 
@@ -15,7 +14,11 @@ NOTHING = 1
 DESCRIPTION = """Finds the retry policies in the config of another program, and prints each as a schedule.
 
   zsched-policy import service.yaml
-  zsched-try "$(zsched-policy import service.yaml --plain --name checkout)" """
+  zsched-try @service.yaml#checkout
+
+Says what differs between two policies.
+
+  zsched-policy diff @service.yaml#checkout '(exponential(100) && recurs(5))'"""
 IMPORT = """Finds the retry policies in FILE, and prints a line of JSON for each.
 
   grpc          a gRPC service config (JSON): methodConfig with a retryPolicy
@@ -69,6 +72,33 @@ def _named(policies):
         yield policy._replace(name=name if used[name] == 1 else f"{name}-{used[name]}")
 
 
+def policies_of(path):
+    """All policies of a file, each with its name."""
+    try:
+        return list(_named(_found(path)))
+    except Wrong as wrong:
+        raise Refused(f"{path}:{wrong.args[0]}: {wrong.args[1]}") from None
+
+
+def names_of(policies):
+    """The names of policies in words."""
+    return f"it has {listed([it.name for it in policies[:20]])}" if policies else f"{TOOL} import --help lists the formats"
+
+
+def line_of_file(path, name):
+    """The line of the policy of a file with this name; without a name the file has one policy."""
+    policies = policies_of(path)
+    chosen = [it for it in policies if name in (None, it.name)]
+    if len(chosen) != 1:
+        what = "more than one policy, write @FILE#NAME" if chosen else f"no policy {shown(name or '')}".rstrip()
+        raise Refused(f"{path}: {what}; {names_of(policies)}")
+    try:
+        return line_of(chosen[0])
+    except (Wrong, ValueError) as wrong:
+        line, what = wrong.args if isinstance(wrong, Wrong) else (chosen[0].line, wrong)
+        raise Refused(f"{path}:{line}: {chosen[0].name}: {what}") from None
+
+
 def _whole(value):
     """A time in whole milliseconds, or None."""
     return None if value is None else max(1, int(value))
@@ -85,15 +115,11 @@ def line_of(found):
 
 def _import(given):
     """Prints the policies of a file; returns the status."""
-    try:
-        policies = list(_named(_found(given.file)))
-    except Wrong as wrong:
-        raise Refused(f"{given.file}:{wrong.args[0]}: {wrong.args[1]}") from None
+    policies = policies_of(given.file)
     chosen = [it for it in policies if given.name in (None, it.name)]
     if not chosen:
-        more = f"it has {listed([it.name for it in policies[:20]])}" if policies else "--help lists the formats"
         name = f" {shown(given.name)}" if given.name is not None else ""
-        print(f"{TOOL}: {given.file}: no policy{name}; {more}", file=sys.stderr)
+        print(f"{TOOL}: {given.file}: no policy{name}; {names_of(policies)}", file=sys.stderr)
         return NOTHING
     status = 0
     for found in chosen:
@@ -110,22 +136,14 @@ def _import(given):
 
 def _arguments():
     """The parser of the command line."""
-    form = argparse.RawDescriptionHelpFormatter
-    parser = argparse.ArgumentParser(prog=TOOL, description=DESCRIPTION, epilog=EPILOG, formatter_class=form)
-    release.add_version(parser)
-    colors.add_color(parser)
-    forms = parser.add_subparsers(required=True, metavar="COMMAND")
-    given = forms.add_parser("import", description=IMPORT, epilog=EPILOG, formatter_class=form,
-                             help="the policies of a config, as schedules")
+    parser, forms = command.forms(TOOL, DESCRIPTION, EPILOG, "COMMAND")
+    given = forms.add_parser("import", description=IMPORT, help="the policies of a config, as schedules")
     given.add_argument("file", metavar="FILE", help="the config; - is standard input")
     given.add_argument("--name", metavar="NAME", help="only the policy with this name")
     given.add_argument("--plain", action="store_true", help="only the schedule of each policy")
     given.set_defaults(work=_import)
+    difference.add_command(forms)
     return parser
 
 
-def main():
-    """The command line."""
-    given = starting.parsed(_arguments())
-    command.color(given.color)
-    return starting.run(TOOL, lambda: given.work(given))
+main = starting.command(TOOL, _arguments, lambda given: given.work(given))

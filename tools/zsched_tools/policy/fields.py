@@ -5,13 +5,11 @@ from fractions import Fraction
 from typing import Callable, NamedTuple
 
 from zsched_tools.cause import shown
+from zsched_tools.hints import UNITS, milliseconds
 from zsched_tools.policy.reading import Wrong
 
 DAY = 86_400_000
-_UNITS = {"ns": Fraction(1, 10**6), "us": Fraction(1, 1000), "µs": Fraction(1, 1000), "ms": 1, "s": 1000, "m": 60_000,
-          "min": 60_000, "h": 3_600_000, "d": DAY}
 _NUMBER = r"(?:[0-9]{1,20}(?:\.[0-9]{0,20})?|\.[0-9]{1,20})"
-_PART = re.compile(rf"({_NUMBER}) *(ns|us|µs|ms|min|s|m|h|d)(?![a-z]) *")
 _SPAN = re.compile(r"(?:([0-9]{1,8})\.)?([0-9]{1,2}):([0-9]{1,2})(?::([0-9]{1,2}(?:\.[0-9]{1,7})?))?")
 _SIGNED = re.compile(rf"[+-]?{_NUMBER}(?:[eE][+-]?[0-9]{{1,2}})?")
 
@@ -126,7 +124,7 @@ def duration(node, unit=None):
     """A duration in milliseconds: 1.5s, 1m30s, PT1.5S, 00:00:01.5, a table of seconds and nanos, or a number of `unit`
     milliseconds."""
     if node.is_table() and keys_of(node) <= {"seconds", "nanos"}:
-        return sum((number(it) * _UNITS["s" if plain(key) == "seconds" else "ns"] for key, it in node.data.items()),
+        return sum((number(it) * UNITS["s" if plain(key) == "seconds" else "ns"] for key, it in node.data.items()),
                    Fraction(0))
     text = (text_of(node) or "").strip().lower()
     if found := _SPAN.fullmatch(text):
@@ -135,10 +133,7 @@ def duration(node, unit=None):
         if unit is None and number(node):
             raise Wrong(node.line, f"{named(node)} has no unit: write it as 1.5s")
         return number(node) * (unit or 1)
-    exact, at = Fraction(0), 0
-    text = re.sub("[pt]", "", text) if text.startswith("p") else text
-    while piece := _PART.match(text, at):
-        exact, at = exact + Fraction(piece[1]) * _UNITS[piece[2]], piece.end()
-    if at == 0 or at < len(text):
+    exact = milliseconds(text.upper() if text.startswith("p") else text)
+    if exact is None:
         raise Wrong(node.line, f"{named(node)} is not a duration: write it as 1.5s")
     return exact

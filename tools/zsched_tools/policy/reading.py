@@ -1,11 +1,13 @@
 """Files as trees of nodes, each with its line: JSON, YAML, properties, and INI or lines of NAME=VALUE."""
 import bisect
+import contextlib
+import importlib
 import json
 import re
 import sys
 from typing import NamedTuple
 
-from zsched_tools.command import Refused
+from zsched_tools.command import Refused, read
 
 MOST_BYTES = 2_000_000
 # Of a file with all its aliases written out.
@@ -40,11 +42,7 @@ class Node(NamedTuple):
 
 def read_text(path):
     """The text of a file; - is standard input."""
-    if path == "-":
-        data = sys.stdin.buffer.read(MOST_BYTES + 1)
-    else:
-        with open(path, "rb") as file:
-            data = file.read(MOST_BYTES + 1)
+    data = read(path, MOST_BYTES + 1)
     if len(data) > MOST_BYTES:
         raise Refused(f"{path}: the file has more than {MOST_BYTES} bytes; cut out the part with the policies")
     try:
@@ -97,16 +95,18 @@ def _json_node(token, tokens, depth):
     return _sized(table if text == "{" else items, line)
 
 
+def yaml_module():
+    """PyYAML, of this Python or of Debian's."""
+    for more in [], [DEBIAN]:
+        sys.path += more
+        with contextlib.suppress(ImportError):
+            return importlib.import_module("yaml")
+    raise OSError(NO_YAML)
+
+
 def read_yaml(text):
     """The trees of the documents of a YAML file."""
-    try:
-        import yaml
-    except ImportError:
-        sys.path.append(DEBIAN)
-        try:
-            import yaml
-        except ImportError:
-            raise OSError(NO_YAML) from None
+    yaml = yaml_module()
     try:
         events = yaml.parse(text, Loader=yaml.SafeLoader)
         begins = (it for it in events if isinstance(it, yaml.DocumentStartEvent))

@@ -15,14 +15,13 @@ What each one waits, by its documents unless it says otherwise:
 import functools
 import itertools
 
+from zsched_tools.hints import TABLE
 from zsched_tools.policy.fields import (Fields, Found, Policy, duration, keys_of, named, number, part, plain, text_of,
                                          texts, whole)
 from zsched_tools.policy.reading import Node, Wrong
 from zsched_tools.policy.spelling import exponential, growing
 
-CODES = ["OK", "CANCELLED", "UNKNOWN", "INVALID_ARGUMENT", "DEADLINE_EXCEEDED", "NOT_FOUND", "ALREADY_EXISTS",
-         "PERMISSION_DENIED", "RESOURCE_EXHAUSTED", "FAILED_PRECONDITION", "ABORTED", "OUT_OF_RANGE", "UNIMPLEMENTED",
-         "INTERNAL", "UNAVAILABLE", "DATA_LOSS", "UNAUTHENTICATED"]
+CODES = TABLE["grpc"]
 ENVOY = {"numretries", "retryon", "retrybackoff", "pertrytimeout", "ratelimitedretrybackoff", "retriablestatuscodes",
          "retriableheaders", "retryhostpredicate"}
 TEMPORAL = {"backoffcoefficient", "maximumattempts", "maximuminterval", "nonretryableerrortypes"}
@@ -67,8 +66,8 @@ def _name_of(node):
 def label(path, form):
     """The name of a policy: that of the nearest table that has one, or else the nearest key that isn't a usual one."""
     usual = {"retrypolicy", "retry", "retries", "retryoptions", "options", "spec", "config", "policy", "backoff", ""}
-    names = (_name_of(node) or (key if plain(str(key)) not in usual else None) for key, node in reversed(path)
-             if isinstance(key, str))
+    names = (_name_of(node) or (key if isinstance(key, str) and plain(key) not in usual else None)
+             for key, node in reversed(path))
     return next(filter(None, names), form)
 
 

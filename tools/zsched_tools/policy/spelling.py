@@ -6,6 +6,8 @@ import re
 from fractions import Fraction
 from typing import Callable, NamedTuple
 
+from zsched_tools.hints import said
+
 # A schedule is at most 64 levels deep, and a list of n delays takes n + 1 of them. A limit of time takes one more.
 MOST_PIECES = 60
 # So many waits are tried to find those pieces, since waits below a millisecond may be equal when rounded.
@@ -73,7 +75,7 @@ def exponential(first, factor, most=None, least=0):
     if first == 0 or factor == 1:
         return constant(max(least, first if most is None else min(first, most)))
     if factor < 1:
-        raise ValueError("waits that fall can't become a schedule")
+        raise ValueError(said("fall"))
     base = f"exponential({first})" if factor == 2 else f"exponential({first}, {factor})"
     waits = itertools.accumulate(itertools.repeat(factor), operator.mul, initial=first)
     return growing(waits, most, least, base if first.denominator == factor.denominator == 1 else None)
@@ -82,7 +84,7 @@ def exponential(first, factor, most=None, least=0):
 def linear(first, step, most=None):
     """Waits of first, first + step, first + 2 * step and so on."""
     if step < 0:
-        raise ValueError("waits that fall can't become a schedule")
+        raise ValueError(said("fall"))
     base = f"linear({first})" if first == step and Fraction(first).denominator == 1 else None
     return growing(itertools.count(Fraction(first), step), most, 0, base) if step else constant(
         first if most is None else min(first, most))
@@ -120,12 +122,14 @@ def spelled(waits, retries, limit=None):
         texts = [closed if retries is None else f"recurs({retries})" if closed == "forever"
                  else f"({closed} && recurs({retries}))"]
     runs, number = _runs(waits, retries) if retries != 0 else ([], 0)
+    if not texts and not runs:
+        raise ValueError(said("above", most=GREATEST))
     if not texts or (number is None and len(_chain(runs)) < len(texts[0])):
         texts = [_chain(runs)]
         left_out = [] if number is None else [
             f"waits after the first {number}, of {'all later ones' if retries is None else f'{retries} in all'}"]
     if any(int(it) > GREATEST for it in re.findall("[0-9]+", texts[0])):
-        raise ValueError(f"a schedule has no number above {GREATEST}")
+        raise ValueError(said("above", most=GREATEST))
     return texts[0] if limit is None else f"({texts[0]} && elapsed.whileOutput(< {limit}))", left_out
 
 
