@@ -117,7 +117,7 @@ def steps(zsched, folder, count, most):
         yield name, ran([report, "join", *words], whole), size(reports + (cut if len(words) == 1 < len(cut) else []))
         if last_line(whole) != b"polls %d\n" % (count * POLLS):
             raise measure.Failed(f"the joined report isn't that of {count} jobs: it ends with {last_line(whole)!r}")
-    one = program.find_population()
+    one = program.find_beside("zsched-population")
     if one:
         yield "one program", ran([one], folder / "one.report", population), size([population])
         if not filecmp.cmp(whole, folder / "one.report", shallow=False):

@@ -1,4 +1,5 @@
 """Pages in a real browser, chromium. It can reach no host but this machine."""
+import json
 import os
 import re
 import shutil
@@ -19,6 +20,15 @@ def opened(address, width=1280, words=()):
         ended = subprocess.run(said, capture_output=True, check=False, timeout=180, env={**os.environ, "HOME": folder})
     assert ended.returncode == 0, ended.stderr[-500:]
     return ended.stdout.decode()
+
+
+def framed(folder, addresses, widths, found):
+    """What a function of a page returns for each of these pages, at each of these widths."""
+    frames = "".join(f'<iframe width="{width}" height="2500" src="{it}"></iframe>' for width in widths for it in addresses)
+    (folder / "frames.html").write_text(f"""<!doctype html>{frames}<p id="found"></p><script>
+onload = () => setTimeout(() => {{ document.getElementById("found").textContent = JSON.stringify(
+  [...document.querySelectorAll("iframe")].map(frame => ({found})(frame.contentDocument))); }}, 3000);</script>""")
+    return json.loads(inside(opened(f"file://{folder}/frames.html", 1700, ["--allow-file-access-from-files"]), "found"))
 
 
 def inside(document, name):

@@ -6,7 +6,9 @@ import pathlib
 import re
 from typing import NamedTuple
 
-from mistakes import MISTAKES
+import pytest
+
+import mistakes
 from support import BLOCK, ONE_JOB, ONE_REPORT, job, plan, tree
 
 LONGEST = 16777216
@@ -42,13 +44,11 @@ def script(entries):
 
 
 def written_out(text):
-    """A text of the table as it is in the plan. A byte that isn't UTF-8 is a surrogate."""
+    """A text of the table as it is in the plan."""
     for name, value in NAMED.items():
         text = text.replace(name, value)
-    text = re.sub("⟨(..)⟩", lambda it: bytes.fromhex(it[1]).decode(errors="surrogateescape"), text)
-    text = re.sub(r"⟨(\d+)\.\.(\d+)×(.+?)⟩", lambda it: ",".join(
-        it[3].replace("#", str(number)) for number in range(int(it[1]), int(it[2]) + 1)), text)
-    return re.sub(r"⟨(\d+)×(.+?)⟩", lambda it: it[2] * int(it[1]), text)
+    return mistakes.written_out(re.sub(r"⟨(\d+)\.\.(\d+)×(.+?)⟩", lambda it: ",".join(
+        it[3].replace("#", str(number)) for number in range(int(it[1]), int(it[2]) + 1)), text))
 
 
 def lines_of(name):
@@ -73,7 +73,7 @@ def refused():
     """All rejected plans, including those of mistakes.py: a name, the bytes, and the text of the fault."""
     cases = [(name, data, fault.told(numbers)) for fault in table() for name, data, numbers in fault.plans]
     return cases + [(name, text.replace("»", "", 1).encode(errors="surrogateescape"), fault)
-                    for name, text, fault, _ in MISTAKES]
+                    for name, text, fault, _ in mistakes.MISTAKES]
 
 
 def accepted():
@@ -93,6 +93,13 @@ def accepted():
         ("workers 64 and grain 10000", plan(more=',"workers":64,"grain":10000'), ONE_REPORT),
         ("a number with 100,000 spaces before it", plan([job(schedule="recurs(" + " " * DEEP + "3)")]), ONE_REPORT),
     ]
+
+
+def outcomes():
+    """Parameters for all of these plans: the bytes, and how a run of them ends."""
+    return [pytest.param(text, (2, b"", f"zsched: {fault}\n".encode()), id=f"{number} {name}")
+            for number, (name, text, fault) in enumerate(refused())] + [
+        pytest.param(text, (0, report, b""), id=name) for name, text, report in accepted()]
 
 
 def lines():

@@ -25,6 +25,8 @@ import yardstick
 from support import POPULATION, REFUSALS, STAMP, TOP, ZSCHED, floors, parser_of
 from toolchain import sources_sum
 
+# The checksum of all files with which the gate passed, for build/release.
+PASSED = TOP / "out" / "passed"
 COUNT = re.compile(r"(\d+) (passed|failed|errors?)\b")
 # Variables under which a part would test another program, or other cases.
 REDIRECTS = ["ZSCHED", "ZSCHED_POPULATION", "ZSCHED_BOUNDS", "ZSCHED_LIBRARY", "ZSCHED_LIBRARY_DIR", "ZSCHED_CHANGES",
@@ -148,10 +150,10 @@ def main(words):
     if given.names == ["quick"]:
         return quick.main()
     signal.signal(signal.SIGTERM, lambda number, _: sys.exit(128 + number))
-    is_whole, before, running = not given.names, sources_sum("zsched"), []
+    is_whole, before, tree, running = not given.names, sources_sum("zsched"), sources_sum("--all"), []
     series, begun = yardstick.Series() if is_whole else None, time.monotonic()
     if is_whole:
-        for old in [ZSCHED, POPULATION, REFUSALS, STAMP]:
+        for old in [ZSCHED, POPULATION, REFUSALS, STAMP, PASSED]:
             old.unlink(missing_ok=True)
     try:
         run(given, files, running)
@@ -164,6 +166,9 @@ def main(words):
     if is_whole and not failed:
         if before == sources_sum("zsched"):
             STAMP.write_text(f"{before}\n")
+            if not given.short and tree == sources_sum("--all"):
+                PASSED.parent.mkdir(exist_ok=True)
+                PASSED.write_text(f"{tree}\n")
             quick.note({name: quick.total(crate) for name, crate in quick.CRATES.items()})
         else:
             failed += 1

@@ -2,8 +2,8 @@
 
 A client is built in an empty folder, of copies of its source and of its language's binding, with no variable of this process
 but those that compilers need. tests/clients/client.c documents its requests and lines."""
-import contextlib
 import fcntl
+import functools
 import json
 import os
 import pathlib
@@ -100,14 +100,21 @@ def go_variables(place):
 
 
 def go(room, place):
+    """The client in Go, over the packaged module as a proxy of modules has it, with the library in it."""
     need("go")
-    shutil.copytree(BINDINGS / "go", room / "zsched", ignore=UNWANTED)
+    module, name = "example.org/zsched", f"v{(TOP / 'VERSION').read_text().strip()}"
+    proxy = room / "proxy" / module / "@v"
+    proxy.mkdir(parents=True)
+    shutil.copy(BINDINGS / "go" / "go.mod", proxy / f"{name}.mod")
+    (proxy / f"{name}.info").write_text(json.dumps({"Version": name}))
+    packed = output_of([TOP / "build/packages", "go", "--out", room, "--library", place.library]).strip()
+    shutil.move(packed, proxy / f"{name}.zip")
     (room / "client").mkdir()
     shutil.copy(CLIENTS / "client.go", room / "client")
-    (room / "client" / "go.mod").write_text(
-        "module client\n\ngo 1.19\n\nrequire zsched v0.0.0\n\nreplace zsched => ../zsched\n")
-    ran(["go", "build", "-o", room / "answers", "."], room / "client", **go_variables(place))
-    return Client([room / "answers"], go_variables(place))
+    (room / "client" / "go.mod").write_text(f"module client\n\ngo 1.19\n\nrequire {module} {name}\n")
+    ran(["go", "build", "-o", room / "answers", "."], room / "client", GOPROXY=f"file://{room / 'proxy'}", GONOSUMDB="*",
+        GOMODCACHE=room / "cache", GOFLAGS="-mod=mod -modcacherw")
+    return Client([room / "answers"], {})
 
 
 def node(room, place):
@@ -121,25 +128,27 @@ def node(room, place):
 
 
 def java(room, place, jar=None):
-    """The client in Java, over the classes of the binding or a jar of them. It has little memory."""
+    """The client in Java, over the classes of the binding, or a jar with the library in it. It has little memory."""
     need("javac", JNA)
     classes = jar or room / "classes"
     if not jar:
         ran(["javac", "-Xlint:all", "-Werror", "-cp", JNA, "-d", classes, *sorted(BINDINGS.glob("java/zsched/*.java"))], room)
     path = f"{JNA}:{classes}"
     ran(["javac", "-Xlint:all", "-Werror", "-cp", path, "-d", "client", CLIENTS / "Client.java"], room)
-    return Client(["java", "-XX:+UseSerialGC", "-Xmx16m", "-cp", f"{path}:{room / 'client'}",
-                   f"-Djna.library.path={place.library}", "Client"], {})
+    found = [] if jar else [f"-Djna.library.path={place.library}"]
+    return Client(["java", "-XX:+UseSerialGC", "-Xmx16m", "-cp", f"{path}:{room / 'client'}", *found, "Client"], {})
 
 
-def rust(room, place):
+def rust(room, place, crate=BINDINGS / "rust"):
+    """The client in Rust, over the binding, or over a crate with the library in it, without a place."""
     need("cargo")
-    shutil.copytree(BINDINGS / "rust", room / "zsched", ignore=UNWANTED)
+    shutil.copytree(crate, room / "zsched", ignore=UNWANTED)
     (room / "src").mkdir()
     shutil.copy(CLIENTS / "client.rs", room / "src" / "main.rs")
     (room / "Cargo.toml").write_text('[package]\nname = "client"\nversion = "0.1.0"\nedition = "2021"\n\n'
                                      '[dependencies]\nzsched = { path = "zsched" }\n')
-    ran(["cargo", "build", "--quiet", "--offline", "--release"], room, ZSCHED_LIBRARY_DIR=place.library, RUSTFLAGS="-D warnings")
+    ran(["cargo", "build", "--quiet", "--offline", "--release"], room, RUSTFLAGS="-D warnings",
+        **({"ZSCHED_LIBRARY_DIR": place.library} if place else {}))
     return Client([room / "target" / "release" / "client"], {})
 
 
@@ -148,17 +157,20 @@ LANGUAGES = {"C": c, "C watched": lambda room, place: c(room, place, *WATCHED),
              "Rust": rust}
 
 
-def built(name, factory, library):
-    """The client of a language over a built library. Of all processes of a run one builds it, in a folder of pytest's."""
-    folder = factory.getbasetemp().parent if "PYTEST_XDIST_WORKER" in os.environ else factory.getbasetemp()
-    room = folder / "clients" / name.replace(" ", "-")
-    room.parent.mkdir(exist_ok=True)
-    with open(f"{room}.lock", "w", encoding="utf-8") as held:
-        fcntl.flock(held, fcntl.LOCK_EX)
-        noted = pathlib.Path(f"{room}.json")
-        if not noted.exists():
-            with contextlib.suppress(FileNotFoundError):
-                shutil.rmtree(room)
-            room.mkdir()
-            noted.write_text(json.dumps(LANGUAGES[name](room, built_library(library)), default=str))
-        return Client(*json.loads(noted.read_text()))
+@pytest.fixture(scope="session")
+def client(library, tmp_path_factory):
+    """The client of a language over the library, by its name. Of all processes of a run one builds it."""
+    base = tmp_path_factory.getbasetemp()
+    folder = (base.parent if "PYTEST_XDIST_WORKER" in os.environ else base) / "clients"
+
+    def built(name):
+        folder.mkdir(exist_ok=True)
+        room, noted = folder / name.replace(" ", "-"), folder / f"{name}.json"
+        with open(f"{room}.lock", "w", encoding="utf-8") as held:
+            fcntl.flock(held, fcntl.LOCK_EX)
+            if not noted.exists():
+                shutil.rmtree(room, ignore_errors=True)
+                room.mkdir()
+                noted.write_text(json.dumps(LANGUAGES[name](room, built_library(library)), default=str))
+            return Client(*json.loads(noted.read_text()))
+    return functools.cache(built)

@@ -42,5 +42,3 @@ def split(marked):
 
 
 MISTAKES = list(mistakes())
-# Those of a schedule's text that aren't about the kinds of its parts.
-SCHEDULES = [it for it in MISTAKES if it[2].startswith("job 0: schedule: ") and it[2] != "job 0: schedule: no kind"]

@@ -13,8 +13,10 @@ const FIELDS = { a: "recurs(3)", b: "", mode: "retry", world: "script", script: 
 
 const text = fs.readFileSync(process.argv[2], "utf8");
 const named = vm.runInThisContext;
-for (const name of ["evaluator", "drawing", "bounding", "asking"])
-  named(new RegExp(`<script id="${name}">\n(.*?)</script>`, "s").exec(text)[1], { filename: name });
+const textOf = id => new RegExp(` id="${id}">\n(.*?)</script>`, "s").exec(text)[1];
+for (const name of ["evaluator", "drawing", "bounding"]) named(textOf(name), { filename: name });
+globalThis.document = { getElementById: id => ({ textContent: textOf(id) }) };
+named(textOf("asking"), { filename: "asking" });
 
 globalThis.page = {
   // The status, report and fault's line of a plan, which is in base 64.
@@ -23,7 +25,10 @@ globalThis.page = {
     return [status, report, fault === undefined ? "" : `zsched: ${fault}\n`];
   },
   // The plan of the fields, but for these.
-  plan: (changed, most = MOST_OF_A_CLIENT) => named("asking").questionOf({ ...FIELDS, ...changed }, most),
+  plan(changed, most = MOST_OF_A_CLIENT) {
+    const { text, service } = named("asking").questionOf({ ...FIELDS, ...changed }, most);
+    return { text, service };
+  },
   // The report of that plan, and its fault.
   report: changed => page.answer(Buffer.from(page.plan(changed).text).toString("base64"))[1],
   fault: changed => page.answer(Buffer.from(page.plan(changed).text).toString("base64"))[2],
@@ -31,13 +36,13 @@ globalThis.page = {
   verdicts: changed => named("drawing").rowsOf(page.report(changed)).map(named("drawing").verdict),
   // The picture of a report.
   picture: (report, options) => named("drawing").picture(named("drawing").rowsOf(report), options).svg,
-  // The fault of a schedule in words.
-  explained(schedule) {
-    try {
-      return named("zsched").readSchedule(schedule);
-    } catch ({ message, place }) {
-      return named("asking").explained(message, place, schedule);
-    }
+  // The fault of a policy in words, or what it becomes and what a draw of it is.
+  explained(text) {
+    const fault = named("asking").faultOf(text);
+    if (fault) return { ...fault, line: undefined };
+    const [policy] = named("asking").policiesOf({ a: text, b: "" });
+    const draws = [() => 0, () => 1 - 2 ** -53].map(it => policy.texts(it));
+    return [policy.name, ...policy.becomes(), ...policy.isDrawn ? draws : []];
   },
   // What holds for every input of a schedule, in words.
   everyInput: schedule => named("bounding").words(named("bounding").boundsOf(schedule)),

@@ -1,19 +1,13 @@
-#!/usr/bin/env python3
-"""The result of zsched for a plan, computed a second time from docs/SEMANTICS.md and docs/FORMATS.md alone.
-
-    python3 tests/reference.py < plan.json
-
-It prints the report, or the fault on standard error, and ends with zsched's status: 0, or 2 for a fault. It never runs
-out of memory or threads. It is as naive as the documents: an output is evaluated from the whole history, one job after
-another, without state, timer or thread. Results are cached only so that none is computed twice. What has one letter in
-the documents has it here."""
+"""The result of zsched for a plan, computed a second time from docs/SEMANTICS.md and docs/FORMATS.md alone: its status,
+report and fault. It never runs out of memory or threads. It is as naive as the documents: an output is evaluated from
+the whole history, one job after another, without state, timer or thread. Results are cached only so that none is computed
+twice. What has one letter in the documents has it here."""
 import bisect
 import itertools
 import json
 import math
 import operator
 import re
-import sys
 from typing import NamedTuple
 
 M = 18446744073709551615
@@ -471,10 +465,3 @@ def answer(plan, most=None):
         total += len(moments)
         lines += [f"job {job['name']} {job['mode']}", *its_lines, f"end {ending} polls {len(moments)}"]
     return 0, "".join(f"{line}\n" for line in [*lines, f"polls {total}"]).encode(), b""
-
-
-if __name__ == "__main__":
-    status, *texts = answer(sys.stdin.buffer.read(LONGEST_PLAN + 1))
-    for stream, text in zip([sys.stdout, sys.stderr], texts):
-        stream.buffer.write(text)
-    sys.exit(status)

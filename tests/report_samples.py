@@ -1,7 +1,5 @@
 """Reports for the tests of zsched-report: those of its cases, texts that aren't reports, and long ones."""
-import json
-
-from support import TOP
+from support import TOP, rows
 
 RETRIED, RUNNING, COARSE, NEVER, WAITING, GREATEST = REPORTS = [
     (TOP / "tests" / "cases" / "zsched-report" / name / "report").read_text() for name in [
@@ -9,7 +7,7 @@ RETRIED, RUNNING, COARSE, NEVER, WAITING, GREATEST = REPORTS = [
         "a_job_that_never_begins", "a_wait_at_the_horizon_and_a_failed_repeat", "the_greatest_numbers"]]
 KNOWN = sorted([*TOP.glob("examples/*.stdout"), *TOP.glob("tests/plans/*.stdout")])
 # Texts that aren't reports, and the beginning of the error.
-NO_REPORTS = [json.loads(line) for line in (TOP / "tests" / "no_reports.jsonl").read_text().splitlines()]
+NO_REPORTS = rows("no_reports.jsonl")
 
 
 def long_report(attempts):

@@ -46,6 +46,11 @@ def plans_with_reports():
     return sorted([*TOP.glob("examples/*.json"), *TOP.glob("tests/plans/*.json")])
 
 
+def rows(name):
+    """The rows of a table in this folder, each a line of JSON."""
+    return [json.loads(line) for line in (TOP / "tests" / name).read_text(encoding="utf-8").splitlines()]
+
+
 def report_beside(path):
     return path.with_name(path.name + ".stdout").read_bytes()
 
@@ -107,11 +112,17 @@ def difference(found, wanted):
     return streams
 
 
+def executable(path, text):
+    """Makes a program of a shell's commands."""
+    path.write_text(f"#!/bin/sh\n{text}\n")
+    path.chmod(0o755)
+    return str(path)
+
+
 def run_tool(words, given=b"", folder=None, seconds=300, **variables):
     """Runs a command, with more variables: its status, standard output and standard error as texts."""
-    ended = subprocess.run([str(it) for it in words], input=given, capture_output=True, cwd=folder, check=False,
-                           env={**os.environ, **variables}, timeout=seconds)
-    return ended.returncode, ended.stdout.decode(), ended.stderr.decode()
+    status, output, errors = run([str(it) for it in words], given, {**os.environ, **variables}, seconds, cwd=folder)
+    return status, output.decode(), errors.decode()
 
 
 def output_of(words, **more):

@@ -1,10 +1,9 @@
 #!/usr/bin/env python3
 """Plants each body that the prover can't reject, in one copy of the crates, and sees that a test catches it.
 
-A survivor is a file crates/NAME/survivors/BELIEF.edit. `caught-by:` names a test of a crate, as CRATE::TEST, or of this
-folder, as FILE.py::TEST. `file:` names a file of src/, and pairs of `old:`, which is in it once, and `new:` change the
-body of one function. A body may hold one lock of all threads (`crate::chosen::zs_lock()`, `zs_unlock()`). A number picks
-a body at run time. What catches it has to pass without it. The last line is 'N passed, M failed'."""
+CONTRIBUTING.md has the form of a survivor. In a file it changes the body of one function, which may hold one lock of all
+threads (`crate::chosen::zs_lock()`, `zs_unlock()`). A number picks a body at run time. What catches it has to pass without
+it. The last line is 'N passed, M failed'."""
 import concurrent.futures
 import os
 import pathlib
@@ -15,6 +14,7 @@ import subprocess
 import sys
 import tempfile
 import time
+import types
 
 sys.dont_write_bytecode = True
 
@@ -34,26 +34,17 @@ exec "{kit}/toolchain/bin/clang" "${{words[@]}}"
 """
 
 
-class Survivor:
+def survivor(number, path):
     """A body: its number, name and crate, what catches it, and its pairs of old and new texts by file."""
-
-    def __init__(self, number, path):
-        self.number, self.name, self.crate = number, path.stem, path.parent.parent.name
-        self.pairs, said = {}, {}
-        for line in path.read_text(encoding="utf-8").splitlines():
-            word, _, text = line.partition(":")
-            assert word in ["caught-by", "file", "old", "new"], f"{path}: {line}"
-            said[word] = text.removeprefix(" ")
-            if word == "new":
-                self.pairs.setdefault(said["file"], []).append((said["old"], said["new"]))
-        self.caught_by = said["caught-by"]
-
-
-def body_of(text, at):
-    """Where the body of the function around a place begins and ends, between its braces, in the layout of `rt fmt`."""
-    head = list(FUNCTION.finditer(text, 0, at))[-1]
-    start = re.compile(rf"^{head[1]}(?:\{{|\S.* \{{)$", re.M).search(text, head.start()).end()
-    return start, re.compile(rf"^{head[1]}\}}$", re.M).search(text, start).start()
+    pairs, said = {}, {}
+    for line in path.read_text(encoding="utf-8").splitlines():
+        word, _, text = line.partition(":")
+        assert word in ["caught-by", "file", "old", "new"], f"{path}: {line}"
+        said[word] = text.removeprefix(" ")
+        if word == "new":
+            pairs.setdefault(said["file"], []).append((said["old"], said["new"]))
+    return types.SimpleNamespace(number=number, name=path.stem, crate=path.parent.parent.name, pairs=pairs,
+                                 caught_by=said["caught-by"])
 
 
 def plant(crates, survivors):
@@ -65,7 +56,10 @@ def plant(crates, survivors):
         for old, other in pairs:
             assert new.count(old) == 1, f"{it.crate}/{it.name}: this text is {new.count(old)} times in {file}: {old}"
             new = new.replace(old, other)
-        start, end = body_of(text, text.index(pairs[0][0]))
+        # The body between the braces of the function around the first text, in the layout of `rt fmt`.
+        head = list(FUNCTION.finditer(text, 0, text.index(pairs[0][0])))[-1]
+        start = re.compile(rf"^{head[1]}(?:\{{|\S.* \{{)$", re.M).search(text, head.start()).end()
+        end = re.compile(rf"^{head[1]}\}}$", re.M).search(text, start).start()
         assert new[:start] == text[:start] and new.endswith(text[end:]), f"{it.name} changes more than a body of {file}"
         arm = f"        {it.number} => {{{new[start:len(new) - len(text) + end]}}}\n"
         bodies[path, start, end] = bodies.get((path, start, end), "") + arm
@@ -81,10 +75,11 @@ def plant(crates, survivors):
         root.write_text(f"{root.read_text(encoding='utf-8')}\nmod chosen;\n", encoding="utf-8")
 
 
-def ran(words, seconds, until=lambda: False, **more):
+def ran(words, folder, seconds, variables, said=subprocess.DEVNULL, until=lambda: False):
     """The status of a command, or None if it is not done after some seconds. Ends all that it started."""
     limit = time.monotonic() + seconds
-    running = subprocess.Popen(words, stdin=subprocess.DEVNULL, start_new_session=True, **more)
+    running = subprocess.Popen(words, cwd=folder, env={**os.environ, **variables}, stdin=subprocess.DEVNULL, stdout=said,
+                               stderr=said, start_new_session=True)
     while running.poll() is None and time.monotonic() < limit and not until():
         time.sleep(0.02)
     is_late = running.poll() is None
@@ -108,8 +103,8 @@ def build(room, crate):
         (copy / name).write_text(text or (kit / name).read_text())
         (copy / name).chmod(0o755)
     with open(log, "wb") as said:
-        ran([copy / "bin/rt", "try", *words, "--steps", "1"], 3600, program.exists, cwd=folder, stdout=said,
-            stderr=said, env={**os.environ, "RT_ALLOW_C": ",".join(it.parent.name for it in room.glob("crates/*/c"))})
+        ran([copy / "bin/rt", "try", *words, "--steps", "1"], folder, 3600,
+            {"RT_ALLOW_C": ",".join(it.parent.name for it in room.glob("crates/*/c"))}, said, program.exists)
     assert program.exists(), f"{crate} isn't built: {log.read_text(errors='replace')[-3000:]}"
 
 
@@ -121,8 +116,7 @@ def fails(room, caught_by, number, seconds):
         listed = subprocess.run([room / crate, "--list"], capture_output=True, text=True, check=True).stdout
         words = [room / crate, *re.findall(rf"^((?:\w+::)*{name}): test$", listed, re.M)]
         assert len(words) == 2, f"{crate} has no test {name}, or several"
-    status = ran(words, seconds, cwd=TOP, stdout=subprocess.DEVNULL, stderr=subprocess.DEVNULL,
-                 env={**os.environ, "ZS_CHOSEN": str(number), "ZSCHED": str(room / "zsched")})
+    status = ran(words, TOP, seconds, {"ZS_CHOSEN": str(number), "ZSCHED": str(room / "zsched")})
     assert not crate.endswith(".py") or status in [0, 1, None], f"pytest can't run {caught_by}: status {status}"
     return status != 0, time.monotonic() - begun
 
@@ -137,15 +131,13 @@ def judge(room, pool, survivors):
     tests = sorted({it.caught_by for it in survivors})
     list(pool.map(lambda it: build(room, it), {"zsched" if ".py::" in it else it.partition("::")[0] for it in tests}))
     alone = dict(zip(tests, pool.map(lambda it: fails(room, it, 0, 300), tests)))
-    failing = [it for it in tests if alone[it][0]]
-    assert not failing, f"these fail without a survivor too: {failing}"
-    ends = pool.map(lambda it: fails(room, it.caught_by, it.number, 5 + 4 * alone[it.caught_by][1]), survivors)
-    return [is_caught for is_caught, _ in ends]
+    assert not any(is_failing for is_failing, _ in alone.values()), f"some fail without a survivor too: {alone}"
+    return list(pool.map(lambda it: fails(room, it.caught_by, it.number, 5 + 4 * alone[it.caught_by][1])[0], survivors))
 
 
 def main(names):
     paths = [it for it in sorted(TOP.glob("crates/*/survivors/*.edit")) if it.stem in names or not names]
-    survivors = [Survivor(number, path) for number, path in enumerate(paths, 1)]
+    survivors = [survivor(*pair) for pair in enumerate(paths, 1)]
     with tempfile.TemporaryDirectory() as room, concurrent.futures.ThreadPoolExecutor(2) as pool:
         caught = judge(pathlib.Path(room), pool, survivors)
     for it, is_caught in zip(survivors, caught):

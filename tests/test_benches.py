@@ -1,7 +1,5 @@
 """benches/: the results of zsched and of the baseline for the plans are those of the reference, and the commands run. Other
 programs take the place of zsched and the baseline if nothing is to be measured."""
-import contextlib
-import io
 import json
 import os
 import re
@@ -13,7 +11,8 @@ from xml.etree import ElementTree
 import pytest
 
 import reference
-from support import TOP, difference, run, run_tool
+from languages import need
+from support import TOP, difference, executable, run, run_here, run_tool
 
 BENCHES = TOP / "benches"
 sys.path.insert(0, str(BENCHES))
@@ -33,20 +32,8 @@ REJECTED = [b"", b"[]", b'{"horizon":1}', b'{"horizon":1,"jobs":[7]}', b'{"ticks
 
 
 def ran(*words):
-    output = io.StringIO()
-    with contextlib.redirect_stdout(output), contextlib.redirect_stderr(output):
-        return bench.main([str(it) for it in words]), output.getvalue().splitlines()
-
-
-@pytest.fixture
-def script(tmp_path):
-    """A function that makes a program of a shell's commands."""
-    def make(text):
-        path = tmp_path / f"script{len(os.listdir(tmp_path))}"
-        path.write_text(f"#!/bin/sh\n{text}\n")
-        path.chmod(0o755)
-        return path
-    return make
+    status, output, errors = run_here(lambda: bench.main([str(it) for it in words]), ["bench.py"])
+    return status, (output + errors).splitlines()
 
 
 @pytest.mark.parametrize("name", plans.plans())
@@ -71,20 +58,20 @@ def test_each_plan_has_a_row_of_results():
     assert re.findall(r"^\| `(\w+)` \|.*\| yes \|$", page, re.MULTILINE) == list(plans.plans())
 
 
-def test_other_bytes_fail_the_check(script):
+def test_other_bytes_fail_the_check(tmp_path):
     words = ["--check", "--only", "one_job", "--divisor", "10000", "--zsched", CAT, "--baseline"]
     assert ran(*words, CAT) == (0, ["1 passed, 0 failed"])
     for shell in ["cat > /dev/null; echo other", "cat; echo more >&2"]:
-        status, lines = ran(*words, script(shell))
+        status, lines = ran(*words, executable(tmp_path / "script", shell))
         assert (status, lines[1]) == (1, "0 passed, 1 failed")
 
 
-def test_a_run_prints_a_row(script):
+def test_a_run_prints_a_row(tmp_path):
     words = ["--only", "resets", "--runs", "2", "--divisor", "10000", "--zsched", CAT, "--baseline"]
     status, lines = ran(*words, CAT)
     assert status == 0
     assert re.fullmatch(r"\| `resets` \| 0\.0 \| .* \| yes \|", lines[2])
-    status, lines = ran(*words, script("exit 4"))
+    status, lines = ran(*words, executable(tmp_path / "script", "exit 4"))
     assert (status, lines[-1]) == (1, "bench.py: baseline ended with status 4 on resets.json")
 
 
@@ -112,8 +99,8 @@ IDLE = "cat > /dev/null; printf 'job j0 repeat\\nend unfinished at 9 polls 0\\np
     ("exit 4", r"^population.py: run ended with status 4\n$"),
     ("cat > /dev/null; echo polls 0", "has other jobs .*\n.* join by the manifest ended with status 2\n$"),
     (IDLE, "^population.py: the joined report isn't that of 1 jobs: .*polls 0")], ids=["a status", "no job", "another end"])
-def test_a_population_has_the_wrong_report(shell, wanted, script):
-    status, _, errors = run_tool([*POPULATION, "--jobs", "1", "--zsched", script(shell)])
+def test_a_population_has_the_wrong_report(shell, wanted, tmp_path):
+    status, _, errors = run_tool([*POPULATION, "--jobs", "1", "--zsched", executable(tmp_path / "script", shell)])
     assert status == 1
     assert re.search(wanted, errors)
 
@@ -127,8 +114,7 @@ def test_wrong_arguments_of_a_population(words):
 
 @pytest.mark.full
 def test_the_baseline_has_the_results_of_zsched_and_of_the_reference(zsched):
-    if shutil.which("cargo") is None:
-        pytest.skip("cargo isn't on this machine")
+    need("cargo")
     built = subprocess.run([BENCHES / "baseline" / "build", "--quiet"], env={**os.environ, "CARGO_NET_RETRY": "0"},
                            capture_output=True, text=True, check=False)
     if built.returncode != 0 and re.search(NO_SOURCE, built.stderr):

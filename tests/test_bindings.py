@@ -10,12 +10,14 @@ import pytest
 
 import reference
 from histories import FALLS, KEEPS_LIST, History, histories, judge
-from languages import (BINDINGS, CLEAN, JNA, LANGUAGES, STRICT, WATCHED, are_kept, built, built_library, go_variables, need,
-                       node, ran, request)
-from support import TOP
+from languages import (BINDINGS, CLEAN, JNA, LANGUAGES, STRICT, WATCHED, are_kept, built_library, client, go_variables,
+                       need, node, ran, request)
+from support import TOP, rows
+from test_library import BOUNDS
 
 # Languages whose texts are bytes, UTF-8 or not.
 BYTES = ["C", "C watched", "C++", "Go", "Node"]
+BOUND = ["Python", "Go", "Node", "Java", "Rust"]
 # Debian's packages put the sources of crates here.
 CRATES = pathlib.Path("/usr/share/cargo/registry")
 FAULTS = {b"recurs(1) && recurs(2)": "11,10,no term at byte 10", b"exponential(1, 0)": "14,0,factor is 0",
@@ -23,27 +25,20 @@ FAULTS = {b"recurs(1) && recurs(2)": "11,10,no term at byte 10", b"exponential(1
           b"recurs(1).map(_1)": "15,0,no kind", b"forever" + b".map(+ 1)" * 64: "12,0,too big",
           b"?": "11,0,no term at byte 0", b"forever.": "11,8,no term at byte 8", b"": "11,0,no term at byte 0"}
 # A policy, the code of the failures and how many there are; how it ends, and the milliseconds between attempts.
-RETRIES = [("(exponential(10) && recurs(5))", 503, 3, "done", [10, 20, 40]),
-           ("(spaced(30) && recurs(2))", 503, 99, "503", [30, 30]),
-           ("((exponential(4) || spaced(10)) && recurs(5)).whileInput(>= 500)", 503, 4, "done", [4, 8, 10, 10]),
-           ("((exponential(4) || spaced(10)) && recurs(5)).whileInput(>= 500)", 404, 99, "404", []),
-           ("spaced(30).whileInput(!= 18446744073709551615)", 2 ** 64 - 1, 9, str(2 ** 64 - 1), []),
-           ("(linear(5) && recurs(9)).collectAll", 7, 3, "done", [5, 10, 15]),
-           ("(linear(5) && recurs(2)).collectAll", 7, 99, "7", [5, 10])]
+RETRIES = rows("retries.jsonl")
 # Policies of which each attempt fails at once.
 PROMISED = ["elapsed.whileOutput(< 200)", "(spaced(1) && elapsed).whileOutput(_2 < 200)", "recurs(100)",
             "((exponential(1) || spaced(4)) && elapsed).whileOutput(_2 < 200)", "(exponential(2) && recurs(6))",
             "(spaced(10) && elapsed).whileOutput(_2 < 200)", "(fixed(7) && recurs(20))", "(windowed(10) && recurs(9))"]
+# A policy, the code of all failures; a jitter in percent, a least wait in milliseconds, the code that isn't retried, and 1
+# for a shared budget; how many attempts there are at least and most, and the least and most milliseconds of each wait.
+# Steps are made at the moments that are planned without jitter, so it makes no more attempts.
+OPTIONS = rows("retry_options.jsonl")
 MANY, TIMES, BYTES_A_STEP = 1_000_000, 1.5, 4
 
 
 def named(*names):
     return [pytest.param(name, marks=[pytest.mark.full] * (name == "Java")) for name in names or LANGUAGES]
-
-
-@pytest.fixture(scope="session")
-def client(library, tmp_path_factory):
-    return lambda name: built(name, tmp_path_factory, library)
 
 
 def ways(name):
@@ -127,30 +122,31 @@ def test_what_fails_at_once_is_retried_within_the_bounds_of_its_policy(client, n
         assert max(waits) <= longest + 3000 and sum(waits) <= total + 3000, text
 
 
-@pytest.mark.parametrize("name, wanted", [("Go", "503 (context deadline exceeded) true true"), ("Node", "in a wait in an attempt")])
-def test_a_retry_may_be_ended_from_outside(client, name, wanted):
-    begun = time.monotonic()
-    assert client(name).says([request("aborted", "spaced(100000)")]) == [wanted]
-    assert time.monotonic() - begun < 50
+@pytest.mark.parametrize("text, code, options, least, most, shortest, longest", OPTIONS)
+@pytest.mark.parametrize("name", named(*BOUND))
+def test_options_of_a_retry(client, name, text, code, options, least, most, shortest, longest):
+    line, = client(name).says([request("retry", text, code, 99, *options)])
+    ended, *words = line.split()
+    moments = [int(it) / 1000 for it in words if ":" not in it]
+    hooked = [list(map(int, it.split(":"))) for it in words if ":" in it]
+    assert ended == str(code) and least <= len(moments) <= most
+    assert [number for number, _ in hooked] == list(range(1, len(moments)))
+    assert all(shortest - 1 <= wait <= longest + 1 for _, wait in hooked)
+    assert all(after - before >= wait - 1 for (_, wait), before, after in zip(hooked, moments, moments[1:]))
+    assert not options[0] or sum(wait for _, wait in hooked) < 0.9 * longest * len(hooked) or shortest == longest
 
 
-@pytest.mark.parametrize("name, wanted", [
-    ("Node", "attempt attempt failed TypeError: Cannot convert undefined to a BigInt"),
-    pytest.param("Java", r"503 / by zero \d+ \d+", marks=pytest.mark.full)])
-def test_an_input_that_cannot_be_had_hides_no_error(client, name, wanted):
-    for line in client(name).says([request("unread", text) for text in ["recurs(2)", "recurs(2).collectAll"]]):
-        assert re.fullmatch(wanted, line)
+@pytest.mark.parametrize("name", named(*BOUND))
+def test_calls_share_a_budget(client, name):
+    """Of 10 tokens: a failed attempt takes one, another adds a half, and more than 5 have to be there for a retry."""
+    lines = client(name).says(request("retry", "recurs(9)", 7, times, 0, 0, 0, 1) for times in [99, 99, 0, 0, 0, 0, 0, 99])
+    assert [sum(":" not in it for it in line.split()) - 1 for line in lines] == [5, 1, 1, 1, 1, 1, 1, 2]
 
 
-def test_a_list_in_node_has_a_moment_and_an_input_for_each_step(client):
-    tried = "try { new (require('zsched').Schedule)('recurs(3)', [1n, 2n, 3n]) } catch (error) { console.log(String(error)) }"
-    said = ran(["node", "-e", tried], pathlib.Path(client("Node").words[-1]).parent)
-    assert said == "RangeError: a step has a moment and an input\n"
-
-
-@pytest.mark.full
-def test_java_waits_for_unsigned_times(client):
-    assert client("Java").says([request("wait", "spaced(18446744073709551615)", 1)]) == ["PT5124095576030H25M51.614S"]
+@pytest.mark.parametrize("name", named(*BOUND))
+def test_bounds_are_those_that_were_worked_out_by_hand(client, name):
+    assert client(name).says(request("bounds", text, 1000) for text in BOUNDS) == list(BOUNDS.values())
+    assert client(name).says(request("bounds", text.decode(), 9) for text in FAULTS) == list(FAULTS.values())
 
 
 @pytest.mark.full
@@ -188,17 +184,19 @@ def test_the_example_in_c_waits_for_its_server(library, tmp_path, words):
     assert ran(["./example"], tmp_path) == READY
 
 
-def test_the_example_in_go_waits_for_its_server(library, tmp_path):
+def test_the_example_in_go_waits_for_its_server_and_its_tests_pass(library, tmp_path):
     need("go")
-    ran(["go", "vet", "./..."], BINDINGS / "go", **go_variables(built_library(library)))
+    for command in ["vet", "test"]:
+        ran(["go", command, "./..."], BINDINGS / "go", **go_variables(built_library(library)))
     ran(["go", "build", "-o", tmp_path / "example", "./example"], BINDINGS / "go", **go_variables(built_library(library)))
     assert ran(["./example"], tmp_path, LD_LIBRARY_PATH=library) == READY
 
 
-def test_the_example_in_node_waits_for_its_server(library, tmp_path):
+def test_the_example_in_node_waits_for_its_server_and_its_tests_pass(library, tmp_path):
     node(tmp_path, built_library(library))
-    assert ran(["node", BINDINGS / "node" / "example.js"], tmp_path,
-               ZSCHED_NODE=tmp_path / "node_modules/zsched/zsched.node") == READY
+    addon = {"ZSCHED_NODE": tmp_path / "node_modules/zsched/zsched.node"}
+    assert ran(["node", BINDINGS / "node" / "example.js"], tmp_path, **addon) == READY
+    assert "# pass 6\n" in ran(["node", "--test", BINDINGS / "node"], tmp_path, **addon)
 
 
 def crate(library, tmp_path):
@@ -212,8 +210,8 @@ def crate(library, tmp_path):
 def test_the_example_in_rust_waits_for_its_server_and_its_tests_pass(library, tmp_path):
     folder, variables = crate(library, tmp_path)
     cargo = ["cargo", "--quiet", "--offline"]
-    assert ran([*cargo, "run", "--example", "retry"], folder, **variables) == 'Ok("ready") after 4 attempts\n'
-    assert re.findall(r"\d+ passed", ran([*cargo, "test"], folder, **variables)) == ["7 passed", "2 passed"]
+    assert ran([*cargo, "run", "--example", "retry"], folder, **variables) == READY
+    assert re.findall(r"\d+ passed", ran([*cargo, "test"], folder, **variables)) == ["7 passed", "5 passed"]
     ran([*cargo, "check", "--no-default-features"], folder, **variables)
 
 
@@ -225,12 +223,13 @@ def test_the_example_under_tokio_waits_for_its_server(library, tmp_path):
     places = {"crates-io.replace-with": "debian", "debian.directory": CRATES}
     words = [word for name, place in places.items() for word in ["--config", f'source.{name}="{place}"']]
     said = ran(["cargo", "run", "--quiet", "--offline", *words], folder / "tokio", **variables)
-    assert said == 'Ok("ready") after 4 attempts\n'
+    assert said == READY
 
 
 @pytest.mark.full
-def test_the_example_in_java_waits_for_its_server(library, tmp_path):
+def test_the_example_in_java_waits_for_its_server_and_its_test_passes(library, tmp_path):
     need("javac", JNA)
-    sources = [*sorted(BINDINGS.glob("java/zsched/*.java")), BINDINGS / "java" / "Example.java"]
+    sources = [*BINDINGS.glob("java/zsched/*.java"), *BINDINGS.glob("java/*.java")]
     ran(["javac", "-Xlint:all", "-Werror", "-cp", JNA, "-d", "classes", *sources], tmp_path)
-    assert ran(["java", "-cp", f"{JNA}:classes", f"-Djna.library.path={library}", "Example"], tmp_path) == READY
+    for name, said in [("Example", READY), ("RetryTest", "")]:
+        assert ran(["java", "-cp", f"{JNA}:classes", f"-Djna.library.path={library}", name], tmp_path) == said

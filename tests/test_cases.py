@@ -76,6 +76,8 @@ def test_a_case_gives_what_its_files_say(case, programs, tmp_path, request, caps
     for name, package in needs(case):
         if not shutil.which(name):
             pytest.skip(f"{name} isn't installed (Debian: {package})")
+    if case.parent.name in ["install-library", "release"]:
+        programs = programs | {"ZSCHED_LIBRARY_DIR": str(request.getfixturevalue("library"))}
     asked, given = wanted(case), found(case, tmp_path / "case", programs)
     asked["status"] = b"" if asked["status"].strip() in [b"", b"0"] else asked["status"].strip() + b"\n"
     differing = {name: (asked[name], given[name]) for name in asked if asked[name] != given[name]}

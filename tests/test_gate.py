@@ -9,7 +9,7 @@ import pytest
 
 import gate
 import proofs
-from support import TOP
+from support import TOP, executable, rows
 
 EDITS = {"zs_term/one.edit", "zs_pool/two.edit"}
 ONE, TWO = (f"rt: must-fail {name}: refused, as it must be" for name in ["zs_term/one.edit", "zs_pool/two.edit"])
@@ -37,17 +37,7 @@ def test_edits_that_rt_ci_does_not_reject_fail_the_proofs(lines, status, failed)
     assert proofs.judged(lines, status, EDITS)[1] == failed
 
 
-@pytest.mark.parametrize("lines, status, is_late, failed", [
-    (["30 passed, 0 failed"], 0, False, 0),
-    (["30 passed in 3.21s"], 0, False, 0),
-    (["2 failed, 30 passed, 1 error in 3.21s"], 1, False, 3),
-    (["29 passed, 0 failed"], 0, False, 1),
-    (["30 passed in 3.21s"], 1, False, 1),
-    (["30 passed in 3.21s", "Segmentation fault"], 139, False, 1),
-    (["30 passed, 0 failed"], 0, True, 1),
-    (["no tests ran in 0.01s"], 5, False, 1),
-    ([], 0, False, 1),
-])
+@pytest.mark.parametrize("lines, status, is_late, failed", rows("ends_of_parts.jsonl"))
 def test_a_part_fails_by_its_last_line_its_status_its_floor_and_its_time(lines, status, is_late, failed, monkeypatch):
     monkeypatch.setattr(gate, "floors", lambda: {"tests": 30})
     assert gate.judged("tests", lines, status, is_late)[1] == failed
@@ -116,10 +106,9 @@ def test_floors_hold_for_the_files_that_run(tree):
 def test_an_edit_that_the_toolchain_passes_over_fails_the_proofs(said, status, tree):
     (tree / "crates/zsched_c/must-fail").mkdir(parents=True)
     for name, text in [("crates/zsched_c/must-fail/one.edit", ""), ("crates.txt", "zsched_c staticlib:\n"),
-                       ("rt", "#!/bin/sh\n[ $1 != ci ] || cat said\n"), ("said", said),
-                       ("rtlib.py", "def crates_below(top):\n    return []\n")]:
+                       ("said", said), ("rtlib.py", "def crates_below(top):\n    return []\n")]:
         (tree / name).write_text(text)
-    (tree / "rt").chmod(0o755)
+    executable(tree / "rt", "[ $1 != ci ] || cat said")
     ended = subprocess.run([sys.executable, "tests/proofs.py"], cwd=tree, capture_output=True, text=True, check=False,
                            env=os.environ | {"PATH": f"{tree}:{os.environ['PATH']}"})
     assert ended.returncode == status, ended

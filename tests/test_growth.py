@@ -2,17 +2,19 @@
 
 A row is an input of n and of 4n things, such as attempts or jobs. What no things cost is subtracted from both. The larger
 run may take at most 4.4 times the instructions and bytes of the smaller, and each further thing at most the row's limits.
-Bytes and allocations are exact, and their limits a twentieth above the measured figures; instructions have more room.
-valgrind's dhat counts. `pytest tests/test_growth.py -rP` shows what each row costs."""
+Bytes and allocations are exact, their limits a twentieth above; instructions have more room, and so much in rows that
+catch survivors that a program without proofs passes. valgrind's dhat counts; `-rP` shows what each row costs."""
 import json
 import re
-import shutil
 import subprocess
 from typing import Callable, NamedTuple
 
 import pytest
 
-from support import TOP, tree
+import test_large_plans
+from languages import client, need, request
+from support import tree
+from test_large_plans import job
 
 PATIENCE = 240
 FAR = 10 ** 9
@@ -50,29 +52,24 @@ class Row(NamedTuple):
 
 
 def plan(jobs, **more):
-    return json.dumps({"horizon": FAR, **more, "jobs": jobs}, separators=(",", ":")).encode()
+    return test_large_plans.plan(jobs, **{"horizon": FAR, **more}).decode()
 
 
-def job(number, schedule, script=((1, 0),), **more):
-    """A job that the schedule alone ends. The script is pairs of milliseconds and values."""
-    entries = [{"ms": ms, "ok": value} for ms, value in script]
-    return {"name": f"job{number}", "mode": "repeat", "schedule": schedule, "script": entries, **more}
-
-
-def one(schedule, script=((1, 0),)):
-    return plan([job(0, schedule, script)])
+def one(schedule, values=(0,)):
+    return plan([job(0, schedule, values)])
 
 
 def attempts_of(schedule):
     return lambda count: plan([job(0, schedule)], horizon=count)
 
 
+def operators_over(operator, parts=0):
+    """A thousand attempts of a schedule with n times an operator, behind as many pairs of it if there are parts."""
+    return lambda n: plan([job(0, parts * n * "(" + "forever" + operator * n)], horizon=1000)
+
+
 def jobs_of(schedule, **more):
     return lambda count: plan([job(number, schedule) for number in range(count)], **more)
-
-
-def request_of(command, text, *numbers):
-    return " ".join([command, f".{text.encode().hex()}", *map(str, numbers)]).encode() + b"\n"
 
 
 def pairs(count, value=None):
@@ -87,9 +84,19 @@ ROWS = {
     "attempts": Row(attempts_of("forever"), 2500, Cost(4400, 260, 1.01)),
     "attempts with pairs and sides": Row(
         attempts_of("(recurs(3) andThenEither (forever && identity))"), 2500, Cost(5900, 283, 1.01)),
-    "attempts in records": Row(
-        lambda n: b"jobs\n" + attempts_of("forever")(n), 2700, Cost(4800, 250, 1.01), "refusals"),
-    "jobs due together": Row(jobs_of("recurs(5)"), 1000, Cost(80_000, 2220, 20.5)),
+    # No operator but `collectAll` takes memory at a step.
+    "attempts with all other operators": Row(attempts_of(
+        "((fixed(3) || windowed(5)).map(_1).whileInput(>= 0).resetWhen(= 9) && (elapsed andThenEither linear(2))"
+        ".map(merge).map(+ 1)).whileOutput(_1 >= 0)"), 2500, Cost(2500, 77, 0.68)),
+    "tests over one another": Row(operators_over(".whileOutput(>= 0)"), 15, Cost(90_000, 105, 2.1)),
+    "functions over one another": Row(operators_over(".map(+ 1)"), 15, Cost(165_000, 105, 2.1)),
+    "pairs that are taken apart": Row(operators_over(" && forever).map(_1).whileOutput(>= 0)", 1), 5, Cost(380_000, 405, 7.4)),
+    # Each test reads a path through the pairs below it.
+    "nested pairs that are taken apart": Row(
+        lambda n: plan([job(0, n * "(" + "forever" + n * " && forever)" + n * ".whileOutput(_2 >= 0).map(_1)")],
+                       horizon=1000), 5, Cost(2_500_000, 405, 7.4), times=17.6),
+    "attempts in records": Row(lambda n: "jobs\n" + attempts_of("forever")(n), 2700, Cost(4800, 250, 1.01), "refusals"),
+    "jobs due together": Row(jobs_of("recurs(5)"), 1000, Cost(90_000, 2220, 20.5)),
     # Most of their cost is the parsing of their schedules.
     "jobs of 100 nodes": Row(jobs_of(f"(recurs(0) && {tree(50)})"), 100, Cost(290_000, 17_300, 422)),
     "jobs of 100 attempts": Row(jobs_of("recurs(99)"), 100, Cost(420_000, 17_300, 44.8)),
@@ -98,60 +105,49 @@ ROWS = {
         lambda n: plan([job(it, "recurs(0)", start=2 * (n - it)) for it in range(n)]), 1000, Cost(68_000, 2240, 22.6)),
     # They begin one after the other and end at one moment, for which the last one waits before all others.
     "jobs that come due in another order": Row(
-        lambda n: plan([*(job(it, "recurs(0)", [(n - it, 0)], start=it + 1) for it in range(n - 1)),
-                        job(n - 1, "recurs(0)", [(n + 1, 0)])]), 1000, Cost(68_000, 2240, 22.6)),
-    "ticks": Row(lambda n: json.dumps(
-        {"ticks": list(range(0, 2 * n, 2)), "jobs": [job(it, "spaced(3)", start=2 * n - 40) for it in range(100)]}
-        ).encode(), 20_000, Cost(1200, 95, 0.01)),
+        lambda n: plan([*(job(it, "recurs(0)", ms=n - it, start=it + 1) for it in range(n - 1)),
+                        job(n - 1, "recurs(0)", ms=n + 1)]), 1000, Cost(68_000, 2240, 22.6)),
+    "ticks": Row(lambda n: json.dumps({
+        "ticks": list(range(0, 2 * n, 2)), "jobs": [job(it, "spaced(3)", start=2 * n - 40) for it in range(100)]}),
+                 20_000, Cost(1200, 95, 0.01)),
     "leaves of a schedule": Row(lambda n: one(f"({tree(n)} && recurs(99)).map(_2)"), 100, Cost(68_000, 270, 209)),
     "collected items": Row(
-        lambda n: one(f"(identity.collectAll && recurs({n})).map(_2)"), 1000, Cost(5700, 251, 3.2)),
+        lambda n: one(f"(identity.collectAll && recurs({n})).map(_2)"), 1000, Cost(7000, 251, 1.06)),
     "counted items": Row(
-        lambda n: one(f"(identity.collectAll.map(size) && recurs({n})).map(_2)"), 1000, Cost(5900, 251, 3.2)),
+        lambda n: one(f"(identity.collectAll.map(size) && recurs({n})).map(_2)"), 1000, Cost(4500, 251, 1.06)),
     "batches": Row(jobs_of("recurs(1)", workers=2, grain=1), 500, Cost(64_000, 2230, 23.6)),
     "open parentheses": Row(lambda n: one("(" * n + "forever"), 100_000, Cost(150, 3.5, 0.01), status=2),
     "bytes of a schedule": Row(lambda n: one("recurs(" + " " * n + "0)"), 500_000, Cost(45, 3.2, 0.01)),
     # The keys of an object are stored in order, which costs a logarithm more.
     "keys": Row(lambda n: plan([], **{f"key{number}": number for number in range(n)}), 2000, Cost(15_800, 159, 1.2),
                 status=2, times=5.6),
-    "entries of a script": Row(
-        lambda n: one("recurs(9)", [(1, number) for number in range(n)]), 250, Cost(7000, 975, 3.2)),
-    "pairs of an answer": Row(lambda n: request_of("answer", "(exponential(10) && recurs(3))", *pairs(n)), 2500,
+    "entries of a script": Row(lambda n: one("recurs(9)", range(n)), 250, Cost(7000, 975, 3.2)),
+    "pairs of an answer": Row(lambda n: request("answer", "(exponential(10) && recurs(3))", *pairs(n)), 2500,
                               Cost(4000, 31, 2.1), "client"),
-    "bytes of an answer's text": Row(lambda n: request_of("answer", "recurs(" + " " * n + "0)", 0, 0), 20_000,
+    "bytes of an answer's text": Row(lambda n: request("answer", "recurs(" + " " * n + "0)", 0, 0), 20_000,
                                      Cost(500, 4.6, 0.01), "client"),
-    "steps of a program": Row(lambda n: request_of("run", POLICY.format(8), *pairs(n, 503)), 2500,
+    "steps of a program": Row(lambda n: request("run", POLICY.format(8), *pairs(n, 503)), 2500,
                               Cost(2600, 31, 0.01), "client"),
-    "leaves of a program": Row(lambda n: request_of("run", tree(n), *pairs(20)), 100, Cost(800_000, 370, 8.5), "client"),
-    "steps of bounds": Row(lambda n: request_of("bounds", POLICY.format(1_000_000), n), 1000, Cost(4500, 0.01, 4.2), "client"),
-    "leaves of bounds": Row(lambda n: request_of("bounds", tree(n), 10), 100, Cost(11_000, 580, 8.8), "client"),
+    "leaves of a program": Row(lambda n: request("run", tree(n), *pairs(20)), 100, Cost(800_000, 370, 12.0), "client"),
+    "steps of bounds": Row(lambda n: request("bounds", POLICY.format(1_000_000), n), 1000, Cost(4500, 0.01, 4.2), "client"),
+    "leaves of bounds": Row(lambda n: request("bounds", tree(n), 10), 100, Cost(11_000, 580, 8.8), "client"),
 }
 # The input of each program with no things.
-NOTHING = {"zsched": plan([]), "refusals": b"jobs\n" + plan([]), "client": b""}
-
-
-@pytest.fixture(scope="session")
-def client(library, tmp_path_factory):
-    made = tmp_path_factory.mktemp("client") / "client"
-    subprocess.run(["cc", "-O1", "-I", TOP / "include", "-I", TOP / "bindings" / "c", "-o", made, TOP / "tests/clients/client.c",
-                    library / "libzsched.a", "-Wl,--wrap=malloc,--wrap=realloc,--wrap=free", "-lpthread"], check=True)
-    return made
+NOTHING = {"zsched": plan([]), "refusals": "jobs\n" + plan([]), "client": ""}
 
 
 @pytest.fixture
 def cost(tmp_path):
     """A function that runs a program under dhat."""
-    if shutil.which("valgrind") is None:
-        pytest.skip("valgrind isn't on this machine")
+    need("valgrind")
 
     def measure(program, text, status=0):
         words = ["valgrind", "--tool=dhat", f"--dhat-out-file={tmp_path / 'dhat'}", program]
-        ended = subprocess.run(words, input=text, capture_output=True, timeout=PATIENCE, check=False)
-        said = ended.stderr.decode(errors="replace")
-        assert ended.returncode == status, said[-300:]
+        ended = subprocess.run(words, input=text, capture_output=True, text=True, timeout=PATIENCE, check=False)
+        assert ended.returncode == status, ended.stderr[-300:]
         # The line of a request to the library begins with 0 or 1.
-        assert program.name != "client" or ended.stdout[:2] in [b"", b"0,", b"1,", b"0 "], ended.stdout[:40]
-        allocations, held = (int(form.search(said)[1].replace(",", "")) for form in [TOTAL, MOST_AT_ONCE])
+        assert "client" not in str(program) or ended.stdout[:2] in ["", "0,", "1,", "0 "], ended.stdout[:40]
+        allocations, held = (int(form.search(ended.stderr)[1].replace(",", "")) for form in [TOTAL, MOST_AT_ONCE])
         return Cost(int(INSTRUCTIONS.search((tmp_path / "dhat").read_text())[1]), held, allocations)
     return measure
 
@@ -160,6 +156,7 @@ def cost(tmp_path):
 def test_cost(name, cost, request):
     row = ROWS[name]
     program = request.getfixturevalue(row.runs)
+    program = program("C").words[0] if row.runs == "client" else program
     if not row.size:
         each = cost(program, row.make(0), row.status)
     else:

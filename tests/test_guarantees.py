@@ -1,16 +1,14 @@
 """docs/GUARANTEES.md names what exists: each call with its clauses, each definition, test and file. tools/guarantees prints
 the evidence for a row, and reads the page for this test too."""
-import importlib.machinery
-import importlib.util
 import re
+import runpy
+import types
 
 import pytest
 
 from support import TOP
 
-LOADER = importlib.machinery.SourceFileLoader("guarantees", str(TOP / "tools" / "guarantees"))
-guarantees = importlib.util.module_from_spec(importlib.util.spec_from_loader("guarantees", LOADER))
-LOADER.exec_module(guarantees)
+guarantees = types.SimpleNamespace(**runpy.run_path(str(TOP / "tools" / "guarantees")))
 
 ROWS = [(crate, *cells) for crate, cells in guarantees.rows()]
 CRATES = sorted({crate for crate, *_ in ROWS})

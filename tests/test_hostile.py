@@ -7,21 +7,15 @@ import time
 
 import pytest
 
-from faults import accepted, refused
+from faults import outcomes
 from support import ONE_JOB, ONE_REPORT, difference, equal_jobs, heavy_jobs, job, plan, run
 
 PATIENCE = 20
-REJECTED, ACCEPTED = refused(), accepted()
 
 
-@pytest.mark.parametrize("text, fault", [case[1:] for case in REJECTED], ids=[case[0] for case in REJECTED])
-def test_a_rejected_plan_has_its_fault_on_standard_error_alone(text, fault, zsched):
-    assert difference(run(zsched, text, seconds=PATIENCE), (2, b"", f"zsched: {fault}\n".encode())) is None
-
-
-@pytest.mark.parametrize("text, report", [case[1:] for case in ACCEPTED], ids=[case[0] for case in ACCEPTED])
-def test_a_plan_at_a_limit_is_run(text, report, zsched):
-    assert difference(run(zsched, text, seconds=PATIENCE), (0, report, b"")) is None
+@pytest.mark.parametrize("text, wanted", outcomes())
+def test_a_plan_has_its_fault_on_standard_error_alone_and_is_run_at_a_limit(text, wanted, zsched):
+    assert difference(run(zsched, text, seconds=PATIENCE), wanted) is None
 
 
 @pytest.mark.parametrize("workers, grain", [(64, 1), (64, 10000), (3, 7)])

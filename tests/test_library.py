@@ -7,7 +7,7 @@ import subprocess
 import pytest
 
 from histories import FALLS, History, histories, judge
-from languages import STRICT, built, need, request
+from languages import STRICT, client, need, request
 from support import TOP, tree
 
 REFUSED = 250
@@ -18,34 +18,11 @@ DEEPEST = ["(forever && " * 63 + "forever" + ")" * 63, "(" * 63 + "forever" + " 
            "(recurs(0) andThenEither " * 63 + "forever" + ")" * 63, "forever" + ".map(+ 1)" * 63,
            "forever" + ".collectAll" * 63, "identity" + ".whileOutput(>= 0)" * 63,
            "forever" + ".map(+ 1)" * 55 + ".resetWhen(> 1)" * 3]
-# Worked out by hand: the numbers of struct zs_bounds in turn, for at most 1000 steps.
-BOUNDS = {
-    # 100, 200, 400, 800, 1600
-    "(exponential(100) && recurs(5))": "6 6 1 6 1600 1 3100",
-    # 100, 200, 400, 800, 1600, 3200, and 5000 twice; any error may be below 500
-    "((exponential(100) || spaced(5000)) && recurs(8)).whileInput(>= 500)": "9 1 1 9 5000 1 16300",
-    # The sixth step has 5 * 401 ms at least, and the fifth 4 * 401, which is less than 2000.
-    "(spaced(400) && elapsed).whileOutput(_2 < 2000)": "6 2 1 6 400 1 2000",
-    # 250, 500, 750, 1000, 1250
-    "linear(250).whileOutput(< 1500)": "6 6 1 6 1250 1 3750",
-    # 100, 200, 400, and 5000 four times
-    "(((exponential(100) && recurs(3)) andThenEither (spaced(5000) && recurs(4))).map(merge)"
-    " && elapsed.whileOutput(< 60000))": "8 2 1 8 5000 1 20700",
-    "spaced(1000).whileInput(!= 404)": "1000 1 0 0 1000 0 0",
-}
-# A prime that isn't among the counts of digits, and a policy's program, by crates/zs_c/specs/Program.antt and Code.antt.
+# A schedule, the numbers of struct zs_bounds in turn for at most 1000 steps, and how they were worked out by hand.
+BOUNDS = dict(line.split("\t")[:2] for line in (TOP / "tests" / "bounds.tsv").read_text().splitlines())
+# A policy's program, by crates/zs_c/specs/Program.antt and Code.antt.
 POLICY = b"((exponential(100) || spaced(5000)) && recurs(8)).whileInput(>= 500)"
 CODE = [14, 5, 500, 11, 8, 4, 12, 3, 2, 10, 100, 2, 5, 5000, 4, 8]
-
-
-@pytest.fixture(scope="session")
-def client(library, tmp_path_factory):
-    return built("C", tmp_path_factory, library)
-
-
-@pytest.fixture(scope="session")
-def watched(library, tmp_path_factory):
-    return built("C watched", tmp_path_factory, library)
 
 
 def test_histories_have_all_faults_of_texts_and_many_steps():
@@ -57,50 +34,49 @@ def test_histories_have_all_faults_of_texts_and_many_steps():
 
 def test_no_step_has_no_result(client):
     texts = [b"forever", b"recurs(", b"forever.collectAll"]
-    assert client.says(f"answer .{text.hex()}" for text in texts) == [
+    assert client("C").says(f"answer .{text.hex()}" for text in texts) == [
         "2,0,a schedule answers once it has seen a step", "11,7,no term at byte 7",
         "2,0,a schedule answers once it has seen a step"]
 
 
 @pytest.mark.parametrize("command", ["list", "program"])
 def test_four_threads_with_small_stacks_may_call_at_once(client, command):
-    asked = histories()[::2]
-    judge(client, asked, command, "threads")
+    judge(client("C"), histories()[::2], command, "threads")
 
 
 @pytest.mark.parametrize("command", ["list", "program", "bounds"])
 def test_each_allocation_may_fail(client, command):
     asked = [it for it in histories() if it.is_flat and len(it.pairs) < 6][:REFUSED]
     requests = [request("bounds", text, 5) for text in BOUNDS] if command == "bounds" else [it.request(command) for it in asked]
-    found = [int(line) for line in client.says(requests, "refuse")]
+    found = [int(line) for line in client("C").says(requests, "refuse")]
     assert len(found) == len(requests)
     assert sum(found) > 2 * len(found) and min(found) > 0
 
 
 def test_a_failed_allocation_is_a_fault_of_a_faulty_text_too(client):
     asked = [it for it in histories() if it.weight == 0][:REFUSED]
-    assert len(client.says([it.request("list") for it in asked], "refuse")) == len(asked) > 100
+    assert len(client("C").says([it.request("list") for it in asked], "refuse")) == len(asked) > 100
 
 
 @pytest.mark.parametrize("command", ["list", "program"])
 def test_valgrind_finds_no_error_and_no_lost_memory(client, command):
     need("valgrind")
     asked = histories()[:UNDER_VALGRIND]
-    judge(client, asked, command, before=VALGRIND)
-    assert len(client.says([request("bounds", text, 1000) for text in BOUNDS], before=VALGRIND)) == len(BOUNDS)
+    judge(client("C"), asked, command, before=VALGRIND)
+    assert len(client("C").says([request("bounds", text, 1000) for text in BOUNDS], before=VALGRIND)) == len(BOUNDS)
 
 
-def test_bounds_of_policies_are_those_that_were_worked_out_by_hand(client, watched):
+def test_bounds_of_policies_are_those_that_were_worked_out_by_hand(client):
     asked = [*(request("bounds", text, 1000) for text in BOUNDS), request("bounds", "recurs(3)", 3), request("bounds", "forever", 0)]
     wanted = [*(f"0 {numbers} 0" for numbers in BOUNDS.values()), "0 3 4 0 0 0 0 0 0", "0 0 1 0 0 0 0 0 0"]
-    assert client.says(asked, "threads") == watched.says(asked) == wanted
+    assert client("C").says(asked, "threads") == client("C watched").says(asked) == wanted
 
 
 def test_a_text_that_has_no_bounds_is_refused_as_a_check_refuses_it(client):
     faults = [it for it in histories() if it.weight == 0]
     wanted = [it.fault.split(",") for it in faults]
     assert len(faults) > 300
-    assert client.says(f"bounds .{it.text.hex()} 1000" for it in faults) == [f"{it[0]} 0 0 0 0 0 0 0 {it[1]}" for it in wanted]
+    assert client("C").says(f"bounds .{it.text.hex()} 1000" for it in faults) == [f"{it[0]} 0 0 0 0 0 0 0 {it[1]}" for it in wanted]
 
 
 def test_the_deepest_schedules_need_no_more_stack_than_the_header_says(client):
@@ -109,8 +85,8 @@ def test_the_deepest_schedules_need_no_more_stack_than_the_header_says(client):
         assert words.format(re.search(rf"define {name} .(\d+) . 1024", source)[1]) in header
     asked = [History(text.encode(), [(1, 5), (5, 7), (9, 9)]) for text in DEEPEST]
     for command in ["list", "program"]:
-        judge(client, asked, command, "threads")
-    found = client.says([request("bounds", text, 9) for text in DEEPEST], "threads")
+        judge(client("C"), asked, command, "threads")
+    found = client("C").says([request("bounds", text, 9) for text in DEEPEST], "threads")
     assert [line.split()[0] for line in found] == ["0"] * len(DEEPEST)
 
 
@@ -118,21 +94,21 @@ def test_long_texts_long_lists_and_many_words_are_taken(client):
     many_words = tree(400).replace("forever", "fixed(7)").encode()
     asked = [History(b"recurs(" + b" " * 100_000 + b"3)", [(5, 7)]), History(many_words, [(1, 0), (9, 0)])]
     for command in ["list", "program"]:
-        judge(client, asked, command)
+        judge(client("C"), asked, command)
     steps = " ".join(f"{number} 0" for number in range(5000))
     asked = [f"{command} .{b'recurs(9000)'.hex()} {steps}" for command in ["answer", "run"]]
-    assert client.says(asked) == ["0,4999,1,4999"] * 2
+    assert client("C").says(asked) == ["0,4999,1,4999"] * 2
 
 
 def test_a_step_visits_a_part_twice_where_it_resets(client):
     text = b"elapsed.resetWhen(>= 5)".hex()
     asked = [f"{command} .{text} 1 0{more}" for command in ["answer", "run"] for more in ["", " 5 0", " 6 0"]]
-    assert client.says(asked) == ["0,1,2,0", "0,5,2,4", "0,6,3,0"] * 2
+    assert client("C").says(asked) == ["0,1,2,0", "0,5,2,4", "0,6,3,0"] * 2
 
 
 def test_a_fault_leaves_the_steps_before_it(client):
     asked = [f"{command} .{b'recurs(1)'.hex()} 5 7 4 7" for command in ["list", "program"]]
-    assert client.says(asked) == [f"0,5,1,0 3,1,{FALLS}", f"0,5,1,0 3,0,{FALLS}"]
+    assert client("C").says(asked) == [f"0,5,1,0 3,1,{FALLS}", f"0,5,1,0 3,0,{FALLS}"]
 
 
 def test_each_number_of_the_header_has_a_text_that_is_cut_where_its_room_ends(library):

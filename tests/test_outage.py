@@ -13,11 +13,12 @@ from hypothesis import given, settings
 from hypothesis import strategies as st
 
 import reference
-from browser import inside, opened
+from browser import framed
 from reports import jobs_of
 from support import TOP, examples, job, plan, run_here
-from zsched_tools import certificate, curve, curve_page, curve_picture, drawn, outage, outage_command, scenario
+from zsched_tools import certificate, curve, curve_page, curve_picture, drawn, outage, outage_command, scenario, world
 from zsched_tools.cause import Cause
+from zsched_tools.drawing import text_width
 from zsched_tools.progress import Now
 from zsched_tools.world import DENIED, Bucket, Ending, Service
 
@@ -34,7 +35,7 @@ def read(parts):
 
 def simulated(zsched, parts, name="steady"):
     """The run of a policy: jobs, plans, the most jobs of a plan, reports and figures."""
-    return outage_command.simulate(read(parts), str(zsched), name, 50, lambda words: None)
+    return outage_command.simulate(read(parts), str(zsched), name, 50, lambda share, words: None)
 
 
 def figures_of(zsched, parts):
@@ -128,13 +129,25 @@ def test_the_search_finds_what_deciding_one_event_after_another_finds(zsched):
     def compare(parts):
         found = read(parts)
         schedules = outage.schedules_of(found, "steady")
-        walk = outage.Search(found, str(zsched), schedules, 50).settle(lambda words: None)
+        walk = outage.Search(found, str(zsched), schedules, 50).settle(lambda share, words: None)
         assert [list(kinds) for kinds in walk.found] == decided(found, schedules)
         denied.extend(kinds for kinds in walk.found if kinds and kinds[-1] >= DENIED)
         _, plans, _, reports, _ = simulated(zsched, parts)
         assert reports == [reference.answer(plan)[1] for plan in plans]
     compare()
     assert len(denied) > 5
+
+
+@settings(max_examples=examples(30))
+@given(SCENARIOS)
+def test_clients_that_no_plan_has_room_for_have_the_same_figures(zsched, parts):
+    parts["outcomes"] |= {"slow": {"ms": 700, "ok": 200}, "full": parts["outcomes"]["down"]}
+    whole = simulated(zsched, parts)[-1]
+    with (mock.patch.multiple(outage, MOST_ENTRIES=3, FIRST_LOOK=2, LESS_LOOK=1),
+          mock.patch.object(world, "MOST_ENTRIES", 3)):
+        cut = simulated(zsched, parts)[-1]
+    figures = [it.members("steady") | {"certified": 0, "not_certified": [], "passes": 0} for it in [whole, cut]]
+    assert figures[0] == figures[1] and not whole.uncertified
 
 
 def test_a_bucket_gets_tokens_back_and_is_never_more_than_full():
@@ -226,10 +239,11 @@ def test_more_bytes_than_a_plan_takes_are_said_before_the_run(capsys):
         "32 bytes: it is written as JSON lines and parts\n")
 
 
-def test_running_is_what_begun_less_what_ended(zsched):
-    found = simulated(zsched, SMALL)[-1].curve
-    assert [row[4] for row in found.rows()] == [0, 2, 0, 0]
-    assert [found.peak(), found.peak(2000), found.peak(9000)] == [(5, 1), (2, 2), None]
+@given(st.lists(st.integers(0, 60), max_size=12), st.integers(1, 20), st.integers(0, 40))
+def test_a_peak_is_the_greatest_number_within_any_time_of_its_length(begins, span, since):
+    found = curve.Curve([certificate.Client("c", begins, [0] * len(begins), [], bytes(len(begins)), None)])
+    counts = [(sum(since <= it < first + span and it >= first for it in begins), -first) for first in begins if first >= since]
+    assert found.peak(span, since) == (max(counts, default=None) and (max(counts)[0], -max(counts)[1]))
 
 
 def test_a_share_is_the_least_value_that_so_many_do_not_exceed():
@@ -246,9 +260,14 @@ def test_pictures_are_whole_and_have_all_policies(zsched):
         assert "prefers-color-scheme:dark" in text
         assert re.findall(r"(?:src|href)=|url\(|@import|<script", text) == []
         assert set(re.findall('class="name"[^>]*>([^<]+)', text)) == {"a", "b"}
+        assert all(policy in text for policy in DRAWN["policies"].values())
         assert min(map(int, re.findall(r"font-size:(\d+)px", text))) >= 11
     assert (drawing.count('class="down"'), page.count("<svg")) == (2, 2)
-    assert len(re.findall(r">\d+ attempts; peak \d+ at 0 s; \d+ of 40 served, the last at [^<]+<title>", drawing)) == 2
+    said = r">\d+ attempts; peak \d+ a second, \d+ in 100 ms; \d+ of 40 served, the last at [^<]+<title>"
+    assert len(re.findall(said, drawing)) == 2
+    # The title has all its words in a narrow picture too, each line within its width.
+    title = re.findall('class="title"[^>]*>([^<]+)', picture(found, figures, 360))
+    assert " ".join(title) == curve.headline(found) and max(text_width(line, 16) for line in title) <= 328
     assert f"<td>{figures['a'].attempts:,}</td>" in page
 
 
@@ -276,7 +295,7 @@ def test_a_picture_has_a_most_of_columns(zsched):
 
 def test_a_picture_of_nothing_says_so(zsched):
     never = {**SMALL, "clients": {"number": 2, "start": "9s"}}
-    assert "0 attempts; peak 0 at 0 s; 0 of 2 served" in picture(*figures_of(zsched, never))
+    assert "0 attempts; peak 0 a second, 0 in 100 ms; 0 of 2 served" in picture(*figures_of(zsched, never))
 
 
 @pytest.mark.full
@@ -284,15 +303,9 @@ def test_long_names_leave_all_figures_in_sight(zsched, tmp_path):
     names = ["W" * 64, "a-policy-with-" + "long-" * 10]
     found = figures_of(zsched, {**SMALL, "policies": dict.fromkeys(names, "spaced(400)")})
     (tmp_path / "page.html").write_text("".join(curve_page.curve_page(*found)))
-    frames = "".join(f'<iframe width="{width}" height="1500" src="page.html"></iframe>' for width in [360, 400, 1280])
-    (tmp_path / "frames.html").write_text(f"<!doctype html>{frames}" + """<p id="found"></p><script>
-onload = () => { document.getElementById("found").textContent = [...document.querySelectorAll("iframe")].map(frame => {
-  const page = frame.contentDocument, table = page.querySelector(".table").getBoundingClientRect();
-  const cells = [...page.querySelectorAll("td")].map(it => it.getBoundingClientRect());
-  return `${frame.width} ${cells.length} ${cells.filter(it => it.right > table.right + 1).length}`;
-}).join(); };</script>""")
-    document = opened(f"file://{tmp_path}/frames.html", 1700, ["--allow-file-access-from-files"])
-    assert inside(document, "found") == "360 30 0,400 30 0,1280 30 0"
+    assert framed(tmp_path, ["page.html"], [360, 400, 1280], """page => {
+  const right = page.querySelector(".table").getBoundingClientRect().right, cells = [...page.querySelectorAll("td")];
+  return [cells.length, cells.filter(it => it.getBoundingClientRect().right > right + 1).length]; }""") == [[36, 0]] * 3
 
 
 @pytest.mark.parametrize("is_terminal", [True, False])

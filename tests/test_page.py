@@ -15,10 +15,14 @@ import bounds
 import faults
 import generator
 import reference
-from browser import inside, opened
+from browser import framed, inside, opened
+from mistakes import MISTAKES, split
 from reports import jobs_of
 from support import TOP, examples, plan, plans_with_reports, report_beside
-from zsched_tools import play_page
+from zsched_tools import drawn, hints, play_page, schedule_rules
+from zsched_tools.place import FaultAt
+from zsched_tools.policy import command
+from zsched_tools.policy.reading import Wrong
 
 PAGE = TOP / "docs" / "play.html"
 TEXT = PAGE.read_text()
@@ -57,12 +61,9 @@ def test_the_evaluator_gives_the_report_beside_a_plan(page, path):
     assert answer(page, path.read_bytes()) == (0, report_beside(path), b"") == reference.answer(path.read_bytes())
 
 
-LIMITS = [(name, text) for name, text, _ in faults.refused() + faults.accepted() if "1,000,001" not in name]
-
-
-@pytest.mark.parametrize("text", [text for _, text in LIMITS], ids=[name for name, _ in LIMITS])
-def test_the_evaluator_gives_what_the_reference_gives_at_the_limits(page, text):
-    assert answer(page, text) == reference.answer(text)
+@pytest.mark.parametrize("text, wanted", [it for it in faults.outcomes() if "1,000,001" not in it.id])
+def test_the_evaluator_has_each_fault_and_accepts_plans_at_the_limits(page, text, wanted):
+    assert answer(page, text) == wanted
 
 
 @pytest.mark.parametrize("part", range(8))
@@ -107,6 +108,53 @@ def test_bounds_of_the_schedules_of_the_plans(page):
     for text in short:
         judge_bounds(page, text, reference.read_schedule(text.encode()))
     assert len(short) > 60
+
+
+def wrong_schedules():
+    """Schedules with a mistake: those of mistakes.tsv, names and symbols of others, and a good one that is cut or changed."""
+    good = "((exponential(100, 2) || spaced(2000)).map(_1) && identity.whileInput(>= 500)).resetWhen(_2 = 4).collectAll"
+    yield from (json.loads(split(marked)[0])["jobs"][0]["schedule"] for _, marked, fault, _ in MISTAKES
+                if fault.startswith("job 0: schedule: "))
+    yield from (form.format(name) for name in hints.ZIO for form in ["{}(3)", "recurs(3).{}(5)", "(recurs(3) {} forever)"])
+    yield from (form.format(it) for it in hints.SYMBOLS for form in ["(recurs(3) {} forever)", "forever.whileInput({} 5)"])
+    for at in range(len(good)):
+        yield from (good[:at] + more + good[at + size:] for size in [0, 1, 2] for more in ["", *"().,;&|<=_1x5-é", "5s", "&& "])
+
+
+def said_by_tools(text, fault, zsched):
+    """What the tools say of a policy. `fault` is zsched's of its least draw, or None."""
+    try:
+        policy = drawn.Policy(text, zsched)
+        draws = [policy.texts(it) for it in (drawn.LOW, drawn.HIGH) if policy.is_drawn]
+        if fault is None:
+            return ["A", *[f"is {policy.spelled}"][policy.spelled == text:], *draws]
+        cause = policy.cause_at(drawn.LOW, schedule_rules.any_cause(policy.schedule(drawn.LOW), fault))
+    except FaultAt as found:
+        cause = found.cause
+    return dict(zip(["at", "size", "cause", "help"], cause))
+
+
+def test_a_policy_and_its_fault_are_as_the_tools_say(page, zsched):
+    policies = (TOP / "tests" / "policies.txt").read_text().splitlines()
+    # The tools take @NAME for a file.
+    said = [(text, page("page.explained", text)) for text in [*policies, *wrong_schedules()] if text[:1] != "@"]
+    for text, found in said:
+        fault = found.pop("text", None) if isinstance(found, dict) else None
+        assert found == said_by_tools(text, fault, zsched), text
+    assert sum(isinstance(found, dict) for _, found in said) > 4000
+
+
+def test_json_configs_are_read_as_zsched_policy_reads_them(page):
+    """Those of three formats. A config that the tool rejects has no policies in the page."""
+    paths = [it for it in TOP.glob("tests/cases/zsched-policy/*/*.json") if it.parent.name != "json_that_ends_early"]
+    for path in paths:
+        try:
+            lines = [command.line_of(it) for it in command.policies_of(str(path))]
+            wanted = [line for line in lines if line["format"] in ["grpc", "envoy", "temporal"]]
+        except Wrong:
+            wanted = {"fault": "not a policy"}
+        assert page("asking.configsOf", json.loads(path.read_text())) == wanted, path
+    assert len(paths) > 10
 
 
 def test_the_plan_is_what_the_fields_say(page):
@@ -251,21 +299,12 @@ def test_a_browser_compares_two_policies_in_an_outage():
 def test_nothing_is_out_of_sight_from_360_to_1600_pixels(tmp_path):
     queries = ["", urllib.parse.urlencode({"a": "exponential(100)", "b": "fibonacci(100)", "world": "outage"}),
                urllib.parse.urlencode({"a": "(" * 300, "b": "recurs(1)" + ".collectAll" * 9})]
-    widths = ["360", "400", "1280", "1600"]
-    frames = "".join(f'<iframe width="{width}" height="2500" src="file://{PAGE}#{query}"></iframe>'
-                     for width in widths for query in queries)
-    (tmp_path / "frames.html").write_text(f"""<!doctype html>{frames}<p id="found"></p><script>
-onload = () => setTimeout(() => {{
-  const widths = [...document.querySelectorAll("iframe")].map(frame => {{
-    const page = frame.contentDocument, width = page.documentElement.clientWidth;
-    const beyond = [...page.querySelectorAll("body *")].filter(it => !it.closest("pre") && it.tagName !== "path"
-      && it.getBoundingClientRect().right > width + 1).map(it => it.id || it.className || it.tagName);
-    return [frame.width, page.documentElement.scrollWidth <= width, page.querySelectorAll("svg").length > 0, beyond];
-  }});
-  document.getElementById("found").textContent = JSON.stringify(widths);
-}}, 3000);</script>""")
-    found = inside(opened(f"file://{tmp_path}/frames.html", 1700, ["--allow-file-access-from-files"]), "found")
-    assert json.loads(found) == [[width, True, number < 2, []] for width in widths for number in range(3)]
+    found = framed(tmp_path, [f"file://{PAGE}#{query}" for query in queries], [360, 400, 1280, 1600], """page => {
+  const width = page.documentElement.clientWidth;
+  const beyond = [...page.querySelectorAll("body *")].filter(it => !it.closest("pre") && it.tagName !== "path"
+    && it.getBoundingClientRect().right > width + 1).map(it => it.id || it.className || it.tagName);
+  return [page.documentElement.scrollWidth <= width, page.querySelectorAll("svg").length > 0, beyond]; }""")
+    assert found == [[True, True, []], [True, True, []], [True, False, []]] * 4
 
 
 @pytest.mark.full
@@ -278,13 +317,13 @@ def test_the_axis_of_waits_has_round_labels(schedule, until, labels):
 
 
 @pytest.mark.full
-def test_one_word_that_is_missing_is_named_alone():
-    assert inside(shown(a="((recurs(3) || spaced(5)) && recurs(4).map(_1)"), "a-fault").endswith(">write )")
-
-
-@pytest.mark.full
-def test_a_fault_is_shown_with_its_caret():
-    document = shown(a="recurs(3)", b="(spaced(10) && recur(3))")
+def test_faults_of_both_policies_are_shown_with_their_carets_and_no_plan_is_saved():
+    assert ' id="save">' in shown(a="recurs(3)", b="two: forever", until="9")
+    document = shown(a="recurs(3)..map(_1)", b="(spaced(10) && recur(3))")
+    assert ' id="save" disabled="">' in document and '"ms": 1,' not in inside(document, "plan")
+    assert "<strong class=\"\">a method is missing after the point</strong>" in document
     assert "<strong class=\"\">there is no recur</strong>" in document
     assert "(spaced(10) &amp;&amp; recur(3))\n" + " " * 15 + '<b class="">^^^^^</b>' in document
     assert re.search(r'<textarea id="b"[^>]* aria-invalid="true"', document)
+    found = re.findall(r'<strong class="">(.*?)<', shown(a="(delays(1s) && recur(3))", b="spaced(rand(9, 5))"))
+    assert found == ["there is no recur", "the first number is greater than the second"]

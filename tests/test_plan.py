@@ -49,12 +49,12 @@ def test_pieces_of_any_length_are_read_the_same(tmp_path, length):
 
 
 @pytest.mark.parametrize("most", [1, 4, 100])
-@pytest.mark.parametrize("length", [1, 10, 40, 100, 10**6])
-def test_blocks_of_any_length_are_read_the_same(tmp_path, most, length):
+@pytest.mark.parametrize("length", [1, 2, 5, 13, 14, 10**6])
+def test_jobs_are_read_the_same_however_many_are_written_together(tmp_path, most, length):
     plain = [f'{{"name":"p{number}","ms":{number}}}' for number in range(9)]
     lines = ["{}", *plain[:4], *ODD[:3], *plain[4:], ODD[3], ""]
     wanted = ['{"jobs":[\n' + ",\n".join(lines[1:-1][at:at + most]) + "\n]}\n" for at in range(0, 13, most)]
-    with mock.patch.object(plan_text, "BLOCK", length):
+    with mock.patch.object(plan_text, "AT_ONCE", length):
         assert split(tmp_path, "\n".join(lines), most, True) == wanted
         with pytest.raises(Refused, match="line 8, column 1: not JSON"):
             split(tmp_path, "\n".join([*lines[:7], "x", *lines[7:]]), most, True)
@@ -67,21 +67,6 @@ def test_a_plan_cut_anywhere_is_rejected(tmp_path):
         with pytest.raises(Refused, match=f"^{tmp_path}/plan: line "):
             split(tmp_path, WHOLE[:end], 2)
         assert [it.name for it in tmp_path.iterdir()] == ["plan"]
-
-
-def test_plain_jobs_are_those_that_are_decoded():
-    chance, plain = random.Random(3), 0
-    jobs = [job("a-1"), job("b.2", script='"script":[]'), '{"name":"c","x":[{"ms":1}],"y":"z"}',
-            '{"name": "d", "ms": 7, "script": [{"ms": 1, "ok": 0}, {"ms": 2, "err": 1}]}', *ODD]
-    for _ in range(examples(4000)):
-        text = chance.choice(jobs)
-        at = chance.randrange(len(text))
-        text = text[:at] + chance.choice('"{}[],:\\ 0123name.eé\t') + text[at + chance.randrange(2):]
-        text = text.encode().decode("latin-1")
-        if found := plan_text._PLAIN_JOB.fullmatch(text):
-            plain += 1
-            assert json.loads(text)["name"] == found[1], text
-    assert plain > 400
 
 
 def test_a_large_population_is_split_in_little_memory(tmp_path):

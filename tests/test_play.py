@@ -15,7 +15,7 @@ from unittest import mock
 import pytest
 
 from browser import inside, opened
-from support import ONE_JOB, TOP, run, run_tool
+from support import ONE_JOB, TOP, executable, rows, run, run_tool
 from zsched_tools import play
 
 TOOL = TOP / "tools" / "zsched-play"
@@ -27,13 +27,6 @@ def question(schedule="recurs(3)", horizon=1000, script=({"ms": 1, "err": 7},), 
     jobs = [{"name": f"A{number}", "mode": "retry", "schedule": text, "script": list(script)}
             for number, text in enumerate(schedules or [schedule])]
     return json.dumps({"horizon": horizon, "jobs": jobs}).encode()
-
-
-def program(folder, text):
-    path = folder / "program"
-    path.write_text(f"#!/bin/sh\n{text}\n")
-    path.chmod(0o755)
-    return str(path)
 
 
 @contextlib.contextmanager
@@ -89,16 +82,12 @@ def test_the_page_says_what_holds_for_every_input(url):
     ids=["good", "failed", "without", "of three policies"])
 def test_bounds_are_left_out_if_there_are_none(zsched, tmp_path, status, schedules, wanted):
     line = '{"policy":"","attempts":{"least":4,"most":4},"longest_wait":0,"total_wait":0,"steps_seen":4}'
-    bounds = None if status is None else program(tmp_path, f"cat > /dev/null\necho '{line}'\nexit {status}")
+    bounds = None if status is None else executable(tmp_path / "bounds", f"cat > /dev/null\necho '{line}'\nexit {status}")
     assert play.answer(zsched, question(schedules=schedules), 10, bounds)["bounds"] == wanted
 
 
 # A schedule that is rejected, the place and size of the mark, and words of the cause or the help.
-@pytest.mark.parametrize("schedule, at, size, word", [
-    ("recur(3)", 0, 5, "did you mean recurs?"), ("(spaced(10) && recurs(3s))", 23, 1, "milliseconds"),
-    ("recurs(3).map(_1)", 10, 7, "_1"), ("spaced(10) && recurs(3)", 11, 2, "parenthes"),
-    ("exponential(10, 0)", 16, 1, "factor"), ("recurs(18446744073709551616)", 7, 20, "18446744073709551615"),
-    ('recurs(3)"<script>', 9, 1, "quotes"), ("(recurs(3) && forever", 21, 1, ") is missing")])
+@pytest.mark.parametrize("schedule, at, size, word", rows("schedule_faults.jsonl"))
 def test_a_fault_of_a_schedule_has_its_place(url, zsched, schedule, at, size, word):
     fault = asked(url, question(schedule))["fault"]
     assert run(zsched, question(schedule)) == (2, b"", f"zsched: {fault['text']}\n".encode())
@@ -220,7 +209,7 @@ def test_a_plan_of_too_many_attempts_is_not_run():
 @pytest.mark.parametrize("line, said, is_limited", [
     ("", b"\n", True), ("# AddressSanitizer", b"hard_rss_limit_mb=1024\n", False)])
 def test_a_program_that_maps_terabytes_limits_its_memory_itself(tmp_path, line, said, is_limited):
-    path = program(tmp_path, f'{line}\ncat > /dev/null\necho "$ASAN_OPTIONS"')
+    path = executable(tmp_path / "program", f'{line}\ncat > /dev/null\necho "$ASAN_OPTIONS"')
     with mock.patch.object(play.resource, "prlimit") as limit:
         assert (*play.run(path, b"", 10)[:2], limit.called) == (0, said, is_limited)
 

@@ -13,13 +13,9 @@ from support import examples, run
 BLOCK = 10000
 
 
-def joined(lines):
-    return b"".join(line + b"\n" for line in lines)
-
-
 def judge(population, lines, status, output, said=""):
     errors = f"zsched-population: {said}\n" if said else ""
-    assert run(population, lines, seconds=100) == (status, output, errors.encode())
+    assert run(population, b"".join(line + b"\n" for line in lines), seconds=100) == (status, output, errors.encode())
 
 
 def both(chance, tree):
@@ -27,7 +23,7 @@ def both(chance, tree):
     head = generator.json_text(chance, {key: value for key, value in tree.items() if key != "jobs"})
     lines = [generator.json_text(chance, one, chance.random() < 0.2).replace("\n", " ") for one in tree["jobs"]]
     plan = head[:-1] + ("," if len(head) > 2 else "") + '"jobs":[' + ",".join(lines) + "]}"
-    return joined(line.encode() for line in [head, *lines]), plan.encode()
+    return [line.encode() for line in [head, *lines]], plan.encode()
 
 
 def test_a_population_is_reported_as_its_plan(population):
@@ -55,4 +51,4 @@ def test_every_fault_of_a_job_has_its_line(population, said, name, plan, numbers
     head, listed = re.fullmatch(rb'(\{"horizon":1000),"jobs":\[(.*)\]\}', plan, re.DOTALL).groups()
     # The jobs of these plans begin with their names.
     lines = [head + b"}", *re.split(rb',(?=\{"name":)', listed)]
-    judge(population, joined(lines), 2, b"", f"line {numbers[0] + 2}: {said}")
+    judge(population, lines, 2, b"", f"line {numbers[0] + 2}: {said}")

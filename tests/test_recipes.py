@@ -4,7 +4,6 @@ import json
 import os
 import random
 import re
-import shutil
 import subprocess
 import sys
 import types
@@ -12,6 +11,7 @@ import types
 import pytest
 
 import zio_model as zio
+from languages import need
 from reports import jobs_of
 from support import TOP, run
 from test_documents import anchor_of
@@ -87,9 +87,7 @@ def test_a_command_prints_what_is_shown(files, command, shown, zsched, tmp_path)
     for name, text in files.items():
         (tmp_path / name).write_text(text)
     environment = {**os.environ, "PATH": f"{TOP / 'tools'}:{tmp_path}:{os.environ['PATH']}"}
-    for tool in ["jq", "make"]:
-        if f"{tool} -" in command and not shutil.which(tool):
-            pytest.skip(f"{tool} isn't on this machine")
+    need(*(tool for tool in ["jq", "make"] if f"{tool} -" in command))
     if "pandas" in command and run([sys.executable, "-c", "import pandas"], b"")[0]:
         pytest.skip("pandas (Debian: python3-pandas) isn't on this machine")
     ended = subprocess.run(["bash", "-c", f"set -o pipefail\n{command}"], cwd=tmp_path, capture_output=True, text=True,
@@ -143,9 +141,9 @@ def definitions(d, e, k, n, s, a, b):
         "`Schedule.upTo(d)`": zio.up_to(d), "`Schedule.duration(d)`, `Schedule.fromDuration(d)`": zio.duration(d),
         "`Schedule.fromDurations(d, e)`": zio.from_durations(d, e),
         "`Schedule.recurWhile(_ < N)`": zio.identity().while_input(lambda x: x < n),
-        "`Schedule.recurUntil(_ < N)`": zio.identity().until_input(lambda x: x < n),
+        "`Schedule.recurUntil(_ < N)`": zio.identity().while_input(lambda x: x >= n),
         "`Schedule.recurWhileEquals(N)`": zio.identity().while_input(lambda x: x == n),
-        "`Schedule.recurUntilEquals(N)`": zio.identity().until_input(lambda x: x == n),
+        "`Schedule.recurUntilEquals(N)`": zio.identity().while_input(lambda x: x != n),
         "`Schedule.succeed(N)`": zio.forever().map(lambda out: n),
         "`Schedule.fromFunction(_ * N)`": zio.identity().map(lambda x: x * n),
         "`Schedule.unfold(N)(_ + 1)`": zio.unfold(n, lambda x: x + 1),
@@ -159,7 +157,7 @@ def definitions(d, e, k, n, s, a, b):
         "`s.map(_ * N)`": s.map(lambda x: x * n), "`s.as(N)`": s.map(lambda x: n),
         "`s.unit`": s.unit(),
         "`s.whileInput(_ < N)`": s.while_input(lambda x: x < n), "`s.whileOutput(_ < N)`": s.while_output(lambda x: x < n),
-        "`s.untilInput(_ < N)`": s.until_input(lambda x: x < n), "`s.untilOutput(_ < N)`": s.until_output(lambda x: x < n),
+        "`s.untilInput(_ < N)`": s.while_input(lambda x: x >= n), "`s.untilOutput(_ < N)`": s.while_output(lambda x: x >= n),
         "`s.whileInput(x => x == N || x == k)`": s.while_input(lambda x: x in (n, k)),
         "`s.check((x, o) => x < N && o < k)`": s.check(lambda x, o: x < n and o < k),
         "`s.upTo(d)`": s.up_to(d),

@@ -6,12 +6,13 @@ import multiprocessing
 import os
 import random
 import re
+import subprocess
+import sys
 from unittest import mock
 
 import pytest
 
 from generator import made_plan
-from measured import measured
 from report_samples import KNOWN, NEVER, NO_REPORTS, REPORTS, RETRIED, RUNNING, WAITING, long_report, wide_report
 from reports import jobs_of
 from support import TOP, examples, run
@@ -23,6 +24,23 @@ from zsched_tools.report import records
 from zsched_tools.summary import Options, write_summary
 
 TOOL = TOP / "tools" / "zsched-report"
+# Runs a command inside of itself, and then prints its peak memory. (What a parent gets includes the parent's memory.)
+_INSIDE = """import os, resource, runpy, sys
+try:
+    runpy.run_path(f"{os.path.dirname(sys.argv[1])}/zsched_tools/__main__.py", run_name="__main__")
+finally:
+    memory = next(line.split()[1] for line in open("/proc/self/status") if line.startswith("VmHWM:"))
+    print("measured", memory, sum(resource.getrusage(resource.RUSAGE_SELF)[:2]), file=sys.stderr)
+"""
+
+
+def measured(tool, *words, out):
+    """Runs a command with its output to a file: its status, its peak memory in kilobytes, its processor seconds."""
+    with open(out, "wb") as file:
+        words = [sys.executable, "-c", _INSIDE, str(tool), *map(str, words)]
+        ended = subprocess.run(words, stdout=file, stderr=subprocess.PIPE, text=True, check=False)
+    _, memory, time = ended.stderr.splitlines()[-1].split()
+    return ended.returncode, int(memory), float(time)
 
 
 def outcome(work):

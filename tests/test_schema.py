@@ -8,7 +8,7 @@ import pytest
 
 import faults
 import generator
-from support import TOP, job, plan, plans_with_reports, run
+from support import TOP, job, plan, plans_with_reports, rows, run
 
 jsonschema = pytest.importorskip("jsonschema")
 
@@ -20,8 +20,7 @@ LONGEST = 20000
 CHANGES = 2000
 # What the schema can't express, as docs/FORMATS.md says: faults, and plans, some of them by their names.
 UNTOLD = re.compile(r"name used before|too big|number too large|no kind")
-MISSED = [
-    "a byte order mark", "horizon 1e3", "a horizon with an exponent", "schedule (recurs(1) && recurs(2)",
+MISSED = ["a byte order mark", "horizon 1e3", "a horizon with an exponent", "schedule (recurs(1) && recurs(2)",
     "parentheses behind forever", "parentheses behind collectAll", "a parenthesis too few", "a parenthesis too many",
     "parentheses for nothing", "an operator too few", "half an operator's schedules"]
 
@@ -46,11 +45,7 @@ def test_each_key_has_a_description():
     assert len(KEYS) == 15 and all(len(text) > 20 for text in KEYS.values()), KEYS
 
 
-@pytest.mark.parametrize("key, text", [
-    *((key, "millisecond") for key in ["plan.horizon", "plan.ticks", "job.schedule", "job.start", "entry.ms"]),
-    ("plan.horizon", "0 to 999999999999999"), ("plan.workers", "1 to 64"), ("plan.grain", "1 to 10000"),
-    ("plan.jobs", "at most 10000"), ("job.name", "1 to 64"), ("job.script", "1 to 1000"),
-    ("entry.ms", "1 to 18446744073709551615"), ("entry.ok", "0 to 18446744073709551615")])
+@pytest.mark.parametrize("key, text", rows("described.jsonl"))
 def test_ranges_and_units_are_described(key, text):
     assert text in KEYS[key]
 

@@ -14,19 +14,22 @@ from zsched_tools import program, starting
 from zsched_tools.processes import in_order
 
 TOOLS = sorted((TOP / "tools").glob("zsched-*"))
+MAIN = TOP / "tools" / "zsched_tools" / "__main__.py"
 
 
 def test_an_unproved_program_is_named_and_not_taken(tmp_path, monkeypatch):
     monkeypatch.setenv("PATH", str(tmp_path))
     monkeypatch.delenv("ZSCHED", raising=False)
-    monkeypatch.setattr(program, "BUILT", tmp_path / "zsched")
+    monkeypatch.setattr(program, "CRATES", tmp_path)
+    out = tmp_path / "zsched" / "out"
+    out.mkdir(parents=True)
     for name, said in [("other", "as the unproved one that ./run leaves in crates/zsched/out"),
-                       ("unproved-1", f"as {tmp_path}/unproved-1, unproved")]:
-        (tmp_path / name).touch(0o755)
+                       ("unproved-1", f"as {out}/unproved-1, unproved")]:
+        (out / name).touch(0o755)
         with pytest.raises(program.NoProgram, match=re.escape(said) + "$"):
             program.find()
-    (tmp_path / "zsched").touch(0o755)
-    assert program.find() == f"{tmp_path}/zsched"
+    (out / "zsched").touch(0o755)
+    assert program.find() == f"{out}/zsched"
 
 
 def test_an_old_python_is_named_in_one_line():
@@ -37,18 +40,18 @@ def test_an_old_python_is_named_in_one_line():
 
 @pytest.mark.parametrize("path", TOOLS, ids=lambda path: path.name)
 def test_a_command_looks_for_an_old_python_before_it_reads_its_own_files(path, monkeypatch, capsys):
-    text = path.read_text()
-    assert f'require_python("{path.name}")\n\nfrom zsched_tools.' in text
-    assert len(re.findall(r"^from zsched_tools", text, re.M)) == 2
-    monkeypatch.setattr(sys, "version_info", (3, 10, 4))
+    text = MAIN.read_text()
+    assert re.findall(r"zsched_tools[.\w]*(?= import|\.\")|^require_python", text, re.M) == [
+        "zsched_tools.starting", "require_python", "zsched_tools"]
+    for name, value in {"version_info": (3, 10, 4), "argv": ["zsched_tools", str(path)], "path": [*sys.path]}.items():
+        monkeypatch.setattr(sys, name, value)
     with pytest.raises(SystemExit, match="3"):
-        exec(compile(text, path, "exec"), {"__file__": str(path)})
+        exec(compile(text, MAIN, "exec"), {"__file__": str(MAIN)})
     assert capsys.readouterr() == ("", f"{path.name}: needs Python 3.11 or later, and this is Python 3.10\n")
 
 
 def test_that_look_needs_no_new_python():
-    package = TOP / "tools" / "zsched_tools"
-    for file in [*TOOLS, package / "starting.py", package / "__init__.py"]:
+    for file in [MAIN, MAIN.with_name("starting.py"), MAIN.with_name("__init__.py")]:
         ast.parse(file.read_text(), feature_version=(3, 4))
 
 

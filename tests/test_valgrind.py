@@ -3,11 +3,11 @@ several workers by helgrind and drd. The rounds of the jobs with 998 nodes start
 
 Each report has to be the right one. memcheck has to name no error and no lost memory. helgrind and drd may name only reads
 of a queue's places by the queue itself, as docs/TESTING.md explains."""
-import shutil
 import xml.etree.ElementTree
 
 import pytest
 
+from languages import need
 from support import TOP, equal_jobs, heavy_jobs, job, plan, recut, report_beside, run
 
 pytestmark = pytest.mark.full
@@ -45,8 +45,7 @@ def is_of_queue(error):
     (tool, name, workers, grain) for tool in ["memcheck", "helgrind", "drd"] for name, workers, grain in CASES
     if tool == "memcheck" or workers > 1 or name == "invalid"])
 def test_a_run_has_no_error(tool, name, workers, grain, zsched, tmp_path):
-    if shutil.which("valgrind") is None:
-        pytest.skip("valgrind isn't on this machine")
+    need("valgrind")
     text, wanted = case(name, workers, grain)
     words = ["valgrind", "-q", f"--tool={tool}", *(LEAKS if tool == "memcheck" else []), "--xml=yes"]
     words += [f"--xml-file={tmp_path / 'errors'}", zsched]

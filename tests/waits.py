@@ -1,6 +1,5 @@
 #!/usr/bin/env python3
-"""Prints the waits that the program makes of each schedule of standard input, a line each: the first N, and `end` if
-the schedule then gives up. A wait is counted once with its number of repetitions, as 250*3."""
+"""Prints the first N waits of each schedule of standard input, as 250*3 for three of 250 ms, and `end` if it gives up."""
 import itertools
 import json
 import os

@@ -7,6 +7,8 @@ A schedule is a first state and a step: from a moment, an input and a state to a
 next run, or None if it is done. Intervals are open to the right, so a moment represents one. Moments are in
 milliseconds. A pair is a tuple of two, Left and Right are lists of a word and an output, and the unit is 0."""
 
+import functools
+
 
 class Schedule:
     def __init__(self, initial, step):
@@ -36,12 +38,6 @@ class Schedule:
 
     def while_output(self, test):
         return self.check(lambda given, out: test(out))
-
-    def until_input(self, test):
-        return self.check(lambda given, out: not test(given))
-
-    def until_output(self, test):
-        return self.check(lambda given, out: not test(out))
 
     def modify_delay(self, change):
         def later(out, now, after):
@@ -187,11 +183,8 @@ def duration(delay):
     return Schedule(True, lambda now, given, state: (False, delay, now + delay) if state else (False, 0, None))
 
 
-def from_durations(delay, *delays):
-    schedule = duration(delay)
-    for more in delays:
-        schedule = and_then(schedule, duration(more))
-    return schedule
+def from_durations(*delays):
+    return functools.reduce(and_then, map(duration, delays))
 
 
 def text_of(out):

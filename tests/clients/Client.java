@@ -1,18 +1,17 @@
 import java.io.BufferedReader;
 import java.io.InputStreamReader;
 import java.nio.charset.StandardCharsets;
+import java.time.Duration;
 import java.util.ArrayList;
 import java.util.Arrays;
 import java.util.HexFormat;
 import java.util.List;
-import java.util.function.ToLongFunction;
+import zsched.Budget;
+import zsched.Retry;
 import zsched.Schedule;
 import zsched.Stepper;
 
-/**
- * The client of the library in Java. client.c documents the requests and the lines; 'wait' prints the wait of a step, and
- * 'unread' has an error without an input.
- */
+/** The client of the library in Java. client.c documents the requests and the lines. */
 public final class Client {
     private static final class Failing extends Exception {
         private static final long serialVersionUID = 1;
@@ -22,45 +21,55 @@ public final class Client {
         }
     }
 
+    private static final Budget BUDGET = new Budget(10, 0.5);
+
     private static String word(Schedule.Answer step) {
         String next = step.done() ? "0" : Long.toUnsignedString(step.next());
         return (step.done() ? 1 : 0) + "," + next + "," + step.visits() + "," + step.output();
     }
 
-    private static void list(String text, long[] numbers, List<Object> said) {
-        Schedule schedule = new Schedule(text);
+    private static void steps(String command, String text, long[] numbers, List<Object> said) {
+        Schedule schedule = command.equals("list") ? new Schedule(text) : null;
+        Stepper stepper = schedule == null ? new Stepper(text) : null;
         for (int i = 0; i < numbers.length; i += 2) {
-            said.add(word(schedule.after(numbers[i], numbers[i + 1])));
-        }
-    }
-
-    private static void steps(boolean isStored, String text, long[] numbers, List<Object> said) {
-        Stepper stepper = new Stepper(text);
-        for (int i = 0; i < numbers.length; i += 2) {
-            if (isStored) {
+            if (command.equals("stored")) {
                 stepper = Stepper.resume(text, stepper.state());
             }
-            said.add(word(stepper.after(numbers[i], numbers[i + 1])));
+            long moment = numbers[i], input = numbers[i + 1];
+            said.add(word(schedule == null ? stepper.after(moment, input) : schedule.after(moment, input)));
         }
     }
 
-    private static void retry(String text, ToLongFunction<Exception> inputOf, long code, long times, List<Object> said)
-            throws Exception {
+    private static void retry(String text, long[] numbers, List<Object> said) throws Exception {
         long begun = System.nanoTime();
-        List<Object> moments = new ArrayList<>();
+        int[] attempts = {0};
+        Retry retry = Retry.of(text).inputOf(error -> Long.parseUnsignedLong(error.getMessage()));
+        retry.on(error -> numbers.length == 2 || numbers[0] != numbers[4]);
         try {
-            said.add(Schedule.retry(text, inputOf, () -> {
-                moments.add((System.nanoTime() - begun) / 1000);
-                if (moments.size() <= times) {
-                    throw new Failing(code);
+            said.add(0, (numbers.length > 2 ? optioned(retry, numbers, said) : retry).call(() -> {
+                said.add((System.nanoTime() - begun) / 1000);
+                if (attempts[0]++ < numbers[1]) {
+                    throw new Failing(numbers[0]);
                 }
                 return "done";
             }));
         } catch (Failing error) {
-            said.add(error.getMessage());
-            Arrays.stream(error.getSuppressed()).map(Throwable::getMessage).forEach(said::add);
+            said.add(0, error.getMessage());
         }
-        said.addAll(moments);
+    }
+
+    private static Retry optioned(Retry retry, long[] numbers, List<Object> said) {
+        return retry.budget(numbers[5] == 1 ? BUDGET : null).jitter(numbers[2] / 100.0).retryAfter(error -> Duration.ofMillis(numbers[3])).onFailure(failure -> {
+            if (failure.delay() != null) {
+                said.add(failure.number() + ":" + failure.delay().toMillis());
+            }
+        });
+    }
+
+    private static void bounds(String text, long steps, List<Object> said) {
+        Schedule.Bounds found = Schedule.bounds(text, steps);
+        said.addAll(List.of(found.seen(), found.least(), found.most().isPresent() ? 1 : 0, found.most().orElse(0), found.longest(),
+            found.total().isPresent() ? 1 : 0, found.total().orElse(0)));
     }
 
     private static void many(String text, long count) {
@@ -75,17 +84,14 @@ public final class Client {
     }
 
     private static void serve(String command, String text, long[] numbers, List<Object> said) throws Exception {
-        int[] count = {0};
         String[] lines = text.split("\n");
         switch (command) {
             case "version" -> said.add(Schedule.version());
             case "moved" -> Stepper.resume(lines[1], new Stepper(lines[0]).state());
-            case "retry" -> retry(text, error -> Long.parseUnsignedLong(error.getMessage()), numbers[0], numbers[1], said);
-            case "unread" -> retry(text, error -> 1 / (++count[0] - 2), 503, 9, said);
-            case "wait" -> said.add(new Stepper(text).after(numbers[0], 0).waitFrom(numbers[0]));
+            case "retry" -> retry(text, numbers, said);
+            case "bounds" -> bounds(text, numbers[0], said);
             case "many" -> many(text, numbers[0]);
-            case "list" -> list(text, numbers, said);
-            default -> steps(command.equals("stored"), text, numbers, said);
+            default -> steps(command, text, numbers, said);
         }
     }
 

@@ -5,14 +5,18 @@
  *   program TEXT MOMENT INPUT ..  steps a program
  *   stored TEXT MOMENT INPUT ..   the same, each step by a new program with the stored state (not in C)
  *   moved TEXT                    stores a state of the text's first line, for a program of its second line (not in C)
- *   retry TEXT CODE TIMES         retries an effect that fails at once with CODE, the first TIMES times
+ *   retry TEXT CODE TIMES [JITTER LEAST STOP BUDGET]
+ *                                 retries an effect that fails at once with CODE, the first TIMES times; JITTER in percent and
+ *                                 each wait of LEAST ms at least, but not if CODE is STOP; all requests whose BUDGET is 1
+ *                                 share one of 10 tokens and the ratio 0.5 (these not in C)
  *   many TEXT COUNT               steps a program COUNT times, each time when it may; prints a line after each tenth
- *   bounds TEXT STEPS             zs_bounds: the number, all seven of struct zs_bounds, and the place (C alone)
+ *   bounds TEXT STEPS             zs_bounds: all seven of struct zs_bounds; in C between the number and the place
  *   answer, run                   as list and program, but only the last step's result is printed (C alone)
  *   version TEXT                  the version of the library
  *
  * The line of steps has a word NUMBER,NEXT,VISITS,OUTPUT for each; a fault ends it: NUMBER,AT,WORDS. The line of a retry has
- * the code at which it gave up, or 'done', and the microseconds at which each attempt began.
+ * the code at which it gave up, or 'done', and the microseconds at which each attempt began; with more numbers also
+ * NUMBER:MILLISECONDS for each call of its hook before a sleep.
  *
  * client refuse   prints how many allocations each request makes, after it has made each of them fail
  * client threads  runs all requests on four threads at once too, with as much stack as zsched.h says
@@ -99,6 +103,21 @@ static void hold(int is_well, const request *it, const char *what)
         exit(1);
 }
 
+static void drop(void *place)
+{
+    __real_free(*(void **)place);
+}
+
+/* What frees a block, and the words of a schedule, where its name ends. */
+#define OWN __attribute__((cleanup(drop)))
+#define OWN_WORDS __attribute__((cleanup(drop_words)))
+
+static void drop_words(schedule *it)
+{
+    __real_free(it->program);
+    __real_free(it->state);
+}
+
 /* A separate block of this size with a copy of these bytes, or with bytes that show whether they were written. */
 static void *block(const void *bytes, size_t size)
 {
@@ -128,8 +147,9 @@ static uint32_t last_step(const schedule *it, uint64_t size, uint64_t state_size
 /* Tests what zsched.h says of words that are too few, that were changed or that are another program's. */
 static void test_words(const schedule *it)
 {
-    uint64_t at, size = it->size, state_size = it->state_size, *few = (uint64_t *)block(NULL, LENGTH(few, size - 1));
-    uint64_t *before = (uint64_t *)block(it->state, LENGTH(before, state_size));
+    uint64_t at, size = it->size, state_size = it->state_size;
+    OWN uint64_t *few = (uint64_t *)block(NULL, LENGTH(few, size - 1));
+    OWN uint64_t *before = (uint64_t *)block(it->state, LENGTH(before, state_size));
     int is_well = zs_compile(it->of->text, it->of->text_len, few, size - 1, &at) == ZS_NO_ROOM && at == 0 &&
                   is_untouched(few, LENGTH(few, size - 1)) && last_step(it, size, state_size - 1) == ZS_NO_ROOM &&
                   zs_program_begin(it->program, size, it->state, state_size - 1) == ZS_NO_ROOM;
@@ -148,15 +168,14 @@ static void test_words(const schedule *it)
         it->state[0] ^= change;
     }
     hold(is_well && memcmp(it->state, before, LENGTH(before, state_size)) == 0, it->of, "wrong words are rejected");
-    __real_free(few);
-    __real_free(before);
 }
 
 /* A step over words that, after the check word, represent no state returns, and changes none after the state. */
 static void test_odd_states(const schedule *it)
 {
     static const uint64_t odd[] = {0, 1, 2, 1ull << 63, UINT64_MAX};
-    uint64_t size = it->state_size, *words = (uint64_t *)block(NULL, LENGTH(words, size + 2));
+    uint64_t size = it->state_size;
+    OWN uint64_t *words = (uint64_t *)block(NULL, LENGTH(words, size + 2));
     schedule changed = {it->of, it->program, words, it->size, size};
     for (size_t kind = 0; kind < 5; kind++) {
         for (size_t i = 0; i < size; i++)
@@ -165,7 +184,6 @@ static void test_odd_states(const schedule *it)
         hold(last_step(&changed, it->size, size + 2) <= ZS_DONE && is_untouched(words + size, LENGTH(words, 2)), it->of,
              "any words may be stepped");
     }
-    __real_free(words);
 }
 
 /* Writes the program of a schedule and its state. Returns the number of the last call. */
@@ -198,9 +216,9 @@ static uint32_t step(schedule *it, size_t number, FILE *said)
 {
     static const size_t rooms[] = {0, 1, 5, 30, 400};
     size_t room = rooms[number % 5], length = it->program ? LENGTH(it->state, it->state_size) : 0, size;
-    uint64_t *state = (uint64_t *)block(it->state, length);
-    uint8_t *cut = (uint8_t *)block(NULL, room), *out = NULL;
-    zs_reply *reply = (zs_reply *)block(NULL, sizeof *reply), *again = (zs_reply *)block(NULL, sizeof *again);
+    OWN uint64_t *state = (uint64_t *)block(it->state, length);
+    OWN uint8_t *cut = (uint8_t *)block(NULL, room), *out = NULL;
+    OWN zs_reply *reply = (zs_reply *)block(NULL, sizeof *reply), *again = (zs_reply *)block(NULL, sizeof *again);
     uint32_t found = call(it, number, state, reply, cut, room);
     hold(found <= ZS_DONE || (is_untouched(cut, room) && (!length || memcmp(state, it->state, length) == 0)), it->of,
          "a failed step changes nothing");
@@ -219,17 +237,12 @@ static uint32_t step(schedule *it, size_t number, FILE *said)
     else
         say_fault(said, found, reply->at);
     hold(found <= ZS_DONE || (reply->next | reply->size | reply->visits) == 0, it->of, "a fault has a place alone");
-    __real_free(state);
-    __real_free(cut);
-    __real_free(out);
-    __real_free(reply);
-    __real_free(again);
     return found;
 }
 
 static void say_steps(const request *it, FILE *said)
 {
-    schedule made = {it, NULL, NULL, 0, 0};
+    OWN_WORDS schedule made = {it, NULL, NULL, 0, 0};
     uint64_t at = UNTOUCHED;
     uint32_t number = *it->command == 'l' ? zs_check(it->text, it->text_len, &at) : compile(&made, &at);
     if (number)
@@ -240,13 +253,11 @@ static void say_steps(const request *it, FILE *said)
     }
     for (size_t i = 1; i <= it->count / 2 && number <= ZS_DONE; i++)
         number = step(&made, i, said);
-    __real_free(made.program);
-    __real_free(made.state);
 }
 
 static void say_last(const request *it, FILE *said)
 {
-    schedule made = {it, NULL, NULL, 0, 0};
+    OWN_WORDS schedule made = {it, NULL, NULL, 0, 0};
     uint8_t out[400];
     zs_reply reply = {0, 0, 0, 0};
     size_t last = it->count / 2;
@@ -257,19 +268,15 @@ static void say_last(const request *it, FILE *said)
         say_fault(said, number, reply.at);
     else
         fprintf(said, " %u,%lu,%lu,%.*s", number, reply.next, reply.visits, (int)reply.size % 400, (const char *)out);
-    __real_free(made.program);
-    __real_free(made.state);
 }
 
 static void say_bounds(const request *it, FILE *said)
 {
-    struct zs_bounds *found = (struct zs_bounds *)block(NULL, sizeof *found);
-    uint64_t *at = (uint64_t *)block(NULL, sizeof *at);
+    OWN struct zs_bounds *found = (struct zs_bounds *)block(NULL, sizeof *found);
+    OWN uint64_t *at = (uint64_t *)block(NULL, sizeof *at);
     uint32_t number = zs_bounds(it->text, it->text_len, it->numbers[0], found, at);
     fprintf(said, " %u %lu %lu %lu %lu %lu %lu %lu %lu", number, found->seen, found->least, found->has_most, found->most,
             found->longest, found->has_total, found->total, *at);
-    __real_free(found);
-    __real_free(at);
 }
 
 /* An effect that fails, and says when each attempt began. */
@@ -294,20 +301,18 @@ static uint64_t attempt(void *data)
 
 static void say_retry(const request *it, FILE *said)
 {
-    char *moments, *policy = strndup((const char *)it->text, it->text_len);
+    OWN char *moments, *policy = strndup((const char *)it->text, it->text_len);
     size_t size;
     effect failing = {open_memstream(&moments, &size), microseconds(), it->numbers[0], it->numbers[1]};
     uint64_t code = retry(policy, attempt, &failing);
     fclose(failing.said);
     fprintf(said, code ? " %lu" : " done", code);
     fputs(moments, said);
-    __real_free(policy);
-    __real_free(moments);
 }
 
 static void step_many(const request *it)
 {
-    schedule made = {it, NULL, NULL, 0, 0};
+    OWN_WORDS schedule made = {it, NULL, NULL, 0, 0};
     zs_reply reply = {0, 0, 0, 0};
     hold(compile(&made, &reply.at) == 0, it, "the policy has a program");
     for (uint64_t i = 1; i <= it->numbers[0]; i++) {
@@ -316,8 +321,6 @@ static void step_many(const request *it)
             puts("");
         fflush(stdout);
     }
-    __real_free(made.program);
-    __real_free(made.state);
 }
 
 static int is(const request *it, const char *command)
@@ -349,20 +352,18 @@ static char *served(const request *it)
  * ends early and says so. */
 static long refuse(const request *it)
 {
-    char *wanted = served(it);
+    OWN char *wanted = served(it);
     for (long at = 1;; at++) {
         long before = held;
         asked = 0;
         refused_at = at;
-        char *found = served(it), *end = strstr(found, *it->command == 'b' ? " 5 0 0 0 0 0 0 0 0" : " 5,0,out of memory");
+        OWN char *found = served(it);
+        char *end = strstr(found, *it->command == 'b' ? " 5 0 0 0 0 0 0 0 0" : " 5,0,out of memory");
         refused_at = -1;
         hold(held == before, it, "each block is freed");
         hold(end ? asked >= at && strncmp(found, wanted, (size_t)(end - found)) == 0 : strcmp(found, wanted) == 0, it, found);
-        __real_free(found);
-        if (asked < at) {
-            __real_free(wanted);
+        if (asked < at)
             return at - 1;
-        }
     }
 }
 
@@ -370,9 +371,8 @@ static void *thread(void *ignored)
 {
     for (size_t i = 0; i < TIMES * request_count; i++) {
         const request *it = &requests[i % request_count];
-        char *found = served(it);
+        OWN char *found = served(it);
         hold(strcmp(found, it->answer) == 0, it, found);
-        __real_free(found);
     }
     return ignored;
 }
@@ -413,7 +413,7 @@ static void read_request(request *it, char *line)
 
 int main(int count, char **words)
 {
-    char *line = NULL;
+    OWN char *line = NULL;
     size_t size = 0;
     while (getline(&line, &size, stdin) > 0) {
         requests = (request *)__real_realloc(requests, LENGTH(requests, request_count + 1));
@@ -438,6 +438,5 @@ int main(int count, char **words)
         __real_free(requests[i].answer);
     }
     __real_free(requests);
-    __real_free(line);
     return 0;
 }

@@ -1,5 +1,4 @@
-// Command client is the client of the library in Go. client.c documents the requests and the lines; 'aborted' ends a retry
-// by a context.
+// Command client is the client of the library in Go. client.c documents the requests and the lines.
 package main
 
 import (
@@ -13,8 +12,10 @@ import (
 	"strings"
 	"time"
 
-	"zsched"
+	"example.org/zsched"
 )
+
+var budgets = []*zsched.Budget{nil, zsched.NewBudget(10, 0.5)}
 
 type failing uint64
 
@@ -22,19 +23,15 @@ func (code failing) Error() string { return strconv.FormatUint(uint64(code), 10)
 
 func codeOf(err error) uint64 { return uint64(err.(failing)) }
 
-type follower interface {
-	After(moment, input uint64) (zsched.Answer, error)
-}
-
-func begun(command, text string) (follower, error) {
-	if command == "list" {
-		return zsched.New(text)
-	}
-	return zsched.NewStepper(text)
-}
-
 func steps(command, text string, numbers []uint64) (said []any, err error) {
-	schedule, err := begun(command, text)
+	var schedule interface {
+		After(moment, input uint64) (zsched.Answer, error)
+	}
+	if command == "list" {
+		schedule, err = zsched.New(text)
+	} else {
+		schedule, err = zsched.NewStepper(text)
+	}
 	for i := 0; i < len(numbers) && err == nil; i += 2 {
 		if command == "stored" {
 			schedule, _ = zsched.Resume(text, schedule.(*zsched.Stepper).State())
@@ -49,6 +46,16 @@ func steps(command, text string, numbers []uint64) (said []any, err error) {
 	return
 }
 
+func bounds(text string, steps uint64) ([]any, error) {
+	found, err := zsched.BoundsOf(text, steps)
+	flags := map[bool]int{true: 1}
+	said := []any{found.Seen, found.Least, flags[found.HasMost], found.Most, found.Longest, flags[found.HasTotal], found.Total}
+	if err != nil {
+		said = nil
+	}
+	return said, err
+}
+
 func moved(text string) error {
 	first, second, _ := strings.Cut(text, "\n")
 	stepper, _ := zsched.NewStepper(first)
@@ -56,26 +63,34 @@ func moved(text string) error {
 	return err
 }
 
-func retry(text string, code, times uint64) []any {
-	start, said := time.Now(), []any{"done"}
-	err := zsched.Retry(context.Background(), text, codeOf, func(context.Context) error {
-		said = append(said, time.Since(start).Microseconds())
-		if uint64(len(said)) <= times+1 {
-			return failing(code)
+func retry(text string, code, times uint64, options ...uint64) []any {
+	start, attempts, said, more := time.Now(), uint64(0), []any{""}, []zsched.Option(nil)
+	if len(options) > 0 {
+		more = []zsched.Option{
+			zsched.WithBudget(budgets[options[3]]),
+			zsched.Jitter(float64(options[0]) / 100),
+			zsched.RetryAfter(func(error) time.Duration { return time.Duration(options[1]) * time.Millisecond }),
+			zsched.Notify(func(_ error, attempt int, wait time.Duration) {
+				said = append(said, fmt.Sprintf("%d:%d", attempt, wait.Milliseconds()))
+			}),
 		}
-		return nil
-	})
-	if err != nil {
-		said[0] = err
 	}
+	ended, err := zsched.RetryValue(context.Background(), text, codeOf, func(context.Context) (string, error) {
+		said = append(said, time.Since(start).Microseconds())
+		attempts++
+		if attempts > times {
+			return "done", nil
+		}
+		if len(options) > 0 && code == options[2] {
+			return "", zsched.Permanent(failing(code))
+		}
+		return "", failing(code)
+	}, more...)
+	if err != nil {
+		ended = err.Error()
+	}
+	said[0] = ended
 	return said
-}
-
-func aborted(text string) []any {
-	ctx, cancel := context.WithTimeout(context.Background(), 20*time.Millisecond)
-	defer cancel()
-	err := zsched.Retry(ctx, text, codeOf, func(context.Context) error { return failing(503) })
-	return []any{err, errors.Is(err, failing(503)), errors.Is(err, context.DeadlineExceeded)}
 }
 
 func many(text string, count uint64) {
@@ -105,9 +120,9 @@ func main() {
 		case "moved":
 			err = moved(text)
 		case "retry":
-			said = retry(text, numbers[0], numbers[1])
-		case "aborted":
-			said = aborted(text)
+			said = retry(text, numbers[0], numbers[1], numbers[2:]...)
+		case "bounds":
+			said, err = bounds(text, numbers[0])
 		case "many":
 			many(text, numbers[0])
 		default:

@@ -1,8 +1,9 @@
 'use strict';
-// The client of the library in JavaScript. client.c documents the requests and the lines; 'aborted' ends a retry by a signal,
-// and 'unread' has an error without an input.
+// The client of the library in JavaScript. client.c documents the requests and the lines.
 const { createInterface } = require('node:readline');
-const { Fault, Schedule, Stepper, retry, version } = require('zsched');
+const { Budget, Fault, Schedule, Stepper, bounds, retry, version } = require('zsched');
+
+const shared = new Budget(10, 0.5);
 
 function steps(command, text, numbers, said) {
   let schedule = command === 'list' ? new Schedule(text) : new Stepper(text);
@@ -15,38 +16,29 @@ function steps(command, text, numbers, said) {
   }
 }
 
-async function retried(text, code, times, said) {
+async function retried(text, [code, times, jitter = 0n, least = 0n, stop, isLimited], said) {
   const begun = process.hrtime.bigint();
-  const attempt = () => {
+  const attempt = (number) => {
     said.push((process.hrtime.bigint() - begun) / 1000n);
-    if (said.length <= times) {
+    if (number <= times) {
       throw Object.assign(new Error('failed'), { code });
     }
     return 'done';
   };
-  said.unshift(await retry(text, attempt, { inputOf: (error) => error.code }).catch((error) => error.code));
+  const ended = retry(text, attempt, {
+    inputOf: (error) => error.code,
+    budget: isLimited ? shared : undefined,
+    jitter: Number(jitter) / 100,
+    retryAfter: () => Number(least),
+    shouldRetry: ({ error }) => error.code !== stop,
+    onFailedAttempt: ({ number, wait }) => stop !== undefined && wait !== null && said.push(`${number}:${Math.round(wait)}`),
+  });
+  said.unshift(await ended.catch((error) => error.code));
 }
 
-/** A retry that a signal ends in a wait, and one that it ends in an attempt. */
-async function aborted(text, said) {
-  const [early, late] = [new AbortController(), new AbortController()];
-  setTimeout(() => early.abort(new Error('in a wait')), 20);
-  for (const control of [early, late]) {
-    const attempt = () => {
-      late.abort(new Error('in an attempt'));
-      throw new Error('failed');
-    };
-    said.push(await retry(text, attempt, { signal: control.signal }).catch((error) => error.message));
-  }
-}
-
-async function unread(text, said) {
-  const attempt = () => {
-    said.push('attempt');
-    throw new Error('failed');
-  };
-  const inputOf = () => (said.length < 2 ? 0 : undefined);
-  await retry(text, attempt, { inputOf }).catch((error) => said.push(error.message, error.notTriedAgain));
+/** A field of bounds as struct zs_bounds has it: `most` and `total` with a flag. */
+function fieldsOf(value, place) {
+  return [2, 4].includes(place) ? [value === null ? 0 : 1, value ?? 0] : [value];
 }
 
 function many(text, count) {
@@ -64,9 +56,8 @@ async function serve(command, text, numbers, said) {
   switch (command) {
     case 'version': return said.push(version());
     case 'moved': return new Stepper(String(text).split('\n')[1], new Stepper(String(text).split('\n')[0]).state);
-    case 'retry': return retried(text, ...numbers, said);
-    case 'aborted': return aborted(text, said);
-    case 'unread': return unread(text, said);
+    case 'retry': return retried(text, numbers, said);
+    case 'bounds': return said.push(...Object.values(bounds(text, numbers[0])).flatMap(fieldsOf));
     case 'many': return many(text, Number(numbers[0]));
     default: return steps(command, text, numbers, said);
   }

@@ -4,33 +4,40 @@ import time
 
 import zsched
 
+BUDGET = zsched.Budget(10, 0.5)
+
 
 def steps(command, text, numbers):
     """Yields the words of a line of steps."""
-    try:
-        schedule = zsched.Schedule(text) if command == "list" else zsched.Stepper(text)
-        for moment, value in zip(numbers[::2], numbers[1::2]):
-            if command == "stored":
-                schedule = zsched.Stepper.load(schedule.save())
-            result = schedule.after(moment, value)
-            yield f"{int(result.next is None)},{result.next or 0},{result.visits},{result.output}"
-    except zsched.Fault as fault:
-        yield f"{fault.number},{fault.at},{fault}"
+    schedule = zsched.Schedule(text) if command == "list" else zsched.Stepper(text)
+    for moment, value in zip(numbers[::2], numbers[1::2]):
+        if command == "stored":
+            schedule = zsched.Stepper.load(schedule.save())
+        result = schedule.after(moment, value)
+        yield f"{int(result.next is None)},{result.next or 0},{result.visits},{result.output}"
 
 
-def retry(text, code, times):
-    begun, moments = time.monotonic_ns(), []
+def retry(text, code, times, jitter=0, least=0, stop=None, budget=0):
+    begun, said, numbers = time.monotonic_ns(), [], iter(range(times))
+    hook = {} if stop is None else {"before_sleep": lambda _, number, wait: said.append(f"{number}:{round(1000 * wait)}")}
 
-    @zsched.retrying(text, on=OSError, input_of=lambda error: error.errno)
+    @zsched.retrying(text, on=OSError, input_of=lambda error: error.errno, jitter=jitter / 100,
+                     retry_after=lambda _: least / 1000, budget=BUDGET if budget else None, **hook)
     def tried():
-        moments.append((time.monotonic_ns() - begun) // 1000)
-        if len(moments) <= times:
-            raise OSError(code, "failed")
+        said.append((time.monotonic_ns() - begun) // 1000)
+        if next(numbers, None) is not None:
+            raise EOFError(code) if code == stop else OSError(code, "failed")
         return "done"
     try:
-        return [tried(), *moments]
-    except OSError as error:
-        return [error.errno, *moments]
+        return [tried(), *said]
+    except (OSError, EOFError) as error:
+        return [error.args[0], *said]
+
+
+def bounds(text, count):
+    """Returns the fields of struct zs_bounds."""
+    seen, least, most, longest, total = zsched.bounds(text, count)
+    return [seen, least, int(most is not None), most or 0, longest, int(total is not None), total or 0]
 
 
 def many(text, count):
@@ -39,14 +46,15 @@ def many(text, count):
         moment = schedule.after(moment, 503).next
         if number % (count // 10) == 0:
             print(flush=True)
+    return []
 
 
+CALLS = {"retry": retry, "bounds": bounds, "many": many, "version": lambda _: [zsched.calls.library().zs_version()]}
 for line in sys.stdin:
     command, digits, *words = line.split()
-    text, numbers = bytes.fromhex(digits[1:]).decode(), list(map(int, words))
-    if command == "many":
-        many(text, *numbers)
-    elif command == "version":
-        print(zsched.calls.library().zs_version())
-    else:
-        print(*retry(text, *numbers) if command == "retry" else steps(command, text, numbers))
+    text, numbers, said = bytes.fromhex(digits[1:]).decode(), list(map(int, words)), []
+    try:
+        said.extend(CALLS[command](text, *numbers) if command in CALLS else steps(command, text, numbers))
+    except zsched.Fault as fault:
+        said.append(f"{fault.number},{fault.at},{fault}")
+    print(*said)

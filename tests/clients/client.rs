@@ -1,6 +1,9 @@
 //! The client of the library in Rust. client.c documents the requests and the lines.
-use std::time::Instant;
-use zsched::{Answer, Fault, Schedule, Stepper};
+use std::sync::Mutex;
+use std::time::{Duration, Instant};
+use zsched::{Answer, Budget, Fault, Retry, Schedule, Stepper};
+
+static BUDGET: Budget = Budget::new(10.0, 0.5);
 
 fn word(step: &Answer) -> String {
     let (number, next) = (u32::from(step.next.is_none()), step.next.unwrap_or(0));
@@ -11,10 +14,7 @@ fn word(step: &Answer) -> String {
 fn steps(command: &str, text: &str, numbers: &[u64], said: &mut Vec<String>) -> Result<(), Fault> {
     if command == "list" {
         let mut schedule = Schedule::new(text)?;
-        for pair in numbers.chunks(2) {
-            said.push(word(&schedule.after(pair[0], pair[1])?));
-        }
-        return Ok(());
+        return numbers.chunks(2).try_for_each(|pair| Ok(said.push(word(&schedule.after(pair[0], pair[1])?))));
     }
     let mut stepper = Stepper::new(text)?;
     for pair in numbers.chunks(2) {
@@ -29,14 +29,32 @@ fn steps(command: &str, text: &str, numbers: &[u64], said: &mut Vec<String>) -> 
     Ok(())
 }
 
-fn retry(text: &str, code: u64, times: u64, said: &mut Vec<String>) -> Result<(), Fault> {
-    let (start, mut moments) = (Instant::now(), Vec::new());
-    let ended = zsched::retry(text, |code| *code, || {
-        moments.push(start.elapsed().as_micros().to_string());
-        if moments.len() as u64 <= times { Err(code) } else { Ok("done".to_owned()) }
-    })?;
-    said.push(ended.unwrap_or_else(|code| code.to_string()));
-    said.append(&mut moments);
+fn retry(text: &str, numbers: &[u64]) -> Vec<String> {
+    let (code, times, start, said, mut attempts) = (numbers[0], numbers[1], Instant::now(), Mutex::new(Vec::new()), 0);
+    let say = |word: String| said.lock().expect("one thread").push(word);
+    let mut retry = Retry::new(text).input_of(|code| *code);
+    if let [jitter, least, stop, budget] = numbers[2..] {
+        retry = if budget == 1 { retry.budget(&BUDGET) } else { retry };
+        retry = retry.jitter(jitter as f64 / 100.0).when(move |code| *code != stop);
+        retry = retry.retry_after(move |_| Some(Duration::from_millis(least)));
+        retry = retry.notify(|_, number, wait| say(format!("{number}:{}", wait.as_millis())));
+    }
+    let ended = retry.call(|| {
+        say(start.elapsed().as_micros().to_string());
+        attempts += 1;
+        if attempts <= times { Err(code) } else { Ok("done".to_owned()) }
+    });
+    let mut words = vec![ended.unwrap_or_else(|failed| failed.to_string())];
+    words.append(&mut said.lock().expect("one thread"));
+    words
+}
+
+fn bounds(text: &str, steps: u64, said: &mut Vec<String>) -> Result<(), Fault> {
+    let found = zsched::bounds(text, steps)?;
+    let limit = |limit: Option<u64>| [u64::from(limit.is_some()), limit.unwrap_or(0)];
+    let ([has_most, most], [has_total, total]) = (limit(found.most), limit(found.total));
+    let words = [found.seen, found.least, has_most, most, found.longest, has_total, total];
+    said.extend(words.map(|it| it.to_string()));
     Ok(())
 }
 
@@ -67,7 +85,8 @@ fn main() {
         let ended = match words[0] {
             "version" => Ok(said.push(zsched::version().to_string())),
             "moved" => moved(&text),
-            "retry" => retry(&text, numbers[0], numbers[1], &mut said),
+            "retry" => Ok(said = retry(&text, &numbers)),
+            "bounds" => bounds(&text, numbers[0], &mut said),
             "many" => many(&text, numbers[0]),
             command => steps(command, &text, &numbers, &mut said),
         };
