@@ -15,7 +15,7 @@
  *   - `reply`, `bounds`, `at`, `size`, `state_size`, `state`, `out` and the words that zs_compile writes overlap nothing else
  *     that is passed to the call, and no other thread writes to any of it during the call.
  *   - No call comes from a signal handler, or from a forked child of a process with threads. 64 KiB of stack are free (the
- *     deepest schedule took 44), for zs_bounds 192 KiB (it took 115).
+ *     deepest schedule took 54), for zs_bounds 192 KiB (it took 115).
  *
  * Any number of threads may call at once: calls share nothing but malloc, realloc and free. Each call frees what it
  * allocated. Moments are unsigned whole milliseconds of 64 bits, from any start that the caller chooses.
