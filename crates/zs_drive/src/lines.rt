@@ -33,46 +33,34 @@ fn push_begun(text: &mut String, number: u64, begun: u64) -> Result<(), AllocErr
     text.push_str("..")
 }
 
-// Appends an outcome.
-fn push_outcome(text: &mut String, outcome: Outcome) -> Result<(), AllocError>
+// Appends the rest of the line of an attempt that has ended, without the end of the line.
+fn push_end(text: &mut String, at: u64, outcome: Outcome) -> Result<(), AllocError>
     ensures text { OnOk result
-        (string_bytes text.new ≡ string_bytes text.old ++ outcome_text outcome) }
+        (string_bytes text.new
+        ≡ string_bytes text.old ++ (decimal at ++ codes " " ++ outcome_text outcome)) }
     ensures kept { IsBeginning (string_bytes text.old) (string_bytes text.new) }
 {
+    append_number(text, at)?;
     match outcome {
         Outcome::Good(value) => {
-            text.push_str("ok ")?;
+            text.push_str(" ok ")?;
             append_number(text, value)
         }
         Outcome::Bad(code) => {
-            text.push_str("err ")?;
+            text.push_str(" err ")?;
             append_number(text, code)
         }
     }
 }
 
-// Appends the rest of the line of an attempt that has ended.
-fn push_end(text: &mut String, at: u64, outcome: Outcome) -> Result<(), AllocError>
-    ensures text { OnOk result
-        (string_bytes text.new
-        ≡ string_bytes text.old
-        ++ (decimal at ++ codes " " ++ outcome_text outcome ++ codes "\n")) }
-    ensures kept { IsBeginning (string_bytes text.old) (string_bytes text.new) }
-{
-    append_number(text, at)?;
-    text.push_str(" ")?;
-    push_outcome(text, outcome)?;
-    text.push_str("\n")
-}
-
-// Appends the line of a step up to the schedule's output.
+// Ends a line, and appends that of a step up to the schedule's output.
 fn push_step_number(text: &mut String, number: u64) -> Result<(), AllocError>
     ensures text { OnOk result
         (string_bytes text.new
-        ≡ string_bytes text.old ++ (codes "step " ++ decimal number ++ codes " out ")) }
+        ≡ string_bytes text.old ++ (codes "\nstep " ++ decimal number ++ codes " out ")) }
     ensures kept { IsBeginning (string_bytes text.old) (string_bytes text.new) }
 {
-    text.push_str("step ")?;
+    text.push_str("\nstep ")?;
     append_number(text, number)?;
     text.push_str(" out ")
 }
@@ -94,18 +82,19 @@ fn push_decision(text: &mut String, decision: Decision) -> Result<(), AllocError
     }
 }
 
-// Appends the line of a step, if the schedule was stepped.
+// Ends a line, and appends that of a step, if the schedule was stepped.
 fn push_step(
     text: &mut String,
     number: u64,
     step: &Option<(Out, Decision)>,
 ) -> Result<(), AllocError>
     ensures text { OnOk result
-        (string_bytes text.new ≡ string_bytes text.old ++ step_lines number (step_of step.now)) }
+        (string_bytes text.new
+        ≡ string_bytes text.old ++ (codes "\n" ++ step_lines number (step_of step.now))) }
     ensures kept { IsBeginning (string_bytes text.old) (string_bytes text.new) }
 {
     match step {
-        None => Ok(()),
+        None => text.push_str("\n"),
         Some((out, decision)) => {
             push_step_number(text, number)?;
             append_out(text, out)?;

@@ -43,18 +43,15 @@ fn evaluate(alloc: Global, term: &Term, history: Pairs<'_>) -> Result<Answer, Al
             Ok(count_answer(history, Decision::Next(now).only_if(again)))
         }
         Term::Spaced(delay) => Ok(count_answer(history, Decision::after(now, *delay))),
-        Term::Fixed(period) => Ok(count_answer(
-            history,
-            Decision::Next(fixed_run(*period, history)),
-        )),
+        Term::Fixed(period) => {
+            let run = fixed_run(*period, history);
+            Ok(count_answer(history, Decision::Next(run)))
+        }
         Term::Windowed(period) => {
             let end = window_end(*period, first_moment(history), now);
             Ok(count_answer(history, Decision::Next(end)))
         }
-        Term::Exponential(base, factor) => {
-            let delay = exponential_delay(*base, *factor, history);
-            Ok(waiting(history, delay))
-        }
+        Term::Exponential(b, f) => Ok(waiting(history, exponential_delay(*b, *f, history))),
         Term::Fibonacci(one) => Ok(waiting(history, fibonacci_delay(*one, history))),
         Term::Linear(unit) => Ok(waiting(history, linear_delay(*unit, history))),
         Term::Identity => Ok((Out::Num(last_input(history)), Decision::Next(now))),
@@ -64,13 +61,11 @@ fn evaluate(alloc: Global, term: &Term, history: Pairs<'_>) -> Result<Answer, Al
         }
         Term::Both(a, b) => {
             let (x, y) = (evaluate(alloc, a, history)?, evaluate(alloc, b, history)?);
-            let decision = x.1.later(y.1);
-            pair_answers(alloc, x.0, y.0, decision)
+            pair_answers(alloc, x.0, y.0, x.1.later(y.1))
         }
         Term::Either(a, b) => {
             let (x, y) = (evaluate(alloc, a, history)?, evaluate(alloc, b, history)?);
-            let decision = x.1.earlier(y.1);
-            pair_answers(alloc, x.0, y.0, decision)
+            pair_answers(alloc, x.0, y.0, x.1.earlier(y.1))
         }
         Term::AndThen(a, b) => in_turn(alloc, a, b, history),
         Term::WhileInput(s, test) => {

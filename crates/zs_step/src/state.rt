@@ -58,7 +58,7 @@ fn leaf_of(term: &Term) -> Leaf
     ensures made_of { leaf (state_leaf result) ≡ schedule_of term.now }
     ensures represents { LeafRepresents result [] }
 {
-    let (before, past, last) = (None, None, 0);
+    let (before, past, first, last) = (None, None, None, 0);
     match term {
         Term::Forever => Leaf::Forever { before },
         Term::Recurs(limit) => Leaf::Recurs {
@@ -86,10 +86,7 @@ fn leaf_of(term: &Term) -> Leaf
             next: *one,
         },
         Term::Identity => Leaf::Identity { last },
-        Term::Elapsed => Leaf::Elapsed {
-            first: None,
-            time: 0,
-        },
+        Term::Elapsed => Leaf::Elapsed { first, time: 0 },
         Term::Linear(unit) => Leaf::Linear { unit: *unit, last },
         Term::Windowed(period) => Leaf::Windowed {
             period: *period,

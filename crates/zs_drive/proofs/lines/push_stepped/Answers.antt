@@ -7,7 +7,7 @@ use Rattle.zs_drive.proofs.lines.push_stepped.Goals as goal
 
 -- a text after five pushes
 five_pushed : {T E : Type 0} (last : Result T E) (old one two three four new attempt n space begun dots at outcome end step out output decision : List ℕ)
-    → one ≡ old ++ (attempt ++ n ++ space ++ begun ++ dots) → two ≡ one ++ (at ++ space ++ outcome ++ end) → three ≡ two ++ (step ++ n ++ out) → four ≡ three ++ output
+    → one ≡ old ++ (attempt ++ n ++ space ++ begun ++ dots) → two ≡ one ++ (at ++ space ++ outcome) → three ≡ two ++ ((end ++ step) ++ n ++ out) → four ≡ three ++ output
     → OnOk last (new ≡ four ++ (space ++ decision ++ end))
     → OnOk last (new ≡ old ++ (attempt ++ n ++ space ++ begun ++ dots ++ (at ++ space ++ outcome ++ end ++ (step ++ n ++ out ++ output ++ space ++ decision ++ end))))
 five_pushed (Err e) old one two three four new attempt n space begun dots at outcome end step out output decision a b c d whole = tt
