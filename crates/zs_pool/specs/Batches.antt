@@ -1,5 +1,6 @@
 -- How the due tasks of one moment are cut into batches.
-use Rattle.std.specs.Prelude.{◌≡◌, ◌≤◌, ◌-◌, length, take, ℕ, List, All, Some, slice_get, flat_map}
+use Rattle.std.specs.Prelude.{◌≡◌, ◌≤◌, ◌-◌, length, take, ℕ, List, All, Some, slice_get, flat_map, IsPermutation}
+use Rattle.std.specs.List.{range_with_len}
 use Rattle.zs_drive.specs.Tasks.{TaskValue}
 use Rattle.zs_pool.specs.Limits.{max_workers, max_tasks}
 use Rattle.zs_pool.specs.Rounds.{IsPollable}
@@ -17,6 +18,10 @@ pub record BatchValue : Type 0 where
 abbrev pub tasks_of : List BatchValue → List TaskValue
 tasks_of bs = flat_map (λ b. b.tasks) bs
 
+-- the number of these tasks
+abbrev pub tasks_in : List BatchValue → ℕ
+tasks_in bs = length (tasks_of bs)
+
 -- each task of each batch can be polled at this moment
 abbrev pub AllPollable : ℕ → List BatchValue → Type 0
 AllPollable now bs = All (λ b. All (IsPollable now) b.tasks) bs
@@ -24,6 +29,10 @@ AllPollable now bs = All (λ b. All (IsPollable now) b.tasks) bs
 -- batch k has the number k
 abbrev pub AreNumbered : List BatchValue → Type 0
 AreNumbered batches = (k : ℕ) (b : BatchValue) → slice_get batches k ≡ Some b → b.number ≡ k
+
+-- these are the numbers 0 .. count - 1, each once
+abbrev pub IsEachOnce : ℕ → List ℕ → Type 0
+IsEachOnce count ks = IsPermutation (range_with_len 0 count) ks
 
 -- the batch has `grain` tasks
 abbrev pub IsFull : ℕ → BatchValue → Type 0

@@ -1,8 +1,8 @@
 -- The rule of a board: batches are claimed from the front, each once; the rest is queued in order.
-use Rattle.std.specs.Prelude.{◌≡◌, ℕ, ◌<◌, ◌≤◌, List, [], ◌∷◌, ◌++◌, length, drop, Some, slice_get, All, Bool, true, IsPermutation}
-use Rattle.std.specs.List.{flat_map, sum_by, range_with_len}
+use Rattle.std.specs.Prelude.{◌≡◌, ℕ, ◌<◌, ◌≤◌, List, [], ◌∷◌, ◌++◌, length, drop, Some, slice_get, All, Bool, true}
+use Rattle.std.specs.List.{flat_map, sum_by}
 use Rattle.atomic_table.specs.Seated.{TableId}
-use Rattle.zs_pool.specs.Batches.{BatchValue, AreNumbered}
+use Rattle.zs_pool.specs.Batches.{BatchValue, AreNumbered, IsEachOnce}
 use Rattle.zs_pool.specs.Counter.{Counting}
 use Rattle.zs_pool.specs.Runs.{Every}
 use Rattle.zs_term.specs.Saturating.{max_moment}
@@ -26,7 +26,7 @@ module _ {T : Type 0} where
     -- the batches from `count` on are queued, in order
     pub left : items ≡ drop count batches
     -- the numbers taken by all passes are 0 .. count - 1, each once
-    pub taken : IsPermutation (range_with_len 0 count) (flat_map (λ v. v.taken) views)
+    pub taken : IsEachOnce count (flat_map (λ v. v.taken) views)
     pub shares : sum_by (λ v. v.share) views ≡ max_moment
     pub each : Every (Fits batches) views
 
@@ -36,7 +36,7 @@ module _ {T : Type 0} where
 
   -- what a pass with exclusive access knows: what is queued, and what it took
   abbrev pub IsRest : Claims T → List T → Type 0
-  IsRest v items = v.share ≡ max_moment → (length v.taken ≤ length v.batches) × (items ≡ drop (length v.taken) v.batches) × IsPermutation (range_with_len 0 (length v.taken)) v.taken
+  IsRest v items = v.share ≡ max_moment → (length v.taken ≤ length v.batches) × (items ≡ drop (length v.taken) v.batches) × IsEachOnce (length v.taken) v.taken
 
 -- the identity of a board
 pub record BoardId : Type 0 where

@@ -4,7 +4,7 @@ use Rattle.std.specs.Global.{Global}
 use Rattle.std.specs.declared.alloc.AllocError.{AllocError}
 use Rattle.zs_term.specs.Saturating.{max_moment}
 use Rattle.zs_pool.specs.Limits.{max_workers}
-use Rattle.zs_pool.specs.Batches.{BatchValue, AllPollable, tasks_of}
+use Rattle.zs_pool.specs.Batches.{BatchValue, AllPollable, tasks_in}
 use Rattle.zs_pool.specs.Messages.{PolledValue, IsPollAmong, numbers_of}
 use Rattle.zs_pool.specs.Board.{claimer}
 use Rattle.zs_pool.specs.Shelf.{shelver}
@@ -60,14 +60,14 @@ module _ {G : Type 0} where
     pub tally : r.seat.tally ≡ shared.tally.now
     pub helpers : count ≤ max_workers
     pub room : shared.tasks + rooms count shared.tasks ≤ r.seat.allowance
-    pub tasks : length (tasks_of r.board_pass.batches) ≤ shared.tasks
+    pub tasks : tasks_in r.board_pass.batches ≤ shared.tasks
     pub pollable : AllPollable shared.moment r.board_pass.batches
 
   -- the rights with which a thread can serve
   pub record IsReady (shared : Shared G) (r : Rights) : Type 0 where
     pub of : IsOf shared r
     pub new : IsNew r.board_pass.batches r
-    pub room : length (tasks_of r.board_pass.batches) ≤ r.seat.allowance
+    pub room : tasks_in r.board_pass.batches ≤ r.seat.allowance
     pub pollable : AllPollable shared.moment r.board_pass.batches
 
   -- the rights of a started worker
@@ -77,7 +77,7 @@ module _ {G : Type 0} where
     pub board_share : r.board_pass.share ≡ 1
     pub shelf_share : r.shelf_pass.share ≡ 1
     pub count : r.seat.count ≡ 0
-    pub room : length (tasks_of batches) ≤ r.seat.allowance
+    pub room : tasks_in batches ≤ r.seat.allowance
 
 -- the rights are of the same objects as before, with the same shares, and took nothing from the
 -- shelf

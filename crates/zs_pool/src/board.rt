@@ -9,11 +9,10 @@
 //! - `split` splits both handles. `join` joins both, looks at the queue and loads the counter.
 //! - `close` loads the counter, looks at the queue, and pops until it is empty.
 
-ghost use Rattle.std.specs.Prelude.{◌≡◌, ◌∷◌, [], ◌++◌, ◌+◌, ◌-◌, ◌≤◌, ◌<◌, ◌||◌, true, false, length, drop, All, IsOk, IfOk, IfErr, IfSome, IfNone, Some, slice_get, IsPermutation};
-ghost use Rattle.std.specs.List.{range_with_len};
+ghost use Rattle.std.specs.Prelude.{◌≡◌, ◌∷◌, [], ◌++◌, ◌+◌, ◌-◌, ◌≤◌, ◌<◌, ◌||◌, true, false, length, drop, All, IsOk, IfOk, IfErr, IfSome, IfNone, Some, slice_get};
 ghost use Rattle.crossbeam_queue.specs.Passes.{view, IsPassOf};
 ghost use Rattle.zs_term.specs.Saturating.{max_moment};
-ghost use Rattle.zs_pool.specs.Batches.{AreNumbered};
+ghost use Rattle.zs_pool.specs.Batches.{AreNumbered, IsEachOnce};
 ghost use Rattle.zs_pool.specs.Board.{claimer};
 ghost use Rattle.zs_pool.specs.declared.fault.PoolFault.TheVariants.{Memory};
 
@@ -132,7 +131,7 @@ impl Board {
         requires board { pass.old.board ≡ self.now }
         ensures same { pass.new ≡ pass.old }
         ensures whole { pass.old.share ≡ max_moment → pass.old.none ≡ true
-            → IsPermutation (range_with_len 0 (length pass.old.batches)) pass.old.taken }
+            → IsEachOnce (length pass.old.batches) pass.old.taken }
     {
         self.queue.learn_as::<Takes>(&mut pass.queue);
         self.counter.look(&mut pass.seat);
@@ -162,7 +161,7 @@ impl Board {
         // A pass with exclusive access has then taken each batch once.
         ensures whole { IfNone result
             (pass.old.share ≡ max_moment
-            → IsPermutation (range_with_len 0 (length pass.old.batches)) pass.old.taken) }
+            → IsEachOnce (length pass.old.batches) pass.old.taken) }
     {
         if !pass.none {
             if let Some(batch) = self.queue.pop_as::<Takes, R>(rt, &mut pass.queue) {
@@ -208,7 +207,7 @@ impl Board {
             ≡ claimer self.now (pass.share + other.share) pass.batches (pass.taken ++ other.taken)
             (pass.none || other.none) }
         ensures whole { result.share ≡ max_moment → result.none ≡ true
-            → IsPermutation (range_with_len 0 (length result.batches)) result.taken }
+            → IsEachOnce (length result.batches) result.taken }
     {
         let BoardPass { queue, seat, none } = other;
         self.queue.absorb::<Sharing>(&mut pass.queue, queue);
@@ -229,7 +228,7 @@ impl Board {
         requires board { pass.board ≡ self }
         requires whole { pass.share ≡ max_moment }
         // The pass took the first batches, each once, and after a `None` all of them.
-        ensures taken { IsPermutation (range_with_len 0 (length pass.taken)) pass.taken
+        ensures taken { IsEachOnce (length pass.taken) pass.taken
             × (length pass.taken ≤ length pass.batches) }
         ensures all { pass.none ≡ true → length pass.taken ≡ length pass.batches }
         // The others are returned in order.

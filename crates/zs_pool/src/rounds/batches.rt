@@ -1,8 +1,8 @@
 //! Cuts the due tasks of one moment into batches, and merges the polled batches in order.
-ghost use Rattle.std.specs.Prelude.{◌≡◌, ◌≤◌, map, length, All, IfOk, IfErr, IsPermutation};
-ghost use Rattle.std.specs.List.{AllZip, range_with_len};
+ghost use Rattle.std.specs.Prelude.{◌≡◌, ◌≤◌, map, length, All, IfOk, IfErr};
+ghost use Rattle.std.specs.List.{AllZip};
 ghost use Rattle.zs_pool.specs.Rounds.{polled_at};
-ghost use Rattle.zs_pool.specs.Batches.{AreNumbered, AreCut, tasks_of};
+ghost use Rattle.zs_pool.specs.Batches.{AreNumbered, AreCut, IsEachOnce, tasks_of};
 ghost use Rattle.zs_pool.specs.Messages.{HasPoll, IsPollAmong, numbers_of};
 ghost use Rattle.zs_pool.specs.declared.fault.PoolFault.TheVariants.{Memory};
 
@@ -46,7 +46,7 @@ fn place_batches(
 ) -> Result<Vec<Option<Polled>>, PoolFault>
     requires count { count ≡ length batches.now.value.items }
     requires each { All (IsPollAmong now batches.now.value.items) messages.items }
-    requires whole { IsPermutation (range_with_len 0 count) (numbers_of messages.items) }
+    requires whole { IsEachOnce count (numbers_of messages.items) }
     ensures placed { IfOk result (λ v. AllZip (HasPoll now) batches.now.value.items v.items) }
     ensures memory { IfErr result (λ e. e ≡ Memory) }
 {
@@ -69,7 +69,7 @@ pub(crate) fn in_order(
 ) -> Result<Vec<Task>, PoolFault>
     requires count { count ≡ length batches.now.value.items }
     requires each { All (IsPollAmong now batches.now.value.items) messages.items }
-    requires whole { IsPermutation (range_with_len 0 count) (numbers_of messages.items) }
+    requires whole { IsEachOnce count (numbers_of messages.items) }
     ensures tasks { IfOk result (λ v.
         v.items ≡ map (polled_at now) (tasks_of batches.now.value.items)) }
     ensures memory { IfErr result (λ e. e ≡ Memory) }

@@ -1,9 +1,8 @@
 //! Polls batches on several threads.
-ghost use Rattle.std.specs.Prelude.{◌≡◌, ◌≢◌, ◌+◌, ◌≤◌, All, IfOk, IfErr, length, IsPermutation};
+ghost use Rattle.std.specs.Prelude.{◌≡◌, ◌≢◌, ◌+◌, ◌≤◌, All, IfOk, IfErr, length};
 ghost use Rattle.std.specs.Vec.{vec_capacity};
-ghost use Rattle.std.specs.List.{range_with_len};
 ghost use Rattle.zs_pool.specs.Limits.{max_workers, max_tasks};
-ghost use Rattle.zs_pool.specs.Batches.{AllPollable, AreNumbered, tasks_of};
+ghost use Rattle.zs_pool.specs.Batches.{AllPollable, AreNumbered, IsEachOnce, tasks_in};
 ghost use Rattle.zs_pool.specs.Messages.{IsPollAmong, numbers_of};
 ghost use Rattle.zs_pool.specs.Shares.{HasCounted, IsFirst, rooms};
 ghost use Rattle.zs_pool.specs.Joined.{IsWhole};
@@ -141,17 +140,15 @@ pub(crate) fn poll_shared<'s, G: Gate, R: Threads + Wait + Sync>(
 ) -> Result<Vec<Polled>, PoolFault>
     requires tally { seat.old.tally ≡ tally.now }
     requires room { work.tasks + rooms work.helpers work.tasks ≤ seat.old.allowance }
-    requires tasks { length (tasks_of work.batches.items) ≤ work.tasks }
+    requires tasks { tasks_in work.batches.items ≤ work.tasks }
     requires helpers { work.helpers ≤ max_workers }
     requires few { work.helpers + 1 ≤ length work.batches.items }
     requires size { (1 ≤ length work.batches.items) × (length work.batches.items ≤ max_tasks) }
     requires numbered { AreNumbered work.batches.items }
     requires pollable { AllPollable now work.batches.items }
     ensures each { IfOk result (λ v. All (IsPollAmong now work.batches.items) v.items) }
-    ensures whole { IfOk result (λ v.
-        IsPermutation (range_with_len 0 (length work.batches.items)) (numbers_of v.items)) }
-    ensures counted { IfOk result (λ _.
-        HasCounted seat.old (length (tasks_of work.batches.items)) seat.new) }
+    ensures whole { IfOk result (λ v. IsEachOnce (length work.batches.items) (numbers_of v.items)) }
+    ensures counted { IfOk result (λ _. HasCounted seat.old (tasks_in work.batches.items) seat.new) }
     ensures fault { IfErr result (λ e. e ≢ Full) }
 {
     let size = work.batches.len();
