@@ -2,13 +2,11 @@
 import collections
 import io
 import json
-import multiprocessing
 import os
 import random
 import re
 import subprocess
 import sys
-from unittest import mock
 
 import pytest
 
@@ -16,11 +14,10 @@ from generator import made_plan
 from report_samples import KNOWN, NEVER, NO_REPORTS, REPORTS, RETRIED, RUNNING, WAITING, long_report, wide_report
 from reports import jobs_of
 from support import TOP, examples, run
-from zsched_tools import columns, lines, load, progress, summary
+from zsched_tools import lines, load, progress
 from zsched_tools.command import Refused
 from zsched_tools.durations import duration
 from zsched_tools.join import write_joined
-from zsched_tools.report import records
 from zsched_tools.summary import Options, write_summary
 
 TOOL = TOP / "tools" / "zsched-report"
@@ -53,13 +50,24 @@ def outcome(work):
     return "".join(written), None
 
 
-def in_pieces(text):
-    """The JSON lines of a report, which is read piece by piece, and the error."""
+def json_lines(text):
+    """The JSON lines of a report, and the error."""
     return outcome(lambda write: lines.write_lines(io.BytesIO(text.encode("latin-1")), write))
 
 
-def by_records(text):
-    return outcome(lambda write: [write(lines.json_line(*it) + "\n") for it in records(io.StringIO(text))])
+def lines_of(text):
+    """The same lines, from the records of the tests' reader."""
+    found = []
+    for job in jobs_of(text):
+        head, waits = {"job": job.name, "mode": job.mode}, [None, *job.waits]
+        found += [{"type": "attempt", **head, "attempt": number, "begin": it.begin, "end": it.end,
+                   "outcome": it.how or "running", "value": it.value, "waited": waited, "out": it.out, "next": it.next}
+                  for number, (it, waited) in enumerate(zip(job.attempts, waits), 1)]
+        value = int(job.value) if job.how in ("succeeded", "failed") else None
+        found.append({"type": "end", **head, "ending": job.how, "value": value,
+                      "out": job.value if job.how == "finished" else None, "at": job.at, "polls": job.polls})
+    found.append({"type": "total", "polls": sum(job.polls for job in jobs_of(text))})
+    return "".join(json.dumps(it, separators=(",", ":")) + "\n" for it in found)
 
 
 def summed_up(text, every=100, **options):
@@ -67,31 +75,16 @@ def summed_up(text, every=100, **options):
     return table, list(load.read(io.BytesIO(text.encode()), every).rows())
 
 
-@pytest.fixture
-def cut(monkeypatch):
-    """Sets the length of a piece, and the number of pieces that this process reads alone."""
-    def set_both(length, alone=10**9):
-        monkeypatch.setattr(columns, "PIECE", length)
-        monkeypatch.setattr(columns, "ALONE", alone)
-    return set_both
-
-
-@pytest.fixture
-def slow():
-    with mock.patch.object(columns, "_shown_slowly") as found:
-        yield found
-
-
 @pytest.mark.parametrize("path", KNOWN, ids=lambda path: path.stem)
 def test_a_report_is_made_again_from_its_json_lines_byte_for_byte(path):
     text = path.read_text()
-    made, fault = in_pieces(text)
+    made, fault = json_lines(text)
     assert fault is None and outcome(lambda write: lines.write_report(io.StringIO(made), write)) == (text, None)
 
 
 @pytest.mark.parametrize("text, beginning", NO_REPORTS, ids=[text[:40] for text, _ in NO_REPORTS])
 def test_another_text_is_rejected_with_the_line(text, beginning):
-    assert in_pieces(text)[1].startswith(beginning)
+    assert json_lines(text)[1].startswith(beginning)
 
 
 @pytest.mark.parametrize("text", REPORTS, ids=range(6))
@@ -99,10 +92,10 @@ def test_a_report_that_is_cut_or_has_a_line_removed_or_repeated_is_rejected(text
     kept = text.splitlines(keepends=True)
     for at in range(len(kept)):
         before = "".join(kept[:at])
-        assert at == 0 or in_pieces(before)[1].startswith(f"ends after line {at}, but ")
+        assert at == 0 or json_lines(before)[1].startswith(f"ends after line {at}, but ")
         for end in range(1, len(kept[at])):
-            assert in_pieces(before + kept[at][:end])[1].startswith(f"line {at + 1} is cut")
-        assert in_pieces(before + "".join(kept[at + 1:]))[1] and in_pieces(before + kept[at] + "".join(kept[at:]))[1]
+            assert json_lines(before + kept[at][:end])[1].startswith(f"line {at + 1} is cut")
+        assert json_lines(before + "".join(kept[at + 1:]))[1] and json_lines(before + kept[at] + "".join(kept[at:]))[1]
 
 
 def test_a_long_report_takes_little_memory_and_time(tmp_path):
@@ -114,13 +107,13 @@ def test_a_long_report_takes_little_memory_and_time(tmp_path):
 
 
 @pytest.mark.parametrize("form", [["lines"], ["summary", "--one-line"], ["load"]], ids=lambda form: form[0])
-def test_a_form_keeps_up_with_the_program(form, tmp_path):
+def test_a_form_takes_little_memory_and_time(form, tmp_path):
     (report := tmp_path / "report").write_text(text := wide_report(800, 60))
     start = measured(TOOL, "from-lines", os.devnull, out=os.devnull)[2]
     status, kilobytes, seconds = measured(TOOL, *form, report, out=os.devnull)
     assert status == 0 and kilobytes < 60_000
-    # Line by line took over one second a megabyte on the slowest machine that was seen.
-    assert seconds - start < 0.4 * len(text) / 1e6
+    # It takes over one second a megabyte on the slowest machine that was seen.
+    assert seconds - start < 3 * len(text) / 1e6
 
 
 @pytest.mark.parametrize("is_terminal, first, shown", [
@@ -136,37 +129,17 @@ def test_a_long_command_shows_its_progress_on_a_terminal(is_terminal, first, sho
 
 
 TWO_POLICIES = (TOP / "examples" / "two_policies.json.stdout").read_text()
-TEXTS = [*REPORTS, *(text for text, _ in NO_REPORTS), wide_report(8, 4), long_report(40)]
 
 
-@pytest.mark.parametrize("length", [1, 7, 60, 300, 1000])
-def test_pieces_of_any_length_give_the_lines_of_the_records(length, cut):
-    cut(length)
-    for text in TEXTS:
-        assert in_pieces(text) == by_records(text), text
+@pytest.mark.parametrize("text", [*REPORTS, wide_report(8, 4), long_report(40), "polls 0\n"], ids=range(9))
+def test_json_lines_have_the_attempts_and_the_endings_of_a_report(text):
+    assert json_lines(text) == (lines_of(text), None)
 
 
-@pytest.mark.parametrize("length", [300, 10**6])
-def test_a_valid_report_is_not_read_line_by_line(length, cut, slow):
-    cut(length)
-    for text in [wide_report(50, 4), long_report(3000), *REPORTS[:-1]]:
-        in_pieces(text)
-    slow.assert_not_called()
-
-
-@pytest.mark.parametrize("more", ["", "x"])
-def test_several_processes_read_the_same(more, cut):
-    text = wide_report(300, 6) + more
-    cut(2000, alone=2)
-    assert in_pieces(text) == by_records(text)
-    assert multiprocessing.active_children() == []
-
-
-@pytest.mark.parametrize("text", [long_report(500), RUNNING, WAITING], ids=range(3))
-def test_a_job_in_many_pieces_has_the_summary_and_load_of_the_whole(text, cut):
-    whole = summed_up(text, within=500)
-    cut(90)
-    assert summed_up(text, within=500) == whole
+@pytest.mark.parametrize("path", KNOWN, ids=lambda path: path.stem)
+def test_json_lines_are_those_of_the_reader_of_the_tests(path):
+    text = path.read_text()
+    assert json_lines(text) == (lines_of(text), None)
 
 
 def repeated(chance, text, jobs):
@@ -178,20 +151,16 @@ def repeated(chance, text, jobs):
 
 
 @pytest.mark.parametrize("text", [RETRIED, RUNNING, WAITING, NEVER, TWO_POLICIES], ids=range(5))
-def test_jobs_with_equal_lines_are_read_once(text, slow):
-    equal, read = repeated(random.Random(3), text, 50), []
-    list(columns.shown(io.BytesIO(equal.encode()), lambda block: read.append(len(block.texts.modes))))
-    slow.assert_not_called()
-    # The last block also has the total.
-    assert sum(read) <= text.count("job ") + 1
-    assert in_pieces(equal) == by_records(equal)
+def test_jobs_with_equal_lines_have_equal_json_lines(text):
+    equal = repeated(random.Random(3), text, 50)
+    assert json_lines(equal) == (lines_of(equal), None)
 
 
 def changed(chance):
     """A report with a character changed; or one of equal jobs in which a line is removed or repeated, or another one
     follows it: once, or in each job that has it."""
     if chance.random() < 0.5:
-        text = chance.choice([*REPORTS, *TEXTS[-2:]])
+        text = chance.choice([*REPORTS, wide_report(8, 4), long_report(40)])
         at = chance.randrange(len(text))
         return text[:at] + chance.choice("0123456789\n ejaosdk.,(%") + text[at + chance.randrange(3):]
     text = repeated(chance, chance.choice([RETRIED, WAITING, NEVER, RUNNING]), 8).splitlines(keepends=True)
@@ -202,14 +171,15 @@ def changed(chance):
     return "".join(text)
 
 
-def test_changed_reports_give_the_lines_and_the_error_of_the_records(cut):
+def test_changed_reports_are_rejected_or_give_their_lines():
+    """The reader of the tests compares fewer lines with each other, so it rejects fewer texts."""
     chance, errors = random.Random(5), []
     for _ in range(examples(1400)):
         text = changed(chance)
-        cut(chance.choice([20, 200, 10**6]))
-        found = in_pieces(text)
-        assert found == by_records(text), text
-        errors.append(found[1])
+        found, error = json_lines(text)
+        if error is None:
+            assert found == lines_of(text), text
+        errors.append(error)
     assert len(errors) // 10 < errors.count(None) < len(errors) // 2
 
 
@@ -244,10 +214,8 @@ def figures_of(text, every):
     return cells, rows
 
 
-@pytest.mark.parametrize("length", [60, 500, 10**6])
-def test_summary_and_load_are_those_of_the_attempts(length, cut, zsched):
-    cut(length)
-    texts = [path.read_text() for path in KNOWN]
+def test_summary_and_load_are_those_of_the_attempts(zsched):
+    texts = [*REPORTS, long_report(500), *(path.read_text() for path in KNOWN)]
     for seed in range(examples(20)):
         texts.append(run(zsched, json.dumps(made_plan(random.Random(seed))).encode())[1].decode())
         texts.append(repeated(random.Random(seed), texts[-1], 40))
@@ -257,17 +225,18 @@ def test_summary_and_load_are_those_of_the_attempts(length, cut, zsched):
         ((table, _), rows), (cells, wanted) = summed_up(text, every), figures_of(text, every)
         assert [re.split(r"\s{2,}", line) for line in table.splitlines()[1:len(cells) + 1]] == cells, text
         assert rows == wanted, text
-        assert in_pieces(text) == by_records(text), text
+        assert json_lines(text) == (lines_of(text), None), text
 
 
 @pytest.mark.parametrize("sort", [None, "name", "end", "attempts"])
-def test_a_table_of_many_lines_is_written_by_several_processes(sort, cut, monkeypatch):
-    cut(3000)
-    alone = summed_up(wide_report(300, 2), sort=sort)
-    monkeypatch.setattr(summary, "MANY_LINES", 10)
-    monkeypatch.setattr(summary, "LINES_AT_ONCE", 7)
-    assert summed_up(wide_report(300, 2), sort=sort) == alone
-    assert alone[0][0].count("\n") == 305
+def test_the_table_has_the_order_of_the_option(sort):
+    texts = [wide_report(300, 2), repeated(random.Random(1), RETRIED, 9), repeated(random.Random(2), TWO_POLICIES, 40)]
+    for text in texts:
+        jobs = jobs_of(text)
+        key = {"name": lambda job: job.name, "end": lambda job: job.at, "attempts": lambda job: -len(job.attempts)}
+        names = [job.name for job in (sorted(jobs, key=key[sort]) if sort else jobs)]
+        table = summed_up(text, sort=sort)[0][0].splitlines()
+        assert [line.split()[0] for line in table[1:len(jobs) + 1]] == names
 
 
 def test_a_part_that_changes_after_it_was_read_is_not_copied(tmp_path):

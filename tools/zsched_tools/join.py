@@ -12,11 +12,11 @@ import re
 import stat
 from dataclasses import dataclass
 
-from zsched_tools import columns, manifest, processes
+from zsched_tools import manifest, processes
 from zsched_tools.command import Refused
 from zsched_tools.names import Names, first_repeat
 from zsched_tools.progress import Progress
-from zsched_tools.report import Reader, as_text, text_lines
+from zsched_tools.report import Ending, Reader, as_text, records, text_lines
 
 PIECE = 2**20
 # Bytes that fit into a processor's cache while they are hashed and searched.
@@ -51,13 +51,6 @@ def _state(file, path):
     return found.st_dev, found.st_ino, found.st_size, found.st_mtime_ns
 
 
-def _marks(block):
-    """What `join` stores of a piece: the names of the jobs that begin in it."""
-    names = Names()
-    names.add_each(block.names[1 if block.before.name else 0:])
-    return names
-
-
 def _read_part(path, horizon=None, latest=0):
     """Reads a part to its end, and compares its moments with those of the parts before it. Returns the part, and the
     names of its jobs."""
@@ -66,8 +59,9 @@ def _read_part(path, horizon=None, latest=0):
     with open(path, "rb") as file:
         state = _state(file, path)
         try:
-            for added in columns.shown(file, _marks, is_shared=False, reader=reader):
-                names.add_all(added)
+            for job, record in records(file, reader=reader):
+                if isinstance(record, Ending):
+                    names.add(job.name)
         except Refused as refused:
             raise Refused(f"{path}: {refused}") from None
     length = state[2] - len(f"polls {reader.total.polls}\n")

@@ -3,123 +3,32 @@
 Each attempt is an object of type `attempt`, each job's ending an object of type `end`, and the last line an object of
 type `total`. Numbers are JSON numbers, up to 2^64 - 1 (the total has no bound). Outputs of schedules are texts, as in
 the report."""
-import itertools
 import json
-import operator
 
-from zsched_tools import columns
 from zsched_tools.command import Refused
-from zsched_tools.report import Attempt, Ending, Reader, Total, shown, text_lines
+from zsched_tools.report import Attempt, Ending, Reader, records, shown, text_lines
 
 _decode = json.JSONDecoder(parse_float=str).decode
-
-
+_encode = json.JSONEncoder(separators=(",", ":")).encode
 _ordered = json.JSONEncoder(sort_keys=True).encode
 
 
-def _json(value):
-    """A number, a word of a report or None, as JSON. No word of a report has a character that JSON escapes."""
-    if value is None:
-        return "null"
-    return f'"{value}"' if isinstance(value, str) else value
-
-
-def json_line(job, record):
-    """The JSON object of a record, without a newline."""
+def item_of(job, record):
+    """The object of a record."""
     if isinstance(record, Attempt):
-        return (f'{{"type":"attempt","job":"{job.name}","mode":"{job.mode}","attempt":{record.number},'
-                f'"begin":{record.begin},"end":{_json(record.end)},"outcome":"{record.outcome}",'
-                f'"value":{_json(record.value)},"waited":{_json(record.waited)},"out":{_json(record.out)},'
-                f'"next":{_json(record.next)}}}')
+        return {"type": "attempt", "job": job.name, "mode": job.mode, "attempt": record.number, "begin": record.begin,
+                "end": record.end, "outcome": record.outcome, "value": record.value, "waited": record.waited,
+                "out": record.out, "next": record.next}
     if isinstance(record, Ending):
-        return (f'{{"type":"end","job":"{job.name}","mode":"{job.mode}","ending":"{record.how}",'
-                f'"value":{_json(record.value)},"out":{_json(record.out)},"at":{record.at},"polls":{record.polls}}}')
-    return f'{{"type":"total","polls":{record.polls}}}'
-
-
-# Represents the name in the lines of jobs with equal lines, which are made once.
-_NAME = "\0"
-# The texts between the words of an attempt after which the schedule continues. Those at 0 and 6 depend on the job.
-_BETWEEN = ["", None, ',"begin":', None, ',"end":', None, "", None, ',"waited":', None, ',"out":"', None, '","next":',
-            None, "}\n"]
-
-
-def _names(block):
-    """The name that the lines of each place have."""
-    return itertools.repeat(_NAME) if block.is_shared() else block.names
-
-
-def _attempt_pieces(block, waits):
-    """The pieces of the JSON lines of all attempts after which a schedule continues: for each attempt those of
-    _BETWEEN."""
-    texts, stride = block.texts, len(columns.WORDS)
-    words, found, step = texts.words, _BETWEEN * len(block.begins), len(_BETWEEN)
-    outs = words[5::stride]
-    if any(map("\n".join(outs).__contains__, "LR")):
-        outs = columns.long("\n".join(outs)).split("\n")
-    heads = [f'{{"type":"attempt","job":"{name}","mode":"{mode}","attempt":' for name, mode in zip(_names(block), texts.modes)]
-    outcomes = [f',"outcome":"{columns.ASKED[mode]}","value":' for mode in texts.modes]
-    for place, pieces in enumerate([heads, outcomes]):
-        found[6 * place::step] = itertools.chain.from_iterable(map(itertools.repeat, pieces, texts.counts))
-    columns_of_words = [words[place::stride] for place in range(4)]
-    for place, pieces in enumerate([*columns_of_words, waits, outs, words[6::stride]]):
-        found[1 + 2 * place::step] = pieces
-    return found
-
-
-def _attempt_texts(block):
-    """For each place, the JSON lines of the attempts after which the schedule continues, and the wait after the last
-    one."""
-    texts, edges, step = block.texts, block.edges, len(_BETWEEN)
-    if not texts.words:
-        return [""] * len(texts.modes), ["null"] * len(texts.modes)
-    waits = ["", *map(str, block.waits)]
-    after = [waits[edge] if count else "null" for count, edge in zip(texts.counts, edges[1:])]
-    for edge in edges[:-1]:
-        waits[edge] = "null"
-    if block.lead is not None and texts.counts[0]:
-        waits[0] = str(block.lead)
-    pieces = _attempt_pieces(block, waits[:-1])
-    return ["".join(pieces[step * first:step * edge]) for first, edge in zip(edges, edges[1:])], after
-
-
-def _end_texts(block, waits):
-    """For each place, the JSON lines of the attempt after which the schedule doesn't continue, and of the ending."""
-    texts = block.texts
-    if block.lead is not None and not texts.counts[0]:
-        waits[0] = str(block.lead)
-    for (name, mode, number, begin, end, outcome, value, out, how, result, at, polls), waited in zip(
-            zip(_names(block), texts.modes, texts.numbers, texts.begins, texts.ends, texts.outcomes, texts.values,
-                texts.outs, texts.hows, texts.results, texts.ats, texts.polls), waits):
-        text = ""
-        if number:
-            out = f'"{out}"' if out else "null"
-            text = (f'{{"type":"attempt","job":"{name}","mode":"{mode}","attempt":{number},"begin":{begin},'
-                    f'"end":{end or "null"},"outcome":"{outcome or "running"}","value":{value or "null"},'
-                    f'"waited":{waited},"out":{out},"next":null}}\n')
-        if how:
-            value, out = ("null", f'"{result}"') if how == "finished" else (result or "null", "null")
-            text += (f'{{"type":"end","job":"{name}","mode":"{mode}","ending":"{how}","value":{value},"out":{out},'
-                     f'"at":{at},"polls":{polls}}}\n')
-        yield text
-
-
-def _lines_of(block):
-    """The JSON lines of a piece of a report."""
-    runs, waits = _attempt_texts(block)
-    found = list(itertools.chain.from_iterable(zip(runs, _end_texts(block, waits))))
-    if block.is_shared():
-        texts = list(map(operator.add, found[::2], found[1::2]))
-        found = [texts[place].replace(_NAME, name) for name, place in zip(block.names, block.places)]
-    if block.texts.total is not None:
-        found.append(json_line(None, Total(block.texts.total)) + "\n")
-    return "".join(found)
+        return {"type": "end", "job": job.name, "mode": job.mode, "ending": record.how, "value": record.value,
+                "out": record.out, "at": record.at, "polls": record.polls}
+    return {"type": "total", "polls": record.polls}
 
 
 def write_lines(file, write, progress=None):
-    """Writes the JSON lines of a report, a binary file. Those of a piece are written as soon as it is read."""
-    for text in columns.shown(file, _lines_of, progress):
-        write(text)
+    """Writes the JSON lines of a report, a binary file, while it is read."""
+    for job, record in records(file, progress):
+        write(_encode(item_of(job, record)) + "\n")
 
 
 def _attempt_lines(item):
@@ -161,8 +70,7 @@ def _again(reader, line):
             raise ValueError(text)
         record = reader.take(text)
         job = job or reader.job
-    again = None if record is None else json_line(job, record)
-    if again is None or (again != line and _ordered(_decode(again)) != _ordered(item)):
+    if record is None or _ordered(item_of(job, record)) != _ordered(item):
         raise ValueError(line)
     return texts
 

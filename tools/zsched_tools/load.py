@@ -1,33 +1,16 @@
 """The load of a report: what begins and ends in each step of time, and the attempts that run and the jobs that wait at
 its end."""
 import collections
-import itertools
-import operator
 
-from zsched_tools import columns
 from zsched_tools.command import Refused
 from zsched_tools.durations import duration
+from zsched_tools.report import Attempt, Ending, records
 from zsched_tools.summary import plural, table
 
 HEAD = ["from", "begun", "ok", "err", "running", "waiting"]
 MOST_STEPS = 100_000
 MOST_FITTED = 5_000
 SECOND = 1000
-
-
-def _is_known(moment):
-    """Whether a moment is there."""
-    return moment is not None
-
-
-def _by_mode(block):
-    """Lists of the ends of attempts after which the schedule continues, each with the mode of its jobs."""
-    modes = block.texts.modes
-    if len(set(modes)) == 1:
-        yield modes[0], block.ends
-        return
-    for mode, first, edge in zip(modes, block.edges, block.edges[1:]):
-        yield mode, block.ends[first:edge]
 
 
 class Load:
@@ -39,41 +22,16 @@ class Load:
         self.every = every
         self.begun, self.ok, self.err, self.joined, self.left = [collections.Counter() for _ in range(5)]
 
-    def take(self, block):
-        """Adds a piece of a report. Returns this load."""
-        for times, part in block.groups():
-            self._take(part, times)
+    def take(self, record):
+        """Adds a record of a report. Returns this load."""
+        if isinstance(record, Attempt):
+            self.begun[record.begin // self.every] += 1
+            self.joined[record.begin // self.every] += record.number == 1
+            if record.end is not None:
+                (self.ok if record.outcome == "ok" else self.err)[record.end // self.every] += 1
+        elif isinstance(record, Ending):
+            self.left[record.at // self.every] += record.how != "unfinished"
         return self
-
-    def _take(self, block, times):
-        """Adds jobs, each `times` times."""
-        texts, ends = block.texts, {"ok": [], "err": []}
-        for mode, moments in _by_mode(block):
-            ends[columns.ASKED[mode]].append(moments)
-        for outcome, found in ends.items():
-            found.append([end for end, how in zip(block.last_ends, texts.outcomes) if how == outcome])
-        joined = block.first_begins[1 if block.before.number else 0:]
-        for counter, moments in [
-                (self.begun, itertools.chain(block.begins, filter(_is_known, block.last_begins))),
-                (self.ok, itertools.chain.from_iterable(ends["ok"])),
-                (self.err, itertools.chain.from_iterable(ends["err"])),
-                (self.joined, filter(_is_known, joined)),
-                (self.left, (at for at, how in zip(block.ats, texts.hows) if how not in ("", "unfinished")))]:
-            steps = map(operator.floordiv, moments, itertools.repeat(self.every))
-            if times == 1:
-                counter.update(steps)
-            else:
-                counter.update({step: times * count for step, count in collections.Counter(steps).items()})
-
-    def take_job(self, attempts, ending):
-        """Adds a job: its attempts, each an `Attempt`, and its ending."""
-        if attempts:
-            self.joined[attempts[0].begin // self.every] += 1
-            self.left[ending.at // self.every] += ending.how != "unfinished"
-        for attempt in attempts:
-            self.begun[attempt.begin // self.every] += 1
-            if attempt.end is not None:
-                (self.ok if attempt.outcome == "ok" else self.err)[attempt.end // self.every] += 1
 
     def _moved(self, every, place):
         """The load in other steps: `place` returns that of each step."""
@@ -98,19 +56,6 @@ class Load:
         """The load from the first to the last step. What is before the first step is in the step before it, and what is
         after the last step in the step after it."""
         return self._moved(self.every, lambda step: min(max(step, first - 1), last + 1))
-
-    def joined_with(self, other):
-        """Both loads as one. Its steps are the longer ones of both, or longer. The longer step must be a multiple of
-        the other."""
-        every = max(self.every, other.every)
-        mine, others = self.coarser(every // self.every), other.coarser(every // other.every)
-        mine.add(others)
-        return mine.fitted()
-
-    def add(self, other):
-        """Adds another load with the same step."""
-        for mine, others in zip(self._counters(), other._counters()):
-            mine.update(others)
 
     def _counters(self):
         return self.begun, self.ok, self.err, self.joined, self.left
@@ -143,10 +88,10 @@ class Load:
 
 def read(file, every, progress=None):
     """The load of a report, a binary file."""
-    whole = Load(every)
-    for part in columns.shown(file, lambda block: Load(every).take(block), progress):
-        whole.add(part)
-    return whole
+    load = Load(every)
+    for _, record in records(file, progress):
+        load.take(record)
+    return load
 
 
 def write_csv(load, write):

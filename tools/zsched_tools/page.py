@@ -7,7 +7,7 @@ import json
 
 from zsched_tools import picture, play_page
 from zsched_tools.axis import View
-from zsched_tools.lines import json_line, report_lines
+from zsched_tools.lines import item_of, report_lines
 from zsched_tools.strip import draw_strip
 
 # The widths in which the load of many jobs is drawn, and the margin next to it.
@@ -87,7 +87,7 @@ def report_of(rows):
     for row in rows:
         yield f"job {row.job.name} {row.job.mode}"
         for record in [*row.attempts, row.ending]:
-            yield from report_lines(json.loads(json_line(row.job, record)), True)
+            yield from report_lines(item_of(row.job, record), True)
 
 
 def _head(title):

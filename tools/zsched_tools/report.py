@@ -250,10 +250,9 @@ _FORMS = {
 _NO_FORM = (re.compile("(?!)"), None)
 
 
-def text_lines(source, longest=LONGEST_LINE, before=0):
-    """The lines of an open text file, without their newlines. A line without one is rejected. Lines are counted from
-    the number of those that were before."""
-    number = before
+def text_lines(source, longest=LONGEST_LINE):
+    """The lines of an open text file, without their newlines. A line without one is rejected."""
+    number = 0
     while line := source.readline(longest):
         number += 1
         if line[-1] != "\n":
@@ -263,18 +262,39 @@ def text_lines(source, longest=LONGEST_LINE, before=0):
         yield line[:-1]
 
 
-def records(source, reader=None):
-    """The records of a report, each with its job: attempts and ending of each job, and last the total without a job.
-    The records before a fault are yielded before the fault is raised."""
-    reader = reader or Reader()
-    for text in text_lines(source):
-        job = reader.job
-        record = reader.take(text)
-        if record is not None:
-            yield job, record
-    reader.close()
+class _Counted(io.RawIOBase):
+    """A binary file whose bytes a Progress counts when they are read."""
+
+    def __init__(self, file, progress):
+        self.file, self.progress = file, progress
+
+    def readable(self):
+        """It can be read."""
+        return True
+
+    def readinto(self, room):
+        """Reads bytes. Returns how many."""
+        count = self.file.readinto(room)
+        self.progress.add(count)
+        return count
 
 
 def as_text(binary):
     """A binary file as text of single bytes, whose lines end only at byte 10."""
     return io.TextIOWrapper(binary, encoding="latin-1", newline="\n")
+
+
+def records(file, progress=None, reader=None):
+    """The records of a report, a binary file, each with its job: attempts and ending of each job, and last the total
+    without a job. The records before a fault are yielded before the fault is raised."""
+    reader = reader or Reader()
+    try:
+        for text in text_lines(as_text(file if progress is None else io.BufferedReader(_Counted(file, progress)))):
+            job = reader.job
+            record = reader.take(text)
+            if record is not None:
+                yield job, record
+    finally:
+        if progress is not None:
+            progress.close()
+    reader.close()

@@ -1,12 +1,12 @@
 """Draws the load of many jobs as a strip of bars, below the rows of a picture or in place of them."""
 
-from zsched_tools import columns, picture
+from zsched_tools import picture
 from zsched_tools.axis import NEAREST_LABELS, Scale, View, labels, round_numbers, step_between_labels, steps_to
 from zsched_tools.command import Refused
 from zsched_tools.drawing import cut_text, path, place, rectangle, root, text, text_width, titled
 from zsched_tools.durations import duration
 from zsched_tools.load import Load
-from zsched_tools.report import Job
+from zsched_tools.report import Attempt, records
 from zsched_tools.summary import plural
 
 # In pixels: the height of the bars of attempts, that of running and waiting, and that of the words above each.
@@ -30,7 +30,8 @@ def load_of_rows(rows, scale):
     """The load of a picture's rows, in at most MOST_BARS steps."""
     found = Load(step_of(scale.first, scale.last))
     for row in rows:
-        found.take_job(row.attempts, row.ending)
+        for record in [*row.attempts, row.ending]:
+            found.take(record)
     return found
 
 
@@ -162,44 +163,34 @@ def draw_strip(load, title, note=None, view=View(), width=None):
 
 
 class Crowd:
-    """The jobs of a report that are drawn: at most MOST_JOBS rows, the number of all jobs, and their load."""
+    """The jobs of a report that are drawn: the rows of at most MOST_JOBS jobs, the number of all jobs, and their load."""
 
     def __init__(self, chosen):
-        self.chosen = frozenset(chosen)
-        self.rows, self.jobs, self.load, self.missing = [], 0, Load(1), set(chosen)
+        self.chosen, self.missing = frozenset(chosen), set(chosen)
+        self.rows, self.jobs, self.load = [], 0, Load(1)
         self.attempts = []
 
-    def view(self, block):
-        """What is drawn of a piece: the names of the jobs that end in it, the attempts if it has at most MOST_JOBS
-        jobs, and the load."""
-        if self.chosen:
-            block = block.of([job for job, name in enumerate(block.names) if name in self.chosen])
-        names, places, texts = block.names, block.places, block.texts
-        jobs = range(len(names)) if len(names) <= picture.MOST_JOBS else None
-        kept = jobs and [(names[job], texts.modes[places[job]], block.attempts(job), block.ending(job)) for job in jobs]
-        ended = [name for name, place in zip(names, places) if texts.hows[place]]
-        return ended, kept, Load(1).take(block).fitted()
-
-    def add(self, names, kept, load):
-        """Adds a piece."""
-        self.jobs += len(names)
-        self.missing.difference_update(names)
-        self.load = self.load.joined_with(load)
-        if kept is None or self.jobs > picture.MOST_JOBS:
-            self.attempts = []
+    def add(self, job, record):
+        """Adds a record of a job, if the job is drawn."""
+        if job is None or (self.chosen and job.name not in self.chosen):
             return
-        for name, mode, attempts, ending in kept:
-            self.attempts += attempts
-            if ending is not None:
-                self.rows.append(picture.Row(Job(name, mode), self.attempts, ending))
-                self.attempts = []
+        self.load = self.load.take(record).fitted()
+        if isinstance(record, Attempt):
+            if self.jobs < picture.MOST_JOBS:
+                self.attempts.append(record)
+            return
+        self.jobs += 1
+        self.missing.discard(job.name)
+        if self.jobs <= picture.MOST_JOBS:
+            self.rows.append(picture.Row(job, self.attempts, record))
+            self.attempts = []
 
 
 def crowd_of(file, chosen, progress=None):
     """The jobs of a report, a binary file, that are drawn: the chosen ones, or all."""
     crowd = Crowd(chosen)
-    for found in columns.shown(file, crowd.view, progress):
-        crowd.add(*found)
+    for job, record in records(file, progress):
+        crowd.add(job, record)
     if crowd.missing:
         raise Refused(f"has no job {min(crowd.missing)}")
     return crowd
