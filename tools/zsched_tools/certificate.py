@@ -3,16 +3,12 @@
 Each ending and number of attempts must be the simulated one. Each attempt of the report must end as the scenario says for
 the moment at which it begins in the report; that outcome is computed again from the report. Clients whose scripts a plan
 has no room for are in no report, and count as they were simulated."""
-import re
 from array import array
 from dataclasses import dataclass
 
-from zsched_tools.outage import blocks_of, name_of
+from zsched_tools.outage import name_of
+from zsched_tools.report import attempts_in, blocks_of, ending_in
 from zsched_tools.world import CUT, DENIED, DONE, GOES_ON, Ending, Run, Walk
-
-_ATTEMPT = re.compile(rb"\nattempt \d+ (\d+)\.\.(?:(\d+) (ok|err) (\d+))?")
-_END = re.compile(rb"\nend (\w+)(?: (\d+))? at (\d+) polls \d+(?:\npolls \d+\n)?$")
-_NAME = re.compile(rb"job (\S+) ")
 
 
 class Uncertified(Exception):
@@ -34,16 +30,16 @@ class Client:
 def clients_in(report):
     """The clients of a report's bytes."""
     for block in blocks_of(report):
-        end = _END.search(block)
+        end, attempts = ending_in(block), attempts_in(block)
         if end is None:
             raise Uncertified("the report has a job without an end")
-        attempts = _ATTEMPT.findall(block)
+        how, value, at = end
         begins = array("Q", [int(begin) for begin, _, _, _ in attempts])
         lengths = array("Q", [int(last) - int(begin) if last else 0 for begin, last, _, _ in attempts])
         values = array("Q", [int(value or 0) for _, _, _, value in attempts])
-        ending = Ending(end[1].decode(), None if end[2] is None else int(end[2]), int(end[3]), len(attempts))
-        yield Client(_NAME.match(block)[1].decode(), begins, lengths, values,
-                     bytes(word == b"ok" for _, _, word, _ in attempts), ending)
+        yield Client(block.split(b" ", 2)[1].decode(), begins, lengths, values,
+                     bytes(word == b"ok" for _, _, word, _ in attempts),
+                     Ending(how, int(value) if value else None, at, len(attempts)))
 
 
 def certified(scenario, simulated, reports, others=()):

@@ -9,14 +9,10 @@ A script has at most 1,000 entries, and the last one repeats. A client of more a
 It can be certified if all its attempts from the 1,000th on end alike."""
 import json
 import random
-import re
-import subprocess
-import tempfile
 from array import array
 
-from zsched_tools import program
-from zsched_tools.command import naming
-from zsched_tools.program import MAX_BYTES
+from zsched_tools.program import MAX_BYTES, run_plan
+from zsched_tools.report import attempts_in, blocks_of, ending_in
 from zsched_tools.split import MOST_JOBS
 from zsched_tools.world import CUT, DENIED, DONE, GOES_ON, MOST_ENTRIES, UNDENIED, Run, Walk
 from zsched_tools.scenario import DOWN
@@ -26,8 +22,7 @@ MOST_ATTEMPTS, ATTEMPTS_OF_PLAN = 50_000_000, 1_000_000
 # The number of failures after the known ones with which a client is run: in the first pass, and at least later.
 FIRST_LOOK, LESS_LOOK = 32, 16
 _CUT_ENTRY = '{"ms":1,"ok":0}'
-BEGIN = re.compile(rb"\nattempt \d+ (\d+)\.\.")
-_TAILS = {b"s": CUT, b"f": DONE, b"u": GOES_ON}
+_TAILS = {"succeeded": CUT, "failed": DONE, "unfinished": GOES_ON}
 
 
 class Unsettled(Exception):
@@ -64,38 +59,13 @@ def cut_plans(clock, jobs, most=None):
     return [(before + ",".join("\n" + job for job in group) + after).encode() for group in groups], most
 
 
-def run_plan(zsched, plan):
-    """The report of a plan, which must have no fault. It is written to a file first, so that only one copy is in
-    memory."""
-    with naming(tempfile.gettempdir()), tempfile.TemporaryFile() as given, tempfile.TemporaryFile() as report:
-        given.write(plan)
-        given.seek(0)
-        with program.starting(zsched):
-            ended = subprocess.run([zsched], stdin=given, stdout=report, stderr=subprocess.PIPE, check=False)
-        if ended.returncode:
-            raise ChildProcessError(program.failure(ended.returncode, ended.stderr))
-        report.seek(0)
-        found = report.read()
-    program.check_report(zsched, found, plan.count(b'"script":['))
-    return found
-
-
-def blocks_of(report):
-    """The jobs of a report's bytes, each from its first line on; the last one with the total."""
-    begin = 0
-    while begin >= 0:
-        end = report.find(b"\njob ", begin)
-        yield report[begin:end if end >= 0 else len(report)]
-        begin = end + 1 if end >= 0 else end
-
-
 def _runs_in(report, kinds, unfinished):
     """The runs in a report of clients that are never served. `kinds` has the failures with which each was run,
     `unfinished` is the tail of one that is."""
     for block, of_client in zip(blocks_of(report), kinds):
-        end = block.rfind(b"\nend ") + 5
-        tail = _TAILS[block[end:end + 1]]
-        yield Run(array("Q", map(int, BEGIN.findall(block))), of_client, unfinished if tail == GOES_ON else tail)
+        tail = _TAILS[ending_in(block)[0]]
+        begins = array("Q", [int(attempt[0]) for attempt in attempts_in(block)])
+        yield Run(begins, of_client, unfinished if tail == GOES_ON else tail)
 
 
 def shortest(kinds):

@@ -14,7 +14,7 @@ from zsched_tools.curve_picture import draw_curves
 from zsched_tools.drawn import LOW
 from zsched_tools.duration_text import duration_argument
 from zsched_tools.durations import duration
-from zsched_tools.outage import Search, Unsettled, cut_plans, name_of, run_plan, schedules_of
+from zsched_tools.outage import Search, Unsettled, cut_plans, name_of, schedules_of
 from zsched_tools.place import FaultAt, in_file, place_lines
 from zsched_tools.plan_text import LONGEST_PLAN
 from zsched_tools.progress import Now
@@ -132,7 +132,7 @@ def simulate(scenario, zsched, name, most_passes, say):
         jobs, endings, others, passes = _settled(scenario, zsched, name, most_passes, say)
         plans, most = cut_plans(scenario.horizon, jobs)
         say(1, "the certificate")
-        reports = [run_plan(zsched, plan) for plan in plans]
+        reports = [program.run_plan(zsched, plan) for plan in plans]
         clients = certified(scenario, endings, reports, others)
     except (Unsettled, Uncertified) as failed:
         raise type(failed)(f"policy {name}: {failed}") from None

@@ -6,8 +6,9 @@ import pathlib
 import re
 import shutil
 import subprocess
+import tempfile
 
-from zsched_tools.command import Refused
+from zsched_tools.command import Refused, naming
 
 MAX_BYTES = 16777216
 _HERE = pathlib.Path(__file__).resolve()
@@ -64,10 +65,14 @@ def one_job(horizon, schedule, entry):
 
 def run(program, given, seconds=None):
     """Runs a program on some bytes: status, standard output, standard error. After `seconds` it is killed, and
-    subprocess.TimeoutExpired is raised."""
-    with starting(program):
-        ended = subprocess.run([program], input=given, capture_output=True, timeout=seconds, check=False)
-    return ended.returncode, ended.stdout, ended.stderr
+    subprocess.TimeoutExpired is raised. Files hold what it reads and writes, so that only one copy is in memory."""
+    with naming(tempfile.gettempdir()), tempfile.TemporaryFile() as read, tempfile.TemporaryFile() as written:
+        read.write(given)
+        read.seek(0)
+        with starting(program):
+            ended = subprocess.run([program], stdin=read, stdout=written, stderr=subprocess.PIPE, timeout=seconds, check=False)
+        written.seek(0)
+        return ended.returncode, written.read(), ended.stderr
 
 
 @contextlib.contextmanager
@@ -87,6 +92,14 @@ def report_of(zsched, plan, jobs, seconds=None):
     if status == 0:
         check_report(zsched, report, jobs)
     return status, report, errors
+
+
+def run_plan(zsched, plan):
+    """The report of a plan, which must have no fault."""
+    status, report, errors = report_of(zsched, plan, plan.count(b'"script":['))
+    if status:
+        raise ChildProcessError(failure(status, errors))
+    return report
 
 
 def check_report(zsched, report, jobs=None):

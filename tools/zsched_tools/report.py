@@ -3,7 +3,9 @@
 docs/FORMATS.md has the form of a report. The reader checks the form of each line, and compares the lines with each other:
 attempts are numbered from 1 and don't overlap, there is a step exactly if the schedule was stepped, an ending is that
 of the last attempt, and the polls are the moments at which attempts began or ended. Numbers are whole and go up to
-2^64 - 1; the total of the last line has no bound, since a joined report may have any number of jobs."""
+2^64 - 1; the total of the last line has no bound, since a joined report may have any number of jobs.
+
+Reports that a tool has just got from the program are cut into jobs by `blocks_of`, and aren't checked again."""
 import dataclasses
 import io
 import re
@@ -22,6 +24,8 @@ _SHORT_OUTPUT = re.compile(rf"{_NUMBER}|\({_NUMBER},{_NUMBER}\)")
 _INNERMOST = re.compile(rf"\({_PART},{_PART}\)|(?:Left|Right)\({_PART}\)|\[(?:{_PART}(?:,{_PART})*+)?\]")
 _WHOLE_OUTPUT = re.compile(_PART)
 _TWENTY_DIGITS = re.compile("[0-9]{20}")
+_ATTEMPT = re.compile(rb"\nattempt \d+ (\d+)\.\.(?:(\d+) (ok|err) (\d+))?")
+_END = re.compile(rb"\nend (\w+)(?: (\S+))? at (\d+) polls ")
 
 
 @dataclasses.dataclass(slots=True)
@@ -298,3 +302,25 @@ def records(file, progress=None, reader=None):
         if progress is not None:
             progress.close()
     reader.close()
+
+
+def blocks_of(report):
+    """The jobs of a report's bytes, each from its first line on; the last one with the total."""
+    begin = 0
+    while begin >= 0:
+        end = report.find(b"\njob ", begin)
+        yield report[begin:end if end >= 0 else len(report)]
+        begin = end + 1 if end >= 0 else end
+
+
+def attempts_in(block):
+    """The attempts of a job's bytes: begin, end, ok or err, and value, all as texts. Only the begin of one that runs at
+    the horizon isn't empty."""
+    return _ATTEMPT.findall(block)
+
+
+def ending_in(block):
+    """How a job's bytes end: the word, the value or the output as a text (empty if there is neither), and the moment; or
+    None."""
+    found = _END.search(block, max(0, block.rfind(b"\nend ")))
+    return found and (found[1].decode(), (found[2] or b"").decode(), int(found[3]))

@@ -5,10 +5,9 @@ import re
 from dataclasses import dataclass
 
 from zsched_tools.durations import duration
+from zsched_tools.report import attempts_in, blocks_of, ending_in
 from zsched_tools.summary import plural
 
-_ATTEMPT = re.compile(rb"\nattempt \d+ (\d+)\.\.(?:(\d+) )?")
-_END = re.compile(rb"\nend (succeeded|failed|finished|unfinished)(?: (\S+))? at (\d+) polls ")
 WIDEST_RESULT = 30
 MOST_AFTER = 999
 
@@ -54,16 +53,15 @@ class Tried:
 
 def waits_in(block):
     """The waits between the attempts of a job in a report."""
-    return [int(begin) - int(end) for (_, end), (begin, _) in itertools.pairwise(_ATTEMPT.findall(block))]
+    return [int(after[0]) - int(before[1]) for before, after in itertools.pairwise(attempts_in(block))]
 
 
 def tried_in(report):
     """The result of each job in a report's bytes."""
-    for block in report.split(b"\njob "):
-        end = _END.search(block, block.rfind(b"\nend "))
-        how, result, at = end[1].decode(), (end[2] or b"").decode(), int(end[3])
-        moments = [(int(begin), int(end or at)) for begin, end in _ATTEMPT.findall(block)]
-        waits = [begin - end for (_, end), (begin, _) in itertools.pairwise(moments)]
-        waits += [at - moments[-1][1]] if how == "unfinished" and moments else []
+    for block in blocks_of(report):
+        how, result, at = ending_in(block)
+        attempts, waits = attempts_in(block), waits_in(block)
+        if how == "unfinished" and attempts:
+            waits.append(at - int(attempts[-1][1] or at))
         result = result if len(result) <= WIDEST_RESULT else result[:WIDEST_RESULT - 2] + ".."
-        yield Tried(how, result, at, len(moments), sum(waits), max(waits, default=0))
+        yield Tried(how, result, at, len(attempts), sum(waits), max(waits, default=0))

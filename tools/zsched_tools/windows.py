@@ -9,7 +9,9 @@ import json
 from typing import NamedTuple
 
 from zsched_tools.durations import duration
-from zsched_tools.outage import BEGIN, MOST_ENTRIES, blocks_of, cut_plans, run_plan
+from zsched_tools.outage import MOST_ENTRIES, cut_plans
+from zsched_tools.program import run_plan
+from zsched_tools.report import attempts_in, blocks_of
 from zsched_tools.scenario import DEFAULTS, Outcome
 from zsched_tools.summary import plural
 
@@ -133,7 +135,7 @@ def scripts(service, requests, schedule, mode, horizon, zsched):
         blocks = (block for plan in cut_plans(horizon, jobs)[0] for block in blocks_of(run_plan(zsched, plan)))
         still = []
         for at, script, block in zip(are_open, tried, blocks):
-            begins = list(map(int, BEGIN.findall(block)))
+            begins = [int(attempt[0]) for attempt in attempts_in(block)]
             if _extended(found[at], requests[at], service, script, begins, mode):
                 (too_long if len(found[at]) == MOST_ENTRIES else still).append(at)
         are_open = still

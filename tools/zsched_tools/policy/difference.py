@@ -1,11 +1,11 @@
 """zsched-policy diff: what differs between two policies, over the same attempts and for every input."""
 import itertools
-import re
 
 from zsched_tools import bounding
 from zsched_tools.cause import listed
 from zsched_tools.command import NO, REFUSED
 from zsched_tools.durations import duration
+from zsched_tools.report import attempts_in, blocks_of
 from zsched_tools.summary import plural
 from zsched_tools.trying import tried_in
 from zsched_tools.try_command import add_attempts, bounds_of_all, of_all, tried
@@ -28,7 +28,6 @@ every input, which zsched-bounds proves.
 A and B are schedules, or texts that zsched-try takes, as @FILE#NAME and `spaced(1000) jitter full`."""
 EPILOG = """Exit status: 0 if nothing differs; 1 if something does; 2 if a policy or an option is wrong, or if there is no
 zsched; 3 if a program or writing fails."""
-_ATTEMPT = re.compile(rb"\nattempt \d+ (\d+)\.\.(.*)")
 
 
 def add_command(forms):
@@ -61,7 +60,7 @@ def _here(one, other):
 
 def _first(blocks):
     """The first attempt that differs, in words."""
-    attempts = [_ATTEMPT.findall(block) for block in blocks]
+    attempts = map(attempts_in, blocks)
     for number, (one, other) in enumerate(itertools.zip_longest(*attempts), 1):
         if one is None or other is None:
             name, begin = ("A", one) if other is None else ("B", other)
@@ -100,7 +99,7 @@ def _diff(given):
     for name, policy, result, bound in zip("AB", given.read, found, bounds):
         print(f"{name}  {policy.text}\n   {result.line()}" + (f"\n   {of_all(policy)}: {bound.line()}" if bound else ""))
     scope = of_all(max(given.read, key=lambda policy: policy.is_drawn))
-    lines = [*filter(None, [_here(*found)]), *itertools.islice(_first(report.split(b"\njob ")), 1),
+    lines = [*filter(None, [_here(*found)]), *itertools.islice(_first(blocks_of(report)), 1),
              *([] if None in bounds else _always(scope, *bounds))]
     print("\n".join(lines) or "no difference")
     return NO if lines else 0
