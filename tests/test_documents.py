@@ -8,7 +8,7 @@ import pytest
 
 from reports import jobs_of
 from support import TOP, run, run_tool
-from zsched_tools.durations import duration
+from zsched_tools.words import duration
 
 PAGES = sorted([*TOP.glob("*.md"), *TOP.glob("docs/*.md"), *TOP.glob("benches/**/*.md"), *TOP.glob("crates/*/README.md")])
 FOLDERS = ("benches/", "build/", "crates/", "docs/", "examples/", "tests/", "tools/", "zs_")

@@ -14,7 +14,7 @@ import faults
 from generator import changed_plans
 from mistakes import MISTAKES, split
 from support import ONE_JOB, TOP, examples, job, plan, rows, run_here
-from zsched_tools import alike, all_faults, explain, hints, json_reading, plan_size, positions, program
+from zsched_tools import all_faults, explain, hints, json_reading, plan_size, positions, program
 
 PLACE = re.compile(r"^ *--> plan\.json:(\d+):(\d+)$", re.M)
 
@@ -152,7 +152,7 @@ def alike_jobs(count, schedule="(exponential({}) && recurs(3))"):
 
 
 def test_of_jobs_that_are_alike_the_first_one_remains():
-    found = alike.fewer(plan([*alike_jobs(20), job("last")]))
+    found = all_faults.fewer(plan([*alike_jobs(20), job("last")]))
     assert (found.numbers, found.data) == ([0, 20], plan([alike_jobs(1)[0], job("last")]))
     assert found.line("zsched: job 1: wrong shape\n") == "zsched: job 20: wrong shape\n"
     assert found.line("zsched: plan: out of range\n") == "zsched: plan: out of range\n"
@@ -167,7 +167,7 @@ LIKE = alike_jobs(8)[7]
     *[(text, True) for text in ["7", "[]", "{}", '{"name":7}', LIKE.replace("recurs(3)", "recurs(0)"),
                                 LIKE.replace("503", "0"), LIKE.replace('"err":503', '"ok":503')]]])
 def test_a_job_that_may_have_a_different_fault_remains(changed, are_first_ones):
-    numbers = alike.fewer(plan([*alike_jobs(7), changed, *alike_jobs(20)[8:]])).numbers
+    numbers = all_faults.fewer(plan([*alike_jobs(7), changed, *alike_jobs(20)[8:]])).numbers
     assert 7 in numbers and (numbers == [0, 7] or not are_first_ones)
 
 
@@ -176,7 +176,7 @@ def test_a_job_that_may_have_a_different_fault_remains(changed, are_first_ones):
     b"", b"[]", b"{}", b'{"jobs":7}', plan(alike_jobs(20))[:-1], plan(alike_jobs(20)) + b"\xff",
     plan([*alike_jobs(20), LIKE.replace('"start":8', '"start":08')])], ids=range(10))
 def test_a_plan_with_few_jobs_alike_or_too_many_or_no_plan_is_run_as_it_is(data):
-    assert alike.fewer(data) is None
+    assert all_faults.fewer(data) is None
 
 
 def test_the_fault_of_fewer_jobs_is_that_of_all(zsched):
@@ -184,7 +184,7 @@ def test_the_fault_of_fewer_jobs_is_that_of_all(zsched):
         found = re.search(r'"jobs": \[\n    (.*)\n  \]\n\}\n$', split(marked)[0].decode(errors="replace"), re.S)
         if found and fault.startswith("job 0: "):
             data = plan([*alike_jobs(9), found[1], *alike_jobs(18)[9:]])
-            fewer, whole = alike.fewer(data), explain.outcome(zsched, data)
+            fewer, whole = all_faults.fewer(data), explain.outcome(zsched, data)
             assert whole == (2, f"zsched: job 9{fault.removeprefix('job 0')}\n"), name
             assert not fewer or len(fewer.numbers) <= 14 and explain.fault_of_fewer(zsched, data) == whole, name
 

@@ -16,9 +16,9 @@ import reference
 from browser import framed
 from reports import jobs_of
 from support import TOP, examples, job, plan, run_here
-from zsched_tools import certificate, curve, curve_page, curve_picture, drawn, outage, outage_command, scenario, world
-from zsched_tools.cause import Cause
+from zsched_tools import certificate, curve, curve_picture, drawn, outage, outage_command, scenario, world
 from zsched_tools.drawing import text_width
+from zsched_tools.place import Cause
 from zsched_tools.progress import Now
 from zsched_tools.world import DENIED, Bucket, Ending, Service
 
@@ -255,7 +255,7 @@ def test_a_share_is_the_least_value_that_so_many_do_not_exceed():
 
 def test_pictures_are_whole_and_have_all_policies(zsched):
     found, figures = figures_of(zsched, DRAWN)
-    drawing, page = picture(found, figures), "".join(curve_page.curve_page(found, figures))
+    drawing, page = picture(found, figures), "".join(curve_picture.curve_page(found, figures))
     for text in [drawing, page]:
         assert "prefers-color-scheme:dark" in text
         assert re.findall(r"(?:src|href)=|url\(|@import|<script", text) == []
@@ -302,7 +302,7 @@ def test_a_picture_of_nothing_says_so(zsched):
 def test_long_names_leave_all_figures_in_sight(zsched, tmp_path):
     names = ["W" * 64, "a-policy-with-" + "long-" * 10]
     found = figures_of(zsched, {**SMALL, "policies": dict.fromkeys(names, "spaced(400)")})
-    (tmp_path / "page.html").write_text("".join(curve_page.curve_page(*found)))
+    (tmp_path / "page.html").write_text("".join(curve_picture.curve_page(*found)))
     assert framed(tmp_path, ["page.html"], [360, 400, 1280], """page => {
   const right = page.querySelector(".table").getBoundingClientRect().right, cells = [...page.querySelectorAll("td")];
   return [cells.length, cells.filter(it => it.getBoundingClientRect().right > right + 1).length]; }""") == [[36, 0]] * 3

@@ -19,7 +19,7 @@ from browser import framed, inside, opened
 from mistakes import MISTAKES, split
 from reports import jobs_of
 from support import TOP, examples, plan, plans_with_reports, report_beside
-from zsched_tools import drawn, hints, play_page, schedule_rules
+from zsched_tools import drawn, hints, schedule_rules
 from zsched_tools.place import FaultAt
 from zsched_tools.policy import command
 from zsched_tools.policy.reading import Wrong
@@ -244,8 +244,8 @@ def test_every_field_has_a_label_and_a_place_for_its_fault():
 
 
 def test_other_pages_take_its_pieces():
-    assert "return { attemptTitle," in play_page.piece("drawing")
-    assert "color-scheme: light dark" in play_page.piece("drawing-style")
+    assert "return { attemptTitle," in hints.piece("drawing")
+    assert "color-scheme: light dark" in hints.piece("drawing-style")
 
 
 def brightness(color):
@@ -258,7 +258,7 @@ def brightness(color):
 
 def test_letters_are_readable_on_each_ground_by_day_and_at_night():
     themes = [dict(re.findall(r"--(\w+): (#[0-9a-f]+);", block))
-              for block in re.findall(r":root \{(.*?)\}", play_page.piece("drawing-style"), re.S)]
+              for block in re.findall(r":root \{(.*?)\}", hints.piece("drawing-style"), re.S)]
     for colors in themes:
         for ink in ["ink", "soft", "green", "red"]:
             for ground in ["page", "band", "down"]:

@@ -9,7 +9,7 @@ import pytest
 from report_samples import COARSE, GREATEST, REPORTS, RUNNING, WAITING, long_report, wide_report
 from support import run_here
 from zsched_tools import report_command
-from zsched_tools.axis import Scale
+from zsched_tools.drawing import Scale
 from zsched_tools.page import LOAD_WIDTHS
 
 SVG = "{http://www.w3.org/2000/svg}"

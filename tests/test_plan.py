@@ -15,7 +15,7 @@ import reference
 from mistakes import MISTAKES
 from reports import jobs_of
 from support import TOP, equal_jobs, examples, job, output_of, plan
-from zsched_tools import importing, join, manifest, placed, plan_text, policy_file, policy_plan, processes
+from zsched_tools import call_log, importing, join, manifest, placed, plan_text, policy_file, policy_plan, processes
 from zsched_tools.command import Refused
 from zsched_tools.split import write_parts
 
@@ -150,7 +150,7 @@ def test_the_report_of_a_plan_is_the_reports_of_its_parts_joined(tmp_path):
 
 
 def from_yaml(text):
-    notes = policy_plan.Notes()
+    notes = call_log.Notes()
     return placed.Written(policy_plan.plan_of(policy_file.read_yaml(text), 1, notes)), list(notes.lines())
 
 

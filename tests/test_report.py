@@ -16,9 +16,9 @@ from reports import jobs_of
 from support import TOP, examples, run
 from zsched_tools import lines, load, progress
 from zsched_tools.command import Refused
-from zsched_tools.durations import duration
 from zsched_tools.join import write_joined
 from zsched_tools.summary import Options, write_summary
+from zsched_tools.words import duration
 
 TOOL = TOP / "tools" / "zsched-report"
 # Runs a command inside of itself, and then prints its peak memory. (What a parent gets includes the parent's memory.)

@@ -11,8 +11,8 @@ from hypothesis import strategies as st
 from reports import jobs_of
 from support import TOP, run, run_here
 from zsched_tools import bounding, program, try_command, trying
-from zsched_tools.duration_text import milliseconds
-from zsched_tools.durations import duration
+from zsched_tools.durations import milliseconds
+from zsched_tools.words import duration
 
 HEAD, *SECTIONS = (TOP / "docs" / "RECIPES.md").read_text().split("\n### ")
 POLICIES = (TOP / "docs" / "POLICIES.md").read_text()

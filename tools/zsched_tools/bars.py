@@ -4,8 +4,8 @@ Both shape and colour show an outcome: an attempt that succeeded is tall and rou
 from dataclasses import dataclass
 
 from zsched_tools.drawing import path, place, rectangle, titled
-from zsched_tools.durations import duration
 from zsched_tools.report import Attempt
+from zsched_tools.words import duration
 
 # In pixels: an attempt of at least the width ALONE has a separate shape, and every shape is at least NARROWEST wide.
 # Narrow attempts that are nearer than NEAR share a block, up to the width BLOCK. A shape is cut for the next one, but not

@@ -3,8 +3,7 @@ import json
 from dataclasses import dataclass
 
 from zsched_tools import program
-from zsched_tools.durations import DAY, duration
-from zsched_tools.summary import plural
+from zsched_tools.words import DAY, duration, plural
 
 # The program looks at this number of steps at most.
 MOST_STEPS = 20000

@@ -1,6 +1,7 @@
 """A log of calls, read as attempts with their moments: CSV, JSON lines, or the JSON of OpenTelemetry's spans.
 
 Moments and lengths are whole nanoseconds here. A cell that isn't understood is an error with its row and column."""
+import collections
 import csv
 import datetime
 import io
@@ -10,10 +11,10 @@ import re
 from decimal import Decimal
 from typing import NamedTuple
 
-from zsched_tools.cause import listed, shown
 from zsched_tools.command import Refused, number
-from zsched_tools.hints import TABLE, milliseconds
-from zsched_tools.spans import spans_in
+from zsched_tools.durations import exact_milliseconds
+from zsched_tools.hints import TABLE
+from zsched_tools.words import listed, shown
 
 UNITS = {"ns": Decimal(1), "us": Decimal(1000), "ms": Decimal(10**6), "s": Decimal(10**9)}
 MOST_CODE = 2**64 - 1
@@ -42,6 +43,28 @@ _GRPC = [code.lower() for code in TABLE["grpc"]]
 # Below the first, a moment counts from the log's own begin; the others are the least of each unit since 1970.
 _EPOCHS = [(10**17, "ns", "epoch nanoseconds"), (10**14, "us", "epoch microseconds"),
            (10**11, "ms", "epoch milliseconds"), (10**8, "s", "epoch seconds")]
+
+# The keys of spans with a status, and what a client's span and an error are.
+_SPAN_CODES = ["http.response.status_code", "http.status_code", "rpc.grpc.status_code"]
+_CLIENT = ("3", "SPAN_KIND_CLIENT")
+_ERROR = ("2", "STATUS_CODE_ERROR")
+
+
+class Notes:
+    """The changes of a file: the first change of each kind, and the number of changes."""
+
+    def __init__(self):
+        self.found = {}
+
+    def add(self, kind, place, text):
+        """Adds a change. `place` is its place in the file."""
+        first = self.found.setdefault(kind, [place, text, 0])
+        first[2] += 1
+
+    def lines(self):
+        """A line for each kind of change: its place and its text."""
+        for place, text, count in sorted(self.found.values()):
+            yield place, text if count == 1 else f"{text}; {count} such changes, this is the first"
 
 
 class Call(NamedTuple):
@@ -184,7 +207,7 @@ class Reader:
         found = []
         for row, cells in self.rows:
             cell = cells[self.length.number].strip()
-            length = None if _NUMBER.fullmatch(cell) else milliseconds(cell)
+            length = None if _NUMBER.fullmatch(cell) else exact_milliseconds(cell)
             if length is None and not _NUMBER.fullmatch(cell):
                 raise self.refused(row, self.length, f'"{shown(cell)}" is not a length of time: write 24 or 24.11')
             found.append(int(Decimal(cell) * UNITS[unit] if length is None else length * 1_000_000))
@@ -327,3 +350,46 @@ def _flat(item, before=""):
         elif not isinstance(value, list):
             words = {True: "true", False: "false", None: ""}
             yield before + name, value if isinstance(value, str) else words[value]
+
+
+def _items(value, *names):
+    """The items of the list of the first of these keys, or nothing."""
+    found = next((value[name] for name in names if isinstance(value, dict) and name in value), [])
+    return found if isinstance(found, list) else []
+
+
+def spans_in(documents):
+    """The attempts in documents of OpenTelemetry, as objects with a name for each column: the spans of the kind client, else
+    those without spans below."""
+    spans = [span for document in documents for resource in _items(document, "resourceSpans", "resource_spans")
+             for scope in _items(resource, "scopeSpans", "scope_spans", "instrumentationLibrarySpans")
+             for span in _items(scope, "spans") if isinstance(span, dict)]
+    parents = {span.get("parentSpanId") for span in spans}
+    of_clients = [span for span in spans if span.get("kind") in _CLIENT]
+    attempts = of_clients or [span for span in spans if span.get("spanId") not in parents - {None, ""}]
+    names = collections.defaultdict(set)
+    for span in attempts:
+        names[_parent(span)].add(span.get("name"))
+    return [{"parent": _parent(span) + (f" {span.get('name')}" if len(names[_parent(span)]) > 1 else ""),
+             "trace_id": span.get("traceId", ""), "name": span.get("name", ""),
+             "start_time_unix_nano": span.get("startTimeUnixNano", ""),
+             "end_time_unix_nano": span.get("endTimeUnixNano", ""), "status": _span_status(span)} for span in attempts]
+
+
+def _parent(span):
+    """The span whose attempt this is: its parent, without one its trace."""
+    return str(span.get("parentSpanId") or span.get("traceId") or "")
+
+
+def _span_status(span):
+    """The status as a text: that of HTTP or gRPC, and whether the span has an error."""
+    given = span.get("status")
+    is_error = isinstance(given, dict) and given.get("code") in _ERROR
+    values = {item.get("key"): item.get("value") for item in _items(span, "attributes") if isinstance(item, dict)}
+    for name in _SPAN_CODES:
+        value = values.get(name)
+        if isinstance(value, dict) and value:
+            code = str(next(iter(value.values())))
+            is_grpc = name == _SPAN_CODES[2]
+            return f"error {code}" if is_error or (is_grpc and code != "0") else f"ok {code}" if is_grpc else code
+    return "error" if is_error else "ok"

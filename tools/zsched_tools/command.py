@@ -9,13 +9,14 @@ import pathlib
 import shutil
 import sys
 
-from zsched_tools import colors, release
-from zsched_tools.cause import WIDTH, shown
+from zsched_tools.words import WIDTH, shown
 
 # The exit statuses of all commands. 0 is yes. A process that SIGPIPE ends has the status 141 in a shell.
 NO, REFUSED, FAILED, INTERRUPTED = 1, 2, 3, 130
 _OF_OUTPUT = (errno.ENOSPC, errno.EFBIG, errno.EDQUOT)
 _colored = ["auto"]
+_CODES = {"bad": "1;31", "good": "32", "help": "36", "faint": "2", "strong": "1"}
+_HERE = pathlib.Path(__file__).resolve()
 
 
 class Refused(Exception):
@@ -56,12 +57,46 @@ def _drop_output():
         os.dup2(os.open(os.devnull, os.O_WRONLY), sys.stdout.fileno())
 
 
+def version():
+    """The version, as `0.3.0`."""
+    for folder in _HERE.parents[1:3]:
+        file = folder / "VERSION"
+        if file.is_file():
+            return file.read_text().strip()
+    return "unknown"
+
+
+def add_version(parser):
+    """Adds --version and --generate to a command's options."""
+    from zsched_tools.generated import add_generate
+    parser.add_argument("--version", action="version", version=f"{parser.prog} {version()}")
+    add_generate(parser)
+
+
+def add_color(parser):
+    """Adds --color to a command's options."""
+    parser.add_argument("--color", choices=["auto", "always", "never"], default="auto", metavar="WHEN",
+                        help="colours: auto (on a terminal, unless NO_COLOR is set), always or never")
+
+
+class Paint:
+    """Paints texts for a stream, if the choice and the stream allow it."""
+
+    def __init__(self, choice, stream):
+        is_wanted = stream.isatty() and not os.environ.get("NO_COLOR") and os.environ.get("TERM") != "dumb"
+        self.is_on = choice == "always" or (choice == "auto" and is_wanted)
+
+    def __call__(self, style, text):
+        """The text in a style: bad, good, help, faint or strong."""
+        return f"\x1b[{_CODES[style]}m{text}\x1b[0m" if self.is_on and text else text
+
+
 def forms(tool, description, epilog, metavar):
     """The parser of a command of several forms, and what adds a form, by `add_parser`."""
     made = functools.partial(argparse.ArgumentParser, epilog=epilog, formatter_class=argparse.RawDescriptionHelpFormatter)
     parser = made(prog=tool, description=description)
-    release.add_version(parser)
-    colors.add_color(parser)
+    add_version(parser)
+    add_color(parser)
     return parser, parser.add_subparsers(required=True, metavar=metavar, parser_class=made)
 
 
@@ -139,5 +174,5 @@ def naming(path):
 def _told(tool, text, status):
     """Writes why a command ends. Returns its status."""
     if sys.stderr is not None:
-        print(colors.Paint(_colored[0], sys.stderr)("bad", f"{tool}: {text}"), file=sys.stderr)
+        print(Paint(_colored[0], sys.stderr)("bad", f"{tool}: {text}"), file=sys.stderr)
     return status

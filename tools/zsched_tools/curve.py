@@ -2,9 +2,8 @@
 import json
 from collections import Counter
 
-from zsched_tools.cause import WIDTH, shown
-from zsched_tools.durations import duration
 from zsched_tools.scenario import LAST_MOMENT, THOUSAND
+from zsched_tools.words import WIDTH, duration, shown
 
 CSV_HEAD = "second,begun,ok,err,running"
 SHARES = [50, 95, 99]

@@ -1,18 +1,20 @@
 """The load of policies as a picture: a panel a policy, all with one time axis and one height for the same load. The
-windows of the service are shaded. An outcome is shown by its colour and by its place: ok is above err."""
+windows of the service are shaded. An outcome is shown by its colour and by its place: ok is above err.
 
-from zsched_tools.axis import Scale, labels, steps_to
-from zsched_tools.cause import WIDTH, shown
-from zsched_tools.curve import headline, seconds, state_words
-from zsched_tools.drawing import cut_text, path, place, rectangle, root, text, text_width
-from zsched_tools.durations import duration
+A page has the picture in two widths, of which it shows the one that fits, and the table. It is one file that loads nothing
+from elsewhere."""
+import html
+
+from zsched_tools.curve import headline, policy_lines, state_words, table
+from zsched_tools.drawing import Scale, cut_text, labels, path, place, rectangle, root, steps_to, text, text_width
 from zsched_tools.scenario import DOWN, THOUSAND
+from zsched_tools.words import WIDTH, duration, shown
 
 MARGIN = 16
 PANEL = 120
 GAP = 34
 # The room above a panel for the policy, and above its loads for what the service does.
-HEAD, WORDS = 36, 18
+HEAD_ROOM, WORDS = 36, 18
 SMALL = 11
 LETTERS = 12
 TITLE = 14
@@ -29,6 +31,37 @@ text{font-family:"DejaVu Sans",Verdana,Geneva,sans-serif;fill:var(--ink);font-si
 .ok{fill:var(--ok)}.err{fill:var(--err)}.begun{fill:none;stroke:var(--ink);stroke-width:1.3}
 .running{fill:none;stroke:var(--run);stroke-width:1.3;stroke-dasharray:4 3}
 .down{fill:var(--down)}.slow{fill:var(--slow)}.full{fill:var(--full)}"""
+NARROW, WIDE = 360, 920
+
+PAGE_HEAD = """<!doctype html>
+<html lang="en">
+<meta charset="utf-8">
+<meta name="viewport" content="width=device-width">
+<meta http-equiv="Content-Security-Policy" content="default-src 'none'; style-src 'unsafe-inline'">
+<title>{title}</title>
+<style>
+:root{{color-scheme:light dark;--ink:#1f2933;--soft:#52606d;--page:#fff;--grid:#d9dee4}}
+@media(prefers-color-scheme:dark){{:root{{--ink:#e6eaee;--soft:#aab4be;--page:#14181d;--grid:#343c45}}}}
+body{{margin:0 auto;max-width:1240px;padding:12px;font:15px/1.45 system-ui,sans-serif}}
+body{{color:var(--ink);background:var(--page)}}
+svg{{display:block;width:100%;height:auto}}
+.wide{{display:none}}
+@media(min-width:800px){{.wide{{display:block}}.narrow{{display:none}}}}
+.narrow{{max-width:560px}}
+.table{{overflow-x:auto}}
+table{{border-collapse:collapse;margin:12px 0;font-variant-numeric:tabular-nums}}
+th,td{{padding:3px 0 3px 14px;border-bottom:1px solid var(--grid);text-align:right;white-space:nowrap}}
+tr:first-child>th+th{{white-space:normal;overflow-wrap:anywhere;min-width:8ch;vertical-align:bottom}}
+th:first-child{{padding-left:0;text-align:left;font-weight:normal;white-space:pre-wrap}}
+p{{color:var(--soft);max-width:70ch}}
+.policy{{color:var(--ink);margin:4px 0;overflow-wrap:anywhere}}
+@media(max-width:500px){{table{{font-size:12px}}th,td{{padding-left:8px}}}}
+</style>
+"""
+NOTE = """<p>A panel shows one policy; all have the same time and the same height for the same load. Areas are the
+attempts that ended in a second, ok above err; the line is those that began in it, the dashed line those that run at its
+end. The run of each policy is the report of a plan, which the program confirmed for every client that is certified.</p>
+"""
 
 
 def _style_of(window):
@@ -53,7 +86,7 @@ class Layout:
 
     def panel(self, number):
         """The top of a panel's plot."""
-        return self.top + number * (HEAD + WORDS + PANEL + GAP - 20) + HEAD + WORDS
+        return self.top + number * (HEAD_ROOM + WORDS + PANEL + GAP - 20) + HEAD_ROOM + WORDS
 
     @property
     def bottom(self):
@@ -198,3 +231,23 @@ def draw_curves(scenario, figures, width=960, is_file=True):
         yield text(layout.scale.at(moment), layout.bottom + 16, label, "soft", "middle")
     yield from legend
     yield "</svg>"
+
+
+def curve_page(scenario, figures):
+    """The page, in pieces."""
+    yield PAGE_HEAD.format(title=html.escape(headline(scenario)))
+    for style, width in [("wide", WIDE), ("narrow", NARROW)]:
+        yield f'<div class="{style}">\n'
+        for line in draw_curves(scenario, figures, width, is_file=False):
+            yield f"{line}\n"
+        yield "</div>\n"
+    yield '<div class="table"><table>\n'
+    for number, cells in enumerate(table(scenario, figures)):
+        mark = "th" if number == 0 else "td"
+        yield f'<tr><th scope="row">{html.escape(cells[0])}</th>'
+        yield "".join(f"<{mark}>{html.escape(cell)}</{mark}>" for cell in cells[1:]) + "</tr>\n"
+    yield "</table></div>\n"
+    notes = [f"{name}: {it.note()}" for name, it in figures.items() if it.uncertified]
+    for line in [*policy_lines(figures), *notes]:
+        yield f'<p class="policy">{html.escape(line)}</p>\n'
+    yield NOTE + "</html>\n"

@@ -2,10 +2,9 @@
 import operator
 import re
 
-from zsched_tools.cause import Cause
 from zsched_tools.hints import DOCUMENT_KEYS, JOB_KEYS
-from zsched_tools.patterns import run_of
-from zsched_tools.positions import W
+from zsched_tools.place import Cause
+from zsched_tools.positions import W, run_of
 from zsched_tools.values import first, missing, not_of_kind, not_whole, out_of_range, over, unknown_key
 
 MAX_MOMENT = 999999999999999

@@ -1,11 +1,21 @@
-"""Elements of a picture in SVG, and how wide a text is."""
+"""Elements of a picture in SVG, how wide a text is, and the time axis: the places of moments, and those that have a label."""
 import html
+import itertools
+import math
+from typing import NamedTuple
+
+from zsched_tools.words import DAY, HOUR, MINUTE, duration
 
 # Widths of DejaVu Sans, in parts of the text's size. Verdana's are nearly the same, those of other fonts smaller.
 _WIDTHS = {0.33: "ijlIJ .,:;'|·", 0.42: "frt-()[]/", 0.56: "cszLF_", 0.8: "wDGHNOQU+", 1.0: "mMW%@…"}
 _WIDTH_OF = {letter: width for width, letters in _WIDTHS.items() for letter in letters}
 _OTHER_WIDTH = 0.7
 _LETTER_WIDTH = 0.645
+NEAREST_LABELS = 90
+LONGEST_LABEL = 12
+_SHORT_STEPS = [1, 2, 5, 10, 20, 50, 100, 200, 500]
+_STEPS = (_SHORT_STEPS + [1000 * it for it in [1, 2, 5, 10, 15, 30]] + [MINUTE * it for it in [1, 2, 5, 10, 15, 30]]
+          + [HOUR * it for it in [1, 2, 3, 6, 12]])
 
 
 def text_width(text, size):
@@ -56,3 +66,83 @@ def text(left, base, words, style, anchor="start", title=None):
 def titled(words):
     """The text that is shown while the pointer rests on an element."""
     return f"<title>{html.escape(words)}</title>"
+
+
+class View(NamedTuple):
+    """The part of time that a picture shows: its first and last moment, None for a default; and whether its axis
+    is logarithmic."""
+    first: int | None = None
+    last: int | None = None
+    is_log: bool = False
+
+
+def round_numbers(unit=1):
+    """1, 2, 5, 10, 20 and so on, times a unit."""
+    return (unit * many * 10**power for power in itertools.count() for many in [1, 2, 5])
+
+
+def steps_to(most):
+    """Round numbers for the lines of an axis, from 0 to the first that isn't under the most: at most five."""
+    step = next(step for step in round_numbers() if 4 * step >= most)
+    return [step * number for number in range(max(1, -(-most // step)) + 1)]
+
+
+class Scale:
+    """Moments from `first` to `last`, drawn from the pixel `left` to the pixel `right`. With a `unit` the axis is
+    logarithmic: equal ratios of the time since `first` are equally long, from about a unit of time on."""
+
+    def __init__(self, first, last, left, right, unit=None):
+        self.first, self.last = first, max(last, first + 1)
+        self.left, self.right = left, right
+        self.unit = unit
+        self.whole = math.log1p((self.last - first) / unit) if unit else self.last - first
+
+    def at(self, moment):
+        """The pixel of a moment. A moment before the first has the first's pixel, one after the last has the last's."""
+        time = min(max(moment, self.first), self.last) - self.first
+        return self.left + (self.right - self.left) * (math.log1p(time / self.unit) if self.unit else time) / self.whole
+
+
+def step_between_labels(time, room):
+    """The least sensible step that leaves room between two labels."""
+    least = time * NEAREST_LABELS / room
+    return next(step for step in itertools.chain(_STEPS, round_numbers(DAY)) if step >= least)
+
+
+def labels(scale):
+    """The moments that get a label, with the labels; and the moment that they count from, or 0. Labels that
+    would be long count from the first moment."""
+    if scale.unit:
+        return _labels_of_times(scale)
+    step = step_between_labels(scale.last - scale.first, scale.right - scale.left)
+    moments = range(-(-scale.first // step) * step, scale.last + 1, step)
+    plain = [duration(moment) if moment else "0" for moment in moments]
+    if scale.first == 0 or max(map(len, plain), default=0) <= LONGEST_LABEL:
+        return list(zip(moments, plain)), 0
+    base = scale.first
+    moments = range(base, scale.last + 1, step)
+    return [(moment, f"+{duration(moment - base)}") for moment in moments], base
+
+
+def _labels_of_times(scale):
+    """The same on a logarithmic axis: moments that count from the first one."""
+    found = [(scale.first, "0" if scale.first == 0 else "+0 ms")]
+    for time in [*_STEPS, *itertools.islice(round_numbers(DAY), 36)]:
+        moment = scale.first + time
+        if moment <= scale.last and scale.at(moment) - scale.at(found[-1][0]) >= NEAREST_LABELS * 2 // 3:
+            found.append((moment, duration(time) if scale.first == 0 else f"+{duration(time)}"))
+    return found, scale.first
+
+
+def shown_moments(attempts, horizon):
+    """The first and the last moment that a picture of some jobs' attempts shows. The time before the first attempt is
+    left out if it would take more than a quarter of the width. The horizon is left out if the attempts would have less
+    than a quarter."""
+    first = min([listed[0].begin for listed in attempts if listed], default=0)
+    lasts = [listed[-1] for listed in attempts if listed]
+    last = max([attempt.begin if attempt.end is None else attempt.end for attempt in lasts], default=0)
+    if horizon is not None and (first == last or horizon - first <= 4 * (last - first)):
+        last = max(last, horizon)
+    if 4 * first < last:
+        first = 0
+    return first, last

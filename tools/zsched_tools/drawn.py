@@ -21,16 +21,15 @@ from typing import Callable, NamedTuple
 
 from zsched_tools import hints, program
 from zsched_tools.bounding import LAST_MOMENT
-from zsched_tools.cause import Cause
 from zsched_tools.command import REFUSED
-from zsched_tools.duration_text import milliseconds
-from zsched_tools.durations import duration
+from zsched_tools.durations import milliseconds
 from zsched_tools.hints import TABLE
-from zsched_tools.place import FaultAt
+from zsched_tools.place import Cause, FaultAt
 from zsched_tools.policy import spelling
 from zsched_tools.positions import MAX_WHOLE
 from zsched_tools.schedule_rules import any_cause
 from zsched_tools.trying import plan_of, waits_in
+from zsched_tools.words import duration
 
 MOST_DELAYS = 240
 MOST_WAITS = 999

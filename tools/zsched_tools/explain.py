@@ -7,8 +7,8 @@ import sys
 import tempfile
 import threading
 
-from zsched_tools import colors, command, plan_size, program, release, starting
-from zsched_tools.cause import WIDTH, shown
+from zsched_tools import command, place, plan_size, program, starting
+from zsched_tools.words import WIDTH, shown
 
 ABOUT = """Runs zsched on a plan, and shows where the plan's fault is.
 
@@ -54,14 +54,14 @@ def words():
     count = command.number(1, 10000, "{} isn't a number from 1 to 10000")
     found.add_argument("--most", type=count, default=MOST_FAULTS, metavar="N",
                        help=f"how many faults --all shows at most ({MOST_FAULTS})")
-    colors.add_color(found)
-    release.add_version(found)
+    command.add_color(found)
+    command.add_version(found)
     return found
 
 
 def _explain(taken):
     """Explains the plan. Returns the exit status."""
-    name, paint = "standard input" if taken.plan == "-" else taken.plan, colors.Paint(taken.color, sys.stderr)
+    name, paint = "standard input" if taken.plan == "-" else taken.plan, command.Paint(taken.color, sys.stderr)
     zsched = program.find(taken.zsched)
     look = Look(command.read(taken.plan, program.MAX_BYTES + 1))
     many = plan_size.warning(look.data)
@@ -75,7 +75,7 @@ def _explain(taken):
 
 def _tell_all(name, zsched, data, most, paint):
     """Writes all faults of a plan, which the program runs with a clock of one moment. Returns the status."""
-    from zsched_tools import all_faults, explanation
+    from zsched_tools import all_faults
 
     def ended(text):
         """The program's status and line on a plan with the faults of this one. One of all alike jobs runs first."""
@@ -85,7 +85,7 @@ def _tell_all(name, zsched, data, most, paint):
     for line, found in all_faults.all_faults(ended, data, most + 1):
         count += 1
         if count <= most:
-            sys.stderr.write(f"{paint('bad', line.strip())}\n{explanation.fault_lines(name, found, paint)}")
+            sys.stderr.write(f"{paint('bad', line.strip())}\n{place.fault_lines(name, found, paint)}")
     shown_faults = f"{min(count, most)} fault{'s' * (count > 1)}"
     sys.stderr.write(f"{shown_faults}; there are more: --most N shows N\n" if count > most else f"{shown_faults}\n")
     return 2
@@ -100,8 +100,8 @@ def outcome(zsched, data):
 def fault_of_fewer(zsched, data):
     """The status and the line of the program on a plan's bytes, by a run with one of each group of alike jobs. None if
     that has no fault, or if few jobs are alike."""
-    from zsched_tools import alike
-    fewer = alike.fewer(data)
+    from zsched_tools import all_faults
+    fewer = all_faults.fewer(data)
     status, line = outcome(zsched, fewer.data) if fewer else (0, "")
     return (2, fewer.line(line)) if status == 2 else None
 
@@ -122,9 +122,9 @@ class Look(threading.Thread):
 
     def explanation(self, name, line, paint):
         """The lines that show the place of the fault in this line of the program. Waits for the scan."""
-        from zsched_tools import explanation
+        from zsched_tools import faults
         self.join()
-        return explanation.explanation(name, self.plan, line, paint)
+        return place.fault_lines(name, faults.explained(self.plan, line.strip().removeprefix("zsched: ")), paint)
 
 
 def refusal(zsched, look, seconds=None, data=None):

@@ -15,12 +15,11 @@ from typing import NamedTuple
 from zsched_tools.call_log import by_request, in_ms
 from zsched_tools.command import Refused
 from zsched_tools.document_faults import MAX_MOMENT
-from zsched_tools.durations import duration
 from zsched_tools.outage import ATTEMPTS_OF_PLAN, MOST_ATTEMPTS, MOST_ENTRIES, cut_plans
 from zsched_tools.program import run_plan
 from zsched_tools.report import blocks_of
 from zsched_tools.schedule_rules import MAX_DEPTH, MAX_WEIGHT, cause_of
-from zsched_tools.summary import plural
+from zsched_tools.words import duration, plural
 
 KINDS = ["early", "late", "extra", "missing"]
 _TIMED, _INPUTS = {"elapsed", "fixed", "windowed"}, {"identity", "whileInput"}

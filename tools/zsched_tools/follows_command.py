@@ -2,12 +2,12 @@
 import argparse
 import sys
 
-from zsched_tools import call_log, colors, command, importing, program, release, starting
-from zsched_tools.cause import WIDTH, shown
+from zsched_tools import call_log, command, importing, program, starting
+from zsched_tools.call_log import Notes
 from zsched_tools.command import Refused
-from zsched_tools.duration_text import duration_argument
+from zsched_tools.durations import duration_argument
 from zsched_tools.follows import compared
-from zsched_tools.policy_plan import Notes
+from zsched_tools.words import WIDTH, shown
 
 TOOL = "zsched-follows"
 DIFFERS = 1
@@ -59,7 +59,7 @@ def work(given):
     if given.json:
         print(found.json())
         return DIFFERS if found.differences else 0
-    paint = colors.Paint(given.color, sys.stdout)
+    paint = command.Paint(given.color, sys.stdout)
     for difference in found.differences:
         print(shown(difference.line(), 10 * WIDTH))
     print(paint("bad" if found.differences else "good", found.summary()))
@@ -79,8 +79,8 @@ def arguments():
     parser.add_argument("--json", action="store_true", help="print one object")
     call_log.add_options(parser.add_argument_group("columns"))
     parser.add_argument("--zsched", metavar="PATH", help="the program (ZSCHED, the built or the installed one)")
-    colors.add_color(parser)
-    release.add_version(parser)
+    command.add_color(parser)
+    command.add_version(parser)
     return parser
 
 

@@ -2,7 +2,7 @@
 import argparse
 import re
 
-from zsched_tools.release import version
+from zsched_tools.command import version
 
 # The names of arguments that are files or folders.
 FILES = {"FILE", "PATH", "LOG", "PLAN", "PLAN.json", "SCENARIO.json", "MANIFEST | PART"}

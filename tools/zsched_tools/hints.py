@@ -1,17 +1,31 @@
-"""What the user may have meant: similar words, durations with units, and names of ZIO that a plan spells differently."""
+"""The texts of faults, which docs/play.html has, and what the user may have meant: similar words, and names of ZIO that a
+plan spells differently."""
 import difflib
+import functools
 import json
+import pathlib
 import re
-from fractions import Fraction
 
-from zsched_tools import play_page
-
+_HERE = pathlib.Path(__file__).resolve()
+_PLACES = [_HERE.parents[2] / "docs" / "play.html", _HERE.parents[1] / "play.html"]
 DOCUMENT_KEYS = ["horizon", "ticks", "workers", "grain", "jobs"]
 JOB_KEYS = ["name", "mode", "schedule", "start", "script"]
 ENTRY_KEYS = ["ms", "ok", "err"]
 
+
+@functools.cache
+def page():
+    """docs/play.html, in the tree or in the package."""
+    return next(place for place in _PLACES if place.is_file()).read_text(encoding="utf-8")
+
+
+def piece(name):
+    """The text of the script or the style of the page with this id."""
+    return re.search(rf'<(script|style)[^>]* id="{name}">\n(.*?)</\1>', page(), re.S)[2]
+
+
 # The texts of faults, and what they are about: one table for the tools and for docs/play.html.
-TABLE = json.loads(play_page.piece("texts"))
+TABLE = json.loads(piece("texts"))
 
 
 def said(name, **values):
@@ -23,9 +37,6 @@ def said(name, **values):
 BARE_LEAVES, NUMBERED_LEAVES, METHODS, OPERATORS, COMPARISONS = (
     said(name).split(", ") for name in ["bare", "numbered", "methods", "operators", "comparisons"])
 LEAVES = BARE_LEAVES + NUMBERED_LEAVES
-# How many milliseconds a unit has.
-UNITS = {unit: Fraction(length, 10**6) for length, units in TABLE["nanoseconds"] for unit in units.split()}
-_PART = re.compile(r"\s*([0-9]{1,30}(?:\.[0-9]{1,30})?|\.[0-9]{1,9})[ .]*([A-Za-zµ]+)\s*")
 
 # What to write for names of ZIO and other words that a schedule doesn't have, and for symbols, the longest first.
 ZIO, SYMBOLS = ({name: said(help) for help, names in TABLE[key] for name in names.split()}
@@ -49,27 +60,3 @@ def zio(word):
         return _IN_ANY_CASE[word.lower()]
     base = re.sub(r"(ZIO|M)$", "", word)
     return ZIO["run"] if base != word and (base in ZIO or base in METHODS) else None
-
-
-def milliseconds(text):
-    """The milliseconds of a duration's text, as '10s', '1.5', '2 minutes', '1h30m' or 'PT5S': a Fraction, or None."""
-    text = text.strip()
-    if len(text) > 100:
-        return None
-    if re.fullmatch(r"[0-9]{1,30}(\.[0-9]{1,30})?", text):
-        return Fraction(text)
-    if re.fullmatch(r"P([0-9]+D)?(T.+)?", text):
-        text = text[1:].replace("T", "")
-    parts = _PART.findall(text)
-    units = [unit if unit in UNITS else unit.lower() for _, unit in parts]
-    if not parts or "".join(_PART.split(text)[::3]).strip() or not set(units) <= set(UNITS):
-        return None
-    return sum((Fraction(count) * UNITS[unit] for (count, _), unit in zip(parts, units)), Fraction(0))
-
-
-def in_milliseconds(text):
-    """What to write for the text of a duration, or an empty text."""
-    length = milliseconds(text)
-    if length is None:
-        return ""
-    return said("in_ms", text=length) if length.denominator == 1 else said("smallest")

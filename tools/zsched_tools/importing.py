@@ -10,20 +10,19 @@ from fractions import Fraction
 from typing import NamedTuple
 
 from zsched_tools import call_log, faults, program, windows
-from zsched_tools.cause import WIDTH, line_of, shown
+from zsched_tools.call_log import Notes
 from zsched_tools.command import Refused, write
 from zsched_tools.document_faults import MAX_JOBS, MAX_MOMENT
 from zsched_tools.drawn import Policy
-from zsched_tools.durations import duration
-from zsched_tools.hints import milliseconds
+from zsched_tools.durations import exact_milliseconds
 from zsched_tools.outage import MOST_ENTRIES
-from zsched_tools.place import FaultAt
-from zsched_tools.placed import Written, Wrong, told
+from zsched_tools.place import FaultAt, line_of, told
+from zsched_tools.placed import Written, Wrong
 from zsched_tools.policy_file import read_toml, read_yaml
-from zsched_tools.policy_plan import Names, Notes, is_allowed, plan_of, whole
+from zsched_tools.policy_plan import Names, is_allowed, plan_of, whole
 from zsched_tools.scenario import Outcome
 from zsched_tools.schedule_rules import any_cause
-from zsched_tools.summary import plural
+from zsched_tools.words import WIDTH, duration, plural, shown
 
 READERS = {".yaml": read_yaml, ".yml": read_yaml, ".toml": read_toml}
 LOGS = (".csv", ".tsv", ".jsonl", ".ndjson", ".json")
@@ -82,7 +81,7 @@ def _source(path):
 
 def _until(word):
     """The horizon of a plan that has no horizon."""
-    length = milliseconds(word)
+    length = exact_milliseconds(word)
     if length is None or length.denominator != 1 or length > MAX_MOMENT:
         raise argparse.ArgumentTypeError(f"{word} is not a duration: write 60000, 90s or 1h")
     return int(length)

@@ -2,11 +2,11 @@
 import re
 
 from zsched_tools import schedule_rules, schedule_text
-from zsched_tools.cause import Cause, line_of, shown
 from zsched_tools.hints import ENTRY_KEYS, JOB_KEYS, near
-from zsched_tools.patterns import run_of
-from zsched_tools.positions import W
+from zsched_tools.place import Cause, line_of
+from zsched_tools.positions import W, run_of
 from zsched_tools.values import first, misnamed, missing, not_of_kind, not_whole, over, unknown_key
+from zsched_tools.words import shown
 
 MAX_ENTRIES = 1000
 MAX_NAME = 64

@@ -4,12 +4,11 @@ One regular expression matches a run of flat parts. All other parts are read one
 import re
 
 from zsched_tools import not_json
-from zsched_tools.cause import Cause
-from zsched_tools.patterns import maybe, run_of
+from zsched_tools.place import Cause
+from zsched_tools.positions import COLON, SPACE, W, maybe, run_of
 
 MAX_DEPTH = 127
 
-W = r"[ \t\n\r]*+"
 _ESCAPE = (r'\\(?:["\\/bfnrt]|u(?:(?![dD][89a-fA-F])[0-9a-fA-F]{4}'
            r"|[dD][89abAB][0-9a-fA-F]{2}\\u[dD][c-fC-F][0-9a-fA-F]{2}))")
 _STRING = r'"[^"\\\x00-\x1f]*+' + run_of(_ESCAPE + r'[^"\\\x00-\x1f]*+') + '"'
@@ -22,9 +21,7 @@ _MEMBER = f"{_STRING}{W}:{W}{_SCALAR}{W}"
 _PLAIN = rf'"[A-Za-z]*+"{W}:{W}(?:[1-9][0-9]{{0,18}}+|0){W}'
 _FLAT = rf"(?:\{{{W}{_PLAIN},{W}{_PLAIN}\}}|{_SCALAR}|\{{{W}{maybe(_MEMBER + run_of(f',{W}{_MEMBER}'))}\}})"
 
-_SPACE = re.compile(W)
 _KEY = re.compile(_STRING)
-_COLON = re.compile(f"{W}:{W}")
 _ONE_SCALAR = re.compile(_SCALAR)
 _NUMBER = re.compile("-?(?:0|[1-9][0-9]*+)" + maybe(r"\.[0-9]++") + maybe("[eE][+-]?[0-9]++"))
 _ITEMS = re.compile(run_of(f"{_FLAT}{W},{W}"))
@@ -62,7 +59,7 @@ class Reading:
 
     def skip(self, at):
         """The place after the white space."""
-        return _SPACE.match(self.text, at).end()
+        return SPACE.match(self.text, at).end()
 
     def end_of(self, at):
         """The end of the value that begins here."""
@@ -107,7 +104,7 @@ class Reading:
         key = _KEY.match(self.text, at)
         if not key:
             raise NotJson(not_json.no_key(self, at))
-        colon = _COLON.match(self.text, key.end())
+        colon = COLON.match(self.text, key.end())
         if not colon:
             raise NotJson(not_json.no_colon(self, at, key.end()))
         return colon.end()

@@ -3,9 +3,8 @@ its end."""
 import collections
 
 from zsched_tools.command import Refused
-from zsched_tools.durations import duration
 from zsched_tools.report import Attempt, Ending, records
-from zsched_tools.summary import plural, table
+from zsched_tools.words import duration, plural, table
 
 HEAD = ["from", "begun", "ok", "err", "running", "waiting"]
 MOST_STEPS = 100_000

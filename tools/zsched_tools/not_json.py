@@ -1,9 +1,10 @@
 """Why a text is not JSON, in words: what it has instead of a value, a key, a colon or a comma."""
 import re
 
-from zsched_tools.cause import Cause, line_of, shown
-from zsched_tools.hints import UNITS, in_milliseconds
-from zsched_tools.patterns import run_of
+from zsched_tools.durations import UNITS, in_milliseconds
+from zsched_tools.place import Cause, line_of
+from zsched_tools.positions import run_of
+from zsched_tools.words import shown
 
 SKETCH = '{"horizon": 60000, "jobs": [ .. ]}'
 FROM = "make a plan of policies by zsched-plan from FILE, or "

@@ -13,9 +13,9 @@ from array import array
 
 from zsched_tools.program import MAX_BYTES, run_plan
 from zsched_tools.report import attempts_in, blocks_of, ending_in
+from zsched_tools.scenario import DOWN
 from zsched_tools.split import MOST_JOBS
 from zsched_tools.world import CUT, DENIED, DONE, GOES_ON, MOST_ENTRIES, UNDENIED, Run, Walk
-from zsched_tools.scenario import DOWN
 
 # The most attempts of a policy, and about how many a plan makes of clients with many.
 MOST_ATTEMPTS, ATTEMPTS_OF_PLAN = 50_000_000, 1_000_000

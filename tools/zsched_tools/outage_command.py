@@ -6,23 +6,19 @@ import sys
 
 from zsched_tools import command, plan_size, program, starting, summary
 from zsched_tools.certificate import Uncertified, certified
-from zsched_tools.colors import Paint, add_color
-from zsched_tools.command import REFUSED, Refused
+from zsched_tools.command import REFUSED, Paint, Refused, add_color, add_version
 from zsched_tools.curve import Figures, headline, policy_lines, table, to_json
-from zsched_tools.curve_page import curve_page
-from zsched_tools.curve_picture import draw_curves
+from zsched_tools.curve_picture import curve_page, draw_curves
 from zsched_tools.drawn import LOW
-from zsched_tools.duration_text import duration_argument
-from zsched_tools.durations import duration
+from zsched_tools.durations import duration_argument
 from zsched_tools.outage import Search, Unsettled, cut_plans, name_of, schedules_of
 from zsched_tools.place import FaultAt, in_file, place_lines
 from zsched_tools.plan_text import LONGEST_PLAN
 from zsched_tools.progress import Now
-from zsched_tools.release import add_version
 from zsched_tools.scenario import DOWN, in_text, read_scenario
 from zsched_tools.schedule_rules import any_cause
 from zsched_tools.split import MOST_JOBS, write_parts
-from zsched_tools.summary import plural
+from zsched_tools.words import duration, plural
 
 TOOL = "zsched-outage"
 EXCEEDED = 1

@@ -5,8 +5,8 @@ docs/play.html."""
 import html
 import json
 
-from zsched_tools import picture, play_page
-from zsched_tools.axis import View
+from zsched_tools import hints, picture
+from zsched_tools.drawing import View
 from zsched_tools.lines import item_of, report_lines
 from zsched_tools.strip import draw_strip
 
@@ -93,7 +93,7 @@ def report_of(rows):
 def _head(title):
     """The page up to its title."""
     name = html.escape(title or "Timeline of a report of zsched")
-    yield HEAD.format(title=name, style=play_page.piece("drawing-style"))
+    yield HEAD.format(title=name, style=hints.piece("drawing-style"))
     if title:
         yield f"<h1>{html.escape(title)}</h1>\n"
 
@@ -112,7 +112,7 @@ def page(rows, title, view=View()):
     shown = {"from": view.first, "to": view.last, "isLog": view.is_log}
     options = json.dumps({key: value for key, value in shown.items() if value is not None})
     yield f'</script>\n<script type="application/json" id="view">{options}</script>\n'
-    yield f"<script>\n{play_page.piece('drawing')}</script>\n<script>\n{VIEW}</script>\n"
+    yield f"<script>\n{hints.piece('drawing')}</script>\n<script>\n{VIEW}</script>\n"
     yield "</html>\n"
 
 

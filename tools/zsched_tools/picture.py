@@ -2,13 +2,13 @@
 from dataclasses import dataclass
 
 from zsched_tools import strip
-from zsched_tools.axis import Scale, View, labels, shown_moments
 from zsched_tools.bars import Shapes, draw_shape, mark
 from zsched_tools.command import Refused
-from zsched_tools.drawing import cut_text, path, place, rectangle, root, text, text_width
-from zsched_tools.durations import duration
+from zsched_tools.drawing import (Scale, View, cut_text, labels, path, place, rectangle, root, shown_moments, text,
+                                  text_width)
 from zsched_tools.report import Ending, Job
-from zsched_tools.summary import ending_text, plural
+from zsched_tools.summary import ending_text
+from zsched_tools.words import duration, plural
 
 MOST_JOBS = 200
 WIDTH = 1240

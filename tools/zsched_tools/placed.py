@@ -4,9 +4,7 @@ import json
 import re
 from typing import NamedTuple
 
-from zsched_tools.cause import Cause, line_of, shown
-from zsched_tools.explanation import unpainted
-from zsched_tools.place import in_file, place_lines
+from zsched_tools.place import Cause
 
 DEEPEST = 20
 _HALF_OF_A_PAIR = re.compile("[\ud800-\udfff]")
@@ -110,11 +108,3 @@ class Written:
         has_letters = isinstance(value.data, str) and len(text) == len(value.data) + 2
         self._mark(value.at, value.inside if has_letters else None)
         self._put(text)
-
-
-def told(name, text, cause, job=None):
-    """The lines that show the place of a cause in a file's text, without a newline at the end."""
-    lines = list(place_lines(in_file(name, text, cause), text, cause, unpainted))
-    if job is not None:
-        lines.append(f'{" " * len(str(line_of(text, cause.at)))} = job "{shown(job, 64)}"')
-    return "\n".join(lines)

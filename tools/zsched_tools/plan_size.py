@@ -7,7 +7,7 @@ import sys
 from typing import NamedTuple
 
 from zsched_tools import program, schedule_rules
-from zsched_tools.colors import Paint
+from zsched_tools.command import Paint
 
 MOST_ATTEMPTS = 10**6
 # The nodes of schedules that a thread steps in about a millisecond.

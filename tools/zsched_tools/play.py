@@ -15,7 +15,7 @@ import subprocess
 import sys
 import tempfile
 
-from zsched_tools import bounding, colors, command, faults, plan_size, play_page, program, release, starting
+from zsched_tools import bounding, command, faults, hints, plan_size, program, starting
 
 ADDRESS = "127.0.0.1"
 PORT = 8642
@@ -42,7 +42,7 @@ class Late(Exception):
 
 def page():
     """docs/play.html with zsched in place of the page's evaluator."""
-    return play_page.text().replace('data-engine="page"', 'data-engine="program"', 1)
+    return hints.page().replace('data-engine="page"', 'data-engine="program"', 1)
 
 
 def run(zsched, plan, seconds):
@@ -239,7 +239,7 @@ def serve(given):
     with server:
         try:
             signal.signal(signal.SIGTERM, stop)
-            paint = colors.Paint(given.color, sys.stdout)
+            paint = command.Paint(given.color, sys.stdout)
             print(f"zsched-play: {paint('strong', server.url())}", flush=True)
             server.serve_forever()
         except KeyboardInterrupt:
@@ -255,8 +255,8 @@ def arguments():
     words.add_argument("--port", type=port, default=PORT, help=f"the port ({PORT}); 0 picks a free one")
     words.add_argument("--zsched", metavar="PATH", help="the program (ZSCHED, or the one that is built or on PATH)")
     words.add_argument("--bounds", metavar="PATH", help="zsched-bounds (ZSCHED_BOUNDS, or the one that is built or on PATH)")
-    release.add_version(words)
-    colors.add_color(words)
+    command.add_version(words)
+    command.add_color(words)
     return words
 
 

@@ -5,9 +5,10 @@ searches the lines for headers and keys. A value that isn't found has the place 
 import re
 import tomllib
 
-from zsched_tools.cause import Cause, line_of, shown
+from zsched_tools.place import Cause, line_of
 from zsched_tools.placed import DEEPEST, Raw, Value, Wrong, key
 from zsched_tools.policy.reading import yaml_module
+from zsched_tools.words import shown
 
 # More than the longest plan has. An alias in a list of aliases may represent any number of values.
 MOST_VALUES = 5_000_000

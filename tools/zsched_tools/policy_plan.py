@@ -2,32 +2,17 @@
 allows, and the defaults of the file for a job's keys."""
 import re
 
-from zsched_tools.cause import Cause, shown
-from zsched_tools.hints import JOB_KEYS, milliseconds
+from zsched_tools.durations import exact_milliseconds
+from zsched_tools.hints import JOB_KEYS
+from zsched_tools.place import Cause
 from zsched_tools.placed import Raw, Value, Wrong, key
+from zsched_tools.words import shown
 
 MOST_ENTRIES = 1000
 LONGEST_NAME = 64
 DEFAULTS = ("mode", "start", "script")
 _ATTEMPT = re.compile(r"\s*(.+?)\s+(ok|err)\s+([0-9]{1,19})(?:\s*[x×]\s*([0-9]{1,4}))?\s*")
 _AN_ATTEMPT = "write 40 err 503 or 35ms ok 200, and x3 for three"
-
-
-class Notes:
-    """The changes of a file: the first change of each kind, and the number of changes."""
-
-    def __init__(self):
-        self.found = {}
-
-    def add(self, kind, place, text):
-        """Adds a change. `place` is its place in the file."""
-        first = self.found.setdefault(kind, [place, text, 0])
-        first[2] += 1
-
-    def lines(self):
-        """A line for each kind of change: its place and its text."""
-        for place, text, count in sorted(self.found.values()):
-            yield place, text if count == 1 else f"{text}; {count} such changes, this is the first"
 
 
 def whole(length, unit, place, notes):
@@ -74,7 +59,7 @@ def duration(value, notes=None):
     With `notes` it is that of an attempt, which takes 1 at least."""
     if isinstance(value.data, bool) or not isinstance(value.data, (int, str)):
         return value
-    length = milliseconds(str(value.data))
+    length = exact_milliseconds(str(value.data))
     if length is None:
         return value
     if notes is None:
@@ -89,7 +74,7 @@ def _entries_in_words(value, notes):
     for part in value.data.split(","):
         at, size = value.part(begin, begin + len(part))
         words = _ATTEMPT.fullmatch(part)
-        length = words and milliseconds(words[1])
+        length = words and exact_milliseconds(words[1])
         if length is None:
             raise Wrong(Cause(at, size, f'"{shown(part.strip())}" is not an attempt', _AN_ATTEMPT))
         _, outcome, code, times = words.groups()

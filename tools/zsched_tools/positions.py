@@ -1,20 +1,32 @@
 """The values of a text that is JSON, with their places. A list or object is read only when its parts are needed; else
-only its brackets are matched."""
+only its brackets are matched.
+
+Runs in regular expressions don't backtrack here. Python before 3.11.5 doesn't undo what the last round of (?:PART)*+
+consumed if that round failed; the same for ?+. With an atomic group (?>PART) it does."""
 import functools
 import json
 import re
 
-from zsched_tools.patterns import run_of
-
 MAX_WHOLE = 2**64 - 1
+
+
+def run_of(part):
+    """Zero or more parts in sequence, as many as match."""
+    return f"(?:(?>{part}))*+"
+
+
+def maybe(part):
+    """Zero or one part."""
+    return f"(?:(?>{part}))?+"
+
 
 W = r"[ \t\n\r]*+"
 _STRING = r'"[^"\\]*+' + run_of(r'\\.[^"\\]*+') + '"'
 
-_SPACE = re.compile(W)
+SPACE = re.compile(W)
 _TEXT = re.compile(_STRING)
 _WORD = re.compile(r"[^ \t\n\r,\]}]++")
-_COLON = re.compile(f"{W}:{W}")
+COLON = re.compile(f"{W}:{W}")
 _TO_BRACKET = re.compile(run_of(rf'[^\[\]{{}}"]++|{_STRING}'))
 _KEPT_DEPTH = 4
 _DIGITS = re.compile(r"0|[1-9][0-9]{0,19}")
@@ -35,7 +47,7 @@ class Document:
 
     def skip(self, at):
         """The place after the white space."""
-        return _SPACE.match(self.text, at).end()
+        return SPACE.match(self.text, at).end()
 
     def end_of(self, at):
         """The end of the value that begins here."""
@@ -73,7 +85,7 @@ class Document:
 
     def behind_key(self, at):
         """The place of the value whose key begins here."""
-        return _COLON.match(self.text, self.end_of(at)).end()
+        return COLON.match(self.text, self.end_of(at)).end()
 
 
 class Node:

@@ -5,13 +5,13 @@ import os
 import sys
 
 from zsched_tools import command, load, starting
-from zsched_tools.axis import View
 from zsched_tools.command import Refused
-from zsched_tools.duration_text import duration_argument
+from zsched_tools.drawing import View
+from zsched_tools.durations import duration_argument
 from zsched_tools.join import write_joined, write_known
 from zsched_tools.lines import write_lines, write_report
-from zsched_tools.page import load_page, page
 from zsched_tools.manifest import is_manifest
+from zsched_tools.page import load_page, page
 from zsched_tools.picture import MOST_JOBS
 from zsched_tools.progress import Progress
 from zsched_tools.report import as_text

@@ -8,14 +8,13 @@ from dataclasses import dataclass, field
 from typing import NamedTuple
 
 from zsched_tools import json_reading, not_json
-from zsched_tools.cause import Cause, listed, shown
 from zsched_tools.drawn import Policy
-from zsched_tools.duration_text import milliseconds
-from zsched_tools.durations import duration
+from zsched_tools.durations import milliseconds
 from zsched_tools.hints import near
-from zsched_tools.place import FaultAt
+from zsched_tools.place import Cause, FaultAt
 from zsched_tools.positions import Document
 from zsched_tools.values import over
+from zsched_tools.words import duration, listed, shown
 
 SKETCH = '{"horizon": "3min", "clients": {"number": 1000}, "policies": {"NAME": "SCHEDULE"}}'
 MOST_CLIENTS = 1_000_000

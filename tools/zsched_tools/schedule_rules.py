@@ -2,8 +2,8 @@
 from typing import NamedTuple
 
 from zsched_tools import schedule_text
-from zsched_tools.cause import Cause
 from zsched_tools.hints import LEAVES, OPERATORS, said
+from zsched_tools.place import Cause
 from zsched_tools.schedule_text import TOKEN
 
 MAX_DEPTH = 64

@@ -3,7 +3,8 @@ import re
 import unicodedata
 from fractions import Fraction
 
-from zsched_tools.hints import METHODS, NUMBERED_LEAVES, TABLE, in_milliseconds
+from zsched_tools.durations import in_milliseconds
+from zsched_tools.hints import METHODS, NUMBERED_LEAVES, TABLE
 
 _TEMPLATE = re.compile(r"\{\{.*?\}\}|\$\{[^}]*\}|\$\([^)]*\)|\$[A-Za-z_]\w*|%[A-Z_]{2,}%|<[A-Z][A-Z_]+>")
 _EXPONENT = re.compile(r"((?:\.[0-9]{1,9})?)[eE]\+?([0-9]{1,2})(?!\w)")

@@ -3,10 +3,12 @@ there."""
 import re
 from typing import NamedTuple
 
-from zsched_tools.cause import Cause, shown
+from zsched_tools.durations import UNITS, in_milliseconds
 from zsched_tools.hints import (BARE_LEAVES, COMPARISONS, LEAVES, METHODS, NUMBERED_LEAVES, OPERATORS, SYMBOLS, TABLE,
-                                UNITS, in_milliseconds, near, said, zio)
+                                near, said, zio)
+from zsched_tools.place import Cause
 from zsched_tools.schedule_slips import slip
+from zsched_tools.words import shown
 
 TOKEN = re.compile(r"(?P<word>[A-Za-z]+)|(?P<number>[0-9]+)|(?P<mark>_[12]|&&|\|\||<=|!=|>=|[(),.<=>+*])")
 WINDOW = 4000

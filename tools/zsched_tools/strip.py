@@ -1,13 +1,12 @@
 """Draws the load of many jobs as a strip of bars, below the rows of a picture or in place of them."""
 
 from zsched_tools import picture
-from zsched_tools.axis import NEAREST_LABELS, Scale, View, labels, round_numbers, step_between_labels, steps_to
 from zsched_tools.command import Refused
-from zsched_tools.drawing import cut_text, path, place, rectangle, root, text, text_width, titled
-from zsched_tools.durations import duration
+from zsched_tools.drawing import (NEAREST_LABELS, Scale, View, cut_text, labels, path, place, rectangle, root,
+                                  round_numbers, step_between_labels, steps_to, text, text_width, titled)
 from zsched_tools.load import Load
 from zsched_tools.report import Attempt, records
-from zsched_tools.summary import plural
+from zsched_tools.words import duration, plural
 
 # In pixels: the height of the bars of attempts, that of running and waiting, and that of the words above each.
 BARS = 56

@@ -3,11 +3,10 @@ import itertools
 from collections import Counter
 from typing import NamedTuple
 
-from zsched_tools.durations import duration
 from zsched_tools.report import Attempt, Ending, records
+from zsched_tools.words import duration, plural, table
 
 HEAD = ["job", "mode", "ending", "at", "attempts", "ok", "err", "busy", "waited", "longest wait"]
-LEFT_COLUMNS = 3
 WIDEST_ENDING = 30
 PERCENTS = [50, 95, 99]
 WELL = ["succeeded", "finished"]
@@ -118,20 +117,6 @@ class Summary:
     def table(self):
         """The lines of the table."""
         return table([HEAD, *(cells for _, cells in sorted(self.rows, key=lambda row: row[0]))])
-
-
-def plural(number, name):
-    """A number with its noun: `1 job`, `2 jobs`."""
-    return f"{number} {name}" if number == 1 else f"{number} {name}s"
-
-
-def table(rows, left=LEFT_COLUMNS):
-    """Lines of a table: the first columns to the left, the others to the right."""
-    widths = [max(map(len, column)) for column in zip(*rows)]
-    for row in rows:
-        cells = [cell.ljust(width) if place < left else cell.rjust(width)
-                 for place, (cell, width) in enumerate(zip(row, widths))]
-        yield "  ".join(cells).rstrip()
 
 
 def _percentiles(times, jobs):

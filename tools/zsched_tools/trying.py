@@ -4,9 +4,8 @@ import json
 import re
 from dataclasses import dataclass
 
-from zsched_tools.durations import duration
 from zsched_tools.report import attempts_in, blocks_of, ending_in
-from zsched_tools.summary import plural
+from zsched_tools.words import duration, plural
 
 WIDEST_RESULT = 30
 MOST_AFTER = 999

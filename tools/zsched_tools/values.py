@@ -2,9 +2,11 @@
 import re
 from fractions import Fraction
 
-from zsched_tools.cause import Cause, listed, shown
-from zsched_tools.hints import DOCUMENT_KEYS, ENTRY_KEYS, JOB_KEYS, in_milliseconds, near
+from zsched_tools.durations import in_milliseconds
+from zsched_tools.hints import DOCUMENT_KEYS, ENTRY_KEYS, JOB_KEYS, near
+from zsched_tools.place import Cause
 from zsched_tools.positions import MAX_WHOLE
+from zsched_tools.words import listed, shown
 
 TIMES = ("horizon", "ticks", "start", "ms")
 _A = {"object": "an object", "list": "a list", "text": "a text", "number": "a number", "true": "true", "false": "false",

@@ -8,12 +8,11 @@ import collections
 import json
 from typing import NamedTuple
 
-from zsched_tools.durations import duration
 from zsched_tools.outage import MOST_ENTRIES, cut_plans
 from zsched_tools.program import run_plan
 from zsched_tools.report import attempts_in, blocks_of
 from zsched_tools.scenario import DEFAULTS, Outcome
-from zsched_tools.summary import plural
+from zsched_tools.words import duration, plural
 
 # An attempt that begins this close to one of its request's own ends as that one did.
 NEAR = 50

@@ -3,11 +3,11 @@ import json
 import sys
 
 from zsched_tools import command, starting
-from zsched_tools.cause import listed, shown
 from zsched_tools.command import Refused
 from zsched_tools.policy import difference, libraries, python_source, reading, services
 from zsched_tools.policy.reading import Wrong
 from zsched_tools.policy.spelling import spelled
+from zsched_tools.words import listed, shown
 
 TOOL = "zsched-policy"
 NOTHING = 1

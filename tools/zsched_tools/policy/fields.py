@@ -4,9 +4,9 @@ import re
 from fractions import Fraction
 from typing import Callable, NamedTuple
 
-from zsched_tools.cause import shown
-from zsched_tools.hints import UNITS, milliseconds
+from zsched_tools.durations import UNITS, exact_milliseconds
 from zsched_tools.policy.reading import Wrong
+from zsched_tools.words import shown
 
 DAY = 86_400_000
 _NUMBER = r"(?:[0-9]{1,20}(?:\.[0-9]{0,20})?|\.[0-9]{1,20})"
@@ -133,7 +133,7 @@ def duration(node, unit=None):
         if unit is None and number(node):
             raise Wrong(node.line, f"{named(node)} has no unit: write it as 1.5s")
         return number(node) * (unit or 1)
-    exact = milliseconds(text.upper() if text.startswith("p") else text)
+    exact = exact_milliseconds(text.upper() if text.startswith("p") else text)
     if exact is None:
         raise Wrong(node.line, f"{named(node)} is not a duration: write it as 1.5s")
     return exact

@@ -19,7 +19,7 @@ import math
 from fractions import Fraction
 
 from zsched_tools.policy.fields import (DAY, Fields, Found, Policy, duration, keys_of, number, part, plain, texts,
-                                         truth, whole)
+                                        truth, whole)
 from zsched_tools.policy.reading import Node, Wrong, unfolded
 from zsched_tools.policy.services import label, tables
 from zsched_tools.policy.spelling import GREATEST, Waits, constant, exponential, growing, linear

@@ -15,8 +15,7 @@ from fractions import Fraction
 
 from zsched_tools.policy.fields import Found, Policy
 from zsched_tools.policy.reading import Wrong
-from zsched_tools.policy.spelling import (constant, exponential, fibonacci, linear, listed, nearest, one_by_one,
-                                          together)
+from zsched_tools.policy.spelling import constant, exponential, fibonacci, linear, listed, nearest, one_by_one, together
 
 FULL = {"kind": "full"}
 # The order of the arguments of tenacity's strategies.

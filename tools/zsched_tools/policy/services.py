@@ -17,7 +17,7 @@ import itertools
 
 from zsched_tools.hints import TABLE
 from zsched_tools.policy.fields import (Fields, Found, Policy, duration, keys_of, named, number, part, plain, text_of,
-                                         texts, whole)
+                                        texts, whole)
 from zsched_tools.policy.reading import Node, Wrong
 from zsched_tools.policy.spelling import exponential, growing
 
