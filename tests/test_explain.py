@@ -14,21 +14,22 @@ import faults
 from generator import changed_plans
 from mistakes import MISTAKES, split
 from support import ONE_JOB, TOP, examples, job, plan, rows, run_here
-from zsched_tools import all_faults, explain, hints, json_reading, plan_size, positions, program
+from zsched_tools import hints, json_reading, plan_size, positions, program
+from zsched_tools.explain import all_faults, command
 
 PLACE = re.compile(r"^ *--> plan\.json:(\d+):(\d+)$", re.M)
 
 
 def told(look, status, line):
     """What the command writes on a plan on which the program ended so: status, output and errors."""
-    return run_here(lambda: explain.tell("plan.json", look, status, line), ["zsched-explain"])
+    return run_here(lambda: command.tell("plan.json", look, status, line), ["zsched-explain"])
 
 
 @pytest.mark.parametrize("marked, fault, word", [it[1:] for it in MISTAKES], ids=[it[0] for it in MISTAKES])
 def test_a_mistake_is_shown_at_its_place(marked, fault, word, zsched):
     data, line, column = split(marked)
     assert program.run(zsched, data) == (2, b"", f"zsched: {fault}\n".encode())
-    look = explain.Look(data)
+    look = command.Look(data)
     look.start()
     ended, output, errors = told(look, 2, f"zsched: {fault}\n")
     assert (ended, output, errors.partition("\n")[0]) == (2, "", f"zsched: {fault}")
@@ -97,10 +98,10 @@ def test_each_changed_plan_that_is_rejected_gets_a_place(zsched, two_gigabytes):
     ends, count = [], examples(2000)
     plans = [path.read_bytes() for path in sorted(TOP.glob("examples/*.json"))]
     for data in changed_plans(plans, count, seed=20):
-        look = explain.Look(data)
+        look = command.Look(data)
         status = line = None
         with contextlib.suppress(subprocess.TimeoutExpired):
-            status, line = explain.refusal(zsched, look, 5)
+            status, line = command.refusal(zsched, look, 5)
         ends.append(status)
         if status == 0:
             assert told(look, 0, line) == (0, "plan.json: no fault\n", ""), data
@@ -138,8 +139,8 @@ def test_the_fault_at_the_end_of_a_long_plan_is_shown(script, last, fault, zsche
         front = '{"jobs":[],"ticks":[' + "".join(f"{tick}," for tick in range(10**14, 10**14 + 10**6))
     data, _, column = split(front + last) if fault else ((front + last).encode(), 1, 0)
     assert 16_000_000 <= len(data) <= program.MAX_BYTES
-    look = explain.Look(data)
-    ended, output, errors = told(look, *explain.refusal(zsched, look))
+    look = command.Look(data)
+    ended, output, errors = told(look, *command.refusal(zsched, look))
     said = f"zsched: {fault}".replace("job N", f"job {number}")
     assert (ended, output, errors.split("\n")[0]) == ((2, "", said) if fault else (0, "plan.json: no fault\n", ""))
     assert PLACE.findall(errors) == ([("1", str(column))] if fault else [])
@@ -184,14 +185,14 @@ def test_the_fault_of_fewer_jobs_is_that_of_all(zsched):
         found = re.search(r'"jobs": \[\n    (.*)\n  \]\n\}\n$', split(marked)[0].decode(errors="replace"), re.S)
         if found and fault.startswith("job 0: "):
             data = plan([*alike_jobs(9), found[1], *alike_jobs(18)[9:]])
-            fewer, whole = all_faults.fewer(data), explain.outcome(zsched, data)
+            fewer, whole = all_faults.fewer(data), command.outcome(zsched, data)
             assert whole == (2, f"zsched: job 9{fault.removeprefix('job 0')}\n"), name
-            assert not fewer or len(fewer.numbers) <= 14 and explain.fault_of_fewer(zsched, data) == whole, name
+            assert not fewer or len(fewer.numbers) <= 14 and command.fault_of_fewer(zsched, data) == whole, name
 
 
 def test_each_mistake_is_the_first_of_all_faults(zsched):
     for name, marked, fault, _ in MISTAKES[::7]:
-        found = all_faults.all_faults(lambda text: explain.outcome(zsched, text), split(marked)[0], 10)
+        found = all_faults.all_faults(lambda text: command.outcome(zsched, text), split(marked)[0], 10)
         line, first = next(found)
         assert (line, first.cause.at) == (f"zsched: {fault}\n", marked.index("»")), name
 

@@ -16,11 +16,12 @@ import reference
 from browser import framed
 from reports import jobs_of
 from support import TOP, examples, job, plan, run_here
-from zsched_tools import certificate, curve, curve_picture, drawn, outage, outage_command, scenario, world
+from zsched_tools import drawn, program
 from zsched_tools.drawing import text_width
+from zsched_tools.outage import certificate, command, curve, panels, scenario, search, world
+from zsched_tools.outage.world import DENIED, Bucket, Ending, Service
 from zsched_tools.place import Cause
 from zsched_tools.progress import Now
-from zsched_tools.world import DENIED, Bucket, Ending, Service
 
 CASES = TOP / "tests" / "cases" / "zsched-outage"
 SMALL = json.loads((CASES / "three_clients_meet_an_outage" / "outage.json").read_text())
@@ -35,7 +36,7 @@ def read(parts):
 
 def simulated(zsched, parts, name="steady"):
     """The run of a policy: jobs, plans, the most jobs of a plan, reports and figures."""
-    return outage_command.simulate(read(parts), str(zsched), name, 50, lambda share, words: None)
+    return command.simulate(read(parts), str(zsched), name, 50, lambda share, words: None)
 
 
 def figures_of(zsched, parts):
@@ -43,7 +44,7 @@ def figures_of(zsched, parts):
 
 
 def picture(found, figures, *more):
-    return "\n".join(curve_picture.draw_curves(found, figures, *more))
+    return "\n".join(panels.draw_curves(found, figures, *more))
 
 
 def test_the_recipe_shows_the_case():
@@ -54,7 +55,7 @@ def test_the_recipe_shows_the_case():
 
 
 def test_help_has_an_example():
-    status, out, _ = run_here(outage_command.main, ["zsched-outage", "--help"])
+    status, out, _ = run_here(command.main, ["zsched-outage", "--help"])
     example = re.search(r"\n  (\{\n.*?\n  \})\n", out, re.S)[1]
     assert (status, len(read(json.loads(example)).starts)) == (0, 10_000)
 
@@ -128,8 +129,8 @@ def test_the_search_finds_what_deciding_one_event_after_another_finds(zsched):
     @given(SCENARIOS)
     def compare(parts):
         found = read(parts)
-        schedules = outage.schedules_of(found, "steady")
-        walk = outage.Search(found, str(zsched), schedules, 50).settle(lambda share, words: None)
+        schedules = search.schedules_of(found, "steady")
+        walk = search.Search(found, str(zsched), schedules, 50).settle(lambda share, words: None)
         assert [list(kinds) for kinds in walk.found] == decided(found, schedules)
         denied.extend(kinds for kinds in walk.found if kinds and kinds[-1] >= DENIED)
         _, plans, _, reports, _ = simulated(zsched, parts)
@@ -143,7 +144,7 @@ def test_the_search_finds_what_deciding_one_event_after_another_finds(zsched):
 def test_clients_that_no_plan_has_room_for_have_the_same_figures(zsched, parts):
     parts["outcomes"] |= {"slow": {"ms": 700, "ok": 200}, "full": parts["outcomes"]["down"]}
     whole = simulated(zsched, parts)[-1]
-    with (mock.patch.multiple(outage, MOST_ENTRIES=3, FIRST_LOOK=2, LESS_LOOK=1),
+    with (mock.patch.multiple(search, MOST_ENTRIES=3, FIRST_LOOK=2, LESS_LOOK=1),
           mock.patch.object(world, "MOST_ENTRIES", 3)):
         cut = simulated(zsched, parts)[-1]
     figures = [it.members("steady") | {"certified": 0, "not_certified": [], "passes": 0} for it in [whole, cut]]
@@ -188,7 +189,7 @@ def test_jitter_is_a_list_of_delays_below_the_cap(zsched, count):
     assert len(delays) == count and all(delay <= min(1000, 100 * 2**number) for number, delay in enumerate(delays))
     # The program waits exactly these, one after another, and is then done.
     more = '"script":[{"ms":1,"err":5}]'
-    [ran] = jobs_of(outage.run_plan(str(zsched), plan([job(schedule=text, script=more)], '"horizon":9999999')))
+    [ran] = jobs_of(program.run_plan(str(zsched), plan([job(schedule=text, script=more)], '"horizon":9999999')))
     assert (ran.waits, ran.how, ran.value) == (delays, "failed", "5")
 
 
@@ -196,11 +197,11 @@ def test_draws_come_from_the_seed_and_the_name_alone():
     policies = {"a": "exponential(rand(1, 1000000))", "b": "exponential(rand(1, 1000000))", "c": "recurs(3)"}
     one, other = (read({**SMALL, "policies": policies, "seed": seed}) for seed in [0, 1])
     alone = read({**SMALL, "policies": {"b": policies["b"]}})
-    assert outage.schedules_of(one, "b") == outage.schedules_of(alone, "b") != outage.schedules_of(one, "a")
-    assert outage.schedules_of(other, "a") != outage.schedules_of(one, "a")
-    assert len(set(outage.schedules_of(one, "a"))) == 3
+    assert search.schedules_of(one, "b") == search.schedules_of(alone, "b") != search.schedules_of(one, "a")
+    assert search.schedules_of(other, "a") != search.schedules_of(one, "a")
+    assert len(set(search.schedules_of(one, "a"))) == 3
     # The first number of Python's generator for this seed, as it always will be.
-    assert outage.schedules_of(one, "a")[0] == f"exponential({1 + int(random.Random('0 a').random() * 10**6)})"
+    assert search.schedules_of(one, "a")[0] == f"exponential({1 + int(random.Random('0 a').random() * 10**6)})"
 
 
 @pytest.mark.parametrize("within, size, marked", [("recur(", 5, "recur"), ("0000", 1, "rand(100000, 100000)")])
@@ -212,9 +213,9 @@ def test_a_cause_after_a_draw_is_at_its_place_in_the_policy(within, size, marked
 
 
 def test_a_plan_in_parts_is_what_split_makes(zsched, tmp_path):
-    with mock.patch.object(outage, "MOST_JOBS", 2):
+    with mock.patch.object(program, "MOST_JOBS", 2):
         found = simulated(zsched, SMALL)
-    outage_command.write_files(tmp_path, "steady", 5000, found)
+    command.write_files(tmp_path, "steady", 5000, found)
     lines = (tmp_path / "steady.jsonl").read_text().splitlines()
     assert (lines[0], len(lines)) == ('{"horizon":5000}', 4)
     assert [(tmp_path / "steady.parts" / f"part-00000{number}.json").read_bytes() for number in (1, 2)] == found[1]
@@ -224,16 +225,16 @@ def test_a_plan_in_parts_is_what_split_makes(zsched, tmp_path):
 
 
 def test_a_plan_that_is_too_long_is_cut_by_its_bytes():
-    with mock.patch.object(outage, "MAX_BYTES", 150):
-        plans, most = outage.cut_plans(9, [f'{{"name":"c{number}"}}' for number in range(20)])
+    with mock.patch.object(program, "MAX_BYTES", 150):
+        plans, most = program.cut_plans(9, [f'{{"name":"c{number}"}}' for number in range(20)])
     found = [[job["name"] for job in json.loads(plan)["jobs"]] for plan in plans]
     assert all(len(plan) <= 150 for plan in plans) and sum(found, []) == [f"c{number}" for number in range(20)]
     assert {len(names) for names in found[:-1]} == {most}
 
 
 def test_more_bytes_than_a_plan_takes_are_said_before_the_run(capsys):
-    with mock.patch.object(outage_command, "LONGEST_PLAN", 32):
-        outage_command.warn_of_parts(read(SMALL), "steady")
+    with mock.patch.object(program, "MAX_BYTES", 32):
+        command.warn_of_parts(read(SMALL), "steady")
     assert capsys.readouterr().err == (
         "zsched-outage: policy steady: 3 jobs with schedules of 33 bytes are more than one plan of 10,000 jobs and "
         "32 bytes: it is written as JSON lines and parts\n")
@@ -255,7 +256,7 @@ def test_a_share_is_the_least_value_that_so_many_do_not_exceed():
 
 def test_pictures_are_whole_and_have_all_policies(zsched):
     found, figures = figures_of(zsched, DRAWN)
-    drawing, page = picture(found, figures), "".join(curve_picture.curve_page(found, figures))
+    drawing, page = picture(found, figures), "".join(panels.curve_page(found, figures))
     for text in [drawing, page]:
         assert "prefers-color-scheme:dark" in text
         assert re.findall(r"(?:src|href)=|url\(|@import|<script", text) == []
@@ -275,17 +276,17 @@ def test_pictures_are_whole_and_have_all_policies(zsched):
 def test_no_load_and_no_line_goes_through_a_windows_name(zsched, width):
     found, figures = figures_of(zsched, DRAWN)
     names = re.findall(r'<text class="soft" x="[\d.]+" y="([\d.]+)">(?:down|slow)<', picture(found, figures, width))
-    layout = curve_picture.Layout(found, figures, width)
+    layout = panels.Layout(found, figures, width)
     assert len(names) == 2
     for number, base in enumerate(map(float, names)):
-        assert base + 3 < min(curve_picture._height(layout, layout.panel(number), layout.most), layout.panel(number))
-        assert base - curve_picture.SMALL > layout.panel(number) - curve_picture.WORDS
+        assert base + 3 < min(panels._height(layout, layout.panel(number), layout.most), layout.panel(number))
+        assert base - panels.SMALL > layout.panel(number) - panels.WORDS
 
 
 def test_a_picture_has_a_most_of_columns(zsched):
     rows = [(0, 5, 1, 2, 0), (1, 3, 4, 0, 2), (2, 0, 0, 0, 0), (3, 9, 0, 0, 9), (4, 1, 1, 1, 1)]
-    assert curve_picture.columns(rows, 1) == rows
-    assert curve_picture.columns(rows, 2) == [(0, 5, 4, 2, 2), (2, 9, 0, 0, 9), (4, 1, 1, 1, 1)]
+    assert panels.columns(rows, 1) == rows
+    assert panels.columns(rows, 2) == [(0, 5, 4, 2, 2), (2, 9, 0, 0, 9), (4, 1, 1, 1, 1)]
     far = {**SMALL, "clients": {"number": 9, "per_second": 1}, "horizon": "3d",
            "windows": [{"from": 0, "to": "2d", "is": "down"}],
            "policies": {"steady": "exponential(100)", "other": "spaced(7200000)"}}
@@ -302,7 +303,7 @@ def test_a_picture_of_nothing_says_so(zsched):
 def test_long_names_leave_all_figures_in_sight(zsched, tmp_path):
     names = ["W" * 64, "a-policy-with-" + "long-" * 10]
     found = figures_of(zsched, {**SMALL, "policies": dict.fromkeys(names, "spaced(400)")})
-    (tmp_path / "page.html").write_text("".join(curve_picture.curve_page(*found)))
+    (tmp_path / "page.html").write_text("".join(panels.curve_page(*found)))
     assert framed(tmp_path, ["page.html"], [360, 400, 1280], """page => {
   const right = page.querySelector(".table").getBoundingClientRect().right, cells = [...page.querySelectorAll("td")];
   return [cells.length, cells.filter(it => it.getBoundingClientRect().right > right + 1).length]; }""") == [[36, 0]] * 3

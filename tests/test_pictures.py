@@ -8,9 +8,9 @@ import pytest
 
 from report_samples import COARSE, GREATEST, REPORTS, RUNNING, WAITING, long_report, wide_report
 from support import run_here
-from zsched_tools import report_command
 from zsched_tools.drawing import Scale
-from zsched_tools.page import LOAD_WIDTHS
+from zsched_tools.report import command
+from zsched_tools.report.page import LOAD_WIDTHS
 
 SVG = "{http://www.w3.org/2000/svg}"
 PICTURES = [
@@ -22,7 +22,7 @@ each_picture = pytest.mark.parametrize("text", PICTURES, ids=range(len(PICTURES)
 
 
 def output(*words, text):
-    status, found, errors = run_here(report_command.main, ["zsched-report", *words], text.encode())
+    status, found, errors = run_here(command.main, ["zsched-report", *words], text.encode())
     assert (status, errors) == (0, "")
     return found
 

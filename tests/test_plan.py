@@ -15,9 +15,11 @@ import reference
 from mistakes import MISTAKES
 from reports import jobs_of
 from support import TOP, equal_jobs, examples, job, output_of, plan
-from zsched_tools import call_log, importing, join, manifest, placed, plan_text, policy_file, policy_plan, processes
+from zsched_tools import call_log, manifest
 from zsched_tools.command import Refused
-from zsched_tools.split import write_parts
+from zsched_tools.plan import importing, placed, plan_text, policy_file, policy_plan
+from zsched_tools.plan.split import write_parts
+from zsched_tools.report import join, processes
 
 CASES = TOP / "tests" / "cases" / "zsched-plan"
 WHOLE = (CASES / "a_part_has_its_jobs_and_the_document_as_they_were_written" / "plan.json").read_text()
@@ -72,7 +74,7 @@ def test_a_plan_cut_anywhere_is_rejected(tmp_path):
 def test_a_large_population_is_split_in_little_memory(tmp_path):
     lines = "".join(f"{job(f'job-{number:07}')}\n" for number in range(60_000))
     (tmp_path / "plan").write_text(f'{{"horizon":1000}}\n{lines}')
-    code = ("import zsched_tools.plan_command, zsched_tools.split as it\nit.write_parts('plan', True, 10000, 'parts')\n"
+    code = ("import zsched_tools.plan.command, zsched_tools.plan.split as it\nit.write_parts('plan', True, 10000, 'parts')\n"
             "print(next(line.split()[1] for line in open('/proc/self/status') if line.startswith('VmHWM')))")
     said = output_of([sys.executable, "-c", code], cwd=tmp_path, env={"PYTHONPATH": str(TOP / "tools")})
     assert len(list((tmp_path / "parts").iterdir())) == 7 and int(said) < 40_000

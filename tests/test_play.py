@@ -16,7 +16,7 @@ import pytest
 
 from browser import inside, opened
 from support import ONE_JOB, TOP, executable, rows, run, run_tool
-from zsched_tools import play
+from zsched_tools.play import command
 
 TOOL = TOP / "tools" / "zsched-play"
 PAGE = (TOP / "docs" / "play.html").read_text()
@@ -83,7 +83,7 @@ def test_the_page_says_what_holds_for_every_input(url):
 def test_bounds_are_left_out_if_there_are_none(zsched, tmp_path, status, schedules, wanted):
     line = '{"policy":"","attempts":{"least":4,"most":4},"longest_wait":0,"total_wait":0,"steps_seen":4}'
     bounds = None if status is None else executable(tmp_path / "bounds", f"cat > /dev/null\necho '{line}'\nexit {status}")
-    assert play.answer(zsched, question(schedules=schedules), 10, bounds)["bounds"] == wanted
+    assert command.answer(zsched, question(schedules=schedules), 10, bounds)["bounds"] == wanted
 
 
 # A schedule that is rejected, the place and size of the mark, and words of the cause or the help.
@@ -111,8 +111,8 @@ def test_another_fault_has_its_cause(url, text, said, word):
 
 
 def test_a_long_report_is_cut(zsched):
-    with mock.patch.multiple(play, LONGEST_REPORT=1000, LONGEST_SHOWN=500):
-        found = play.answer(zsched, question("forever"), 10)
+    with mock.patch.multiple(command, LONGEST_REPORT=1000, LONGEST_SHOWN=500):
+        found = command.answer(zsched, question("forever"), 10)
     report = run(zsched, question("forever"))[1].decode()
     assert (found["size"], found["isCut"]) == (len(report), True)
     assert len(found["report"]) <= 500 and report.startswith(found["report"]) and found["report"].endswith("\n")
@@ -177,7 +177,7 @@ def test_it_listens_on_this_machine_alone(url):
 
 def fault_of_endless(zsched, seconds):
     """The fault of a plan without end, from a server in this process with this patience."""
-    with play.Server(0, str(zsched), seconds) as server:
+    with command.Server(0, str(zsched), seconds) as server:
         thread = threading.Thread(target=server.serve_forever)
         thread.start()
         try:
@@ -191,17 +191,17 @@ def test_a_plan_that_runs_too_long_is_killed_and_told(zsched):
     cause, help = "no report within 1 seconds, so zsched was stopped", "shorten the horizon, or lengthen the waits"
     assert fault_of_endless(zsched, 1) == {"field": "until", "cause": cause, "help": help}
     children = run(["ps", "-o", "args=", "--ppid", str(os.getpid())], b"")[1].decode().splitlines()
-    assert (str(zsched) in children, play.SECONDS) == (False, 10)
+    assert (str(zsched) in children, command.SECONDS) == (False, 10)
 
 
 def test_a_plan_that_takes_too_much_memory_is_told(zsched):
-    with mock.patch.object(play, "MEMORY", 64 << 20):
+    with mock.patch.object(command, "MEMORY", 64 << 20):
         fault = fault_of_endless(zsched, 30)
-    assert fault == {"field": "until", "cause": "out of memory (64 MB are given to it)", "help": play.SMALLER}
+    assert fault == {"field": "until", "cause": "out of memory (64 MB are given to it)", "help": command.SMALLER}
 
 
 def test_a_plan_of_too_many_attempts_is_not_run():
-    fault = play.answer("/nowhere", question("forever", horizon=999999999999999), 10)["fault"]
+    fault = command.answer("/nowhere", question("forever", horizon=999999999999999), 10)["fault"]
     assert fault["field"] == "until"
     assert fault["cause"].startswith("its attempts may be 1.0e+15, more than 100000000: ")
 
@@ -210,8 +210,8 @@ def test_a_plan_of_too_many_attempts_is_not_run():
     ("", b"\n", True), ("# AddressSanitizer", b"hard_rss_limit_mb=1024\n", False)])
 def test_a_program_that_maps_terabytes_limits_its_memory_itself(tmp_path, line, said, is_limited):
     path = executable(tmp_path / "program", f'{line}\ncat > /dev/null\necho "$ASAN_OPTIONS"')
-    with mock.patch.object(play.resource, "prlimit") as limit:
-        assert (*play.run(path, b"", 10)[:2], limit.called) == (0, said, is_limited)
+    with mock.patch.object(command.resource, "prlimit") as limit:
+        assert (*command.run(path, b"", 10)[:2], limit.called) == (0, said, is_limited)
 
 
 def test_a_port_that_is_taken_is_told(zsched):

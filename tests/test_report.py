@@ -14,10 +14,11 @@ from generator import made_plan
 from report_samples import KNOWN, NEVER, NO_REPORTS, REPORTS, RETRIED, RUNNING, WAITING, long_report, wide_report
 from reports import jobs_of
 from support import TOP, examples, run
-from zsched_tools import lines, load, progress
+from zsched_tools import load, progress
 from zsched_tools.command import Refused
-from zsched_tools.join import write_joined
-from zsched_tools.summary import Options, write_summary
+from zsched_tools.report import lines
+from zsched_tools.report.join import write_joined
+from zsched_tools.report.summary import Options, write_summary
 from zsched_tools.words import duration
 
 TOOL = TOP / "tools" / "zsched-report"

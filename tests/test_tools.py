@@ -11,7 +11,7 @@ import pytest
 
 from support import TOP
 from zsched_tools import program, starting
-from zsched_tools.processes import in_order
+from zsched_tools.report.processes import in_order
 
 TOOLS = sorted((TOP / "tools").glob("zsched-*"))
 MAIN = TOP / "tools" / "zsched_tools" / "__main__.py"

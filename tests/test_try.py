@@ -10,8 +10,9 @@ from hypothesis import strategies as st
 
 from reports import jobs_of
 from support import TOP, run, run_here
-from zsched_tools import bounding, program, try_command, trying
+from zsched_tools import bounding, program, trials
 from zsched_tools.durations import milliseconds
+from zsched_tools.trying import command
 from zsched_tools.words import duration
 
 HEAD, *SECTIONS = (TOP / "docs" / "RECIPES.md").read_text().split("\n### ")
@@ -22,7 +23,7 @@ SHOWN = re.findall(r"```console\n\$ tools/zsched-try (.*?)\n(.*?)```", README + 
 
 
 def tool(*words):
-    return run_here(try_command.main, ["zsched-try", *words])
+    return run_here(command.main, ["zsched-try", *words])
 
 
 @pytest.mark.parametrize("seed", range(12))
@@ -32,13 +33,13 @@ def test_a_line_has_the_figures_of_the_report(seed, zsched):
                 "(recurs(3) || spaced(40))", "identity.collectAll.whileOutput(size < 30)"]
     entries = [(chance.randint(1, 60), chance.choice(["ok", "err"]), chance.randint(0, 9)) for _ in range(4)]
     mode = chance.choice(["retry", "repeat"])
-    report = run(zsched, trying.plan_of(policies, mode, chance.randint(0, 900), entries).encode())[1]
-    for found, job in zip(trying.tried_in(report), jobs_of(report), strict=True):
+    report = run(zsched, trials.plan_of(policies, mode, chance.randint(0, 900), entries).encode())[1]
+    for found, job in zip(trials.tried_in(report), jobs_of(report), strict=True):
         waits, last = list(job.waits), job.attempts[-1]
         waits += [job.at - last.end] if job.how == "unfinished" and last.end is not None else []
         result = job.value or ""
         result = result if len(result) <= 30 else result[:28] + ".."
-        assert found == trying.Tried(job.how, result, job.at, len(job.attempts), sum(waits), max(waits, default=0))
+        assert found == trials.Tried(job.how, result, job.at, len(job.attempts), sum(waits), max(waits, default=0))
 
 
 @given(st.integers(0, 10**15))

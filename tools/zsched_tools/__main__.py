@@ -5,7 +5,6 @@ import importlib
 import os
 import sys
 
-MODULES = {"explain": "explain", "play": "play", "policy": "policy.command"}
 sys.dont_write_bytecode = True
 sys.path[0] = os.path.dirname(os.path.dirname(os.path.abspath(__file__)))
 sys.argv.pop(0)
@@ -14,5 +13,6 @@ tool = os.path.basename(sys.argv[0])
 from zsched_tools.starting import require_python
 
 require_python(tool)
-name = tool[len("zsched-"):]
-sys.exit(importlib.import_module("zsched_tools." + MODULES.get(name, name + "_command")).main())
+# `try` can't be the name of a package.
+name = tool[len("zsched-"):].replace("try", "trying")
+sys.exit(importlib.import_module("zsched_tools." + name + ".command").main())

@@ -4,7 +4,7 @@ Both shape and colour show an outcome: an attempt that succeeded is tall and rou
 from dataclasses import dataclass
 
 from zsched_tools.drawing import path, place, rectangle, titled
-from zsched_tools.report import Attempt
+from zsched_tools.reports import Attempt
 from zsched_tools.words import duration
 
 # In pixels: an attempt of at least the width ALONE has a separate shape, and every shape is at least NARROWEST wide.

@@ -3,12 +3,11 @@ import json
 from dataclasses import dataclass
 
 from zsched_tools import program
+from zsched_tools.program import LAST_MOMENT
 from zsched_tools.words import DAY, duration, plural
 
 # The program looks at this number of steps at most.
 MOST_STEPS = 20000
-# No plan has a later moment.
-LAST_MOMENT = 999_999_999_999_999
 
 
 def rounded(ms):

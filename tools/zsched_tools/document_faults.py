@@ -5,11 +5,10 @@ import re
 from zsched_tools.hints import DOCUMENT_KEYS, JOB_KEYS
 from zsched_tools.place import Cause
 from zsched_tools.positions import W, run_of
+from zsched_tools.program import LAST_MOMENT, MOST_JOBS
 from zsched_tools.values import first, missing, not_of_kind, not_whole, out_of_range, over, unknown_key
 
-MAX_MOMENT = 999999999999999
 MAX_TICKS = 1000000
-MAX_JOBS = 10000
 _FRAME = '{"horizon": 60000, "jobs": [ .. ]}'
 _WHOLES = re.compile(run_of(f"(?:0|[1-9][0-9]{{0,18}}+){W},{W}"))
 
@@ -59,10 +58,10 @@ def _range_causes(plan):
     workers, grain, horizon, ticks = (plan.get(key) for key in ("workers", "grain", "horizon", "ticks"))
     yield workers and out_of_range(workers, "workers", 1, 64, "the number of workers never changes a report")
     yield grain and out_of_range(grain, "grain", 1, 10000, "the grain never changes a report")
-    too_many = next((job for number, job in enumerate(plan.get("jobs").items()) if number == MAX_JOBS), None)
-    yield too_many and Cause(too_many.at, 1, f"this is one job more than {MAX_JOBS}", "make plans of fewer jobs")
+    too_many = next((job for number, job in enumerate(plan.get("jobs").items()) if number == MOST_JOBS), None)
+    yield too_many and Cause(too_many.at, 1, f"this is one job more than {MOST_JOBS}", "make plans of fewer jobs")
     help = "moments are milliseconds from the beginning of the plan, as 60000 for a minute"
-    yield horizon and out_of_range(horizon, "horizon", 0, MAX_MOMENT, help)
+    yield horizon and out_of_range(horizon, "horizon", 0, LAST_MOMENT, help)
     yield ticks and _tick_cause(ticks)
 
 
@@ -80,8 +79,8 @@ def _tick_cause(ticks):
     if len(moments) > MAX_TICKS:
         return _at_tick(ticks, parts, MAX_TICKS, f"this is one tick more than {MAX_TICKS}",
                         "a horizon has a tick at each millisecond")
-    if moments[-1] > MAX_MOMENT:
-        what = f"the last tick is {moments[-1]}, and may be at most {MAX_MOMENT}"
+    if moments[-1] > LAST_MOMENT:
+        what = f"the last tick is {moments[-1]}, and may be at most {LAST_MOMENT}"
         return _at_tick(ticks, parts, len(parts) - 1, what, "moments are milliseconds from the beginning of the plan")
     return None
 

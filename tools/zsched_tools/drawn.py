@@ -20,15 +20,15 @@ from math import ceil, floor
 from typing import Callable, NamedTuple
 
 from zsched_tools import hints, program
-from zsched_tools.bounding import LAST_MOMENT
-from zsched_tools.command import REFUSED
+from zsched_tools.command import REFUSED, Refused
 from zsched_tools.durations import milliseconds
 from zsched_tools.hints import TABLE
-from zsched_tools.place import Cause, FaultAt
+from zsched_tools.place import Cause, FaultAt, told
 from zsched_tools.policy import spelling
 from zsched_tools.positions import MAX_WHOLE
+from zsched_tools.program import LAST_MOMENT
 from zsched_tools.schedule_rules import any_cause
-from zsched_tools.trying import plan_of, waits_in
+from zsched_tools.trials import plan_of, waits_in
 from zsched_tools.words import duration
 
 MOST_DELAYS = 240
@@ -317,3 +317,23 @@ def _one_after_another(terms):
         return terms[0]
     first, second = (_one_after_another(part) for part in (terms[:-(len(terms) // 2)], terms[-(len(terms) // 2):]))
     return f"({first}andThenEither{'' if second[0] == '(' else ' '}{second})"
+
+
+def check_schedule(tool, given):
+    """Reads the schedule of a log's jobs, which may have sugar, and runs the program to check it."""
+    try:
+        policy = Policy(given.schedule)
+    except FaultAt as fault:
+        raise Refused(told("--schedule", given.schedule, fault.cause)) from None
+    if policy.is_drawn:
+        raise Refused("--schedule: random waits can't be compared with those of a log")
+    policy.show(tool)
+    given.schedule = policy.spelled
+    found = program.find(given.zsched)
+    status, _, errors = program.report_of(found, program.one_job(0, given.schedule, '{"ms":1,"ok":0}'), 1)
+    line = program.failure(status, errors)
+    if status == 2:
+        cause = any_cause(given.schedule, line.partition("schedule: ")[2])
+        raise Refused(told("--schedule", given.schedule, cause))
+    if status:
+        raise OSError(f"{found}: {line}")

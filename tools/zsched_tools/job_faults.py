@@ -5,10 +5,10 @@ from zsched_tools import schedule_rules, schedule_text
 from zsched_tools.hints import ENTRY_KEYS, JOB_KEYS, near
 from zsched_tools.place import Cause, line_of
 from zsched_tools.positions import W, run_of
+from zsched_tools.program import MOST_ENTRIES
 from zsched_tools.values import first, misnamed, missing, not_of_kind, not_whole, over, unknown_key
 from zsched_tools.words import shown
 
-MAX_ENTRIES = 1000
 MAX_NAME = 64
 _MODES = {"retry": ["error", "onerror", "fail", "backoff"],
           "repeat": ["loop", "poll", "forever", "periodic", "schedule", "cron"]}
@@ -143,8 +143,8 @@ def script_fault(job, cause):
     if cause == "empty":
         return over(script, "the script is empty", f"write an entry for each attempt, as [ {_ENTRY} ]")
     if cause.startswith("more than"):
-        extra = next(entry for number, entry in enumerate(script.items()) if number == MAX_ENTRIES)
-        return Cause(extra.at, 1, f"this is one entry more than {MAX_ENTRIES}", "remove it: the last entry repeats")
+        extra = next(entry for number, entry in enumerate(script.items()) if number == MOST_ENTRIES)
+        return Cause(extra.at, 1, f"this is one entry more than {MOST_ENTRIES}", "remove it: the last entry repeats")
     for entry in script.items(_TIMED):
         ms = entry.get("ms")
         if ms.whole() == 0:

@@ -3,7 +3,7 @@ its end."""
 import collections
 
 from zsched_tools.command import Refused
-from zsched_tools.report import Attempt, Ending, records
+from zsched_tools.reports import Attempt, Ending, records
 from zsched_tools.words import duration, plural, table
 
 HEAD = ["from", "begun", "ok", "err", "running", "waiting"]

@@ -6,9 +6,8 @@ from zsched_tools.bars import Shapes, draw_shape, mark
 from zsched_tools.command import Refused
 from zsched_tools.drawing import (Scale, View, cut_text, labels, path, place, rectangle, root, shown_moments, text,
                                   text_width)
-from zsched_tools.report import Ending, Job
-from zsched_tools.summary import ending_text
-from zsched_tools.words import duration, plural
+from zsched_tools.reports import Ending, Job
+from zsched_tools.words import duration, ending_text, plural
 
 MOST_JOBS = 200
 WIDTH = 1240

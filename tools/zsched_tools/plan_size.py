@@ -13,7 +13,6 @@ MOST_ATTEMPTS = 10**6
 # The nodes of schedules that a thread steps in about a millisecond.
 _BATCH = 4000
 _MOST_TICKS = 1000000
-_LAST_TICK = 999999999999999
 _LEAST_MS = 1
 _COMPARE = {"<": operator.lt, "<=": operator.le, "=": operator.eq, "!=": operator.ne, ">": operator.gt,
             ">=": operator.ge}
@@ -102,7 +101,7 @@ def _is_clock(tree):
         return False
     ticks = [tree["horizon"]] if "horizon" in tree else tree["ticks"]
     return (isinstance(ticks, list) and 1 <= len(ticks) <= _MOST_TICKS and all(type(tick) is int for tick in ticks)
-            and all(tick < later for tick, later in itertools.pairwise(ticks)) and ticks[-1] <= _LAST_TICK)
+            and all(tick < later for tick, later in itertools.pairwise(ticks)) and ticks[-1] <= program.LAST_MOMENT)
 
 
 def _whole(text):

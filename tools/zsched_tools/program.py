@@ -10,7 +10,8 @@ import tempfile
 
 from zsched_tools.command import Refused, naming
 
-MAX_BYTES = 16777216
+# The limits of a plan: its bytes, its jobs, the entries of a script, of which the last one repeats, and its last moment.
+MAX_BYTES, MOST_JOBS, MOST_ENTRIES, LAST_MOMENT = 16_777_216, 10_000, 1000, 999_999_999_999_999
 _HERE = pathlib.Path(__file__).resolve()
 CRATES = _HERE.parents[2] / "crates"
 # The folder of the programs that were installed with these tools, which are in share/zsched beside it.
@@ -61,6 +62,20 @@ def one_job(horizon, schedule, entry):
     text = json.dumps(schedule, ensure_ascii=False)
     return (f'{{"horizon":{horizon},"jobs":[{{"name":"job","mode":"retry","schedule":{text},"script":[{entry}]}}]}}'
             ).encode()
+
+
+def cut_plans(clock, jobs, most=None):
+    """Plans of some jobs with a horizon or a list of ticks, in order, each within the program's limits, and the most
+    jobs of a plan. `zsched-plan split --lines` makes the same plans from these jobs."""
+    before, after = f'{{"{"ticks" if isinstance(clock, list) else "horizon"}":{clock},"jobs":[', "\n]}\n"
+    most = most or MOST_JOBS
+    while True:
+        groups = [jobs[first:first + most] for first in range(0, len(jobs), most)] or [[]]
+        sizes = [len(before) + len(after) + sum(map(len, group)) + 2 * len(group) for group in groups]
+        if most == 1 or max(sizes) <= MAX_BYTES:
+            break
+        most = max(1, min(most, len(jobs)) * 7 // 8)
+    return [(before + ",".join("\n" + job for job in group) + after).encode() for group in groups], most
 
 
 def run(program, given, seconds=None):

@@ -5,7 +5,7 @@ from zsched_tools.command import Refused
 from zsched_tools.drawing import (NEAREST_LABELS, Scale, View, cut_text, labels, path, place, rectangle, root,
                                   round_numbers, step_between_labels, steps_to, text, text_width, titled)
 from zsched_tools.load import Load
-from zsched_tools.report import Attempt, records
+from zsched_tools.reports import Attempt, records
 from zsched_tools.words import duration, plural
 
 # In pixels: the height of the bars of attempts, that of running and waiting, and that of the words above each.

@@ -39,6 +39,12 @@ def plural(number, name):
     return f"{number} {name}" if number == 1 else f"{number} {name}s"
 
 
+def ending_text(how, result, widest=30):
+    """How a job ended, with its value or output. A long text is cut."""
+    text = f"{how} {result}" if result else how
+    return text if len(text) <= widest else text[:widest - 2] + ".."
+
+
 def table(rows, left=3):
     """Lines of a table: the first columns to the left, the others to the right."""
     widths = [max(map(len, column)) for column in zip(*rows)]

@@ -3,9 +3,9 @@ import itertools
 
 from zsched_tools import bounding
 from zsched_tools.command import NO, REFUSED
-from zsched_tools.report import attempts_in, blocks_of
-from zsched_tools.try_command import add_attempts, bounds_of_all, of_all, tried
-from zsched_tools.trying import tried_in
+from zsched_tools.reports import attempts_in, blocks_of
+from zsched_tools.trials import tried_in
+from zsched_tools.trying.command import add_attempts, bounds_of_all, of_all, tried
 from zsched_tools.words import duration, listed, plural
 
 ABOUT = """Says what differs between two policies: in the attempts that --fails, --after and --then describe, and for

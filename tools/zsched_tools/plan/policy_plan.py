@@ -5,10 +5,10 @@ import re
 from zsched_tools.durations import exact_milliseconds
 from zsched_tools.hints import JOB_KEYS
 from zsched_tools.place import Cause
-from zsched_tools.placed import Raw, Value, Wrong, key
+from zsched_tools.plan.placed import Raw, Value, Wrong, key
+from zsched_tools.program import MOST_ENTRIES
 from zsched_tools.words import shown
 
-MOST_ENTRIES = 1000
 LONGEST_NAME = 64
 DEFAULTS = ("mode", "start", "script")
 _ATTEMPT = re.compile(r"\s*(.+?)\s+(ok|err)\s+([0-9]{1,19})(?:\s*[x×]\s*([0-9]{1,4}))?\s*")

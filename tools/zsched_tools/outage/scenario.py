@@ -13,12 +13,12 @@ from zsched_tools.durations import milliseconds
 from zsched_tools.hints import near
 from zsched_tools.place import Cause, FaultAt
 from zsched_tools.positions import Document
+from zsched_tools.program import LAST_MOMENT
 from zsched_tools.values import over
 from zsched_tools.words import duration, listed, shown
 
 SKETCH = '{"horizon": "3min", "clients": {"number": 1000}, "policies": {"NAME": "SCHEDULE"}}'
 MOST_CLIENTS = 1_000_000
-LAST_MOMENT = 999_999_999_999_999
 STATES = ["up", "down", "slow", "full"]
 BUDGETS = {"grpc": ["like", "tokens", "ok", "err"], "aws": ["like", "tokens", "ok", "err", "retry"]}
 UP, DOWN, SLOW, FULL = range(4)

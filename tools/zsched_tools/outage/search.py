@@ -11,11 +11,10 @@ import json
 import random
 from array import array
 
-from zsched_tools.program import MAX_BYTES, run_plan
-from zsched_tools.report import attempts_in, blocks_of, ending_in
-from zsched_tools.scenario import DOWN
-from zsched_tools.split import MOST_JOBS
-from zsched_tools.world import CUT, DENIED, DONE, GOES_ON, MOST_ENTRIES, UNDENIED, Run, Walk
+from zsched_tools.outage.scenario import DOWN
+from zsched_tools.outage.world import CUT, DENIED, DONE, GOES_ON, UNDENIED, Run, Walk
+from zsched_tools.program import MOST_ENTRIES, MOST_JOBS, cut_plans, run_plan
+from zsched_tools.reports import attempts_in, blocks_of, ending_in
 
 # The most attempts of a policy, and about how many a plan makes of clients with many.
 MOST_ATTEMPTS, ATTEMPTS_OF_PLAN = 50_000_000, 1_000_000
@@ -43,20 +42,6 @@ def schedules_of(scenario, name):
     if not policy.is_drawn:
         return [policy.spelled + after] * len(scenario.starts)
     return [policy.schedule(source) + after for _ in scenario.starts]
-
-
-def cut_plans(clock, jobs, most=None):
-    """Plans of some jobs with a horizon or a list of ticks, in order, each within the program's limits, and the most
-    jobs of a plan. `zsched-plan split --lines` makes the same plans from these jobs."""
-    before, after = f'{{"{"ticks" if isinstance(clock, list) else "horizon"}":{clock},"jobs":[', "\n]}\n"
-    most = most or MOST_JOBS
-    while True:
-        groups = [jobs[first:first + most] for first in range(0, len(jobs), most)] or [[]]
-        sizes = [len(before) + len(after) + sum(map(len, group)) + 2 * len(group) for group in groups]
-        if most == 1 or max(sizes) <= MAX_BYTES:
-            break
-        most = max(1, min(most, len(jobs)) * 7 // 8)
-    return [(before + ",".join("\n" + job for job in group) + after).encode() for group in groups], most
 
 
 def _runs_in(report, kinds, unfinished):

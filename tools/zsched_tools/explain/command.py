@@ -75,7 +75,7 @@ def _explain(taken):
 
 def _tell_all(name, zsched, data, most, paint):
     """Writes all faults of a plan, which the program runs with a clock of one moment. Returns the status."""
-    from zsched_tools import all_faults
+    from zsched_tools.explain import all_faults
 
     def ended(text):
         """The program's status and line on a plan with the faults of this one. One of all alike jobs runs first."""
@@ -100,7 +100,7 @@ def outcome(zsched, data):
 def fault_of_fewer(zsched, data):
     """The status and the line of the program on a plan's bytes, by a run with one of each group of alike jobs. None if
     that has no fault, or if few jobs are alike."""
-    from zsched_tools import all_faults
+    from zsched_tools.explain import all_faults
     fewer = all_faults.fewer(data)
     status, line = outcome(zsched, fewer.data) if fewer else (0, "")
     return (2, fewer.line(line)) if status == 2 else None

@@ -2,11 +2,11 @@
 import argparse
 import sys
 
-from zsched_tools import call_log, command, importing, program, starting
+from zsched_tools import call_log, command, drawn, program, starting
 from zsched_tools.call_log import Notes
 from zsched_tools.command import Refused
 from zsched_tools.durations import duration_argument
-from zsched_tools.follows import compared
+from zsched_tools.follows.compared import compared
 from zsched_tools.words import WIDTH, shown
 
 TOOL = "zsched-follows"
@@ -46,7 +46,7 @@ def work(given):
     given.zsched = program.find(given.zsched)
     name = "standard input" if given.log == "-" else given.log
     data = command.read(given.log)
-    importing.check_schedule(TOOL, given)
+    drawn.check_schedule(TOOL, given)
     notes = Notes()
     log = call_log.Reader(shown(name, WIDTH), data, given, notes)
     if not log.has_moments:

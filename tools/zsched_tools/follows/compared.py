@@ -14,10 +14,9 @@ from typing import NamedTuple
 
 from zsched_tools.call_log import by_request, in_ms
 from zsched_tools.command import Refused
-from zsched_tools.document_faults import MAX_MOMENT
-from zsched_tools.outage import ATTEMPTS_OF_PLAN, MOST_ATTEMPTS, MOST_ENTRIES, cut_plans
-from zsched_tools.program import run_plan
-from zsched_tools.report import blocks_of
+from zsched_tools.outage.search import ATTEMPTS_OF_PLAN, MOST_ATTEMPTS
+from zsched_tools.program import LAST_MOMENT, MOST_ENTRIES, cut_plans, run_plan
+from zsched_tools.reports import blocks_of
 from zsched_tools.schedule_rules import MAX_DEPTH, MAX_WEIGHT, cause_of
 from zsched_tools.words import duration, plural
 
@@ -142,7 +141,7 @@ class Decisions:
         if not self.words & _TIMED:
             requests = self._count(requests)
         short = {name: it for name, it in requests.items() if len(it[0]) < MOST_ENTRIES}
-        self._step(MAX_MOMENT, short, None)
+        self._step(LAST_MOMENT, short, None)
         for name in requests.keys() - short:
             found, moments = requests[name]
             if len(found)**2 > MOST_ATTEMPTS:
@@ -175,7 +174,7 @@ class Decisions:
         jobs = [(self.schedule if len(found) < MOST_ENTRIES else _wrapped(name, self.schedule, "&&", len(found)),
                  self._script(name, found, [1] * len(found))) for name, (found, _) in requests.items()]
         rest = {}
-        for name, block in zip(requests, self._blocks(MAX_MOMENT, jobs)):
+        for name, block in zip(requests, self._blocks(LAST_MOMENT, jobs)):
             found = _STEP.findall(block)[:len(requests[name][0])]
             self.waits.update({(name, int(number)): int(following) - int(end) if following else None
                                for end, number, following in found})

@@ -9,19 +9,18 @@ import sys
 from fractions import Fraction
 from typing import NamedTuple
 
-from zsched_tools import call_log, faults, program, windows
+from zsched_tools import call_log, faults, program
 from zsched_tools.call_log import Notes
 from zsched_tools.command import Refused, write
-from zsched_tools.document_faults import MAX_JOBS, MAX_MOMENT
-from zsched_tools.drawn import Policy
+from zsched_tools.drawn import check_schedule
 from zsched_tools.durations import exact_milliseconds
-from zsched_tools.outage import MOST_ENTRIES
-from zsched_tools.place import FaultAt, line_of, told
-from zsched_tools.placed import Written, Wrong
-from zsched_tools.policy_file import read_toml, read_yaml
-from zsched_tools.policy_plan import Names, is_allowed, plan_of, whole
-from zsched_tools.scenario import Outcome
-from zsched_tools.schedule_rules import any_cause
+from zsched_tools.outage.scenario import Outcome
+from zsched_tools.place import line_of, told
+from zsched_tools.plan import windows
+from zsched_tools.plan.placed import Written, Wrong
+from zsched_tools.plan.policy_file import read_toml, read_yaml
+from zsched_tools.plan.policy_plan import Names, is_allowed, plan_of, whole
+from zsched_tools.program import LAST_MOMENT, MOST_ENTRIES, MOST_JOBS
 from zsched_tools.words import WIDTH, duration, plural, shown
 
 READERS = {".yaml": read_yaml, ".yml": read_yaml, ".toml": read_toml}
@@ -82,7 +81,7 @@ def _source(path):
 def _until(word):
     """The horizon of a plan that has no horizon."""
     length = exact_milliseconds(word)
-    if length is None or length.denominator != 1 or length > MAX_MOMENT:
+    if length is None or length.denominator != 1 or length > LAST_MOMENT:
         raise argparse.ArgumentTypeError(f"{word} is not a duration: write 60000, 90s or 1h")
     return int(length)
 
@@ -120,8 +119,8 @@ def _from(given):
         raise Refused(f"{given.file}: --schedule is for a log; write the schedule into the file")
     text, jobs = _of_log(given) if is_log else _of_policies(given, READERS[suffix])
     data = text.encode()
-    if jobs > MAX_JOBS or len(data) > program.MAX_BYTES:
-        _say(f"the plan has {jobs} jobs and {len(data)} bytes, and one run takes {MAX_JOBS} and "
+    if jobs > MOST_JOBS or len(data) > program.MAX_BYTES:
+        _say(f"the plan has {jobs} jobs and {len(data)} bytes, and one run takes {MOST_JOBS} and "
              f"{program.MAX_BYTES}: zsched-plan split cuts it")
     if given.out is None:
         sys.stdout.buffer.write(data)
@@ -205,26 +204,6 @@ def _scripts(given, log, service, requests, horizon):
     return scripts
 
 
-def check_schedule(tool, given):
-    """Reads the schedule of a log's jobs, which may have sugar, and runs the program to check it."""
-    try:
-        policy = Policy(given.schedule)
-    except FaultAt as fault:
-        raise Source("--schedule", given.schedule).refused(fault.cause) from None
-    if policy.is_drawn:
-        raise Refused("--schedule: random waits can't be compared with those of a log")
-    policy.show(tool)
-    given.schedule = policy.spelled
-    found = program.find(given.zsched)
-    status, _, errors = program.report_of(found, program.one_job(0, given.schedule, '{"ms":1,"ok":0}'), 1)
-    line = program.failure(status, errors)
-    if status == 2:
-        cause = any_cause(given.schedule, line.partition("schedule: ")[2])
-        raise Source("--schedule", given.schedule).refused(cause)
-    if status:
-        raise OSError(f"{found}: {line}")
-
-
 def _of_policies(given, read):
     """The plan of a policy file, and how many jobs it has."""
     source, notes = _source(given.file), Notes()
@@ -235,7 +214,7 @@ def _of_policies(given, read):
         raise source.refused(wrong.args[0]) from None
     jobs = root.data.get("jobs")
     count = len(jobs.data) if jobs is not None and isinstance(jobs.data, list) else 0
-    if count <= MAX_JOBS and len(plan.text.encode()) <= program.MAX_BYTES:
+    if count <= MOST_JOBS and len(plan.text.encode()) <= program.MAX_BYTES:
         check(source, plan, given.zsched, count)
     _report(notes, given.file, source.line)
     return plan.text, count

@@ -7,7 +7,7 @@ import json
 
 from zsched_tools import hints, picture
 from zsched_tools.drawing import View
-from zsched_tools.lines import item_of, report_lines
+from zsched_tools.report.lines import item_of, report_lines
 from zsched_tools.strip import draw_strip
 
 # The widths in which the load of many jobs is drawn, and the margin next to it.

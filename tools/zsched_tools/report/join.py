@@ -12,11 +12,12 @@ import re
 import stat
 from dataclasses import dataclass
 
-from zsched_tools import manifest, processes
+from zsched_tools import manifest
 from zsched_tools.command import Refused
 from zsched_tools.names import Names, first_repeat
 from zsched_tools.progress import Progress
-from zsched_tools.report import Ending, Reader, as_text, records, text_lines
+from zsched_tools.report import processes
+from zsched_tools.reports import Ending, Reader, as_text, records, text_lines
 
 PIECE = 2**20
 # Bytes that fit into a processor's cache while they are hashed and searched.

@@ -9,10 +9,9 @@ import os
 from zsched_tools import command, manifest
 from zsched_tools.command import Refused, naming
 from zsched_tools.names import Names, first_repeat
-from zsched_tools.plan_text import LONGEST_PLAN, LinesText, PlanText
-from zsched_tools.report import as_text
+from zsched_tools.plan.plan_text import LONGEST_PLAN, LinesText, PlanText
+from zsched_tools.reports import as_text
 
-MOST_JOBS = 10_000
 MOST_PARTS = 999_999
 PIECE = 2**16
 

@@ -2,7 +2,8 @@
 import json
 from collections import Counter
 
-from zsched_tools.scenario import LAST_MOMENT, THOUSAND
+from zsched_tools.outage.scenario import THOUSAND
+from zsched_tools.program import LAST_MOMENT
 from zsched_tools.words import WIDTH, duration, shown
 
 CSV_HEAD = "second,begun,ok,err,running"

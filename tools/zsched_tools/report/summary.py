@@ -3,11 +3,10 @@ import itertools
 from collections import Counter
 from typing import NamedTuple
 
-from zsched_tools.report import Attempt, Ending, records
-from zsched_tools.words import duration, plural, table
+from zsched_tools.reports import Attempt, Ending, records
+from zsched_tools.words import duration, ending_text, plural, table
 
 HEAD = ["job", "mode", "ending", "at", "attempts", "ok", "err", "busy", "waited", "longest wait"]
-WIDEST_ENDING = 30
 PERCENTS = [50, 95, 99]
 WELL = ["succeeded", "finished"]
 
@@ -55,12 +54,6 @@ class Attempts:
     def _wait(self, time):
         self.waited += time
         self.longest = max(self.longest, time)
-
-
-def ending_text(how, result, widest=WIDEST_ENDING):
-    """How a job ended, with its value or output. A long text is cut."""
-    text = f"{how} {result}" if result else how
-    return text if len(text) <= widest else text[:widest - 2] + ".."
 
 
 class Summary:

@@ -6,15 +6,15 @@ import re
 import sys
 
 from zsched_tools import bounding, command, plan_size, program, starting
-from zsched_tools.bounding import LAST_MOMENT
 from zsched_tools.command import REFUSED, Paint, Refused, add_color, add_version
 from zsched_tools.drawn import Policy
 from zsched_tools.durations import duration_argument
 from zsched_tools.place import FaultAt, place_lines
+from zsched_tools.program import LAST_MOMENT
 from zsched_tools.progress import Now
 from zsched_tools.schedule_rules import any_cause
 from zsched_tools.strip import crowd_of, draw_crowd
-from zsched_tools.trying import MOST_AFTER, plan_of, tried_in
+from zsched_tools.trials import MOST_AFTER, plan_of, tried_in
 from zsched_tools.words import duration, plural
 
 TOOL = "zsched-try"

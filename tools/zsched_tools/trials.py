@@ -4,7 +4,7 @@ import json
 import re
 from dataclasses import dataclass
 
-from zsched_tools.report import attempts_in, blocks_of, ending_in
+from zsched_tools.reports import attempts_in, blocks_of, ending_in
 from zsched_tools.words import duration, plural
 
 WIDEST_RESULT = 30

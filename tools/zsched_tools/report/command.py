@@ -8,15 +8,15 @@ from zsched_tools import command, load, starting
 from zsched_tools.command import Refused
 from zsched_tools.drawing import View
 from zsched_tools.durations import duration_argument
-from zsched_tools.join import write_joined, write_known
-from zsched_tools.lines import write_lines, write_report
 from zsched_tools.manifest import is_manifest
-from zsched_tools.page import load_page, page
 from zsched_tools.picture import MOST_JOBS
 from zsched_tools.progress import Progress
-from zsched_tools.report import as_text
+from zsched_tools.report.join import write_joined, write_known
+from zsched_tools.report.lines import write_lines, write_report
+from zsched_tools.report.page import load_page, page
+from zsched_tools.report.summary import SORTS, Options, write_summary
+from zsched_tools.reports import as_text
 from zsched_tools.strip import crowd_of, draw_crowd, draw_strip, note_of
-from zsched_tools.summary import SORTS, Options, write_summary
 
 TOOL = "zsched-report"
 DESCRIPTION = """A report of zsched in other forms, and many reports as one.

@@ -6,7 +6,7 @@ the report."""
 import json
 
 from zsched_tools.command import Refused
-from zsched_tools.report import Attempt, Ending, Reader, records, shown, text_lines
+from zsched_tools.reports import Attempt, Ending, Reader, records, shown, text_lines
 
 _decode = json.JSONDecoder(parse_float=str).decode
 _encode = json.JSONEncoder(separators=(",", ":")).encode

@@ -6,9 +6,9 @@ has no room for are in no report, and count as they were simulated."""
 from array import array
 from dataclasses import dataclass
 
-from zsched_tools.outage import name_of
-from zsched_tools.report import attempts_in, blocks_of, ending_in
-from zsched_tools.world import CUT, DENIED, DONE, GOES_ON, Ending, Run, Walk
+from zsched_tools.outage.search import name_of
+from zsched_tools.outage.world import CUT, DENIED, DONE, GOES_ON, Ending, Run, Walk
+from zsched_tools.reports import attempts_in, blocks_of, ending_in
 
 
 class Uncertified(Exception):

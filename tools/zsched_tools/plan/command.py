@@ -1,8 +1,9 @@
 """The command zsched-plan: cuts a large plan into plans, and converts other files to a plan."""
 from zsched_tools import command, starting
-from zsched_tools.importing import add_command as add_from
+from zsched_tools.plan.importing import add_command as add_from
+from zsched_tools.plan.split import write_parts
+from zsched_tools.program import MOST_JOBS
 from zsched_tools.progress import Progress
-from zsched_tools.split import MOST_JOBS, write_parts
 from zsched_tools.words import plural
 
 TOOL = "zsched-plan"

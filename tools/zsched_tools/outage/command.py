@@ -4,20 +4,20 @@ import pathlib
 import random
 import sys
 
-from zsched_tools import command, plan_size, program, starting, summary
-from zsched_tools.certificate import Uncertified, certified
+from zsched_tools import command, plan_size, program, starting, words
 from zsched_tools.command import REFUSED, Paint, Refused, add_color, add_version
-from zsched_tools.curve import Figures, headline, policy_lines, table, to_json
-from zsched_tools.curve_picture import curve_page, draw_curves
 from zsched_tools.drawn import LOW
 from zsched_tools.durations import duration_argument
-from zsched_tools.outage import Search, Unsettled, cut_plans, name_of, schedules_of
+from zsched_tools.outage.certificate import Uncertified, certified
+from zsched_tools.outage.curve import Figures, headline, policy_lines, table, to_json
+from zsched_tools.outage.panels import curve_page, draw_curves
+from zsched_tools.outage.scenario import DOWN, in_text, read_scenario
+from zsched_tools.outage.search import Search, Unsettled, name_of, schedules_of
 from zsched_tools.place import FaultAt, in_file, place_lines
-from zsched_tools.plan_text import LONGEST_PLAN
+from zsched_tools.plan.split import write_parts
+from zsched_tools.program import MOST_JOBS, cut_plans
 from zsched_tools.progress import Now
-from zsched_tools.scenario import DOWN, in_text, read_scenario
 from zsched_tools.schedule_rules import any_cause
-from zsched_tools.split import MOST_JOBS, write_parts
 from zsched_tools.words import duration, plural
 
 TOOL = "zsched-outage"
@@ -173,9 +173,9 @@ def warn_of_attempts(scenario, name, color):
 def warn_of_parts(scenario, name):
     """Warns, before a policy runs, if its jobs exceed one plan; it checks only the schedules of the clients."""
     count, size = len(scenario.starts), sum(map(len, schedules_of(scenario, name)))
-    if count > MOST_JOBS or size > LONGEST_PLAN:
+    if count > MOST_JOBS or size > program.MAX_BYTES:
         print(f"{TOOL}: policy {name}: {count:,} jobs with schedules of {size:,} bytes are more than one plan of "
-              f"{MOST_JOBS:,} jobs and {LONGEST_PLAN:,} bytes: it is written as JSON lines and parts", file=sys.stderr)
+              f"{MOST_JOBS:,} jobs and {program.MAX_BYTES:,} bytes: it is written as JSON lines and parts", file=sys.stderr)
 
 
 def _all(given, scenario, zsched):
@@ -183,9 +183,9 @@ def _all(given, scenario, zsched):
     figures = {}
     with command.new_folder(given.folder, "run") as folder, Now() as progress:
         for name in scenario.policies:
-            def say(share, words, name=name):
+            def say(share, what, name=name):
                 done = 100 * (len(figures) + 0.9 * share) / len(scenario.policies)
-                progress.say(f"{done:.0f} %: {name}: {words}")
+                progress.say(f"{done:.0f} %: {name}: {what}")
             warn_of_attempts(scenario, name, given.color)
             warn_of_parts(scenario, name)
             found = simulate(scenario, zsched, name, given.passes, say)
@@ -205,7 +205,7 @@ def _print(given, scenario, figures):
     if given.json:
         print(to_json(scenario, figures))
         return
-    head, *rows = summary.table(list(table(scenario, figures)), 1)
+    head, *rows = words.table(list(table(scenario, figures)), 1)
     notes = [f"{name}: {it.note()}" for name, it in figures.items() if it.uncertified]
     for line in [headline(scenario), *policy_lines(figures), "", Paint(given.color, sys.stdout)("strong", head), *rows,
                  *notes]:

@@ -10,10 +10,9 @@ import json
 import re
 
 from zsched_tools.faults import Explained, Plan, explained
-from zsched_tools.program import MAX_BYTES
+from zsched_tools.program import MAX_BYTES, MOST_JOBS
 
 _GOOD = {"workers": "1", "grain": "1", "horizon": "0", "ticks": "[0]"}
-MOST_JOBS = 10000
 # Whole numbers that any other such number may replace: not 0, and small enough for every key.
 _NUMBER = re.compile(r"(?<![\w.+-])[1-9][0-9]{0,14}(?![\w.])")
 _NAME = re.compile(r"[A-Za-z0-9._-]{1,64}")

@@ -8,7 +8,8 @@ from array import array
 from dataclasses import dataclass
 from typing import NamedTuple
 
-from zsched_tools.scenario import FULL, LAST_MOMENT, UP, Window
+from zsched_tools.outage.scenario import FULL, UP, Window
+from zsched_tools.program import LAST_MOMENT, MOST_ENTRIES
 
 # An attempt's kind is the state of the service when it begins. DENIED is added to the kind of an attempt after which the
 # budget rejects the retry.
@@ -16,8 +17,6 @@ DENIED = 8
 UNDENIED = bytes(kind & ~DENIED for kind in range(256))
 # How the run of a client ends: its schedule is done, it continues after the horizon, or the run was cut.
 DONE, GOES_ON, CUT = range(3)
-# The most entries of a script, of which the last one repeats.
-MOST_ENTRIES = 1000
 
 
 @dataclass(slots=True)

@@ -8,7 +8,7 @@ import re
 from typing import NamedTuple
 
 from zsched_tools.command import Refused
-from zsched_tools.report import shown, text_lines
+from zsched_tools.reports import shown, text_lines
 
 LONGEST_PLAN = 16_777_216
 PIECE = 2**18

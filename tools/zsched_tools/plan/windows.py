@@ -8,10 +8,9 @@ import collections
 import json
 from typing import NamedTuple
 
-from zsched_tools.outage import MOST_ENTRIES, cut_plans
-from zsched_tools.program import run_plan
-from zsched_tools.report import attempts_in, blocks_of
-from zsched_tools.scenario import DEFAULTS, Outcome
+from zsched_tools.outage.scenario import DEFAULTS, Outcome
+from zsched_tools.program import MOST_ENTRIES, cut_plans, run_plan
+from zsched_tools.reports import attempts_in, blocks_of
 from zsched_tools.words import duration, plural
 
 # An attempt that begins this close to one of its request's own ends as that one did.

@@ -5,9 +5,9 @@ A page has the picture in two widths, of which it shows the one that fits, and t
 from elsewhere."""
 import html
 
-from zsched_tools.curve import headline, policy_lines, state_words, table
 from zsched_tools.drawing import Scale, cut_text, labels, path, place, rectangle, root, steps_to, text, text_width
-from zsched_tools.scenario import DOWN, THOUSAND
+from zsched_tools.outage.curve import headline, policy_lines, state_words, table
+from zsched_tools.outage.scenario import DOWN, THOUSAND
 from zsched_tools.words import WIDTH, duration, shown
 
 MARGIN = 16

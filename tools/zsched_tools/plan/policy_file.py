@@ -6,7 +6,7 @@ import re
 import tomllib
 
 from zsched_tools.place import Cause, line_of
-from zsched_tools.placed import DEEPEST, Raw, Value, Wrong, key
+from zsched_tools.plan.placed import DEEPEST, Raw, Value, Wrong, key
 from zsched_tools.policy.reading import yaml_module
 from zsched_tools.words import shown
 

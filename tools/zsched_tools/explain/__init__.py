@@ -1,0 +1,1 @@
+"""What only the command zsched-explain uses."""

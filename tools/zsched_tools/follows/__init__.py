@@ -1,0 +1,1 @@
+"""What only the command zsched-follows uses."""
