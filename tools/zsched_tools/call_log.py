@@ -132,6 +132,9 @@ class Reader:
         (_, self.head), *self.rows = rows
         self._find_columns()
         self.calls = self._calls()
+        if not self.calls:
+            where = "" if given.endpoint is None else f" of the endpoint {shown(given.endpoint)}"
+            raise Refused(f"{path}:1: the log has no attempt{where}")
 
     def refused(self, row, column, what):
         """The error of a cell."""

@@ -146,6 +146,8 @@ def _of_log(given):
     log = call_log.Reader(shown(given.file, WIDTH), data, given, notes)
     if given.windows and not log.has_moments:
         raise Refused(f"{log.path}:1: --begin: no column has the moments of attempts")
+    if not (log.has_moments or log.has_lengths):
+        raise Refused(f"{log.path}:1: --time: no column has the moments or the lengths of attempts")
     requests = _requests(log, notes)
     if log.has_moments:
         _say(f"{log.path}: {log.told}")
