@@ -1,15 +1,17 @@
 """What zsched-bounds prints for a schedule, computed a second time from docs/SEMANTICS.md, as a run over intervals.
 
 Each number of a schedule's state is an interval: its least and its greatest value. A history is driven: moments are at
-most LAST, an attempt takes 1 ms or more and begins no earlier than the schedule's next moment."""
+most LAST, and an attempt begins at the schedule's next moment. It takes the least duration or more, which is 1 ms or more,
+and at most the greatest one, if there is one."""
 import random
+import re
 
 import generator
 import reference
 from reference import sat
 
 MOST, LAST = 2 ** 64 - 1, 999999999999999
-STEPS = 20000
+STEPS, ANY = 20000, (1, None)
 # The most steps of histories of small policies, and the most histories.
 DEEP, MOST_HISTORIES = 7, 20000
 
@@ -94,7 +96,8 @@ def merge(s, a, b):
 
 
 def step(s, state, d):
-    """The result of one more step, at least d after the one before, and the state after it; None is the first state."""
+    """The result of one more step, after a time of the interval d since the one before, and the state after it; None is
+    the first state."""
     match s:
         case ("&&" | "||") as operator, a, b:
             (x, v, stops_a), after_a = step(a, state and state[0], d)
@@ -124,10 +127,10 @@ def step(s, state, d):
         case "resetWhen", part, pick, comparison, k:
             result, after = step(part, state, d)
             passes, fails = tested(mapped(pick, None, result[0])[1:], comparison, k)
-            begun = step(part, None, 0) if passes else (None, None)
+            begun = step(part, None, None) if passes else (None, None)
             return either(result if fails else None, begun[0]), merge(part, after if fails else None, begun[1])
     steps, time = state or ((0, 0), (0, 0))
-    after = (steps[0] + 1, steps[1] + 1), (time[0] + d, LAST) if state else (0, 0)
+    after = (steps[0] + 1, steps[1] + 1), (time[0] + d[0], min(time[1] + d[1], LAST)) if state else (0, 0)
     return leaf(s, *after), after
 
 
@@ -139,7 +142,7 @@ def step_in_turn(a, b, state, d):
         if wait:
             result, first = (("sum", x, None), wait, False), after
         if stops:
-            (y, wait, may_stop), second = step(b, None, 0)
+            (y, wait, may_stop), second = step(b, None, None)
             result = either(result, (("sum", None, y), wait, may_stop))
     if state and state[1]:
         (y, wait, may_stop), after = step(b, state[1], d)
@@ -147,21 +150,26 @@ def step_in_turn(a, b, state, d):
     return result, (first, second)
 
 
-def bounds(s, most=STEPS):
-    """The bounds of a schedule, by at most this number of steps, as zsched-bounds prints them."""
-    state, d, passed, least, longest, total = None, 0, 0, 1, 0, 0
+def bounds(s, durations=ANY, most=STEPS):
+    """The bounds of a schedule whose attempts take one of the durations, by at most this number of steps, as zsched-bounds
+    prints them."""
+    shortest, longest_attempt = durations
+    state, d, passed, least, longest, total, run = None, None, 0, 1, 0, 0, longest_attempt
     for n in range(1, most + 1):
         (_, wait, may_stop), state = step(s, state, d)
         least += least == n and not may_stop
         if wait:
             longest, total = max(longest, wait[1]), total + wait[1]
-            d = wait[0] + 1
-            passed += d
+            run = run and run + wait[1] + longest_attempt
+            d = wait[0] + shortest, wait[1] + longest_attempt if longest_attempt else LAST
+            passed += d[0]
         if wait is None or passed > LAST:
             break
     is_cut = wait is not None and passed <= LAST
-    return {"attempts": {"least": least, "most": n if wait is None else None}, "longest_wait": longest,
-            "total_wait": None if is_cut or total > MOST else total, "steps_seen": n}
+    total, run = (None if is_cut or it is None or it > MOST else it for it in (total, run))
+    return {"attempt": dict(zip(("least", "most"), durations)), "attempts": {
+        "least": least, "most": n if wait is None else None}, "longest_wait": longest, "total_wait": total,
+        "longest_run": run, "steps_seen": n}
 
 
 def policy(chance):
@@ -178,24 +186,33 @@ def random_policy(seed):
         return None
 
 
-def driven_steps(text):
+def random_durations(chance):
+    """The least and the greatest duration of attempts; two of five have no greatest one."""
+    least = chance.choice([1, 1, 2, 20])
+    return chance.choice([ANY, ANY, *((least, least + more) for more in (0, chance.choice([1, 2, 7]), 5000))])
+
+
+def driven_steps(text, least, most):
     """The inputs and durations that make a difference to a policy, and the number of steps, at most DEEP, for which
     there are at most MOST_HISTORIES histories over them."""
-    inputs = range(4) if "nput" in text or "identity" in text else [0]
-    durations = [1, 2, 3] if any(word in text for word in ("fixed", "windowed", "elapsed")) else [1]
+    tested_by = map(int, re.findall(r"[<=>] *(\d+)", text) if "nput" in text or "identity" in text else [])
+    inputs, longest = sorted({0, *(min(max(0, k + d), MOST) for k in tested_by for d in (-1, 0, 1))}), most or least + 2
+    is_timed = any(word in text for word in ("fixed", "windowed", "elapsed"))
+    durations = sorted({least, min(least + 1, longest), longest} if is_timed else {longest})
     fits = [n for n in range(1, DEEP + 1) if len(inputs) * (len(inputs) * len(durations)) ** (n - 1) <= MOST_HISTORIES]
     return inputs, durations, fits[-1]
 
 
 def reached(s, inputs, durations, steps):
-    """The least and most steps, the longest wait and the total that all driven histories of these inputs and durations
-    reach."""
-    least, most, longest, total = steps + 1, 0, 0, 0
+    """The least and most steps, the longest wait, the total and the longest run that all driven histories of these inputs
+    and durations reach. A run has the attempt that the last step lets begin, even if it ends after LAST."""
+    least, most, longest, total, run = steps + 1, 0, 0, 0, 0
     open_histories = [([(0, i)], 0) for i in inputs]
     while open_histories:
         pairs, waited = open_histories.pop()
         n = len(pairs)
         _, x = reference.step(s, reference.History(pairs, {}, 0, n))
+        run = max(run, durations[-1] + (pairs[-1][0] if x is None else x + durations[-1]))
         if x is None:
             least, most, total = min(least, n), max(most, n), max(total, waited)
             continue
@@ -206,19 +223,22 @@ def reached(s, inputs, durations, steps):
         else:
             open_histories += [
                 (pairs + [(x + d, i)], waited + wait) for d in durations if x + d <= LAST for i in inputs]
-    return least, most, longest, total
+    return least, most, longest, total, run
 
 
 def tightness(seeds):
-    """How many bounds of small policies without `resetWhen` some history reaches exactly, within the same steps: the
-    number of policies, and of each bound how many are reached."""
-    met, runs = [0, 0, 0, 0], 0
-    for found in map(random_policy, seeds):
+    """How many bounds of small policies without `resetWhen`, of which three of four have an end, some history reaches
+    exactly within the same steps: for each of the five bounds the number of policies that reach it, and that have it."""
+    met, had = [0] * 5, [0] * 5
+    for seed in seeds:
+        found, durations = random_policy(seed), random_durations(random.Random(seed))
         if found is None or len(found[0]) >= 60 or "resetWhen" in found[0]:
             continue
-        *some, steps = driven_steps(found[0])
-        b, histories = bounds(found[1], steps), reached(found[1], *some, steps)
-        had = (min(b["attempts"]["least"], steps + 1), b["attempts"]["most"] or steps + 1, b["longest_wait"],
-               histories[3] if b["total_wait"] is None else b["total_wait"])
-        runs, met = runs + 1, [count + (x == y) for count, x, y in zip(met, had, histories)]
-    return runs, met
+        text = f"({found[0]} && recurs({seed % 4}))" if seed % 4 else found[0]
+        *some, steps = driven_steps(text, *durations)
+        s = reference.read_schedule(text.encode())
+        b, histories = bounds(s, durations, steps), reached(s, *some, steps)
+        said = (min(b["attempts"]["least"], steps + 1), b["attempts"]["most"] or steps + 1, b["longest_wait"],
+                b["total_wait"], b["longest_run"])
+        met, had = zip(*((m + (x == y), h + (x is not None)) for m, h, x, y in zip(met, had, said, histories)))
+    return met, had
