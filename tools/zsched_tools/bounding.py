@@ -1,6 +1,6 @@
 """The bounds of a policy for every input, as the program zsched-bounds prints them: lines of JSON, each shown as text."""
 import json
-from dataclasses import dataclass
+from dataclasses import dataclass, replace
 
 from zsched_tools import program
 from zsched_tools.program import LAST_MOMENT
@@ -18,12 +18,15 @@ def rounded(ms):
 @dataclass
 class Bounds:
     """The least and the most attempts until a policy gives up, the longest wait and all waits together in milliseconds,
-    and the number of steps that were evaluated. None is an unknown number."""
+    the number of steps that were evaluated, the time from the begin of the first attempt to the end of the last, and
+    whether attempts have a greatest duration. None is an unknown number."""
     least: int
     most: int | None
     longest: int
     total: int | None
     seen: int
+    run: int | None = None
+    is_limited: bool = False
 
     def attempts(self):
         """The attempts in words."""
@@ -50,44 +53,53 @@ class Bounds:
         total = "" if self.total is None else f", {rounded(self.total)} in all"
         return f"waits of at most {rounded(self.longest)}{total}"
 
+    def end(self):
+        """The end of the whole call in words. Nothing is said of it if attempts may take any time."""
+        if not self.is_limited:
+            return ""
+        return "; no proved end" if self.run is None or self.run > LAST_MOMENT else f"; ends within {rounded(self.run)}"
+
     def line(self):
         """All of it in one line."""
         if self.least == 1 and self.most is None and self.longest > LAST_MOMENT:
             return "nothing is proved"
-        return f"{self.attempts()}; {self.waits()}"
+        return f"{self.attempts()}; {self.waits()}{self.end()}"
 
 
 def bounds_of(line):
     """The bounds in a line of the program."""
     read = json.loads(line)
     return Bounds(read["attempts"]["least"], read["attempts"]["most"], read["longest_wait"], read["total_wait"],
-                  read["steps_seen"])
+                  read["steps_seen"], read["longest_run"], read["attempt"]["most"] is not None)
 
 
-def of_policies(path, policies):
-    """The bounds of each Policy, for every draw if it is random."""
+def of_policies(path, policies, attempt=None):
+    """The bounds of each Policy, for every draw if it is random. `attempt` is as that of `run`."""
     groups = [list((it.limits() or ())[:2]) if it.is_drawn else [it.spelled] for it in policies]
-    found = iter(run(path, sum(groups, [])))
+    found = iter(run(path, sum(groups, []), attempt=attempt))
     firsts = [[next(found) for _ in group] for group in groups]
-    return [_of_draws(path, it, first) if it.is_drawn else first[0] for it, first in zip(policies, firsts)]
+    return [_of_draws(path, it, first, attempt) if it.is_drawn else first[0] for it, first in zip(policies, firsts)]
 
 
-def _of_draws(path, policy, found):
+def _of_draws(path, policy, found, attempt):
     """The bounds of a random Policy from those of its greatest and its least waits. Its waits are at most the greatest
     before the last attempt."""
     if not found:
         return Bounds(1, None, LAST_MOMENT + 1, None, MOST_STEPS)
     most, without_limit = found[1].most, policy.limits()[2]
-    waits = run(path, [without_limit if most is None else f"({without_limit} && recurs({most - 1}))"])[0]
+    waits = run(path, [without_limit if most is None else f"({without_limit} && recurs({most - 1}))"], None, attempt)[0]
     # Steps after the last moment of a plan aren't looked at, and with shorter waits they come before it.
     if waits.seen < MOST_STEPS and (waits.total is None or waits.total > LAST_MOMENT):
-        return Bounds(found[0].least, most, LAST_MOMENT + 1, None, MOST_STEPS)
-    return Bounds(found[0].least, most, waits.longest, waits.total, waits.seen)
+        waits = replace(waits, longest=LAST_MOMENT + 1, total=None, seen=MOST_STEPS, run=None)
+    return replace(waits, least=found[0].least, most=most)
 
 
-def run(path, policies, seconds=None):
-    """The bounds of each policy by the program at this path. subprocess.TimeoutExpired is raised after the seconds."""
-    status, printed, errors = program.run(path, "".join(f"{policy}\n" for policy in policies).encode(), seconds)
+def run(path, policies, seconds=None, attempt=None):
+    """The bounds of each policy by the program at this path. `attempt` has the least and the greatest duration of attempts
+    (None: any). subprocess.TimeoutExpired is raised after the seconds."""
+    options = ["--attempt", "{}ms..{}ms".format(*attempt)] if attempt else []
+    given = "".join(f"{policy}\n" for policy in policies).encode()
+    status, printed, errors = program.run(path, given, seconds, options)
     if status:
         raise ChildProcessError(program.failure(status, errors, "zsched-bounds"))
     lines = printed.splitlines()

@@ -78,14 +78,15 @@ def cut_plans(clock, jobs, most=None):
     return [(before + ",".join("\n" + job for job in group) + after).encode() for group in groups], most
 
 
-def run(program, given, seconds=None):
+def run(program, given, seconds=None, options=()):
     """Runs a program on some bytes: status, standard output, standard error. After `seconds` it is killed, and
     subprocess.TimeoutExpired is raised. Files hold what it reads and writes, so that only one copy is in memory."""
     with naming(tempfile.gettempdir()), tempfile.TemporaryFile() as read, tempfile.TemporaryFile() as written:
         read.write(given)
         read.seek(0)
         with starting(program):
-            ended = subprocess.run([program], stdin=read, stdout=written, stderr=subprocess.PIPE, timeout=seconds, check=False)
+            ended = subprocess.run([program, *options], stdin=read, stdout=written, stderr=subprocess.PIPE, timeout=seconds,
+                                   check=False)
         written.seek(0)
         return ended.returncode, written.read(), ended.stderr
 

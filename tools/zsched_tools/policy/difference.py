@@ -82,7 +82,8 @@ def _always(scope, one, other):
     waits = [it.longest if it.has_all_waits() and it.longest <= bounding.LAST_MOMENT else None for it in (one, other)]
     limits = [_limit(one.most, other.most, "attempts", "{} more", "{} fewer", "attempt"),
               _limit(*waits, "each wait", "a wait that is {} longer", "a wait that is {} shorter"),
-              _limit(one.total, other.total, "all waits", "{} more of waits in all", "{} less of waits in all")]
+              _limit(one.total, other.total, "all waits", "{} more of waits in all", "{} less of waits in all"),
+              _limit(one.run, other.run, "the whole call", "an end that is {} later", "an end that is {} earlier")]
     if any(limits):
         yield f"the limits of B {scope}: {listed(list(filter(None, limits)))}"
 
@@ -95,8 +96,9 @@ def _diff(given):
         return REFUSED
     found, bounds = list(tried_in(report)), bounds_of_all(given)
     for name, policy, result, bound in zip("AB", given.read, found, bounds):
-        print(f"{name}  {policy.text}\n   {result.line()}" + (f"\n   {of_all(policy)}: {bound.line()}" if bound else ""))
-    scope = of_all(max(given.read, key=lambda policy: policy.is_drawn))
+        every = f"\n   {of_all(policy, given.attempt)}: {bound.line()}" if bound else ""
+        print(f"{name}  {policy.text}\n   {result.line()}{every}")
+    scope = of_all(max(given.read, key=lambda policy: policy.is_drawn), given.attempt)
     lines = [*filter(None, [_here(*found)]), *itertools.islice(_first(blocks_of(report)), 1),
              *([] if None in bounds else _always(scope, *bounds))]
     print("\n".join(lines) or "no difference")

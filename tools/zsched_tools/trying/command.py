@@ -23,7 +23,8 @@ EXCEEDED = 1
 NO_MEMORY = 4
 DESCRIPTION = """Runs policies from the command line, all on the same attempts, and prints a line for each: how it ends,
 after how many attempts and when, and how long it waits. If zsched-bounds is there, a second line says what the policy
-does for every input and every duration of attempts, until it gives up. That line is proved.
+does for every input and every duration of attempts, until it gives up. That line is proved. With --attempt it also says
+when the whole call ends.
 
   $ zsched-try '(exponential(100) && recurs(5))'
   failed 503 after 6 attempts, 3.34 s (waited 3.1 s, longest wait 1.6 s)
@@ -31,7 +32,7 @@ does for every input and every duration of attempts, until it gives up. That lin
 
   zsched-try 'spaced(1000)' 'exponential(100)' --after 3
   zsched-try "$POLICY" --max-wait 30s --max-total 2min
-  zsched-try "$POLICY" --require-most 10 --require-total 30s
+  zsched-try "$POLICY" --attempt 5s --require-end 30s
 
 Each attempt ends as --fails says. With --after N this holds only for the first N, and the others end as --then says. A
 duration is a number of milliseconds, or has a unit: 40, 40ms, 1.5s, 2min, 1h30m, 1d. docs/RECIPES.md has policies for
@@ -46,7 +47,8 @@ A policy is a schedule, or one of these, and standard error shows the schedule t
   (exponential(100) && recurs(5)) jitter full each wait drawn from 0 to it; jitter equal from half of it, jitter 20% from
                                               80 % to 120 % of it, jitter 2/3..1 from two thirds of it"""
 EPILOG = """A policy that is unfinished at --until has neither an end nor a last attempt, so it exceeds every --max-total
-and --max-attempts. Its waits count up to --until. --max-.. are limits of this run, --require-.. of every run.
+and --max-attempts. Its waits count up to --until. --max-.. are limits of this run, --require-.. of every run. The whole
+call is from the begin of the first attempt to the end of the last.
 
 Exit status: 0; 1 if a policy exceeds a bound, or if a required bound isn't proved (standard error names it); 2 if a
 policy or an argument is wrong, with a caret below its place, if there is no zsched, or if --require-.. is given without
@@ -72,6 +74,15 @@ def _entry(word):
     return _time(1)(found[1]), found[2], int(found[3])
 
 
+def _durations(word):
+    """The least and the greatest duration of attempts, as `5s` or `20ms..5s`."""
+    least, _, most = word.rpartition("..")
+    found = _time(1)(least or "1"), _time(1)(most)
+    if found[0] > found[1]:
+        raise argparse.ArgumentTypeError(f'"{word}" has a least duration that is longer than the greatest one')
+    return found
+
+
 def _count(most):
     """A reader of whole numbers up to a greatest."""
     return command.number(0, most, f'"{{}}" is not a whole number up to {most}')
@@ -79,13 +90,13 @@ def _count(most):
 
 def _entries(given):
     """The entries of the script of all policies."""
-    usual = (40, "err", 503) if given.mode == "retry" else (40, "ok", 200)
-    first = given.fails or usual
+    longest = given.attempt and given.attempt[1]
+    first = given.fails or (longest or 40, *(("err", 503) if given.mode == "retry" else ("ok", 200)))
     if given.after is None:
         if given.then:
             raise Refused("--then needs --after N, the number of attempts before it")
         return [first]
-    return [first] * given.after + [given.then or (35, "ok", 200)]
+    return [first] * given.after + [given.then or (longest or 35, "ok", 200)]
 
 
 def _exceeded(given, found):
@@ -103,27 +114,27 @@ def _exceeded(given, found):
 
 def _not_proved(given, bounds):
     """The required bounds of a policy that aren't proved, in words."""
-    most, wait, total = given.require_most, given.require_wait, given.require_total
-    if most is not None and (bounds.most is None or bounds.most > most):
-        found = "no limit of attempts" if bounds.most is None else f"up to {plural(bounds.most, 'attempt')}"
-        yield f"--require-most {most} is not proved: {found}"
-    if wait is not None and (not bounds.has_all_waits() or bounds.longest > wait):
-        found = f"waits of up to {bounding.rounded(bounds.longest)}" if bounds.has_all_waits() else (
-            f"no limit after the first {bounding.MOST_STEPS} waits")
-        yield f"--require-wait {duration(wait)} is not proved: {found}"
-    if total is not None and (bounds.total is None or bounds.total > total):
-        found = "no limit of waits" if bounds.total is None else f"waits of up to {duration(bounds.total)} in all"
-        yield f"--require-total {duration(total)} is not proved: {found}"
+    wait = bounds.longest if bounds.has_all_waits() else None
+    for name, found, words, without in [
+            ("most", bounds.most, "up to {}", "no limit of attempts"),
+            ("wait", wait, "waits of up to {}", f"no limit after the first {bounding.MOST_STEPS} waits"),
+            ("total", bounds.total, "waits of up to {} in all", "no limit of waits"),
+            ("end", bounds.run, "a call of up to {}", "no limit of the whole call")]:
+        limit = getattr(given, f"require_{name}")
+        if limit is not None and (found is None or found > limit):
+            shown = without if found is None else words.format(
+                plural(found, "attempt") if name == "most" else bounding.rounded(found))
+            yield f"--require-{name} {limit if name == 'most' else duration(limit)} is not proved: {shown}"
 
 
 def bounds_of_all(given):
     """The bounds of the policies for every input; None for each if zsched-bounds isn't found and isn't required."""
     path = program.find_bounds(given.bounds)
     if path is not None:
-        return bounding.of_policies(path, given.read)
+        return bounding.of_policies(path, given.read, given.attempt)
     if any(value is not None for name, value in vars(given).items() if name.startswith("require_")):
-        raise Refused("--require-most, --require-wait and --require-total need zsched-bounds, which is neither built nor "
-                      "installed; set --bounds PATH or ZSCHED_BOUNDS")
+        raise Refused("--require-.. needs zsched-bounds, which is neither built nor installed; set --bounds PATH or "
+                      "ZSCHED_BOUNDS")
     return [None] * len(given.policies)
 
 
@@ -153,9 +164,13 @@ def _wrong(tool, given, cause):
         print(shown, file=sys.stderr)
 
 
-def of_all(policy):
-    """What the bounds of a policy are for."""
-    return "for every draw and input" if policy.is_drawn else "for every input"
+def of_all(policy, attempt):
+    """What the bounds of a policy are for, with these durations of attempts."""
+    every = "for every draw and input" if policy.is_drawn else "for every input"
+    if attempt is None:
+        return every
+    times = [f"at most {duration(attempt[1])}"] if attempt[0] == 1 else dict.fromkeys(map(duration, attempt))
+    return f"{every} and attempts of {' to '.join(times)}"
 
 
 def _print_all(given, report, all_bounds):
@@ -171,7 +186,7 @@ def _print_all(given, report, all_bounds):
             ending, after, rest = found.line().partition(" after ")
             print((policy.text.ljust(widest) if widest else "") + paint(style, ending) + after + rest)
             if bounds is not None:
-                print(" " * widest + f"{of_all(policy)}: {bounds.line()}")
+                print(" " * widest + f"{of_all(policy, given.attempt)}: {bounds.line()}")
         for words in [*_exceeded(given, found), *(_not_proved(given, bounds) if bounds is not None else [])]:
             sys.stdout.flush()
             print(f"{TOOL}: {policy.text}: {words}", file=sys.stderr)
@@ -220,8 +235,19 @@ def tried(tool, given, is_plan=False):
     return report
 
 
+def _check_requirements(given):
+    """Rejects --require-end without a duration, and warns of attempts beside which the waits alone say little."""
+    if given.require_end is not None and given.attempt is None:
+        raise Refused("--require-end needs --attempt TIME, the greatest duration of an attempt")
+    total, longest = given.require_total, given.fails[0] if given.fails else 0
+    if total is not None and 10 * longest > total:
+        print(f"{TOOL}: --require-total limits the waits alone, and each attempt of --fails takes {duration(longest)}; "
+              "--attempt and --require-end limit the whole call", file=sys.stderr)
+
+
 def work(given):
     """Runs the command with its arguments; returns the exit status."""
+    _check_requirements(given)
     found = tried(TOOL, given, given.plan)
     if found is None:
         return REFUSED
@@ -239,6 +265,9 @@ def add_attempts(parser):
                         help="each attempt: '40 err 503', under repeat '40 ok 200'")
     parser.add_argument("--after", type=_count(MOST_AFTER), metavar="N", help="how many attempts end as --fails says")
     parser.add_argument("--then", type=_entry, metavar="ATTEMPT", help="each attempt after these: '35 ok 200'")
+    parser.add_argument("--attempt", type=_durations, metavar="TIME",
+                        help="the greatest duration of an attempt: 5s; with the least one: 20ms..5s. It is also that of "
+                             "the attempts of this run, unless --fails or --then say another")
     parser.add_argument("--until", type=_time(0), default=_time(0)("1d"), metavar="TIME", help="the horizon: 1d")
     parser.add_argument("--seed", type=_count(2**64 - 1), default=0, metavar="N", help="of random waits (0)")
     parser.add_argument("--zsched", metavar="PATH", help="the program (ZSCHED, the built or the installed one)")
@@ -256,7 +285,10 @@ def arguments():
     parser.add_argument("--max-attempts", type=_count(2**64 - 1), metavar="N", help="the most attempts")
     parser.add_argument("--require-most", type=_count(2**64 - 1), metavar="N", help="the most attempts for every input")
     parser.add_argument("--require-wait", type=_time(0), metavar="TIME", help="the longest wait for every input")
-    parser.add_argument("--require-total", type=_time(0), metavar="TIME", help="the most of all waits for every input")
+    parser.add_argument("--require-total", type=_time(0), metavar="TIME",
+                        help="the most of all waits for every input: the waits alone, without the attempts")
+    parser.add_argument("--require-end", type=_time(0), metavar="TIME",
+                        help="the most of the whole call for every input, with attempts as --attempt says")
     printed = parser.add_mutually_exclusive_group()
     printed.add_argument("--plan", action="store_true", help="print the plan, and run nothing")
     printed.add_argument("--svg", action="store_true", help="print the picture")
