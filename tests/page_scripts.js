@@ -9,7 +9,7 @@ const vm = require("vm");
 const MOST_ATTEMPTS = 2100;
 const MOST_OF_A_CLIENT = 100000;
 const FIELDS = { a: "recurs(3)", b: "", mode: "retry", world: "script", script: "5 err 7, 5 ok 1", until: "1s",
-  start: "", clients: "20", spread: "10s", down: "5s..35s", bad: "50 err 503", good: "40 ok 200", seed: "1" };
+  start: "", clients: "20", spread: "10s", down: "5s..35s", bad: "50 err 503", good: "40 ok 200", seed: "1", attempt: "" };
 
 const text = fs.readFileSync(process.argv[2], "utf8");
 const named = vm.runInThisContext;
@@ -44,8 +44,13 @@ globalThis.page = {
     const draws = [() => 0, () => 1 - 2 ** -53].map(it => policy.texts(it));
     return [policy.name, ...policy.becomes(), ...policy.isDrawn ? draws : []];
   },
-  // What holds for every input of a schedule, in words.
-  everyInput: schedule => named("bounding").words(named("bounding").boundsOf(schedule)),
+  // What holds for every input of a schedule and attempts of these durations, in numbers and in words.
+  bounds: (schedule, steps = null, attempt = [1, null]) =>
+    named("bounding").boundsOf(schedule, steps, attempt.map(it => it && BigInt(it))),
+  everyInput(...given) {
+    const found = page.bounds(...given);
+    return `${named("bounding").scope(found.attempt)}: ${named("bounding").words(found)}`;
+  },
 };
 
 function called(line) {

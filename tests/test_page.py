@@ -3,6 +3,7 @@ the page in a real browser. What else its functions return are the cases in test
 import base64
 import contextlib
 import json
+import random
 import re
 import shutil
 import subprocess
@@ -86,11 +87,11 @@ def test_an_evaluator_that_counts_wrong_is_noticed(tmp_path):
         assert answer(call, text) != reference.answer(text)
 
 
-def judge_bounds(page, text, schedule, steps=120):
+def judge_bounds(page, text, schedule, durations=bounds.ANY, steps=120):
     """The page's bounds by at most so many steps are those of tests/bounds.py."""
-    found, wanted = page("bounding.boundsOf", text, steps), bounds.bounds(schedule, steps)
-    numbers = [found[key] and int(found[key]) for key in ["least", "most", "longest", "total", "seen"]]
-    others = [wanted[key] for key in ["longest_wait", "total_wait", "steps_seen"]]
+    found, wanted = page("page.bounds", text, steps, durations), bounds.bounds(schedule, durations, steps)
+    numbers = [found[key] and int(found[key]) for key in ["least", "most", "longest", "total", "run", "seen"]]
+    others = [wanted[key] for key in ["longest_wait", "total_wait", "longest_run", "steps_seen"]]
     assert numbers == [*wanted["attempts"].values(), *others], text
     assert found["isCut"] or wanted["attempts"]["most"] is not None or wanted["steps_seen"] < steps, text
 
@@ -98,7 +99,7 @@ def judge_bounds(page, text, schedule, steps=120):
 def test_bounds_of_random_schedules(page):
     policies = [found for seed in range(examples(400)) if (found := bounds.random_policy(seed))]
     for text, schedule in policies:
-        judge_bounds(page, text, schedule)
+        judge_bounds(page, text, schedule, bounds.random_durations(random.Random(text)))
     assert len(policies) > 100
 
 
@@ -231,7 +232,7 @@ def test_the_page_loads_nothing_from_elsewhere_and_says_what_its_evaluator_is():
     assert re.findall(r"https?:|//[a-z]|@import|url\(", TEXT.replace("// ", "")) == []
     assert set(re.findall(r'\b(?:src|href)="([^"]*)"', TEXT)) == {"data:,"}
     assert re.search("Content-Security-Policy\"\\s+content=\"default-src 'none'; ", TEXT)
-    assert re.findall(r"fetch\((.*?),", TEXT) == ['"/report"']
+    assert re.findall(r"fetch\((.*?),", TEXT) == ['`/report${attempt ? `?attempt=${attempt.join("..")}` : ""}`']
     assert "a separate implementation of zsched, unproved and in" in TEXT
 
 
@@ -239,7 +240,7 @@ def test_every_field_has_a_label_and_a_place_for_its_fault():
     named = set(re.findall(r'<label for="(\w+)"', TEXT))
     defaults = re.search(r"const DEFAULTS = \{(.*?)\};", TEXT, re.S)[1]
     fields = set(re.findall(r'<(?:input|textarea|select) id="(\w+)"', TEXT))
-    assert named == fields == set(re.findall(r'(\w+): "', defaults)) and len(named) == 13
+    assert named == fields == set(re.findall(r'(\w+): "', defaults)) and len(named) == 14
     assert set(re.findall(r'id="(\w+)-fault"', TEXT)) == (named | {"plan"}) - {"world"}
 
 

@@ -59,8 +59,8 @@ def request(url, method, path="/", body=None, **headers):
         return response.status, response.headers, response.read()
 
 
-def asked(url, text):
-    status, _, body = request(url, "POST", "/report", text)
+def asked(url, text, path="/report"):
+    status, _, body = request(url, "POST", path, text)
     assert status == 200, body
     return json.loads(body)
 
@@ -73,7 +73,8 @@ def test_the_report_is_that_of_the_program(url, path):
 
 def test_the_page_says_what_holds_for_every_input(url):
     policy, said = "(exponential(100) && recurs(5))", "6 attempts, always; waits of at most 1.6 s, 3.1 s in all"
-    assert asked(url, question(policy))["bounds"] == {policy: said}
+    for query, end in [("", ""), ("?attempt=1..5000", "; ends within 33.1 s"), ("?attempt=5", ""), ("?other=1..5", "")]:
+        assert asked(url, question(policy), f"/report{query}")["bounds"] == {policy: said + end}
 
 
 @pytest.mark.parametrize("status, schedules, wanted", [
@@ -81,7 +82,8 @@ def test_the_page_says_what_holds_for_every_input(url):
     (None, ["recurs(3)"], {}), (0, ["recurs(0)", "recurs(1)", "recurs(2)"], {})],
     ids=["good", "failed", "without", "of three policies"])
 def test_bounds_are_left_out_if_there_are_none(zsched, tmp_path, status, schedules, wanted):
-    line = '{"policy":"","attempts":{"least":4,"most":4},"longest_wait":0,"total_wait":0,"steps_seen":4}'
+    line = ('{"policy":"","attempt":{"least":1,"most":null},"attempts":{"least":4,"most":4},"longest_wait":0,'
+            '"total_wait":0,"longest_run":null,"steps_seen":4}')
     bounds = None if status is None else executable(tmp_path / "bounds", f"cat > /dev/null\necho '{line}'\nexit {status}")
     assert command.answer(zsched, question(schedules=schedules), 10, bounds)["bounds"] == wanted
 

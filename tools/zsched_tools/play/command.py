@@ -64,19 +64,20 @@ def run(zsched, plan, seconds):
         return child.returncode, report.read(LONGEST_REPORT + 1), size, errors
 
 
-def every_input(bounds, plan):
-    """The bounds by this zsched-bounds of each schedule of a plan, if the plan has no more schedules than the page has
-    policies. If the program fails, the report is shown without bounds."""
+def every_input(bounds, plan, attempt):
+    """The bounds by this zsched-bounds of each schedule of a plan, with these durations of attempts, if the plan has no
+    more schedules than the page has policies. If the program fails, the report is shown without bounds."""
     schedules = list({job["schedule"] for job in json.loads(plan)["jobs"]})
     if bounds is None or len(schedules) > MOST_POLICIES:
         return {}
     try:
-        return {schedule: found.line() for schedule, found in zip(schedules, bounding.run(bounds, schedules, SECONDS))}
+        found = bounding.run(bounds, schedules, SECONDS, attempt)
+        return {schedule: it.line() for schedule, it in zip(schedules, found)}
     except (OSError, subprocess.TimeoutExpired):
         return {}
 
 
-def answer(zsched, plan, seconds, bounds=None):
+def answer(zsched, plan, seconds, bounds=None, attempt=None):
     """What the page shows for the bytes of a plan: the report, and what holds for every input; or the fault with its
     place."""
     many = plan_size.warning(plan, MOST_ATTEMPTS)
@@ -98,7 +99,7 @@ def answer(zsched, plan, seconds, bounds=None):
         first = said.partition("\n")[0] or f"status {status} and no report"
         cause = f"{first} ({MEMORY >> 20} MB are given to it)"
         return {"fault": {"field": "until", "cause": cause, "help": SMALLER}}
-    return {**shown(report, size), "bounds": every_input(bounds, plan)}
+    return {**shown(report, size), "bounds": every_input(bounds, plan, attempt)}
 
 
 def placed(plan, said):
@@ -193,8 +194,10 @@ class Handler(http.server.BaseHTTPRequestHandler):
     def give_answer(self):
         """Sends the response to a plan."""
         plan = self.rfile.read(int(self.headers["Content-Length"]))
-        response = json.dumps(answer(self.server.zsched, plan, self.server.seconds, self.server.bounds)).encode()
-        self.give(200, "application/json", response)
+        said = re.fullmatch(r"attempt=([0-9]{1,15})\.\.([0-9]{1,15})", self.path.partition("?")[2])
+        attempt = said and tuple(map(int, said.groups()))
+        found = answer(self.server.zsched, plan, self.server.seconds, self.server.bounds, attempt)
+        self.give(200, "application/json", json.dumps(found).encode())
 
     def give(self, status, kind, body):
         """Sends a response."""
