@@ -110,7 +110,7 @@ def rows():
             yield cells
 
 
-SAME = {name: text for name, text, said in rows() if said.startswith("the same")}
+SAME = {name: text for name, text, said in rows() if said.startswith("same")}
 
 
 def part(schedule, text):
@@ -130,7 +130,7 @@ def parts_of(row, k):
 
 
 def definitions(d, e, k, n, s, a, b):
-    """ZIO's schedule of each row of the tables that says 'the same'."""
+    """ZIO's schedule of each row of the tables that says 'same'."""
     return {
         "`Schedule.forever`, `Schedule.count`": zio.forever(), "`Schedule.recurs(k)`": zio.recurs(k),
         "`Schedule.once`": zio.recurs(1).unit(), "`Schedule.stop`": zio.recurs(0).unit(),
@@ -187,7 +187,7 @@ def first_difference(schedule, steps):
 
 @pytest.mark.parametrize("name, text, said", rows(), ids=lambda cell: cell.strip("`")[:40])
 def test_a_row_for_zio_says_what_it_is(name, text, said):
-    assert re.match(r"(the same|own rule)\b" if text else r"(left out|nothing to provide|a job of a plan)\b", said)
+    assert re.match(r"(same|own rule)\b" if text else r"(left out|nothing to provide|a job of a plan)\b", said)
 
 
 def test_each_row_that_says_the_same_has_a_definition():

@@ -51,16 +51,16 @@ def test_bounds_are_left_out_without_their_program_unless_they_are_required(zsch
     monkeypatch.setattr(program, "find_bounds", lambda named: named)
     words = ["recurs(1)", "--zsched", zsched]
     assert tool(*words) == (0, "failed 503 after 2 attempts, 80 ms (waited 0 ms, longest wait 0 ms)\n", "")
-    for option in ["--require-most", "--require-wait", "--require-total"]:
-        status, output, errors = tool(*words, option, "9")
+    for option in ["--require-most", "--require-wait", "--require-total", "--require-end"]:
+        status, output, errors = tool(*words, "--attempt", "5s", option, "9")
         assert (status, output) == (2, "")
-        assert "need zsched-bounds, which is neither built nor installed" in errors
+        assert "needs zsched-bounds, which is neither built nor installed" in errors
 
 
 @pytest.mark.parametrize("words, lines", SHOWN, ids=[words for words, _ in SHOWN])
 def test_the_documents_show_runs_as_they_are(words, lines, zsched, bounds):
     status, output, errors = tool(*shlex.split(words), "--zsched", zsched, "--bounds", bounds)
-    assert output + errors == lines and "for every input: " in lines
+    assert output + errors == lines and "for every input" in lines
 
 
 def test_the_help_shows_a_run_as_it_is_and_the_documents_five(zsched, bounds):
@@ -89,6 +89,12 @@ def shown_in(section):
     columns = re.search(rf"^\| \[{title}\].* \| ([^|]*) \| ([^|]*) \| ([^|]*) \|$", HEAD, re.M).groups()
     said = list(zip(*(column.split(", ") for column in columns), strict=True))
     return zip([it for it in re.findall(r"`([^`]+)`", schedules) if it in run_ones], said, strict=True)
+
+
+def test_the_whole_call_of_five_recipes_with_attempts_of_5_s(bounds):
+    rows = re.findall(r"^\| `(.*)` \| (.*) \| (.*) \| (.*) \|$", SECTIONS[0], re.M)
+    found = bounding.run(bounds, [it.replace("\\|", "|") for it, *_ in rows], attempt=(1, 5000))
+    assert [(*cells(it)[::2], duration(it.run)) for it in found] == [tuple(row) for _, *row in rows] and len(rows) == 5
 
 
 RECIPES = [list(shown_in(section)) for section in SECTIONS if re.search("^- Schedules? ", section, re.M)]
