@@ -8,6 +8,8 @@ from zsched_tools.words import DAY, duration, plural
 
 # The program looks at this number of steps at most.
 MOST_STEPS = 20000
+# What is known of a policy without limits.
+_UNLIMITED = {"most": None, "longest": LAST_MOMENT + 1, "total": None, "seen": MOST_STEPS, "run": None}
 
 
 def rounded(ms):
@@ -78,19 +80,20 @@ def of_policies(path, policies, attempt=None):
     groups = [list((it.limits() or ())[:2]) if it.is_drawn else [it.spelled] for it in policies]
     found = iter(run(path, sum(groups, []), attempt=attempt))
     firsts = [[next(found) for _ in group] for group in groups]
-    return [_of_draws(path, it, first, attempt) if it.is_drawn else first[0] for it, first in zip(policies, firsts)]
+    bounds = [_of_draws(path, it, first, attempt) if it.is_drawn else first[0] for it, first in zip(policies, firsts)]
+    return [replace(it, **_UNLIMITED) if policy.is_cut else it for policy, it in zip(policies, bounds)]
 
 
 def _of_draws(path, policy, found, attempt):
     """The bounds of a random Policy from those of its greatest and its least waits. Its waits are at most the greatest
     before the last attempt."""
     if not found:
-        return Bounds(1, None, LAST_MOMENT + 1, None, MOST_STEPS)
+        return Bounds(1, **_UNLIMITED)
     most, without_limit = found[1].most, policy.limits()[2]
     waits = run(path, [without_limit if most is None else f"({without_limit} && recurs({most - 1}))"], None, attempt)[0]
     # Steps after the last moment of a plan aren't looked at, and with shorter waits they come before it.
     if waits.seen < MOST_STEPS and (waits.total is None or waits.total > LAST_MOMENT):
-        waits = replace(waits, longest=LAST_MOMENT + 1, total=None, seen=MOST_STEPS, run=None)
+        waits = replace(waits, **_UNLIMITED)
     return replace(waits, least=found[0].least, most=most)
 
 

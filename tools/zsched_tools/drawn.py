@@ -94,6 +94,11 @@ class Policy:
         """Whether draws differ."""
         return any(piece.draw for piece in self.pieces)
 
+    @property
+    def is_cut(self):
+        """Whether the schedule has only the first waits of its config."""
+        return any(what.startswith("waits after the first ") for what in self.left_out)
+
     def texts(self, random):
         """The text of each piece in the next draw."""
         return [piece.draw(random) if piece.draw else piece.spelled for piece in self.pieces]

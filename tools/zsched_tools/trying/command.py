@@ -99,9 +99,9 @@ def _entries(given):
     return [first] * given.after + [given.then or (longest or 35, "ok", 200)]
 
 
-def _exceeded(given, found):
+def _exceeded(given, policy, found):
     """The bounds that a policy exceeds, in words."""
-    has_end = found.how != "unfinished"
+    has_end = found.how != "unfinished" and not (policy.is_cut and found.how in ("failed", "finished"))
     if given.max_wait is not None and found.longest > given.max_wait:
         yield f"longest wait {duration(found.longest)}, over --max-wait {duration(given.max_wait)}"
     if given.max_total is not None and not (has_end and found.at <= given.max_total):
@@ -187,7 +187,7 @@ def _print_all(given, report, all_bounds):
             print((policy.text.ljust(widest) if widest else "") + paint(style, ending) + after + rest)
             if bounds is not None:
                 print(" " * widest + f"{of_all(policy, given.attempt)}: {bounds.line()}")
-        for words in [*_exceeded(given, found), *(_not_proved(given, bounds) if bounds is not None else [])]:
+        for words in [*_exceeded(given, policy, found), *(_not_proved(given, bounds) if bounds is not None else [])]:
             sys.stdout.flush()
             print(f"{TOOL}: {policy.text}: {words}", file=sys.stderr)
             status = EXCEEDED
