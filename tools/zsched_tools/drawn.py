@@ -326,19 +326,22 @@ def _one_after_another(terms):
 
 def check_schedule(tool, given):
     """Reads the schedule of a log's jobs, which may have sugar, and runs the program to check it."""
+    found = program.find(given.zsched)
     try:
-        policy = Policy(given.schedule)
+        policy = Policy(given.schedule, found)
+        schedule = policy.schedule(HIGH)
     except FaultAt as fault:
         raise Refused(told("--schedule", given.schedule, fault.cause)) from None
-    if policy.is_drawn:
+    if policy.is_drawn and tool != "zsched-plan":
         raise Refused("--schedule: random waits can't be compared with those of a log")
+    if policy.is_drawn and not given.windows:
+        raise Refused("--schedule: a plan has no random waits; --windows makes a scenario, which has them")
     policy.show(tool)
-    given.schedule = policy.spelled
-    found = program.find(given.zsched)
-    status, _, errors = program.report_of(found, program.one_job(0, given.schedule, '{"ms":1,"ok":0}'), 1)
+    given.schedule = policy.source if policy.is_drawn else policy.spelled
+    status, _, errors = program.report_of(found, program.one_job(0, schedule, '{"ms":1,"ok":0}'), 1)
     line = program.failure(status, errors)
     if status == 2:
-        cause = any_cause(given.schedule, line.partition("schedule: ")[2])
-        raise Refused(told("--schedule", given.schedule, cause))
+        cause = policy.cause_at(HIGH, any_cause(schedule, line.partition("schedule: ")[2]))
+        raise Refused(told("--schedule", policy.text, cause))
     if status:
         raise OSError(f"{found}: {line}")
