@@ -132,7 +132,7 @@ def simulate(scenario, zsched, name, most_passes, say):
         clients = certified(scenario, endings, reports, others)
     except (Unsettled, Uncertified) as failed:
         raise type(failed)(f"policy {name}: {failed}") from None
-    text = scenario.policies[name][0].text
+    text = scenario.policies[name][0].source
     return jobs, plans, most, reports, Figures(scenario, text, clients, list(map(name_of, others)), passes + 1)
 
 
