@@ -205,6 +205,8 @@ def _called(found):
     if word == "delays":
         waits = [_milliseconds(at, size, part) for part in texts]
         return Piece(at, size, _spelled(at, size, lambda: spelling.listed(waits), len(waits)))
+    if word == "jitter" and found[2] is None:
+        refuse(at, size, "no_jitter", "jitters")
     form, many = TABLE["draws"][word], TABLE["draws"][word].count(",") + 1
     if len(texts) != many or not all(it.isascii() and it.isdigit() and len(it) < 20 for it in texts):
         refuse(at, size, "takes_numbers", "write", word=word, count=many, text=form)
@@ -258,6 +260,8 @@ def _of_file(text):
     """The policy that a text names, as @FILE#NAME: its schedule with its jitter, and what it leaves out."""
     from zsched_tools.policy import command
     path, _, name = text[1:].partition("#")
+    if not path:
+        refuse(0, len(text), "the name of a file is missing", "write @FILE#NAME")
     line = command.line_of_file(path, name or None)
     jitter, left_out, timeout = line["jitter"] or {}, line["left_out"], line["attempt_timeout_ms"]
     left_out += [f"the limit of an attempt, {duration(timeout)}"] if timeout else []
